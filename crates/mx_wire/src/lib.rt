@@ -1,13 +1,13 @@
-// A library with one function.
+//! The outside as the router sees it: a wire whose calls are the entries of one log, files, and a sink for
+//! what is printed.
 #![tactic(auto)]
 
-ghost use Rattle.std.specs.Prelude.{◌≡◌};
-ghost use Rattle.mx_wire.specs.Echo.{echo_of};
+mod entry;
+mod files;
+mod sink;
+mod wire;
 
-// The `ensures` clause is the contract: what `echo` returns is `echo_of` of its argument, a definition
-// in `specs/Echo.antt`, which a caller's clause can cite too.
-pub fn echo(x: usize) -> usize
-    ensures { result ≡ echo_of x }
-{
-    x
-}
+pub use entry::Entry;
+pub use files::{FileFault, Files};
+pub use sink::{Sink, SinkFailed};
+pub use wire::{Accepted, Got, Listened, Opened, Took, Wire, Woke};
