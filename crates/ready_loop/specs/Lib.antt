@@ -1,0 +1,4 @@
+pub mod Changes
+pub mod Drained
+pub mod Machine
+pub mod Sent
