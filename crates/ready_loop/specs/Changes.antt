@@ -3,11 +3,10 @@ use Rattle.std.specs.Prelude.{◌≡◌, ◌⊎◌, ℕ, Bool, true, false, Opti
 use Rattle.mx_base.specs.declared.names.LinkId.{LinkId}
 use Rattle.ready_loop.specs.Sent.{Sent}
 
--- of a link that isn't among the changed ones, nothing more is to be read or written than before
+-- of a link that isn't among the changed ones, all that is to be read or written was to be before, and was named
 pub record LeavesBe {M : Type 0} (changed reads : M → LinkId → Bool) (sends : M → LinkId → Option Sent) (old new : M) (link : LinkId) : Type 0 where
-  pub before : changed old link ≡ false
-  pub read : reads new link ≡ true → reads old link ≡ true
-  pub written : IsSome (sends new link) → IsSome (sends old link)
+  pub read : reads new link ≡ true → (changed old link ≡ false) × (reads old link ≡ true)
+  pub written : IsSome (sends new link) → (changed old link ≡ false) × IsSome (sends old link)
 
 pub record ChangesOnly {M : Type 0} (changed reads : M → LinkId → Bool) (sends : M → LinkId → Option Sent) (old new : M) : Type 0 where
   pub others : (link : LinkId) → changed new link ≡ false → LeavesBe changed reads sends old new link
