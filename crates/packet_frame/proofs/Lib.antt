@@ -1,3 +1,4 @@
 pub mod Across
 pub mod Finding
 pub mod Spelt
+pub mod Taking

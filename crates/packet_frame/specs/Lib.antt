@@ -6,3 +6,4 @@ pub mod PacketLaws
 pub mod Packets
 pub mod SpellingLaws
 pub mod Writing
+pub mod Pieces

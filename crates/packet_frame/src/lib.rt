@@ -6,9 +6,11 @@ mod fault;
 mod framer;
 mod header;
 mod message;
+mod pieces;
 mod write;
 
 pub use fault::FrameFault;
 pub use framer::Framer;
 pub use message::Message;
+pub use pieces::{Payloads, payloads_of};
 pub use write::write_message;
