@@ -7,3 +7,4 @@ pub mod Packets
 pub mod SpellingLaws
 pub mod Writing
 pub mod Pieces
+pub mod RoundTrip

@@ -5,12 +5,14 @@ mod answer_id;
 mod fault;
 mod framer;
 mod header;
+mod laws;
 mod message;
 mod pieces;
 mod write;
 
 pub use fault::FrameFault;
 pub use framer::Framer;
+pub use laws::one_spelling;
 pub use message::Message;
 pub use pieces::{Payloads, payloads_of};
 pub use write::write_message;
