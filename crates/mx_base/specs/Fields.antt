@@ -25,12 +25,12 @@ value_to end (Some n) = Value n end
 abbrev pub lenenc_by : (at : ℕ) → List ℕ → Option ℕ → Field
 lenenc_by at bytes None = Short
 lenenc_by at bytes (Some first) =
-  if nat_lt first 251 then Value first (at + 1)
-  else if nat_eq first 251 then Null
-  else if nat_eq first 252 then value_to (at + 3) (number_at 2 (at + 1) bytes)
-  else if nat_eq first 253 then value_to (at + 4) (number_at 3 (at + 1) bytes)
-  else if nat_eq first 254 then value_to (at + 9) (number_at 8 (at + 1) bytes)
-  else Bad
+    if nat_lt first 251 then Value first (at + 1)
+    else if nat_eq first 251 then Null
+    else if nat_eq first 252 then value_to (at + 3) (number_at 2 (at + 1) bytes)
+    else if nat_eq first 253 then value_to (at + 4) (number_at 3 (at + 1) bytes)
+    else if nat_eq first 254 then value_to (at + 9) (number_at 8 (at + 1) bytes)
+    else Bad
 
 -- the length-encoded number at a place
 abbrev pub lenenc_at : (at : ℕ) → List ℕ → Field

@@ -91,3 +91,50 @@ pub fn get_lenenc(bytes: &[u8], at: usize) -> Field
         },
     }
 }
+
+#[cfg(test)]
+mod tests {
+    use super::*;
+
+    #[test]
+    fn reads_numbers(rt: HostRuntime) {
+        let bytes = [9, 1, 2, 3, 4, 5, 6, 7, 8];
+        assert_eq!(rt; get_u8(&bytes, 8), Some(8));
+        assert_eq!(rt; get_u16(&bytes, 1), Some(0x0201));
+        assert_eq!(rt; get_u24(&bytes, 1), Some(0x03_0201));
+        assert_eq!(rt; get_u32(&bytes, 1), Some(0x0403_0201));
+        assert_eq!(rt; get_u64(&bytes, 1), Some(0x0807_0605_0403_0201));
+        assert_eq!(rt; get_u8(&bytes, 9), None);
+        assert_eq!(rt; get_u16(&bytes, 8), None);
+        assert_eq!(rt; get_u24(&bytes, 7), None);
+        assert_eq!(rt; get_u32(&bytes, 6), None);
+        assert_eq!(rt; get_u64(&bytes, 2), None);
+        assert_eq!(rt; get_u16(&bytes, usize::MAX), None);
+    }
+
+    #[test]
+    fn reads_length_encoded_numbers(rt: HostRuntime) {
+        let cases: [(&[u8], Field); 11] = [
+            (b"\x00", Field::Value { n: 0, next: 1 }),
+            (b"\xFA", Field::Value { n: 250, next: 1 }),
+            (b"\xFC\x01\x00", Field::Value { n: 1, next: 3 }),
+            (b"\xFC\xFF\xFF", Field::Value { n: 65_535, next: 3 }),
+            (b"\xFD\x00\x00\x01", Field::Value { n: 65_536, next: 4 }),
+            (
+                b"\xFE\x00\x00\x00\x01\x00\x00\x00\x00",
+                Field::Value {
+                    n: 16_777_216,
+                    next: 9,
+                },
+            ),
+            (b"\xFB", Field::Null),
+            (b"\xFF\x00", Field::Bad),
+            (b"", Field::Short),
+            (b"\xFC\x01", Field::Short),
+            (b"\xFE\x00\x00\x00\x01\x00\x00\x00", Field::Short),
+        ];
+        for (bytes, want) in cases {
+            assert_eq!(rt; get_lenenc(bytes, 0), want, "{bytes:?}");
+        }
+    }
+}

@@ -10,6 +10,9 @@ mod message;
 mod pieces;
 mod write;
 
+#[cfg(test)]
+mod tests;
+
 pub use fault::FrameFault;
 pub use framer::Framer;
 pub use laws::one_spelling;

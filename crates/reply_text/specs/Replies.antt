@@ -1,5 +1,5 @@
 -- The payloads of an OK and of an ERR.
-use Rattle.std.specs.Prelude.{ℕ, ◌+◌, ◌/◌, ◌%◌, Bool, true, false, not, ◌&&◌, ◌||◌, nat_le, nat_eq, bit_and, List, [], ◌∷◌, ◌++◌, length, slice_index_or, Option, Some, None, if◌then◌else◌}
+use Rattle.std.specs.Prelude.{ℕ, ◌+◌, ◌/◌, ◌%◌, Bool, false, ◌&&◌, ◌||◌, nat_le, nat_eq, bit_and, List, ◌∷◌, ◌++◌, length, slice_index_or, Option, Some, None, if◌then◌else◌}
 use Rattle.mx_base.specs.Fields.{number_at, lenenc_at}
 use Rattle.mx_base.specs.declared.fields.Field.{Field}
 use Rattle.mx_base.specs.declared.fields.Field.TheVariants.{Value, Null, Short, Bad}

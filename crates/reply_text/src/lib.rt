@@ -6,3 +6,6 @@ mod lone;
 
 pub use err::write_err;
 pub use lone::is_lone_reply;
+
+#[cfg(test)]
+mod tests;
