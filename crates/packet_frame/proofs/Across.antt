@@ -1,10 +1,10 @@
 -- Bytes of one list and then of another, and the headers among them.
-use Rattle.std.proofs.Common.{◌≡◌, ◌≢◌, ◌⊎◌, inl, inr, ◌≤◌, ◌<◌, ℕ, zero, suc, ◌+◌, ◌-◌, ◌*◌, ◌/◌, ◌%◌, Bool, true, false, cond, min, nat_lt, nat_eq, List, [], ◌∷◌, ◌++◌, length, take, drop, slice_index_or, Option, Some, None, refl, ◌∙◌, sym, ap, arith, length-drop, length-append}
+use Rattle.std.proofs.Common.{◌≡◌, ◌≢◌, ◌⊎◌, inl, inr, ◌≤◌, ◌<◌, ℕ, zero, suc, ◌+◌, ◌-◌, false, cond, min, nat_lt, nat_eq, List, [], ◌∷◌, ◌++◌, length, drop, refl, ◌∙◌, sym, ap, arith, length-drop, length-append}
 use Rattle.std.proofs.Math.Seq.{drop-append-add}
 use Rattle.std.proofs.lemmas.List.{drop-append-le, drop_all}
 use Rattle.std.proofs.lemmas.Bool.Decides.{nat_tests}
-use Rattle.std.proofs.lemmas.Bool.{ltb-true, ltb-false, lt-ltb, le-ltb}
-use Rattle.mx_base.specs.Fields.{little_endian, number_at}
+use Rattle.std.proofs.lemmas.Bool.{lt-ltb, le-ltb}
+use Rattle.mx_base.specs.Fields.{number_at}
 use Rattle.packet_frame.specs.Packets.{packet_length, packet_id, longest, next_id, id_within, id_from}
 
 apart : (a b : ℕ) → a ≢ b → nat_eq a b ≡ false

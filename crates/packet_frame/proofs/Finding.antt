@@ -1,16 +1,16 @@
 -- What a framer finds, by the packet that its bytes begin with.
-use Rattle.std.proofs.Common.{◌≡◌, ◌≤◌, ◌<◌, ℕ, ◌+◌, ◌-◌, List, length, take, drop, Option, Some, None, Result, Ok, Err, refl, ◌∙◌, sym, ap, subst, arith, length-drop}
+use Rattle.std.proofs.Common.{◌≡◌, ◌≤◌, ◌<◌, ℕ, ◌-◌, List, length, take, drop, Option, Some, None, Ok, Err, refl, ◌∙◌, sym, ap, subst, arith, length-drop}
 use Rattle.std.proofs.lemmas.List.{length-take-le}
 use Rattle.packet_frame.specs.declared.fault.FrameFault.{FrameFault}
 use Rattle.packet_frame.specs.declared.message.Message.{Message}
 use Rattle.packet_frame.specs.Packets.{Framed, Found, first_packet, first_message, packet_length, packet_id, longest}
 use Rattle.packet_frame.specs.Packets.Found.{Nothing, Whole, Faulty}
-use Rattle.packet_frame.specs.PacketLaws.{PacketAt, first_packet-whole, first_packet-is}
+use Rattle.packet_frame.specs.PacketLaws.{first_packet-whole, first_packet-is}
 use Rattle.packet_frame.specs.OnePacket.{packet_size, first_message-one}
 use Rattle.packet_frame.specs.FramerState.{FramerState, framed, look, seen, answer, IsKept}
 
 pub answer-whole : (limit first : ℕ) (bytes : List ℕ) → 4 ≤ length bytes → packet_id bytes ≡ first → packet_length bytes ≤ limit → packet_length bytes ≤ length bytes - 4
-  → Ok (Some (record { last = first; length = packet_length bytes })) ≡ answer (first_packet limit 0 first bytes)
+    → Ok (Some (record { last = first; length = packet_length bytes })) ≡ answer (first_packet limit 0 first bytes)
 answer-whole limit first bytes header due allowed there =
     let size : length (take (packet_length bytes) (drop 4 bytes)) ≡ packet_length bytes = length-take-le (packet_length bytes) (drop 4 bytes) (omega (arith, length-drop 4 bytes)) in
     sym (ap answer (first_packet-is limit 0 first bytes header due (omega arith) (omega arith)) ∙ ap (λ n. Ok (Some (record { last = first; length = n }))) size)
@@ -41,12 +41,12 @@ looked limit first bytes message short same = subst (Looked limit first bytes me
 
 -- what the framer is then, which had no fault
 pub looked-found : (limit first : ℕ) (bytes : List ℕ) (message : Option Message) (was : Option Framed) (refused : Option FrameFault) (state : FramerState) → refused ≡ None
-  → record { limit = limit; kept = bytes; found = was; fault = refused } ≡ state → Looked limit first bytes message (first_message limit first bytes) → Ok message ≡ answer (look first state)
+    → record { limit = limit; kept = bytes; found = was; fault = refused } ≡ state → Looked limit first bytes message (first_message limit first bytes) → Ok message ≡ answer (look first state)
 looked-found limit first bytes message was None state none is at = subst (λ (s : FramerState). Ok message ≡ answer (look first s)) is at.found
 looked-found limit first bytes message was (Some fault) state none is at = absurd (cc)
 
 pub looked-after : (limit first : ℕ) (bytes : List ℕ) (message : Option Message) (was : Option Framed) (refused : Option FrameFault) (state : FramerState) → refused ≡ None
-  → record { limit = limit; kept = bytes; found = was; fault = refused } ≡ state → Looked limit first bytes message (first_message limit first bytes) → record { limit = limit; kept = bytes; found = framed message bytes; fault = refused } ≡ seen state (look first state)
+    → record { limit = limit; kept = bytes; found = was; fault = refused } ≡ state → Looked limit first bytes message (first_message limit first bytes) → record { limit = limit; kept = bytes; found = framed message bytes; fault = refused } ≡ seen state (look first state)
 looked-after limit first bytes message was None state none is at = subst (λ (s : FramerState). record { limit = limit; kept = bytes; found = framed message bytes; fault = None } ≡ seen s (look first s)) is (at.after was)
 looked-after limit first bytes message was (Some fault) state none is at = absurd (cc)
 
@@ -57,6 +57,6 @@ faulted_at (Whole one rest) fault same = absurd (cc)
 faulted_at (Faulty other) fault same = cc
 
 pub faulted : (limit first : ℕ) (bytes : List ℕ) (fault : FrameFault) (was : Option Framed) (refused : Option FrameFault) (state : FramerState) → limit < longest → refused ≡ None
-  → record { limit = limit; kept = bytes; found = was; fault = refused } ≡ state → answer (first_packet limit 0 first bytes) ≡ Err fault → look first state ≡ Faulty fault
+    → record { limit = limit; kept = bytes; found = was; fault = refused } ≡ state → answer (first_packet limit 0 first bytes) ≡ Err fault → look first state ≡ Faulty fault
 faulted limit first bytes fault was None state short none is same = subst (λ (s : FramerState). look first s ≡ Faulty fault) is (first_message-one limit first bytes short ∙ faulted_at (first_packet limit 0 first bytes) fault same)
 faulted limit first bytes fault was (Some other) state short none is same = absurd (cc)

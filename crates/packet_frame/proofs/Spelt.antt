@@ -1,5 +1,5 @@
 -- A spelling that is written packet by packet.
-use Rattle.std.proofs.Common.{◌≡◌, ◌≤◌, ◌<◌, ℕ, zero, suc, ◌+◌, ◌-◌, ◌/◌, ◌%◌, List, [], ◌++◌, length, take, drop, refl, ◌∙◌, sym, ap, arith, length-drop, append-nil, append_assoc}
+use Rattle.std.proofs.Common.{◌≡◌, ◌≤◌, ◌<◌, ℕ, suc, ◌+◌, ◌/◌, ◌%◌, List, [], ◌++◌, length, take, drop, refl, ◌∙◌, sym, ap, arith, length-drop, append-nil, append_assoc}
 use Rattle.packet_frame.specs.Packets.{longest, next_id, packet, packets, spelling, id_behind}
 use Rattle.packet_frame.specs.Writing.{Begins}
 
@@ -24,15 +24,15 @@ spelt-packet old now next first payload id rest long is at =
     let count : length rest / longest ≡ suc (length (drop longest rest) / longest) = omega (arith, length-drop longest rest) in
     record {
       bytes = ap (λ xs. xs ++ packets (length (drop longest rest) / longest) (next_id id) (drop longest rest)) is
-        ∙ append_assoc now (packet id (take longest rest)) (packets (length (drop longest rest) / longest) (next_id id) (drop longest rest))
-        ∙ ap (λ n. now ++ packets n id rest) (sym count)
-        ∙ at.bytes;
+          ∙ append_assoc now (packet id (take longest rest)) (packets (length (drop longest rest) / longest) (next_id id) (drop longest rest))
+          ∙ ap (λ n. now ++ packets n id rest) (sym count)
+          ∙ at.bytes;
       behind = omega (arith, count, at.behind);
       begins = begins-more old now next (packet id (take longest rest)) at.begins is;
     }
 
 pub spelt-last : (old now next : List ℕ) (first : ℕ) (payload : List ℕ) (id : ℕ) (rest : List ℕ) → length rest < longest → next ≡ now ++ packet id rest → InSpelling old now first payload id rest
-  → (next ≡ old ++ spelling first payload) × (next_id id ≡ id_behind first payload)
+    → (next ≡ old ++ spelling first payload) × (next_id id ≡ id_behind first payload)
 spelt-last old now next first payload id rest short is at =
     let none : length rest / longest ≡ 0 = omega arith in
     (is ∙ ap (λ n. now ++ packets n id rest) (sym none) ∙ at.bytes, omega (arith, none, at.behind))

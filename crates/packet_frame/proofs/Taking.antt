@@ -6,13 +6,13 @@ use Rattle.packet_frame.specs.declared.message.Message.{Message}
 use Rattle.packet_frame.specs.Packets.{Framed, Found, first_message, Split, with_front, split, grown, longest}
 use Rattle.packet_frame.specs.Packets.Found.{Nothing, Whole, Faulty}
 use Rattle.packet_frame.specs.Laws.{split-nothing, split-whole, split-faulty, split-grown, first_message-empty}
-use Rattle.packet_frame.specs.OnePacket.{IsMessageOf, first_message-whole}
+use Rattle.packet_frame.specs.OnePacket.{first_message-whole}
 use Rattle.packet_frame.specs.FramerState.{FramerState, look_by, look, seen, answer}
 use Rattle.packet_frame.specs.Pieces.{joined, payload_of, pending_by, pending, IsTaken, AllTaken}
 
 -- more bytes
 pending-fed : (fault : Option FrameFault) (limit first : ℕ) (kept piece : List ℕ) → pending_by fault (kept ++ piece) (split limit first (kept ++ piece))
-  ≡ grown limit first (pending_by fault kept (split limit first kept)).messages (pending_by fault kept (split limit first kept)).rest (pending_by fault kept (split limit first kept)).fault piece
+    ≡ grown limit first (pending_by fault kept (split limit first kept)).messages (pending_by fault kept (split limit first kept)).rest (pending_by fault kept (split limit first kept)).fault piece
 pending-fed None limit first kept piece = split-grown limit first kept piece
 pending-fed (Some fault) limit first kept piece = refl
 
@@ -28,14 +28,14 @@ taken-fed first bytes piece payloads state at =
       taken = at.taken;
       are = at.are;
       others = split-grown state.limit first bytes piece
-        ∙ ap (λ (s : Split). grown state.limit first s.messages s.rest s.fault piece) at.others
-        ∙ grown-behind state.limit first at.taken left.messages left.rest left.fault piece
-        ∙ ap (with_front at.taken) (sym (pending-fed state.fault state.limit first state.kept piece));
+          ∙ ap (λ (s : Split). grown state.limit first s.messages s.rest s.fault piece) at.others
+          ∙ grown-behind state.limit first at.taken left.messages left.rest left.fault piece
+          ∙ ap (with_front at.taken) (sym (pending-fed state.fault state.limit first state.kept piece));
     }
 
 -- a look
 looked-left : (limit first : ℕ) (kept : List ℕ) (was : Option Framed) (fault : Option FrameFault) (found : Found) → first_message limit first kept ≡ found
-  → pending first (seen (record { limit = limit; kept = kept; found = was; fault = fault }) (look_by fault found)) ≡ pending_by fault kept (split limit first kept)
+    → pending first (seen (record { limit = limit; kept = kept; found = was; fault = fault }) (look_by fault found)) ≡ pending_by fault kept (split limit first kept)
 looked-left limit first kept was None Nothing is = refl
 looked-left limit first kept was None (Whole message rest) is = refl
 looked-left limit first kept was None (Faulty fault) is = sym (split-faulty limit first kept fault is)
@@ -124,8 +124,8 @@ taken-done first all payloads more message state next ready more_is next_is at =
       taken = at.taken ++ message ∷ [];
       are = more_is ∙ ap (λ xs. xs ++ message.payload ∷ []) at.are ∙ sym (map-append payload_of at.taken (message ∷ []));
       others = at.others ∙ ap (with_front at.taken) left
-        ∙ ap (λ ms. record { messages = ms; rest = rest.rest; fault = rest.fault }) (sym (append_assoc at.taken (message ∷ []) rest.messages))
-        ∙ ap (with_front (at.taken ++ message ∷ [])) (sym behind);
+          ∙ ap (λ ms. record { messages = ms; rest = rest.rest; fault = rest.fault }) (sym (append_assoc at.taken (message ∷ []) rest.messages))
+          ∙ ap (with_front (at.taken ++ message ∷ [])) (sym behind);
     })
 
 pub taken-shorter : (first : ℕ) (message : Framed) (state next : FramerState) → Ready first message state → next ≡ record state { kept = drop (4 + length message.payload) state.kept; found = None } → length next.kept < length state.kept
@@ -143,7 +143,7 @@ all-none limit first short =
     }
 
 pub all-fed : (limit first : ℕ) (bytes piece : List ℕ) (payloads : List (List ℕ)) (fault : Option FrameFault) (state next : FramerState) → next ≡ record state { kept = state.kept ++ piece } → AllTaken limit first bytes payloads fault state
-  → IsTaken first (split limit first (bytes ++ piece)) payloads next
+    → IsTaken first (split limit first (bytes ++ piece)) payloads next
 all-fed limit first bytes piece payloads fault state next is at =
     let same : split state.limit first bytes ≡ split limit first bytes = ap (λ n. split n first bytes) at.same in
     let fed = taken-fed first bytes piece payloads state (subst (λ (s : Split). IsTaken first s payloads state) (sym same) at.part) in

@@ -1,5 +1,5 @@
 -- Messages of given bytes.
-use Rattle.std.proofs.Common.{◌≡◌, List, [], ◌∷◌, ◌++◌, Some, None, refl}
+use Rattle.std.proofs.Common.{◌≡◌, [], ◌∷◌, None, refl}
 use Rattle.packet_frame.specs.declared.fault.FrameFault.TheVariants.{OutOfOrder, TooLarge}
 use Rattle.packet_frame.specs.Packets.{first_message, split, spelling}
 use Rattle.packet_frame.specs.Packets.Found.{Whole, Faulty}
@@ -25,6 +25,6 @@ order_found = refl
 
 -- two pings and the beginning of a third
 pings_found : split 1024 0 (1 ∷ 0 ∷ 0 ∷ 0 ∷ 14 ∷ 1 ∷ 0 ∷ 0 ∷ 0 ∷ 14 ∷ 1 ∷ 0 ∷ [])
-  ≡ record { messages = record { first = 0; last = 0; payload = 14 ∷ [] } ∷ record { first = 0; last = 0; payload = 14 ∷ [] } ∷ []; rest = 1 ∷ 0 ∷ []; fault = None }
+    ≡ record { messages = record { first = 0; last = 0; payload = 14 ∷ [] } ∷ record { first = 0; last = 0; payload = 14 ∷ [] } ∷ []; rest = 1 ∷ 0 ∷ []; fault = None }
 unfolding split first_message
 pings_found = refl

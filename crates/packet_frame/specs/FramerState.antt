@@ -1,8 +1,8 @@
 -- What a framer is to its callers, and what it finds.
-use Rattle.std.specs.Prelude.{ℕ, ◌+◌, ◌≤◌, ◌<◌, List, length, take, drop, Option, Some, None, Result, Ok, Err}
+use Rattle.std.specs.Prelude.{ℕ, ◌+◌, ◌≤◌, List, length, take, drop, Option, Some, None, Result, Ok, Err}
 use Rattle.packet_frame.specs.declared.fault.FrameFault.{FrameFault}
 use Rattle.packet_frame.specs.declared.message.Message.{Message}
-use Rattle.packet_frame.specs.Packets.{Framed, Found, first_message, longest}
+use Rattle.packet_frame.specs.Packets.{Framed, Found, first_message}
 use Rattle.packet_frame.specs.Packets.Found.{Nothing, Whole, Faulty}
 
 -- the length of the longest message that it takes, the bytes that it keeps, the message that it found, and its fault

@@ -1,9 +1,8 @@
 -- Laws of the messages of a list of bytes.
-use Rattle.std.specs.Prelude.{◌≡◌, ◌⊎◌, ◌≤◌, ◌<◌, ℕ, zero, suc, ◌+◌, ◌-◌, ◌/◌, ◌%◌, List, [], ◌∷◌, ◌++◌, length, take, drop, Option, Some, None, refl}
-use Rattle.std.proofs.Common.{◌∙◌, sym, ap, subst, arith, length-append, append_assoc}
-use Rattle.mx_base.specs.Fields.{AreBytes}
+use Rattle.std.specs.Prelude.{◌≡◌, ◌≤◌, ◌<◌, ℕ, zero, suc, ◌+◌, List, [], ◌∷◌, ◌++◌, length, Option, Some, None, refl}
+use Rattle.std.proofs.Common.{◌∙◌, sym, ap, subst, arith, length-append}
 use Rattle.packet_frame.specs.declared.fault.FrameFault.{FrameFault}
-use Rattle.packet_frame.specs.Packets.{Framed, Found, first_message, message_within, Split, with_front, split_found, split_within, split, grown, spelling, longest}
+use Rattle.packet_frame.specs.Packets.{Framed, Found, first_message, Split, with_front, split_found, split_within, split, grown}
 use Rattle.packet_frame.specs.Packets.Found.{Nothing, Whole, Faulty}
 use Rattle.packet_frame.specs.MessageLaws.{within-whole-more, within-faulty-more, within-shorter}
 
@@ -46,7 +45,7 @@ unfolding split
 split-found limit first [] = rw (first_message-empty limit first) refl
 split-found limit first (b ∷ bytes) =
     split_found-same limit first (b ∷ bytes) (first_message limit first (b ∷ bytes)) (split_within (length bytes) limit first) (split limit first) refl
-      (λ rest shorter. split_within-enough (length bytes) (length rest) limit first rest (omega arith) (omega arith))
+    (λ rest shorter. split_within-enough (length bytes) (length rest) limit first rest (omega arith) (omega arith))
 
 pub split-nothing : (limit first : ℕ) (bytes : List ℕ) → first_message limit first bytes ≡ Nothing → split limit first bytes ≡ record { messages = []; rest = bytes; fault = None }
 split-nothing limit first bytes nothing = split-found limit first bytes ∙ ap (λ found. split_found found bytes (split limit first)) nothing
@@ -63,17 +62,17 @@ grown_front limit first message messages rest None more = refl
 grown_front limit first message messages rest (Some fault) more = refl
 
 split-found-grown : (limit first : ℕ) (bytes more : List ℕ) (found : Found) → first_message limit first bytes ≡ found
-  → ((rest : List ℕ) → length rest < length bytes → split limit first (rest ++ more) ≡ grown limit first (split limit first rest).messages (split limit first rest).rest (split limit first rest).fault more)
-  → split limit first (bytes ++ more) ≡ grown limit first (split limit first bytes).messages (split limit first bytes).rest (split limit first bytes).fault more
+    → ((rest : List ℕ) → length rest < length bytes → split limit first (rest ++ more) ≡ grown limit first (split limit first rest).messages (split limit first rest).rest (split limit first rest).fault more)
+    → split limit first (bytes ++ more) ≡ grown limit first (split limit first bytes).messages (split limit first bytes).rest (split limit first bytes).fault more
 split-found-grown limit first bytes more Nothing is shorter = subst (λ (s : Split). split limit first (bytes ++ more) ≡ grown limit first s.messages s.rest s.fault more) (sym (split-nothing limit first bytes is)) refl
 split-found-grown limit first bytes more (Whole message rest) is shorter =
     subst (λ (s : Split). split limit first (bytes ++ more) ≡ grown limit first s.messages s.rest s.fault more) (sym (split-whole limit first bytes message rest is))
-      (split-whole limit first (bytes ++ more) message (rest ++ more) (first_message-whole-more limit first bytes more message rest is)
-      ∙ ap (with_front (message ∷ [])) (shorter rest (omega (arith, first_message-shorter limit first bytes message rest is)))
-      ∙ grown_front limit first message (split limit first rest).messages (split limit first rest).rest (split limit first rest).fault more)
+    (split-whole limit first (bytes ++ more) message (rest ++ more) (first_message-whole-more limit first bytes more message rest is)
+    ∙ ap (with_front (message ∷ [])) (shorter rest (omega (arith, first_message-shorter limit first bytes message rest is)))
+    ∙ grown_front limit first message (split limit first rest).messages (split limit first rest).rest (split limit first rest).fault more)
 split-found-grown limit first bytes more (Faulty fault) is shorter =
     subst (λ (s : Split). split limit first (bytes ++ more) ≡ grown limit first s.messages s.rest s.fault more) (sym (split-faulty limit first bytes fault is))
-      (split-faulty limit first (bytes ++ more) fault (first_message-faulty-more limit first bytes more fault is))
+    (split-faulty limit first (bytes ++ more) fault (first_message-faulty-more limit first bytes more fault is))
 
 split-grown-within : (size limit first : ℕ) (bytes more : List ℕ) → length bytes < size → split limit first (bytes ++ more) ≡ grown limit first (split limit first bytes).messages (split limit first bytes).rest (split limit first bytes).fault more
 split-grown-within zero limit first bytes more below = absurd (omega arith)

@@ -1,13 +1,12 @@
 -- Messages shorter than the longest body are one packet.
-use Rattle.std.specs.Prelude.{◌≡◌, ◌⊎◌, ◌≤◌, ◌<◌, ◌≢◌, ℕ, zero, suc, ◌+◌, ◌-◌, ◌/◌, ◌%◌, Bool, true, false, cond, nat_eq, List, [], ◌∷◌, ◌++◌, length, take, drop, slice_index_or, refl}
-use Rattle.std.proofs.Common.{◌∙◌, sym, ap, subst, inl, inr, arith, length-append, length-drop}
+use Rattle.std.specs.Prelude.{◌≡◌, ◌≤◌, ◌<◌, ℕ, ◌+◌, ◌/◌, false, nat_eq, List, [], ◌∷◌, ◌++◌, length, take, drop, refl}
+use Rattle.std.proofs.Common.{◌∙◌, sym, ap, arith, length-drop}
 use Rattle.std.proofs.lemmas.Bool.Decides.{nat_tests}
 use Rattle.std.proofs.lemmas.List.{length-take-le}
 use Rattle.mx_base.specs.Fields.{AreBytes}
-use Rattle.packet_frame.specs.declared.fault.FrameFault.{FrameFault}
-use Rattle.packet_frame.specs.Packets.{Framed, Found, first_packet, packet_length, packet_id, begun, and_then, continued, message_within, first_message, next_id, longest, packet, packets, spelling}
+use Rattle.packet_frame.specs.Packets.{Framed, Found, first_packet, packet_length, and_then, continued, message_within, first_message, next_id, longest, packet, spelling}
 use Rattle.packet_frame.specs.Packets.Found.{Nothing, Whole, Faulty}
-use Rattle.packet_frame.specs.PacketLaws.{PacketAt, first_packet-whole, first_packet-is}
+use Rattle.packet_frame.specs.PacketLaws.{PacketAt, first_packet-whole}
 use Rattle.packet_frame.specs.SpellingLaws.{first_message-spelled}
 
 -- the length of the packet that is there

@@ -1,13 +1,13 @@
 -- Laws of the packet that a list of bytes begins with.
-use Rattle.std.specs.Prelude.{◌≡◌, ◌⊎◌, ◌≤◌, ◌<◌, ◌≢◌, ℕ, zero, suc, ◌+◌, ◌-◌, ◌*◌, ◌/◌, ◌%◌, Bool, true, false, cond, nat_lt, nat_eq, not, List, [], ◌∷◌, ◌++◌, length, take, drop, slice_index_or, Option, Some, None, refl}
-use Rattle.std.proofs.Common.{◌∙◌, sym, ap, subst, inl, inr, arith, length-append, length-drop}
-use Rattle.std.proofs.lemmas.List.{take-append-le, drop-append-le, get_or_append_left, length-take-le, take-append-drop}
+use Rattle.std.specs.Prelude.{◌≡◌, ◌⊎◌, ◌≤◌, ◌<◌, ◌≢◌, ℕ, ◌+◌, Bool, true, false, cond, nat_lt, nat_eq, not, List, ◌++◌, length, take, drop, refl}
+use Rattle.std.proofs.Common.{◌∙◌, sym, ap, inl, inr, arith, length-append, length-drop}
+use Rattle.std.proofs.lemmas.List.{take-append-le, drop-append-le, get_or_append_left, length-take-le}
 use Rattle.std.proofs.lemmas.Bool.{ltb-true, ltb-false, lt-ltb, le-ltb}
 use Rattle.std.proofs.lemmas.Bool.Decides.{nat_tests}
-use Rattle.mx_base.specs.Fields.{little_endian, AreBytes}
+use Rattle.mx_base.specs.Fields.{little_endian}
 use Rattle.packet_frame.specs.declared.fault.FrameFault.{FrameFault}
 use Rattle.packet_frame.specs.declared.fault.FrameFault.TheVariants.{OutOfOrder, TooLarge}
-use Rattle.packet_frame.specs.Packets.{Framed, Found, packet_length, packet_id, first_packet, packet, longest}
+use Rattle.packet_frame.specs.Packets.{Framed, Found, packet_length, packet_id, first_packet}
 use Rattle.packet_frame.specs.Packets.Found.{Nothing, Whole, Faulty}
 
 not-false : (b : Bool) → not b ≡ false → b ≡ true
@@ -26,7 +26,7 @@ nat_eq-false a b apart = grind (arith, nat_tests)
 
 -- which way four tests went
 passed : (a b c d : Bool) (f g : FrameFault) (w : Found) (found : Framed) (rest : List ℕ) → cond a Nothing (cond b (Faulty f) (cond c (Faulty g) (cond d Nothing w))) ≡ Whole found rest
-  → (a ≡ false) × (b ≡ false) × (c ≡ false) × (d ≡ false) × (w ≡ Whole found rest)
+    → (a ≡ false) × (b ≡ false) × (c ≡ false) × (d ≡ false) × (w ≡ Whole found rest)
 passed true b c d f g w found rest e = absurd (cc)
 passed false true c d f g w found rest e = absurd (cc)
 passed false false true d f g w found rest e = absurd (cc)
@@ -34,7 +34,7 @@ passed false false false true f g w found rest e = absurd (cc)
 passed false false false false f g w found rest e = (refl, refl, refl, refl, e)
 
 failed : (a b c d : Bool) (f g : FrameFault) (found : Framed) (rest : List ℕ) (fault : FrameFault) → cond a Nothing (cond b (Faulty f) (cond c (Faulty g) (cond d Nothing (Whole found rest)))) ≡ Faulty fault
-  → (a ≡ false) × (((b ≡ true) × (f ≡ fault)) ⊎ ((b ≡ false) × (c ≡ true) × (g ≡ fault)))
+    → (a ≡ false) × (((b ≡ true) × (f ≡ fault)) ⊎ ((b ≡ false) × (c ≡ true) × (g ≡ fault)))
 failed true b c d f g found rest fault e = absurd (cc)
 failed false true c d f g found rest fault e = (refl, inl (refl, cc))
 failed false false true d f g found rest fault e = (refl, inr (refl, refl, cc))
@@ -66,7 +66,7 @@ first_packet-whole limit announced id bytes found rest whole =
     }
 
 pub first_packet-is : (limit announced id : ℕ) (bytes : List ℕ) → 4 ≤ length bytes → packet_id bytes ≡ id → announced + packet_length bytes ≤ limit → 4 + packet_length bytes ≤ length bytes
-  → first_packet limit announced id bytes ≡ Whole (record { first = id; last = id; payload = take (packet_length bytes) (drop 4 bytes) }) (drop (4 + packet_length bytes) bytes)
+    → first_packet limit announced id bytes ≡ Whole (record { first = id; last = id; payload = take (packet_length bytes) (drop 4 bytes) }) (drop (4 + packet_length bytes) bytes)
 first_packet-is limit announced id bytes header due allowed there = rw (le-ltb (length bytes) 4 header, due, le-ltb limit (announced + packet_length bytes) allowed, le-ltb (length bytes) (4 + packet_length bytes) there) (grind arith)
 
 -- where it begins with a fault
@@ -78,11 +78,14 @@ pub first_packet-faulty : (limit announced id : ℕ) (bytes : List ℕ) (fault :
 first_packet-faulty limit announced id bytes fault faulty =
     let total = announced + packet_length bytes in
     let tests = failed (nat_lt (length bytes) 4) (not (nat_eq (packet_id bytes) id)) (nat_lt limit total) (nat_lt (length bytes) (4 + packet_length bytes)) (OutOfOrder id (packet_id bytes)) (TooLarge total)
-      (record { first = id; last = id; payload = take (packet_length bytes) (drop 4 bytes) }) (drop (4 + packet_length bytes) bytes) fault faulty in
-    record { header = ltb-false _ _ tests.0; which = elim (tests.1) [
-      | inl other ↦ inl (nat_eq-false _ _ (not-true _ other.0), sym other.1)
-      | inr large ↦ inr (nat_eq-true _ _ (not-false _ large.0), ltb-true _ _ large.1, sym large.2)
-    ] }
+    (record { first = id; last = id; payload = take (packet_length bytes) (drop 4 bytes) }) (drop (4 + packet_length bytes) bytes) fault faulty in
+    record {
+      header = ltb-false _ _ tests.0;
+      which = elim (tests.1) [
+        | inl other ↦ inl (nat_eq-false _ _ (not-true _ other.0), sym other.1)
+        | inr large ↦ inr (nat_eq-true _ _ (not-false _ large.0), ltb-true _ _ large.1, sym large.2)
+      ];
+    }
 
 pub first_packet-fault : (limit announced id : ℕ) (bytes : List ℕ) (fault : FrameFault) → FaultAt limit announced id bytes fault → first_packet limit announced id bytes ≡ Faulty fault
 first_packet-fault limit announced id bytes fault at = elim at.which [

@@ -36,11 +36,11 @@ packet_id bytes = slice_index_or bytes 3 0
 -- so many bytes
 abbrev pub first_packet : (limit announced id : ℕ) → List ℕ → Found
 first_packet limit announced id bytes =
-  if nat_lt (length bytes) 4 then Nothing
-  else if not (nat_eq (packet_id bytes) id) then Faulty (OutOfOrder id (packet_id bytes))
-  else if nat_lt limit (announced + packet_length bytes) then Faulty (TooLarge (announced + packet_length bytes))
-  else if nat_lt (length bytes) (4 + packet_length bytes) then Nothing
-  else Whole (record { first = id; last = id; payload = take (packet_length bytes) (drop 4 bytes) }) (drop (4 + packet_length bytes) bytes)
+    if nat_lt (length bytes) 4 then Nothing
+    else if not (nat_eq (packet_id bytes) id) then Faulty (OutOfOrder id (packet_id bytes))
+    else if nat_lt limit (announced + packet_length bytes) then Faulty (TooLarge (announced + packet_length bytes))
+    else if nat_lt (length bytes) (4 + packet_length bytes) then Nothing
+    else Whole (record { first = id; last = id; payload = take (packet_length bytes) (drop 4 bytes) }) (drop (4 + packet_length bytes) bytes)
 
 -- a packet and the message that its other packets are
 abbrev pub begun : Framed → Found → Found
@@ -61,7 +61,7 @@ continued packet rest others = if nat_eq (length packet.payload) longest then be
 abbrev pub message_within : (packets limit announced id : ℕ) → List ℕ → Found
 message_within zero limit announced id bytes = Nothing
 message_within (suc packets) limit announced id bytes =
-  and_then (first_packet limit announced id bytes) (λ packet rest.
+    and_then (first_packet limit announced id bytes) (λ packet rest.
     continued packet rest (message_within packets limit (announced + longest) (next_id id) rest))
 
 -- the message that the bytes begin with; its first packet's id has to be `first`, and its length at most `limit`
@@ -113,9 +113,9 @@ id_behind first payload = (first + length payload / longest + 1) % 256
 abbrev pub id_within : (packets last : ℕ) → List ℕ → ℕ
 id_within zero last bytes = last
 id_within (suc packets) last bytes =
-  if nat_lt (length bytes) 4 then last
-  else if nat_eq (packet_length bytes) longest then id_within packets (next_id (packet_id bytes)) (drop (4 + longest) bytes)
-  else next_id (packet_id bytes)
+    if nat_lt (length bytes) 4 then last
+    else if nat_eq (packet_length bytes) longest then id_within packets (next_id (packet_id bytes)) (drop (4 + longest) bytes)
+    else next_id (packet_id bytes)
 
 unfoldable pub id_from : (last : ℕ) → List ℕ → ℕ
 id_from last bytes = id_within (length bytes) last bytes

@@ -1,11 +1,11 @@
 -- What is read as a message is the one spelling of its payload.
-use Rattle.std.specs.Prelude.{◌≡◌, ◌⊎◌, ◌≤◌, ◌<◌, ◌≢◌, ℕ, zero, suc, ◌+◌, ◌-◌, ◌*◌, ◌/◌, ◌%◌, Bool, true, false, nat_eq, List, [], ◌∷◌, ◌++◌, length, take, drop, slice_index_or, Option, Some, None, refl}
+use Rattle.std.specs.Prelude.{◌≡◌, ◌≤◌, ◌<◌, ℕ, zero, suc, ◌+◌, ◌*◌, ◌/◌, ◌%◌, true, false, nat_eq, List, [], ◌∷◌, ◌++◌, length, take, drop}
 use Rattle.std.proofs.Common.{◌∙◌, sym, ap, subst, inl, inr, arith, length-append, length-drop, append_assoc}
 use Rattle.std.proofs.Math.Seq.{take-append_seam, drop-append_seam, drop-append-add}
 use Rattle.std.proofs.lemmas.List.{length-take-le, take-append-drop, get_or-drop}
-use Rattle.mx_base.specs.Fields.{little_endian, AreBytes}
-use Rattle.packet_frame.specs.Packets.{Framed, Found, first_packet, packet_length, packet_id, continued, message_within, first_message, next_id, longest, packet, packets, spelling, id_within}
-use Rattle.packet_frame.specs.Packets.Found.{Nothing, Whole, Faulty}
+use Rattle.mx_base.specs.Fields.{AreBytes}
+use Rattle.packet_frame.specs.Packets.{Framed, first_packet, packet_length, packet_id, continued, message_within, first_message, next_id, longest, packet, packets, spelling}
+use Rattle.packet_frame.specs.Packets.Found.{Whole}
 use Rattle.packet_frame.specs.PacketLaws.{PacketAt, first_packet-whole, nat_eq-true, nat_eq-false}
 use Rattle.packet_frame.specs.MessageLaws.{and_then-whole, chosen-whole}
 
@@ -31,7 +31,7 @@ packet_spelled (a ∷ b ∷ c ∷ i ∷ tail) are header there =
     let size : length (take n tail) ≡ n = length-take-le n tail (omega arith) in
     let parts = three_bytes a b c (length (take n tail)) (are 0) (are 1) (are 2) (size ∙ first_three a b c i tail) in
     four_cells a b c (length (take n tail) % 256) (length (take n tail) / 256 % 256) (length (take n tail) / 65536) i tail (take n tail) (drop n tail) (drop (4 + n) (a ∷ b ∷ c ∷ i ∷ tail))
-      parts.0 parts.1 parts.2 (take-append-drop n tail) (drop-append-add (a ∷ b ∷ c ∷ i ∷ []) tail n)
+    parts.0 parts.1 parts.2 (take-append-drop n tail) (drop-append-add (a ∷ b ∷ c ∷ i ∷ []) tail n)
 
 pub packet_length-most : (bytes : List ℕ) → AreBytes bytes → packet_length bytes ≤ longest
 packet_length-most [] are = omega arith
@@ -58,7 +58,7 @@ spelled-last id bytes one message behind rest first spelled most shorter same al
     subst (λ m. IsSpelled id bytes m rest) same (subst (IsSpelled id bytes one) also is)
 
 spelled-more : (id : ℕ) (bytes : List ℕ) (one next message : Framed) (behind rest : List ℕ) → one.first ≡ id → bytes ≡ packet id one.payload ++ behind → nat_eq (length one.payload) longest ≡ true → message ≡ record { first = one.first; last = next.last; payload = one.payload ++ next.payload }
-  → behind ≡ packets (length next.payload / longest) (next_id id) next.payload ++ rest → IsSpelled id bytes message rest
+    → behind ≡ packets (length next.payload / longest) (next_id id) next.payload ++ rest → IsSpelled id bytes message rest
 spelled-more id bytes one next message behind rest first spelled long is others =
     let longer = spelled-longer id one.payload next.payload (nat_eq-true _ _ long) in
     subst (λ m. IsSpelled id bytes m rest) (sym is) (record {
@@ -88,8 +88,8 @@ within-spelled (suc count) limit announced id bytes message rest are whole =
     elim (chosen-whole (nat_eq (length one.payload) longest) one message behind rest (message_within count limit (announced + longest) (next_id id) behind) begins.3) [
       | inl last ↦ spelled-last id bytes one message behind rest first spelled.0 spelled.1 last.0 last.1 last.2
       | inr long ↦
-        let others = within-spelled count limit (announced + longest) (next_id id) behind long.1 rest spelled.2 long.2 in
-        spelled-more id bytes one long.1 message behind rest first spelled.0 long.0 long.3 others.spelled
+          let others = within-spelled count limit (announced + longest) (next_id id) behind long.1 rest spelled.2 long.2 in
+          spelled-more id bytes one long.1 message behind rest first spelled.0 long.0 long.3 others.spelled
     ]
 
 pub first_message-spelled : (limit first : ℕ) (bytes : List ℕ) (message : Framed) (rest : List ℕ) → AreBytes bytes → first_message limit first bytes ≡ Whole message rest → (message.first ≡ first) × (bytes ≡ spelling first message.payload ++ rest)

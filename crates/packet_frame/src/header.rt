@@ -24,11 +24,7 @@ pub(crate) fn header_of(bytes: &[u8]) -> Option<Header>
 }
 
 /// The message of one packet that the bytes begin with.
-pub(crate) fn message_of(
-    limit: u64,
-    first: u8,
-    bytes: &[u8],
-) -> Result<Option<Message>, FrameFault>
+pub(crate) fn message_of(limit: u64, first: u8, bytes: &[u8]) -> Result<Option<Message>, FrameFault>
     requires { limit < longest }
     ensures { result ≡ answer (first_packet limit 0 first bytes.now) }
 {

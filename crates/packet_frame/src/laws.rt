@@ -9,5 +9,4 @@ ghost use Rattle.packet_frame.specs.Packets.Found.{Whole};
 pub fn one_spelling()
     ensures again { (limit first : ℕ) (payload rest : List ℕ) → first < 256 → length payload ≤ limit → first_message limit first (spelling first payload ++ rest) ≡ Whole (record { first = first; last = (first + length payload / longest) % 256; payload = payload }) rest }
     ensures only { (limit first : ℕ) (bytes : List ℕ) (message : Framed) (rest : List ℕ) → AreBytes bytes → first_message limit first bytes ≡ Whole message rest → (message.first ≡ first) × (bytes ≡ spelling first message.payload ++ rest) }
-{
-}
+{}

@@ -8,10 +8,9 @@ mod header;
 mod laws;
 mod message;
 mod pieces;
-mod write;
-
 #[cfg(test)]
 mod tests;
+mod write;
 
 pub use fault::FrameFault;
 pub use framer::Framer;

@@ -13,7 +13,13 @@ fn finds_by_the_first_header(rt: HostRuntime) -> Result<(), Fail> {
         (&DO_1, 0, found, 0, 1),
         (&DO_1[..8], 0, Ok(None), 1, 1),
         (&DO_1[..3], 0, Ok(None), 0, 0),
-        (&[1, 4, 0, 0], 0, Err(FrameFault::TooLarge { length: 1_025 }), 1_025, 1),
+        (
+            &[1, 4, 0, 0],
+            0,
+            Err(FrameFault::TooLarge { length: 1_025 }),
+            1_025,
+            1,
+        ),
         (
             &[1, 4, 0, 0],
             1,
@@ -24,7 +30,16 @@ fn finds_by_the_first_header(rt: HostRuntime) -> Result<(), Fail> {
             1_025,
             1,
         ),
-        (&[0, 0, 0, 255], 255, Ok(Some(Message { last: 255, length: 0 })), 0, 0),
+        (
+            &[0, 0, 0, 255],
+            255,
+            Ok(Some(Message {
+                last: 255,
+                length: 0,
+            })),
+            0,
+            0,
+        ),
     ];
     for (bytes, first, want, announced, id) in cases {
         let mut framer = Framer::new(rt.alloc(), 1_024);
@@ -53,7 +68,13 @@ fn drops_what_is_done(rt: HostRuntime) -> Result<(), Fail> {
         framer.done();
     }
     assert_eq!(rt; framer.kept(), 4);
-    assert_eq!(rt; framer.next(255), Ok(Some(Message { last: 255, length: 0 })));
+    assert_eq!(rt;
+        framer.next(255),
+        Ok(Some(Message {
+            last: 255,
+            length: 0
+        }))
+    );
     one_spelling();
     Ok(())
 }

@@ -1,4 +1,4 @@
-use Rattle.std.proofs.Common.{sym, ◌∙◌}
+use Rattle.std.proofs.Common.{◌∙◌}
 use Rattle.packet_frame.proofs.Across.{number-behind}
 use Rattle.packet_frame.proofs.answer_id.byte_across.Goals as goal
 

@@ -1,4 +1,4 @@
-use Rattle.std.proofs.Common.{◌≡◌, ℕ, ap, arith}
+use Rattle.std.proofs.Common.{◌≡◌, ap, arith}
 use Rattle.packet_frame.specs.Packets.{packet_length, packet_id}
 use Rattle.packet_frame.specs.declared.header.Header.{Header}
 use Rattle.packet_frame.proofs.Finding.{answer-whole}

@@ -15,7 +15,7 @@ loop-piece-preserved c =
     let bytes : List ℕ = joined (take c.loop-piece.piece-index c.args.pieces.now) in
     let fed = all-fed c.args.limit c.args.first bytes c.as_slice.result.now c.loop-piece.payloads.items c.loop-piece.fault c.loop-piece.framer c.feed.new.self c.in_ok-feed.ensures.ok at in
     let more : joined (take (c.loop-piece.piece-index + 1) c.args.pieces.now) ≡ bytes ++ c.as_slice.result.now =
-      joined-next c.args.pieces.now c.loop-piece.piece-index c.piece-item.result c.loop-piece-test.true ∙ ap (λ (xs : List ℕ). bytes ++ xs) (sym (c.as_slice.ensures ∙ c.piece-item.is)) in
+    joined-next c.args.pieces.now c.loop-piece.piece-index c.piece-item.result c.loop-piece-test.true ∙ ap (λ (xs : List ℕ). bytes ++ xs) (sym (c.as_slice.ensures ∙ c.piece-item.is)) in
     let all : AllTaken c.args.limit c.args.first (bytes ++ c.as_slice.result.now) c.take_messages.new.payloads.items c.in_ok-fault.fault c.take_messages.new.framer = record {
       same = c.take_messages.ensures.same ∙ ap (λ (s : FramerState). s.limit) c.in_ok-feed.ensures.ok ∙ at.same;
       part = c.in_ok-fault.ensures.part (split c.args.limit c.args.first (bytes ++ c.as_slice.result.now)) fed;
@@ -28,10 +28,10 @@ pub returns-clause-payloads : goal.returns-clause-payloads
 returns-clause-payloads c =
     let whole : take c.loop-piece.piece-index c.args.pieces.now ≡ c.args.pieces.now = take_all c.loop-piece.piece-index c.args.pieces.now c.loop-piece-test.false in
     subst (λ (pieces : List (List ℕ)). c.loop-piece.payloads.items ≡ map payload_of (split c.args.limit c.args.first (joined pieces)).messages) whole
-      (all-payloads c.args.limit c.args.first (joined (take c.loop-piece.piece-index c.args.pieces.now)) c.loop-piece.payloads.items c.loop-piece.fault c.loop-piece.framer c.loop-piece.invariant)
+    (all-payloads c.args.limit c.args.first (joined (take c.loop-piece.piece-index c.args.pieces.now)) c.loop-piece.payloads.items c.loop-piece.fault c.loop-piece.framer c.loop-piece.invariant)
 
 pub returns-clause-fault : goal.returns-clause-fault
 returns-clause-fault c =
     let whole : take c.loop-piece.piece-index c.args.pieces.now ≡ c.args.pieces.now = take_all c.loop-piece.piece-index c.args.pieces.now c.loop-piece-test.false in
     subst (λ (pieces : List (List ℕ)). c.loop-piece.fault ≡ (split c.args.limit c.args.first (joined pieces)).fault) whole
-      (all-fault c.args.limit c.args.first (joined (take c.loop-piece.piece-index c.args.pieces.now)) c.loop-piece.payloads.items c.loop-piece.fault c.loop-piece.framer c.loop-piece.invariant)
+    (all-fault c.args.limit c.args.first (joined (take c.loop-piece.piece-index c.args.pieces.now)) c.loop-piece.payloads.items c.loop-piece.fault c.loop-piece.framer c.loop-piece.invariant)

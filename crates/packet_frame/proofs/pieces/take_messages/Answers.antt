@@ -1,7 +1,5 @@
-use Rattle.std.proofs.Common.{◌+◌, length, drop, ◌≡◌, ◌++◌, ◌∷◌, [], ap, ◌∙◌, Ok, Some, None, Result, Option, arith}
-use Rattle.packet_frame.specs.declared.fault.FrameFault.{FrameFault}
-use Rattle.packet_frame.specs.declared.message.Message.{Message}
-use Rattle.packet_frame.specs.FramerState.{FramerState, look, seen}
+use Rattle.std.proofs.Common.{◌+◌, length, drop, ◌≡◌, ◌++◌, ◌∷◌, [], ap, ◌∙◌, Ok, None, arith}
+use Rattle.packet_frame.specs.FramerState.{FramerState, look}
 use Rattle.packet_frame.proofs.Taking.{seen-limit, seen-kept, taken-looked, looked-none, looked-fault, looked-message, taken-done, taken-shorter}
 use Rattle.packet_frame.proofs.pieces.take_messages.Goals as goal
 
@@ -40,6 +38,6 @@ loop-payloads-preserved c =
       short = rw limit c.loop-payloads.invariant.short;
       same = limit ∙ c.loop-payloads.invariant.same;
       part = λ all was. taken-done c.args.first all c.loop-payloads.payloads.items c.push.new.self.items ready.0 c.next.new.self c.done.new.self ready.1
-        (c.in_ok-push-in-Ok-Some.ensures.items ∙ ap (λ x. c.loop-payloads.payloads.items ++ x ∷ []) (c.in_ok-from_slice-in-Ok-Some.ensures ∙ payload)) done
-        (taken-looked c.args.first all c.loop-payloads.payloads.items c.loop-payloads.framer c.next.new.self c.next.ensures.after (c.loop-payloads.invariant.part all was));
+          (c.in_ok-push-in-Ok-Some.ensures.items ∙ ap (λ x. c.loop-payloads.payloads.items ++ x ∷ []) (c.in_ok-from_slice-in-Ok-Some.ensures ∙ payload)) done
+          (taken-looked c.args.first all c.loop-payloads.payloads.items c.loop-payloads.framer c.next.new.self c.next.ensures.after (c.loop-payloads.invariant.part all was));
     }

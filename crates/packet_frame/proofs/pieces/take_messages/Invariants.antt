@@ -7,7 +7,7 @@ abbrev pub invariant-loop-payloads : goal.invariant-loop-payloads
 invariant-loop-payloads l = record {
   short : l.framer.limit < longest;
   same : l.framer.limit ≡ l.initial.framer.limit;
-  part : (all : Split) → IsTaken l.first all l.initial.payloads.items l.initial.framer → IsTaken l.first all l.payloads.items l.framer
+  part : (all : Split) → IsTaken l.first all l.initial.payloads.items l.initial.framer → IsTaken l.first all l.payloads.items l.framer;
 }
 
 abbrev pub decreases-loop-payloads : goal.decreases-loop-payloads

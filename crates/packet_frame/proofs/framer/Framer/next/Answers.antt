@@ -1,7 +1,7 @@
-use Rattle.std.proofs.Common.{◌≡◌, Ok, Err, None, refl, ◌∙◌, sym, ap}
+use Rattle.std.proofs.Common.{refl, ◌∙◌, sym, ap}
 use Rattle.packet_frame.specs.Packets.{first_packet}
-use Rattle.packet_frame.specs.FramerState.{framed, answer, seen}
-use Rattle.packet_frame.proofs.Finding.{Looked, looked, looked-found, looked-after, faulted}
+use Rattle.packet_frame.specs.FramerState.{framed, answer}
+use Rattle.packet_frame.proofs.Finding.{looked, looked-found, looked-after, faulted}
 use Rattle.packet_frame.proofs.framer.Framer.next.Goals as goal
 
 pub invariant_of-self-in-Ok : goal.invariant_of-self-in-Ok
