@@ -31,7 +31,7 @@ looked_at limit first bytes (Whole one rest) message is same =
     let here : Some (record { last = first; length = packet_length bytes }) ≡ message = cc (ap (λ (m : Framed). m.last) at.is, size, same) in
     subst (λ (m : Option Message). Looked limit first bytes m (Whole one rest)) here (record {
       stays = (omega (arith, at.allowed), at.there);
-      found = cc (ap (λ (m : Framed). m.last) at.is, size);
+      found = cc;
       after = λ was. cc (at.is);
     })
 looked_at limit first bytes (Faulty fault) message is same = absurd (cc)
