@@ -15,14 +15,15 @@ pub enum Field {
     Bad,
 }
 
-/// The byte at a place, None where that is past the end.
+/// The byte at a place, None where that is past the end (client/server protocol, "Protocol::FixedLengthInteger").
 pub fn get_u8(bytes: &[u8], at: usize) -> Option<u8>
     ensures { result ≡ number_at 1 at bytes.now }
 {
     bytes.get(at).copied()
 }
 
-/// The little-endian number of 2 bytes at a place, None where it runs past the end.
+/// The little-endian number of 2 bytes at a place, None exactly where it runs past the end (client/server
+/// protocol, "Protocol::FixedLengthInteger").
 pub fn get_u16(bytes: &[u8], at: usize) -> Option<u16>
     ensures { result ≡ number_at 2 at bytes.now }
 {
@@ -31,7 +32,8 @@ pub fn get_u16(bytes: &[u8], at: usize) -> Option<u16>
     Some(low as u16 + 256 * high as u16)
 }
 
-/// The little-endian number of 3 bytes at a place, None where it runs past the end.
+/// The little-endian number of 3 bytes at a place, None exactly where it runs past the end (client/server
+/// protocol, "Protocol::FixedLengthInteger").
 pub fn get_u24(bytes: &[u8], at: usize) -> Option<u32>
     ensures { result ≡ number_at 3 at bytes.now }
 {
@@ -40,7 +42,8 @@ pub fn get_u24(bytes: &[u8], at: usize) -> Option<u32>
     Some(low as u32 + 65_536 * high as u32)
 }
 
-/// The little-endian number of 4 bytes at a place, None where it runs past the end.
+/// The little-endian number of 4 bytes at a place, None exactly where it runs past the end (client/server
+/// protocol, "Protocol::FixedLengthInteger").
 pub fn get_u32(bytes: &[u8], at: usize) -> Option<u32>
     ensures { result ≡ number_at 4 at bytes.now }
 {
@@ -49,7 +52,8 @@ pub fn get_u32(bytes: &[u8], at: usize) -> Option<u32>
     Some(low as u32 + 65_536 * high as u32)
 }
 
-/// The little-endian number of 8 bytes at a place, None where it runs past the end.
+/// The little-endian number of 8 bytes at a place, None exactly where it runs past the end (client/server
+/// protocol, "Protocol::FixedLengthInteger").
 pub fn get_u64(bytes: &[u8], at: usize) -> Option<u64>
     ensures { result ≡ number_at 8 at bytes.now }
 {
@@ -58,8 +62,9 @@ pub fn get_u64(bytes: &[u8], at: usize) -> Option<u64>
     Some(low as u64 + 4_294_967_296 * high as u64)
 }
 
-/// The length-encoded number at a place: a byte below 0xFB is the number; 0xFC, 0xFD and 0xFE stand before one
-/// of 2, 3 and 8 bytes. Short where that runs past the end, Null exactly at 0xFB, Bad exactly at 0xFF.
+/// The length-encoded number at a place (client/server protocol, "Protocol::LengthEncodedInteger"): a byte below
+/// 0xFB is the number; 0xFC, 0xFD and 0xFE stand before one of 2, 3 and 8 bytes. Short exactly where that runs past
+/// the end, Null exactly at 0xFB, Bad exactly at 0xFF.
 pub fn get_lenenc(bytes: &[u8], at: usize) -> Field
     ensures { result ≡ lenenc_at at bytes.now }
 {

@@ -16,7 +16,8 @@ pub struct Payloads {
 }
 
 /// The payloads of the messages of at most `limit` bytes, each of which begins with the sequence id `first`, in
-/// bytes that come in these pieces. They are those of the joined bytes, wherever the pieces were cut.
+/// bytes that come in these pieces (client/server protocol, "MySQL Packets"). They are those of the joined bytes,
+/// wherever the pieces were cut. OutOfMemory where memory is refused.
 pub fn payloads_of(
     alloc: Global,
     limit: u64,
