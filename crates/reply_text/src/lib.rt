@@ -1,2 +1,11 @@
-//! To be written.
+//! Replies of the client/server protocol that the router writes itself, and those that it knows by one payload.
 #![tactic(auto)]
+
+mod err;
+mod lone;
+
+pub use err::write_err;
+pub use lone::is_lone_reply;
+
+#[cfg(test)]
+mod tests;

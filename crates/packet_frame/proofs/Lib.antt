@@ -1,0 +1,5 @@
+pub mod Across
+pub mod Finding
+pub mod Spelt
+pub mod Taking
+pub mod Worked
