@@ -1,0 +1,4 @@
+pub mod Fields
+pub mod Line
+pub mod Recording
+pub mod Transcript

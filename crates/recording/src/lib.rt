@@ -2,5 +2,9 @@
 #![tactic(auto)]
 
 mod entry;
+mod fault;
+mod peer;
+mod word;
 
 pub use entry::{RecordEntry, RecordLink};
+pub use fault::{RecordFault, RecordRefusal};
