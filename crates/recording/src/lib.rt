@@ -1,10 +1,16 @@
 //! Recordings of what a wire is to answer, and transcripts of what was written on it.
 #![tactic(auto)]
 
+mod arrivals;
 mod entry;
 mod fault;
+mod link_text;
+mod log_text;
 mod peer;
+mod places;
+mod text;
 mod word;
 
 pub use entry::{RecordEntry, RecordLink};
 pub use fault::{RecordFault, RecordRefusal};
+pub use log_text::transcript;
