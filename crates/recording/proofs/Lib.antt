@@ -1,2 +1,3 @@
+pub mod FieldSteps
 pub mod PlaceSteps
 pub mod RunSteps

@@ -5,3 +5,4 @@ pub mod Pieces
 pub mod Places
 pub mod Recording
 pub mod Transcript
+pub mod Refusal

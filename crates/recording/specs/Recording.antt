@@ -15,12 +15,12 @@ use Rattle.recording.specs.declared.fault.RecordFault.{RecordFault}
 
 -- what the lines so far leave: the moment of the last `at`, how many clients were accepted, and the links on
 -- which `end` or `fail` stood
-pub record Progress : Type 0 where
+pub record Standing : Type 0 where
   pub moment : Option ℕ
   pub clients : ℕ
   pub ended : List RecordLink
 
-abbrev pub nothing_yet : Progress
+abbrev pub nothing_yet : Standing
 nothing_yet = record { moment = None; clients = 0; ended = [] }
 
 abbrev pub same_link : RecordLink → RecordLink → Bool
@@ -30,11 +30,11 @@ same_link (Client n) (Server j) = false
 same_link (Server k) (Client m) = false
 
 -- a client's link can be named once it is accepted; a server's link needs no earlier line
-abbrev pub is_known : Progress → RecordLink → Bool
+abbrev pub is_known : Standing → RecordLink → Bool
 is_known before (Client n) = nat_le n before.clients
 is_known before (Server k) = true
 
-abbrev pub has_ended : Progress → RecordLink → Bool
+abbrev pub has_ended : Standing → RecordLink → Bool
 has_ended before link = list_any (same_link link) before.ended
 
 abbrev pub falls : Option ℕ → ℕ → Bool
@@ -42,7 +42,7 @@ falls None ms = false
 falls (Some last) ms = nat_lt ms last
 
 -- the line names a client out of order, a client that isn't accepted, or what an ended link can't do
-abbrev pub names_wrong_link : Progress → RecordEntry → Bool
+abbrev pub names_wrong_link : Standing → RecordEntry → Bool
 names_wrong_link before (Accept n port salt) = not (n == before.clients + 1)
 names_wrong_link before (Bytes link bytes) = not (is_known before link) || has_ended before link
 names_wrong_link before (End link) = not (is_known before link) || has_ended before link
@@ -54,7 +54,7 @@ abbrev pub kind_if : Bool → Kind → Option Kind
 kind_if b kind = if b then Some kind else None
 
 -- a line among the lines before it
-unfoldable pub misplaced : Progress → RecordEntry → Option Kind
+unfoldable pub misplaced : Standing → RecordEntry → Option Kind
 misplaced before (At ms) = kind_if (falls before.moment ms) MomentFell
 misplaced before entry = if is_none before.moment then Some BeforeFirstAt else kind_if (names_wrong_link before entry) WrongLink
 
@@ -78,10 +78,10 @@ first_of (Some kind) later = Some kind
 first_of None later = later
 
 -- the lowest kind of fault of a line that says this
-abbrev pub fault_of : Progress → ℕ → ℕ → RecordEntry → Option Kind
+abbrev pub fault_of : Standing → ℕ → ℕ → RecordEntry → Option Kind
 fault_of before number end entry = first_of (misplaced before entry) (first_of (kind_if (passes_bounds number end) TooLong) (kind_if (is_later entry) NotYet))
 
-unfoldable pub after : Progress → RecordEntry → Progress
+unfoldable pub after : Standing → RecordEntry → Standing
 after before (At ms) = record before { moment = Some ms }
 after before (Accept n port salt) = record before { clients = n }
 after before (End link) = record before { ended = link ∷ before.ended }
@@ -97,12 +97,12 @@ abbrev pub unless_fault : Option Kind → Option RecordEntry → Result (Option 
 unless_fault (Some kind) entry = Err kind
 unless_fault None entry = Ok entry
 
-abbrev pub checked : Progress → ℕ → ℕ → Result RecordEntry Kind → Result (Option RecordEntry) Kind
+abbrev pub checked : Standing → ℕ → ℕ → Result RecordEntry Kind → Result (Option RecordEntry) Kind
 checked before number end (Err kind) = Err kind
 checked before number end (Ok entry) = unless_fault (fault_of before number end entry) (Some entry)
 
 -- the entry of a line, none where it is skipped, or the lowest kind of its faults
-unfoldable pub line_of : Progress → ℕ → ℕ → List ℕ → Result (Option RecordEntry) Kind
+unfoldable pub line_of : Standing → ℕ → ℕ → List ℕ → Result (Option RecordEntry) Kind
 line_of before number end line =
     if is_skipped line then unless_fault (kind_if (passes_bounds number end) TooLong) None
     else checked before number end (said (fields line))
@@ -127,22 +127,27 @@ Said = Result (List RecordEntry) RecordFault
 pub record Reading : Type 0 where
   pub lines : ℕ
   pub bytes : ℕ
-  pub progress : Progress
+  pub standing : Standing
   pub entries : List RecordEntry
 
 abbrev pub at_start : Reading
-at_start = record { lines = 0; bytes = 0; progress = nothing_yet; entries = [] }
+at_start = record { lines = 0; bytes = 0; standing = nothing_yet; entries = [] }
 
-abbrev pub with_line : Reading → ℕ → Result (Option RecordEntry) Kind → Result Reading RecordFault
+-- what a line leaves and adds
+abbrev pub taken : Standing → List RecordEntry → Result (Option RecordEntry) Kind → Result (Standing × List RecordEntry) Kind
+taken before entries (Err kind) = Err kind
+taken before entries (Ok None) = Ok (before, entries)
+taken before entries (Ok (Some entry)) = Ok (after before entry, entries ++ entry ∷ [])
+
+abbrev pub with_line : Reading → ℕ → Result (Standing × List RecordEntry) Kind → Result Reading RecordFault
 with_line read end (Err kind) = Err (fault_at (read.lines + 1) kind)
-with_line read end (Ok None) = Ok (record read { lines = read.lines + 1; bytes = end })
-with_line read end (Ok (Some entry)) = Ok (record { lines = read.lines + 1; bytes = end; progress = after read.progress entry; entries = read.entries ++ entry ∷ [] })
+with_line read end (Ok now) = Ok (record { lines = read.lines + 1; bytes = end; standing = now.0; entries = now.1 })
 
 -- one more line, which a line feed ends
 unfoldable pub line_read : Reading → List ℕ → Result Reading RecordFault
 line_read read line =
     let end = read.bytes + length line + 1 in
-    with_line read end (line_of read.progress (read.lines + 1) end line)
+    with_line read end (taken read.standing read.entries (line_of read.standing (read.lines + 1) end line))
 
 -- the lines that are left; behind the last line feed stands nothing
 abbrev pub lines_read : Result Reading RecordFault → List (List ℕ) → Said

@@ -44,9 +44,20 @@ pub enum RecordRefusal {
     OutOfMemory,
 }
 
-impl From<OutOfMemory> for RecordRefusal {
+/// Why a line gives no entry.
+#[derive(Clone, Copy, Debug, PartialEq, Eq)]
+pub(crate) enum LineRefusal {
+    Kind(Kind),
+    OutOfMemory,
+}
+
+impl From<OutOfMemory> for LineRefusal {
+    ghost use Rattle.recording.specs.declared.fault.LineRefusal.TheVariants as line;
+
+    ghost from_gives = { λ _ refusal. refusal ≡ line.OutOfMemory };
+
     fn from(_: OutOfMemory) -> Self {
-        RecordRefusal::OutOfMemory
+        LineRefusal::OutOfMemory
     }
 }
 

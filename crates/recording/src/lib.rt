@@ -4,6 +4,8 @@
 mod arrivals;
 mod entry;
 mod fault;
+mod fields;
+mod line;
 mod link_text;
 mod log_text;
 mod peer;
