@@ -65,7 +65,7 @@ digit_at digits i all inside = elim (cases_Bool (is_digit (get_or digits i 0))) 
   | inr other ↦ absurd (both_ways (list_all is_digit digits) (list_all_at is_digit digits i 0 inside other) all)
 ]
 
-some_cons : (p : ℕ → Bool) (xs : List ℕ) → (first : List ℕ) × (rest : List (List ℕ)) × (slice_split p xs ≡ first ∷ rest)
+pub some_cons : (p : ℕ → Bool) (xs : List ℕ) → (first : List ℕ) × (rest : List (List ℕ)) × (slice_split p xs ≡ first ∷ rest)
 some_cons p [] = ([], [], refl)
 some_cons p (x ∷ xs) = elim (cases_Bool (p x)) [
   | inl here ↦ ([], slice_split p xs, slice_split-cons_yes p x xs here)
@@ -75,3 +75,14 @@ some_cons p (x ∷ xs) = elim (cases_Bool (p x)) [
 -- a field before others
 pub one_more : (field line : List ℕ) → None ≡ one (field ∷ fields line)
 one_more field line = let more = some_cons is_blank line in rw more.2 refl
+
+-- the place of a cut is in the list
+found_at : (p : ℕ → Bool) (xs : List ℕ) (at : ℕ) (b : Bool) → nat_lt (position_or_len p xs) (length xs) ≡ b → Some at ≡ cond b (Some (position_or_len p xs)) None → at < length xs
+found_at p xs at false is some = cc
+found_at p xs at true is some =
+    let here : at ≡ position_or_len p xs = cc in
+    let inside = ltb-true (position_or_len p xs) (length xs) is in
+    omega arith
+
+pub found_inside : (p : ℕ → Bool) (xs : List ℕ) (at : ℕ) → Some at ≡ position p xs → at < length xs
+found_inside p xs at some = found_at p xs at (nat_lt (position_or_len p xs) (length xs)) refl some

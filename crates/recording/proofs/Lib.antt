@@ -1,3 +1,4 @@
 pub mod FieldSteps
+pub mod LineSteps
 pub mod PlaceSteps
 pub mod RunSteps

@@ -1,5 +1,6 @@
 -- What a reader answered, beside what there is to read.
-use Rattle.std.specs.Prelude.{◌≡◌, Result, Ok, Err}
+use Rattle.std.specs.Prelude.{◌≡◌, ℕ, Result, Ok, Err}
+use Rattle.recording.specs.Recording.{fault_at}
 use Rattle.recording.specs.declared.fault.Kind.{Kind}
 use Rattle.recording.specs.declared.fault.LineRefusal.{LineRefusal}
 use Rattle.recording.specs.declared.fault.LineRefusal.TheVariants as line
@@ -20,3 +21,8 @@ Gives (Err refusal) said = Refuses refusal said
 abbrev pub Faults : {X : Type 0} → RecordRefusal → Result X RecordFault → Type 0
 Faults (whole.Fault fault) said = said ≡ Err fault
 Faults whole.OutOfMemory said = Unit {0}
+
+-- what the refusal of the line of this number makes of the recording
+abbrev pub refused_at : ℕ → LineRefusal → RecordRefusal
+refused_at number (line.Kind kind) = whole.Fault (fault_at number kind)
+refused_at number line.OutOfMemory = whole.OutOfMemory

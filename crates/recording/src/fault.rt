@@ -3,7 +3,7 @@ ghost use Rattle.std.specs.Prelude.{◌≡◌};
 ghost use Rattle.recording.specs.Recording.{kind_number};
 
 use mx_base::OutOfMemory;
-use std::alloc::{AllocError, AllocFailed};
+use std::alloc::AllocFailed;
 
 /// What is wrong with a line. Of several the least decides.
 #[derive(Clone, Copy, Debug, PartialEq, Eq)]
@@ -61,15 +61,13 @@ impl From<OutOfMemory> for LineRefusal {
     }
 }
 
-impl From<AllocError> for RecordRefusal {
-    fn from(_: AllocError) -> Self {
-        RecordRefusal::OutOfMemory
-    }
-}
+impl<T: Drop> From<AllocFailed<T>> for LineRefusal {
+    ghost use Rattle.recording.specs.declared.fault.LineRefusal.TheVariants as line;
 
-impl<T: Drop> From<AllocFailed<T>> for RecordRefusal {
+    ghost from_gives = { λ _ refusal. refusal ≡ line.OutOfMemory };
+
     fn from(_: AllocFailed<T>) -> Self {
-        RecordRefusal::OutOfMemory
+        LineRefusal::OutOfMemory
     }
 }
 

@@ -10,9 +10,12 @@ mod link_text;
 mod log_text;
 mod peer;
 mod places;
+mod progress;
+mod read;
 mod text;
 mod word;
 
 pub use entry::{RecordEntry, RecordLink};
 pub use fault::{RecordFault, RecordRefusal};
 pub use log_text::transcript;
+pub use read::read_recording;
