@@ -1,11 +1,10 @@
 -- A recording, one line further.
-use Rattle.std.proofs.Common.{◌≡◌, ℕ, ◌+◌, ◌-◌, ◌<◌, ◌≤◌, List, [], ◌∷◌, length, take, drop, Option, Some, None, Result, Ok, Err, refl, sym, ap, ◌∙◌, arith, length-drop}
+use Rattle.std.proofs.Common.{◌≡◌, ℕ, ◌+◌, ◌-◌, ◌<◌, ◌≤◌, List, [], ◌∷◌, length, take, drop, Some, None, Ok, Err, refl, sym, ap, ◌∙◌, arith, length-drop}
 use Rattle.std.specs.Prelude.{position}
 use Rattle.std.specs.List.{slice_split}
 use Rattle.std.proofs.lemmas.List.{take_rest, length-take-le}
-use Rattle.recording.specs.Recording.{Standing, Reading, Said, at_start, nothing_yet, line_of, taken, with_line, line_read, lines_read, fault_at, is_line_feed, recording_of}
+use Rattle.recording.specs.Recording.{Standing, Reading, Said, nothing_yet, line_of, taken, with_line, line_read, lines_read, fault_at, is_line_feed, recording_of}
 use Rattle.recording.specs.declared.entry.RecordEntry.{RecordEntry}
-use Rattle.recording.specs.declared.fault.Kind.{Kind}
 use Rattle.recording.specs.declared.fault.Kind.TheVariants.{NoLineFeed}
 use Rattle.recording.specs.declared.fault.RecordFault.{RecordFault}
 use Rattle.recording.proofs.FieldSteps.{cut, uncut, some_cons, found_inside}
@@ -74,7 +73,7 @@ taken_line lines size before now entries more rest at total found whole is so_fa
     let inside = found_inside is_line_feed rest at found in
     let read : Reading = reading lines size before entries rest in
     let line : line_read read (take at rest) ≡ Ok (reading (lines + 1) size now more (behind at rest)) =
-        line_now lines size before entries rest at inside whole ∙ ap (with_line read (size - length (behind at rest))) is in
+    line_now lines size before entries rest at inside whole ∙ ap (with_line read (size - length (behind at rest))) is in
     ap (λ r. lines_read r (slice_split is_line_feed (behind at rest))) (sym line) ∙ sym (turn read rest at found) ∙ so_far
 
 stops : (fault : RecordFault) (lines : List (List ℕ)) → lines_read (Err fault) lines ≡ Err fault
@@ -90,7 +89,7 @@ refused_line lines size before entries rest at total (refusal.Kind kind) found w
     let inside = found_inside is_line_feed rest at found in
     let read : Reading = reading lines size before entries rest in
     let line : line_read read (take at rest) ≡ Err (fault_at (lines + 1) kind) =
-        line_now lines size before entries rest at inside whole ∙ ap (λ r. with_line read (size - length (behind at rest)) (taken before entries r)) is in
+    line_now lines size before entries rest at inside whole ∙ ap (λ r. with_line read (size - length (behind at rest)) (taken before entries r)) is in
     sym so_far ∙ turn read rest at found ∙ ap (λ r. lines_read r (slice_split is_line_feed (behind at rest))) line ∙ stops (fault_at (lines + 1) kind) (slice_split is_line_feed (behind at rest))
 refused_line lines size before entries rest at total refusal.OutOfMemory found whole is so_far = tt
 

@@ -1,20 +1,20 @@
 -- The lines of a link's runs, piece by piece.
-use Rattle.std.proofs.Common.{◌≡◌, ℕ, ◌+◌, ◌⊎◌, Bool, true, false, if◌then◌else◌, List, [], ◌∷◌, ◌++◌, Option, Some, None, refl, sym, ap, ◌∙◌, ◌<◌, length, drop, get_or, append_assoc, append-nil, inl, inr, arith}
+use Rattle.std.proofs.Common.{◌≡◌, ℕ, ◌+◌, Bool, true, false, if◌then◌else◌, List, [], ◌∷◌, ◌++◌, Option, Some, None, refl, sym, ap, ◌∙◌, ◌<◌, length, drop, get_or, append_assoc, append-nil, inl, inr}
 use Rattle.std.specs.Prelude.{codes, ◌||◌, slice_index, ◌/◌, ◌%◌}
 use Rattle.std.specs.List.{flat_map, list_any, slice_get, cons_option}
 use Rattle.std.specs.Option.{option_and_then, option_map_or}
 use Rattle.std.proofs.lemmas.Bool.{cases_Bool}
 use Rattle.std.proofs.lemmas.List.{at_drop_more}
-use Rattle.hex.specs.Hex.{encode_lower, encode_with, lower_digits}
+use Rattle.hex.specs.Hex.{encode_lower, encode_with}
 use Rattle.mx_base.specs.declared.names.LinkId.{LinkId}
 use Rattle.mx_base.specs.declared.tag.Tag.{Tag}
 use Rattle.mx_wire.specs.Log.{Log}
 use Rattle.mx_wire.specs.declared.entry.Entry.{Entry}
 use Rattle.mx_wire.specs.declared.entry.Entry.TheVariants.{Wrote}
-use Rattle.recording.specs.Transcript.{name, tag_text, same_tag, Run, joined, runs, run_line, is_closing, title, standing, link_lines}
+use Rattle.recording.specs.Transcript.{same_tag, Run, joined, runs, run_line, is_closing, title, standing, link_lines}
 use Rattle.recording.specs.Arrivals.{wrote, wrote_at, closes_at}
 use Rattle.recording.specs.Places.{entries_at}
-use Rattle.recording.specs.Pieces.{run_start, piece, line_end}
+use Rattle.recording.specs.Pieces.{run_start, piece}
 use Rattle.recording.specs.declared.peer.Peer.{Peer}
 
 closed_first : (o : Option Entry) (later : Log) → list_any is_closing (cons_option o later) ≡ (option_map_or is_closing o false || list_any is_closing later)
@@ -140,5 +140,5 @@ unfolding link_lines
 link_parts peer log places out named titled stood closed named-is titled-is closed-is stood-is =
     let lines : List ℕ = flat_map (run_line peer) (runs (entries_at log places)) in
     let before : stood ≡ out ++ codes "link " ++ title peer ++ standing (list_any is_closing (entries_at log places)) =
-        stood-is ∙ ap (λ b. titled ++ standing b) (closed-is ∙ sym (closing log places)) ∙ ap (λ xs. xs ++ standing (list_any is_closing (entries_at log places))) (titled-is ∙ ap (λ xs. xs ++ title peer) named-is) in
+    stood-is ∙ ap (λ b. titled ++ standing b) (closed-is ∙ sym (closing log places)) ∙ ap (λ xs. xs ++ standing (list_any is_closing (entries_at log places))) (titled-is ∙ ap (λ xs. xs ++ title peer) named-is) in
     ap (λ xs. xs ++ lines) before ∙ grouped out (codes "link ") (title peer) (standing (list_any is_closing (entries_at log places))) lines

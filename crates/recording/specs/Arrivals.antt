@@ -1,5 +1,5 @@
 -- Entry by entry: the links that come, counted, and what an entry has for the lines of its link.
-use Rattle.std.specs.Prelude.{ℕ, ◌+◌, Bool, true, false, List, [], ◌∷◌, if◌then◌else◌, Option, Some, None}
+use Rattle.std.specs.Prelude.{ℕ, ◌+◌, Bool, false, List, [], ◌∷◌, if◌then◌else◌, Option, Some, None}
 use Rattle.std.specs.Option.{option_and_then, option_map_or}
 use Rattle.std.specs.List.{slice_get}
 use Rattle.mx_base.specs.declared.names.LinkId.{LinkId}

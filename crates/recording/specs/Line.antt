@@ -1,8 +1,8 @@
 -- What a line of a recording says.
-use Rattle.std.specs.Prelude.{ℕ, ◌==◌, if◌then◌else◌, List, [], ◌∷◌, codes, Option, Some, None, Result, Ok, Err}
+use Rattle.std.specs.Prelude.{ℕ, if◌then◌else◌, List, [], ◌∷◌, codes, Option, Some, None, Result, Ok, Err}
 use Rattle.std.specs.Str.{bytes_eq}
 use Rattle.std.specs.Option.{option_map}
-use Rattle.recording.specs.Fields.{◌>>=◌, fields, one, two, three, number, ordinal, client, server, link, port, salt, some_bytes}
+use Rattle.recording.specs.Fields.{◌>>=◌, one, two, three, number, ordinal, client, server, link, port, salt, some_bytes}
 use Rattle.recording.specs.declared.entry.RecordEntry.{RecordEntry}
 use Rattle.recording.specs.declared.entry.RecordEntry.TheVariants as entry
 use Rattle.recording.specs.declared.fault.Kind.{Kind}

@@ -1,5 +1,5 @@
 -- What one more piece that was written adds to the lines of its link.
-use Rattle.std.specs.Prelude.{ℕ, if◌then◌else◌, List, [], ◌∷◌, ◌++◌, codes, Option, Some, None}
+use Rattle.std.specs.Prelude.{ℕ, if◌then◌else◌, List, [], ◌++◌, codes, Option, Some, None}
 use Rattle.hex.specs.Hex.{encode_lower}
 use Rattle.mx_base.specs.declared.tag.Tag.{Tag}
 use Rattle.recording.specs.Transcript.{name, tag_text, same_tag}

@@ -1,12 +1,11 @@
 -- What the bytes of a recording say, line by line, or the first line that is at fault.
-use Rattle.std.specs.Prelude.{ℕ, ◌+◌, ◌==◌, ◌&&◌, ◌||◌, not, nat_lt, nat_le, Bool, true, false, if◌then◌else◌, List, [], ◌∷◌, ◌++◌, length, Option, Some, None, is_none, Result, Ok, Err}
-use Rattle.std.specs.List.{slice_split, list_any, cons_option}
-use Rattle.mx_base.specs.declared.names.Port.{Port}
+use Rattle.std.specs.Prelude.{ℕ, ◌+◌, ◌==◌, ◌||◌, not, nat_lt, nat_le, Bool, true, false, if◌then◌else◌, List, [], ◌∷◌, ◌++◌, length, Option, Some, None, is_none, Result, Ok, Err}
+use Rattle.std.specs.List.{slice_split, list_any}
 use Rattle.mx_base.specs.declared.names.Port.TheVariants.{Traffic, Admin}
 use Rattle.recording.specs.Fields.{fields}
 use Rattle.recording.specs.Line.{said}
 use Rattle.recording.specs.declared.entry.RecordEntry.{RecordEntry}
-use Rattle.recording.specs.declared.entry.RecordEntry.TheVariants.{At, Accept, Bytes, End, Fail, Take, Refuse, Exec, Drop}
+use Rattle.recording.specs.declared.entry.RecordEntry.TheVariants.{At, Accept, Bytes, End, Fail, Take, Refuse, Drop}
 use Rattle.recording.specs.declared.entry.RecordLink.{RecordLink}
 use Rattle.recording.specs.declared.entry.RecordLink.TheVariants.{Client, Server}
 use Rattle.recording.specs.declared.fault.Kind.{Kind}

@@ -101,7 +101,11 @@ fn add_digit(value: u64, digit: u8) -> Option<u64>
 pub(crate) fn read_number(text: &[u8]) -> Option<u64>
     ensures { result ≡ number text.now }
 {
-    if is_decimal_text(text) { value_of(text) } else { None }
+    if is_decimal_text(text) {
+        value_of(text)
+    } else {
+        None
+    }
 }
 
 /// A number from 1 to 65,535.
@@ -110,7 +114,11 @@ pub(crate) fn read_ordinal(text: &[u8]) -> Option<u16>
     ensures { result ≡ ordinal text.now }
 {
     let n = read_number(text)?;
-    if 1 <= n && n <= 65535 { Some(n as u16) } else { None }
+    if 1 <= n && n <= 65535 {
+        Some(n as u16)
+    } else {
+        None
+    }
 }
 
 fn read_lettered(letter: u8, text: &[u8]) -> Option<u16>

@@ -19,3 +19,6 @@ pub use entry::{RecordEntry, RecordLink};
 pub use fault::{RecordFault, RecordRefusal};
 pub use log_text::transcript;
 pub use read::read_recording;
+
+#[cfg(test)]
+mod tests;

@@ -32,7 +32,11 @@ pub(crate) fn read_entry(alloc: Global, line: &[u8]) -> Result<RecordEntry, Line
 
 // The entry of a word and the fields behind it, where these are right.
 #[tactic(auto, unfolding(crate::specs::Line::meaning))]
-fn read_fields(alloc: Global, word: Word, rest: Option<&[u8]>) -> Result<Option<RecordEntry>, OutOfMemory>
+fn read_fields(
+    alloc: Global,
+    word: Word,
+    rest: Option<&[u8]>,
+) -> Result<Option<RecordEntry>, OutOfMemory>
     ensures { IfOk result (λ entry. entry ≡ meaning word (fields_left (option_copied rest.entry))) }
 {
     Ok(match word {

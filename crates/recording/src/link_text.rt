@@ -32,7 +32,11 @@ pub(crate) fn put_link(
 fn put_standing(out: &mut Bytes, closed: bool) -> Result<(), OutOfMemory>
     ensures { OnOk result (out.new ≡ out.old ++ standing closed) }
 {
-    if closed { out.append(b" closed\n") } else { out.append(b" open\n") }
+    if closed {
+        out.append(b" closed\n")
+    } else {
+        out.append(b" open\n")
+    }
 }
 
 fn is_closed(log: &[Entry], places: &[usize]) -> bool

@@ -2,7 +2,7 @@
 ghost use Rattle.std.specs.Prelude.{◌≡◌, ◌++◌, OnOk, decimal, codes};
 ghost use Rattle.recording.specs.Transcript.{name, title};
 
-use crate::text::{put_decimal};
+use crate::text::put_decimal;
 use mx_base::{Bytes, OutOfMemory, Port, ServerId};
 
 /// The peer of a link: the n-th client, or the k-th server link, both counted from 1.
@@ -33,8 +33,14 @@ impl Peer {
     {
         self.put_name(out)?;
         match self {
-            Peer::Client { port: Port::Traffic, .. } => out.append(b" traffic"),
-            Peer::Client { port: Port::Admin, .. } => out.append(b" admin"),
+            Peer::Client {
+                port: Port::Traffic,
+                ..
+            } => out.append(b" traffic"),
+            Peer::Client {
+                port: Port::Admin,
+                ..
+            } => out.append(b" admin"),
             Peer::Server { server, .. } => {
                 out.append(b" server ")?;
                 put_decimal(out, u64::from(server.0))

@@ -26,7 +26,12 @@ impl Places {
     }
 
     /// Adds the place of an entry to those of its link, if it names one.
-    pub(crate) fn note(&mut self, alloc: Global, entry: &Entry, place: usize) -> Result<(), OutOfMemory>
+    pub(crate) fn note(
+        &mut self,
+        alloc: Global,
+        entry: &Entry,
+        place: usize,
+    ) -> Result<(), OutOfMemory>
         ensures { OnOk result ((link : LinkId) → places_of self.new link ≡ places_of self.old link ++ place_if link entry.now place) }
     {
         match named_link(entry) {
@@ -89,4 +94,3 @@ fn named_link(entry: &Entry) -> Option<LinkId>
         | Entry::OpenFailed { .. } => None,
     }
 }
-

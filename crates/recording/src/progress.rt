@@ -47,7 +47,11 @@ impl Progress {
         if self.moment.is_none() {
             return Some(Kind::BeforeFirstAt);
         }
-        if self.names_wrong_link(entry) { Some(Kind::WrongLink) } else { None }
+        if self.names_wrong_link(entry) {
+            Some(Kind::WrongLink)
+        } else {
+            None
+        }
     }
 
     fn names_wrong_link(&self, entry: &RecordEntry) -> bool

@@ -123,7 +123,11 @@ fn fault_in(progress: &Progress, number: u32, end: usize, entry: &RecordEntry) -
     if is_past_bounds(number, end) {
         return Some(Kind::TooLong);
     }
-    if is_not_played(entry) { Some(Kind::NotYet) } else { None }
+    if is_not_played(entry) {
+        Some(Kind::NotYet)
+    } else {
+        None
+    }
 }
 
 // Whether the line is the first past the lines or the bytes that a recording may have.

@@ -1,4 +1,3 @@
-use Rattle.std.proofs.Common.{sym}
 use Rattle.recording.specs.Fields.{is_blank}
 use Rattle.recording.proofs.FieldSteps.{uncut, cut}
 use Rattle.recording.proofs.fields.split_field.Goals as goal

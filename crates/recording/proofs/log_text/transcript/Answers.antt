@@ -1,4 +1,4 @@
-use Rattle.std.proofs.Common.{◌≡◌, ◌≤◌, ◌+◌, refl, ap, ◌∙◌, arith}
+use Rattle.std.proofs.Common.{refl, ap, ◌∙◌, arith}
 use Rattle.recording.specs.Places.{entries_at}
 use Rattle.recording.specs.Transcript.{transcript_of}
 use Rattle.recording.proofs.PlaceSteps.{clients_counted, servers_counted, turn_came, turn_idle}

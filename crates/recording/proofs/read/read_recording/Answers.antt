@@ -1,7 +1,5 @@
-use Rattle.std.proofs.Common.{◌≡◌, ◌+◌, ◌-◌, ◌≤◌, length, take, drop, refl, sym, ap, ◌∙◌, arith, rules}
-use Rattle.recording.specs.Recording.{recording_of}
-use Rattle.recording.specs.Refusal.{Faults}
-use Rattle.recording.proofs.LineSteps.{begins, ends, reading, taken_line, refused_line, unended_line, behind_size}
+use Rattle.std.proofs.Common.{length, arith, rules}
+use Rattle.recording.proofs.LineSteps.{begins, reading, taken_line, refused_line, unended_line, behind_size}
 use Rattle.recording.proofs.read.read_recording.Goals as goal
 
 pub loop-rest-init : goal.loop-rest-init
