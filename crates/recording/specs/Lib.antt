@@ -1,4 +1,5 @@
 pub mod Arrivals
+pub mod Ended
 pub mod Fields
 pub mod Line
 pub mod Pieces

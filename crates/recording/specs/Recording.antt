@@ -1,6 +1,6 @@
 -- What the bytes of a recording say, line by line, or the first line that is at fault.
 use Rattle.std.specs.Prelude.{ℕ, ◌+◌, ◌==◌, ◌||◌, not, nat_lt, nat_le, Bool, true, false, if◌then◌else◌, List, [], ◌∷◌, ◌++◌, length, Option, Some, None, is_none, Result, Ok, Err}
-use Rattle.std.specs.List.{slice_split, list_any}
+use Rattle.std.specs.List.{slice_split}
 use Rattle.mx_base.specs.declared.names.Port.TheVariants.{Traffic, Admin}
 use Rattle.recording.specs.Fields.{fields}
 use Rattle.recording.specs.Line.{said}
@@ -17,10 +17,10 @@ use Rattle.recording.specs.declared.fault.RecordFault.{RecordFault}
 pub record Standing : Type 0 where
   pub moment : Option ℕ
   pub clients : ℕ
-  pub ended : List RecordLink
+  pub ended : RecordLink → Bool
 
 abbrev pub nothing_yet : Standing
-nothing_yet = record { moment = None; clients = 0; ended = [] }
+nothing_yet = record { moment = None; clients = 0; ended = λ link. false }
 
 abbrev pub same_link : RecordLink → RecordLink → Bool
 same_link (Client n) (Client m) = n == m
@@ -33,9 +33,6 @@ abbrev pub is_known : Standing → RecordLink → Bool
 is_known before (Client n) = nat_le n before.clients
 is_known before (Server k) = true
 
-abbrev pub has_ended : Standing → RecordLink → Bool
-has_ended before link = list_any (same_link link) before.ended
-
 abbrev pub falls : Option ℕ → ℕ → Bool
 falls None ms = false
 falls (Some last) ms = nat_lt ms last
@@ -43,9 +40,9 @@ falls (Some last) ms = nat_lt ms last
 -- the line names a client out of order, a client that isn't accepted, or what an ended link can't do
 abbrev pub names_wrong_link : Standing → RecordEntry → Bool
 names_wrong_link before (Accept n port salt) = not (n == before.clients + 1)
-names_wrong_link before (Bytes link bytes) = not (is_known before link) || has_ended before link
-names_wrong_link before (End link) = not (is_known before link) || has_ended before link
-names_wrong_link before (Fail link) = not (is_known before link) || has_ended before link
+names_wrong_link before (Bytes link bytes) = not (is_known before link) || before.ended link
+names_wrong_link before (End link) = not (is_known before link) || before.ended link
+names_wrong_link before (Fail link) = not (is_known before link) || before.ended link
 names_wrong_link before (Take link n) = not (is_known before link)
 names_wrong_link before _ = false
 
@@ -83,8 +80,8 @@ fault_of before number end entry = first_of (misplaced before entry) (first_of (
 unfoldable pub after : Standing → RecordEntry → Standing
 after before (At ms) = record before { moment = Some ms }
 after before (Accept n port salt) = record before { clients = n }
-after before (End link) = record before { ended = link ∷ before.ended }
-after before (Fail link) = record before { ended = link ∷ before.ended }
+after before (End link) = record before { ended = λ other. same_link link other || before.ended other }
+after before (Fail link) = record before { ended = λ other. same_link link other || before.ended other }
 after before _ = before
 
 -- an empty line, and one that begins with #

@@ -2,6 +2,7 @@
 #![tactic(auto)]
 
 mod arrivals;
+mod ended;
 mod entry;
 mod fault;
 mod fields;

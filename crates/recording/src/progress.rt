@@ -1,42 +1,37 @@
 // What the lines so far leave for the lines behind them.
-ghost use Rattle.std.specs.Prelude.{◌≡◌, false};
-ghost use Rattle.recording.specs.Recording.{nothing_yet, misplaced, names_wrong_link, is_known, is_later, after};
+ghost use Rattle.std.specs.Prelude.{◌≡◌, OnOk};
+ghost use Rattle.recording.specs.Ended.{standing_of};
+ghost use Rattle.recording.specs.Recording.{nothing_yet, misplaced, names_wrong_link, is_known, after};
 
+use crate::ended::EndedLinks;
 use crate::fault::Kind;
 use crate::{RecordEntry, RecordLink};
-use std::marker::Model;
+use mx_base::OutOfMemory;
+use std::alloc::Global;
 
-/// The moment of the last `at`, and how many clients were accepted. No link has ended, since the lines that end
-/// one aren't played yet.
-#[derive(Drop, Debug)]
+/// The moment of the last `at`, how many clients were accepted, and which links have ended.
+#[derive(Drop)]
 pub(crate) struct Progress {
-    moment: Option<u64>,
-    clients: u16,
-}
-
-impl Model for Progress {
-    ghost use Rattle.std.specs.Prelude.{[]};
-    ghost use Rattle.recording.specs.Recording.{Standing};
-
-    ghost Value = { Standing };
-
-    ghost view = { λ p. record { moment = p.moment; clients = p.clients; ended = [] } };
+    pub(crate) moment: Option<u64>,
+    pub(crate) clients: u16,
+    pub(crate) ended: EndedLinks,
 }
 
 impl Progress {
-    pub(crate) fn new() -> Self
-        ensures { result ≡ nothing_yet }
+    pub(crate) fn new(alloc: Global) -> Self
+        ensures { standing_of result ≡ nothing_yet }
     {
         Progress {
             moment: None,
             clients: 0,
+            ended: EndedLinks::new(alloc),
         }
     }
 
     /// What is wrong with the place of the entry among the lines before it.
     #[tactic(auto, unfolding(crate::specs::Recording::misplaced))]
     pub(crate) fn misplaced(&self, entry: &RecordEntry) -> Option<Kind>
-        ensures { result ≡ misplaced self.now entry.now }
+        ensures { result ≡ misplaced (standing_of self.now) entry.now }
     {
         if let RecordEntry::At { ms } = entry {
             return match self.moment {
@@ -55,20 +50,20 @@ impl Progress {
     }
 
     fn names_wrong_link(&self, entry: &RecordEntry) -> bool
-        ensures { result ≡ names_wrong_link self.now entry.now }
+        ensures { result ≡ names_wrong_link (standing_of self.now) entry.now }
     {
         match entry {
             RecordEntry::Accept { n, .. } => u32::from(*n) != u32::from(self.clients) + 1,
             RecordEntry::Bytes { link, .. }
             | RecordEntry::End { link }
-            | RecordEntry::Fail { link }
-            | RecordEntry::Take { link, .. } => !self.is_known(link),
+            | RecordEntry::Fail { link } => !self.is_known(link) || self.ended.has(*link),
+            RecordEntry::Take { link, .. } => !self.is_known(link),
             _ => false,
         }
     }
 
     fn is_known(&self, link: &RecordLink) -> bool
-        ensures { result ≡ is_known self.now link.now }
+        ensures { result ≡ is_known (standing_of self.now) link.now }
     {
         match link {
             RecordLink::Client(n) => *n <= self.clients,
@@ -76,16 +71,17 @@ impl Progress {
         }
     }
 
-    /// Goes on behind a line that is played.
+    /// Goes on behind a line with this entry.
     #[tactic(auto, unfolding(crate::specs::Recording::after))]
-    pub(crate) fn take(&mut self, entry: &RecordEntry)
-        requires { is_later entry.now ≡ false }
-        ensures { self.new ≡ after self.old entry.now }
+    pub(crate) fn take(&mut self, entry: &RecordEntry) -> Result<(), OutOfMemory>
+        ensures { OnOk result (standing_of self.new ≡ after (standing_of self.old) entry.now) }
     {
         match entry {
             RecordEntry::At { ms } => self.moment = Some(*ms),
             RecordEntry::Accept { n, .. } => self.clients = *n,
+            RecordEntry::End { link } | RecordEntry::Fail { link } => self.ended.add(*link)?,
             _ => {}
         }
+        Ok(())
     }
 }

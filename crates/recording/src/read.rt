@@ -1,5 +1,6 @@
 // Reading a recording.
-ghost use Rattle.std.specs.Prelude.{◌≡◌, ◌≤◌, IfOk, IfErr, IfSome, OnOk, false, position};
+ghost use Rattle.std.specs.Prelude.{◌≡◌, ◌≤◌, IfOk, IfErr, OnOk, position};
+ghost use Rattle.recording.specs.Ended.{standing_of};
 ghost use Rattle.recording.specs.Recording.{recording_of, is_later, is_line_feed, is_skipped, passes_bounds, fault_of, line_of, taken};
 ghost use Rattle.recording.specs.Refusal.{Gives, Refuses, Faults, refused_at};
 
@@ -31,7 +32,7 @@ pub fn read_recording(alloc: Global, bytes: &[u8]) -> Result<Vec<RecordEntry>, R
     ensures fault { IfErr result (λ refusal. Faults refusal (recording_of bytes.now)) }
 {
     let mut entries = Vec::new(alloc);
-    let mut progress = Progress::new();
+    let mut progress = Progress::new(alloc);
     let mut lines: u32 = 0;
     let mut rest = bytes;
     while !rest.is_empty() {
@@ -76,12 +77,12 @@ fn take_line(
     end: usize,
     line: &[u8],
 ) -> Result<(), LineRefusal>
-    ensures ok { OnOk result (taken progress.old entries.old.items (line_of progress.old number end line.now) ≡ Ok (progress.new, entries.new.items)) }
+    ensures ok { OnOk result (taken (standing_of progress.old) entries.old.items (line_of (standing_of progress.old) number end line.now) ≡ Ok (standing_of progress.new, entries.new.items)) }
     ensures bounds { OnOk result (number ≤ 1000000) }
-    ensures err { IfErr result (λ refusal. Refuses refusal (line_of progress.old number end line.now)) }
+    ensures err { IfErr result (λ refusal. Refuses refusal (line_of (standing_of progress.old) number end line.now)) }
 {
     if let Some(entry) = read_line(alloc, progress, number, end, line)? {
-        progress.take(&entry);
+        progress.take(&entry)?;
         entries.push(entry)?;
     }
     Ok(())
@@ -96,9 +97,8 @@ fn read_line(
     end: usize,
     line: &[u8],
 ) -> Result<Option<RecordEntry>, LineRefusal>
-    ensures gives { Gives result (line_of progress.now number end line.now) }
+    ensures gives { Gives result (line_of (standing_of progress.now) number end line.now) }
     ensures bounds { OnOk result (number ≤ 1000000) }
-    ensures played { IfOk result (λ entry. IfSome entry (λ e. is_later e ≡ false)) }
 {
     if is_skipped_line(line) {
         if is_past_bounds(number, end) {
@@ -115,7 +115,7 @@ fn read_line(
 
 // The lowest kind of fault of a line with this entry.
 fn fault_in(progress: &Progress, number: u32, end: usize, entry: &RecordEntry) -> Option<Kind>
-    ensures { result ≡ fault_of progress.now number end entry.now }
+    ensures { result ≡ fault_of (standing_of progress.now) number end entry.now }
 {
     if let Some(kind) = progress.misplaced(entry) {
         return Some(kind);
