@@ -2,3 +2,4 @@ pub mod FieldSteps
 pub mod LineSteps
 pub mod PlaceSteps
 pub mod RunSteps
+pub mod Spellings

@@ -5,5 +5,6 @@ pub mod Line
 pub mod Pieces
 pub mod Places
 pub mod Recording
+pub mod Spelling
 pub mod Transcript
 pub mod Refusal

@@ -4,6 +4,8 @@ ghost use Rattle.std.specs.Option.{option_copied};
 ghost use Rattle.recording.specs.Fields.{fields, fields_left};
 ghost use Rattle.recording.specs.Line.{accept, arrive, room, meaning, said};
 ghost use Rattle.recording.specs.Refusal.{Gives};
+ghost use Rattle.recording.specs.Spelling.{SaysItself};
+ghost use Rattle.recording.specs.declared.entry.RecordEntry.{RecordEntry};
 
 use crate::RecordEntry;
 use crate::fault::{Kind, LineRefusal};
@@ -144,4 +146,11 @@ fn read_drop(rest: Option<&[u8]>) -> Option<RecordEntry>
 {
     let k = read_server(one_field(rest)?)?;
     Some(RecordEntry::Drop { k })
+}
+
+/// A line that spells an entry says that entry: a word and its fields with one space between each two, numbers
+/// in decimal digits, bytes in lower case hexadecimal digits.
+pub fn spelled_lines()
+    ensures { (entry : RecordEntry) → SaysItself entry }
+{
 }
