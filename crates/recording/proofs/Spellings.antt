@@ -1,18 +1,17 @@
 -- The spelling of an entry says the entry.
-use Rattle.std.proofs.Common.{◌≡◌, ℕ, ◌+◌, ◌*◌, ◌/◌, ◌%◌, ◌^◌, ◌<◌, ◌≤◌, Bool, true, false, not, ◌&&◌, ◌||◌, ◌==◌, nat_lt, nat_le, zero, suc, lit<, ◌⊎◌, inl, inr, List, [], ◌∷◌, ◌++◌, length, get_or, Option, Some, None, is_some, refl, sym, ap, ◌∙◌, arith, rules}
-use Rattle.std.specs.Prelude.{slice_index, codes, Result, Ok, Err, decimal}
+use Rattle.std.proofs.Common.{◌≡◌, ℕ, ◌/◌, ◌%◌, ◌^◌, ◌<◌, Bool, true, false, not, ◌==◌, nat_le, zero, suc, lit<, inl, inr, List, [], ◌∷◌, ◌++◌, length, get_or, Some, None, refl, ap, ◌∙◌, arith, rules}
+use Rattle.std.specs.Prelude.{slice_index, codes, Ok, decimal}
 use Rattle.std.specs.List.{slice_split, onto_first, list_all, join_with_byte}
-use Rattle.std.specs.Option.{option_map}
-use Rattle.std.proofs.lemmas.Bool.{cases_Bool, cases_lt, and_parts, and_from, lt-ltb, le-leb, leb-true, eqb-true, or_cases, not-true, both_ways}
+use Rattle.std.proofs.lemmas.Bool.{cases_Bool, cases_lt, and_parts, and_from, lt-ltb, le-leb, leb-true, eqb-true, or_cases, not-true}
 use Rattle.std.proofs.lemmas.List.Splits.{slice_split-cons_yes, slice_split-cons_no}
 use Rattle.std.proofs.lemmas.Fmt.{digits_decimal, digits_value-decimal, decimal_nonempty, decimal_digit, first_decimal}
-use Rattle.std.proofs.lemmas.Str.Parse.{IsNumeralModel, IsDigitsTest, FoldsDigits, numerals_by_fold}
+use Rattle.std.proofs.lemmas.Str.Parse.{IsNumeralModel, numerals_by_fold}
 use Rattle.std.specs.Prelude.{fold}
-use Rattle.hex.specs.Hex.{encode_lower, encode_with, lower_digits, hex_digit_value, IsBytes, decode_of, decode_sized}
+use Rattle.hex.specs.Hex.{encode_lower, encode_with, lower_digits, hex_digit_value, IsBytes}
 use Rattle.hex.proofs.HexLemmas.{IsDigits-lower_digits, decode_of-encode_lower, decode_sized-encode_lower}
 use Rattle.mx_base.specs.declared.names.Port.{Port}
 use Rattle.mx_base.specs.declared.names.Port.TheVariants.{Traffic, Admin}
-use Rattle.recording.specs.Fields.{fields, is_blank, is_digit, is_salt_byte, with_digit, decimal_value, leads_with_zero, is_decimal, number, ordinal, lettered, client, server, link, port, salt, some_bytes}
+use Rattle.recording.specs.Fields.{fields, is_blank, is_digit, is_salt_byte, with_digit, decimal_value, leads_with_zero, is_decimal, number, ordinal, client, server, link, port, salt, some_bytes}
 use Rattle.recording.specs.Line.{said, meaning, accept, arrive, room}
 use Rattle.recording.specs.Spelling.{link_text, port_text, field_texts, spelling, IsOrdinal, HasOrdinal, HasSpelling, SaysItself}
 use Rattle.recording.specs.declared.entry.RecordEntry.{RecordEntry}
@@ -109,9 +108,9 @@ tab_value c d is value =
 not_hex : (c d : ℕ) → hex_digit_value c ≡ Some d → is_inner c ≡ true
 not_hex c d value = elim (cases_Bool (is_blank c)) [
   | inl blank ↦ absurd (elim (or_cases (c == 32) (c == 9) blank) [
-      | inl space ↦ blank_value c d (eqb-true c 32 space) value
-      | inr tab ↦ tab_value c d (eqb-true c 9 tab) value
-    ])
+    | inl space ↦ blank_value c d (eqb-true c 32 space) value
+    | inr tab ↦ tab_value c d (eqb-true c 9 tab) value
+  ])
   | inr inner ↦ rw inner refl
 ]
 

@@ -5,6 +5,7 @@ pub mod Line
 pub mod Pieces
 pub mod Places
 pub mod Recording
+pub mod Runs
 pub mod Spelling
 pub mod Transcript
 pub mod Refusal

@@ -36,7 +36,8 @@ impl EndedLinks {
     }
 
     pub(crate) fn add(&mut self, link: RecordLink) -> Result<(), OutOfMemory>
-        ensures { OnOk result ((other : RecordLink) → is_in self.new other ≡ (same_link link other || is_in self.old other)) }
+        ensures { OnOk result ((other : RecordLink) →
+            is_in self.new other ≡ (same_link link other || is_in self.old other)) }
     {
         match link {
             RecordLink::Client(n) => self.clients.insert(n)?,

@@ -47,7 +47,8 @@ pub(crate) fn two_fields(rest: Option<&[u8]>) -> Option<(&[u8], &[u8])>
 
 /// The fields that are left, if they are just three.
 pub(crate) fn three_fields(rest: Option<&[u8]>) -> Option<(&[u8], &[u8], &[u8])>
-    ensures { option_map (λ f. (f.0.now, f.1.now, f.2.now)) result ≡ three (fields_left (option_copied rest.entry)) }
+    ensures { option_map (λ f. (f.0.now, f.1.now, f.2.now)) result
+        ≡ three (fields_left (option_copied rest.entry)) }
 {
     let (first, behind) = split_field(rest?);
     let (second, third) = two_fields(behind)?;

@@ -19,7 +19,7 @@ mod word;
 pub use entry::{RecordEntry, RecordLink};
 pub use fault::{RecordFault, RecordRefusal};
 pub use line::spelled_lines;
-pub use log_text::transcript;
+pub use log_text::{longest_runs, transcript};
 pub use read::read_recording;
 
 #[cfg(test)]

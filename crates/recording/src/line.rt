@@ -152,5 +152,4 @@ fn read_drop(rest: Option<&[u8]>) -> Option<RecordEntry>
 /// in decimal digits, bytes in lower case hexadecimal digits.
 pub fn spelled_lines()
     ensures { (entry : RecordEntry) → SaysItself entry }
-{
-}
+{}

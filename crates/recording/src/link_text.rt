@@ -59,7 +59,8 @@ fn put_runs(
     log: &[Entry],
     places: &[usize],
 ) -> Result<(), OutOfMemory>
-    ensures { OnOk result (out.new ≡ out.old ++ flat_map (run_line peer) (runs (entries_at log.now places.now))) }
+    ensures { OnOk result (let lines = flat_map (run_line peer) (runs (entries_at log.now places.now)) in
+        out.new ≡ out.old ++ lines) }
 {
     let mut last = None;
     for place in places {

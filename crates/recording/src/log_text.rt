@@ -1,8 +1,9 @@
 // The transcript of a log.
 ghost use Rattle.std.specs.Prelude.{◌≡◌, IfOk};
 ghost use Rattle.mx_base.specs.declared.names.LinkId.{LinkId};
-ghost use Rattle.mx_wire.specs.Log.{of_link};
+ghost use Rattle.mx_wire.specs.Log.{Log, of_link};
 ghost use Rattle.recording.specs.Places.{places_of, entries_at};
+ghost use Rattle.recording.specs.Runs.{AreLongest};
 ghost use Rattle.recording.specs.Transcript.{transcript_of};
 
 use crate::arrivals::Arrivals;
@@ -38,7 +39,8 @@ pub fn transcript(alloc: Global, log: &[Entry]) -> Result<Bytes, OutOfMemory>
 
 // Where the entries of each link stand.
 fn places_in(alloc: Global, log: &[Entry]) -> Result<Places, OutOfMemory>
-    ensures { IfOk result (λ table. (link : LinkId) → entries_at log.now (places_of table link) ≡ of_link link log.now) }
+    ensures { IfOk result (λ table. (link : LinkId) →
+        entries_at log.now (places_of table link) ≡ of_link link log.now) }
 {
     let mut places = Places::new(alloc);
     for (place, entry) in log.iter().enumerate() {
@@ -46,3 +48,9 @@ fn places_in(alloc: Global, log: &[Entry]) -> Result<Places, OutOfMemory>
     }
     Ok(places)
 }
+
+/// The runs of a transcript are the bytes that were written, all of them in order, and two neighbours have
+/// different tags: so each is the longest one.
+pub fn longest_runs()
+    ensures { (log : Log) → AreLongest log }
+{}

@@ -32,7 +32,8 @@ impl Places {
         entry: &Entry,
         place: usize,
     ) -> Result<(), OutOfMemory>
-        ensures { OnOk result ((link : LinkId) → places_of self.new link ≡ places_of self.old link ++ place_if link entry.now place) }
+        ensures { OnOk result ((link : LinkId) →
+            places_of self.new link ≡ places_of self.old link ++ place_if link entry.now place) }
     {
         match named_link(entry) {
             Some(link) => self.add(alloc, link, place),
@@ -42,7 +43,8 @@ impl Places {
 
     fn add(&mut self, alloc: Global, link: LinkId, place: usize) -> Result<(), OutOfMemory>
         ensures same { OnOk result (places_of self.new link ≡ places_of self.old link ++ place ∷ []) }
-        ensures others { OnOk result ((other : LinkId) → nat_eq link.0 other.0 ≡ false → places_of self.new other ≡ places_of self.old other) }
+        ensures others { OnOk result ((other : LinkId) → nat_eq link.0 other.0 ≡ false →
+            places_of self.new other ≡ places_of self.old other) }
     {
         if let Some(places) = self.by_link.get_mut(&link.0) {
             places.push(place)?;

@@ -68,7 +68,7 @@ fn refusal_at(line: u32, refusal: LineRefusal) -> RecordRefusal
     }
 }
 
-// Goes on by a line. An `Err` leaves what it has as it was.
+// Goes on by a line, or says why it is refused.
 fn take_line(
     alloc: Global,
     progress: &mut Progress,
@@ -77,9 +77,12 @@ fn take_line(
     end: usize,
     line: &[u8],
 ) -> Result<(), LineRefusal>
-    ensures ok { OnOk result (taken (standing_of progress.old) entries.old.items (line_of (standing_of progress.old) number end line.now) ≡ Ok (standing_of progress.new, entries.new.items)) }
+    ensures ok { OnOk result (let said = line_of (standing_of progress.old) number end line.now in
+        taken (standing_of progress.old) entries.old.items said
+        ≡ Ok (standing_of progress.new, entries.new.items)) }
     ensures bounds { OnOk result (number ≤ 1000000) }
-    ensures err { IfErr result (λ refusal. Refuses refusal (line_of (standing_of progress.old) number end line.now)) }
+    ensures err { IfErr result (λ refusal.
+        Refuses refusal (line_of (standing_of progress.old) number end line.now)) }
 {
     if let Some(entry) = read_line(alloc, progress, number, end, line)? {
         progress.take(&entry)?;
