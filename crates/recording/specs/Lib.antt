@@ -1,0 +1,11 @@
+pub mod Arrivals
+pub mod Ended
+pub mod Fields
+pub mod Line
+pub mod Pieces
+pub mod Places
+pub mod Recording
+pub mod Runs
+pub mod Spelling
+pub mod Transcript
+pub mod Refusal
