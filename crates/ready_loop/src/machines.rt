@@ -1,5 +1,5 @@
 // A machine that is told of events, and asks for acts.
-ghost use Rattle.std.specs.Prelude.{◌≡◌, ℕ, ◌<◌, List, Option, Some, Bool, take, OnOk, IsSome, IfSome};
+ghost use Rattle.std.specs.Prelude.{◌≡◌, ℕ, ◌<◌, List, Option, Some, Bool, false, take, OnOk, IsSome, IfSome, IfNone};
 ghost use Rattle.mx_base.specs.declared.names.LinkId.{LinkId};
 ghost use Rattle.mx_base.specs.declared.names.Port.{Port};
 ghost use Rattle.mx_base.specs.declared.names.Address.{Address};
@@ -107,6 +107,7 @@ pub trait Machine {
         ensures keeps { Keeps stands self.old self.new }
         ensures same { SaysSame reads sends until is_stopped self.old self.new }
         ensures named { TakesChange changed self.old self.new result }
+        ensures none { IfNone result ((link : LinkId) → changed self.old link ≡ false) }
         ensures fewer { IsSome result → unnamed self.new < unnamed self.old };
 
     /// What is to be written on a link, if anything is.
