@@ -48,8 +48,8 @@ drained reads sends changed table told held done calm = record {
   holds = λ log is.
       let tracks = held.holds log is in
       record {
-        accepted = λ at. accepts at log table tracks.round done.traffic done.admin;
-        named = sym tracks.round.named ∙ done.named;
+        accepted = λ at. accepts at log table tracks.round done.asked.traffic done.asked.admin;
+        named = sym tracks.round.named ∙ done.asked.named;
         read = λ link opened wants. let known = known_open table log link tracks opened in
             sym (ap (λ (d : Dry). d.read) known.2) ∙ (done.settled link known.0 known.1 (calm link)).read wants;
         written = λ link opened some. let known = known_open table log link tracks opened in
@@ -60,9 +60,7 @@ drained reads sends changed table told held done calm = record {
 -- a loop without links is drained
 pub drained_empty : (reads : LinkId → Bool) (sends : LinkId → Option Sent) (table : Table) (told : Option Log) → TracksFor table told → ((link : LinkId) → mark_of table.links link ≡ None) → table.round.traffic ≡ true → table.round.admin ≡ true → table.round.named ≡ true → DrainedFor reads sends told
 drained_empty reads sends table told held none traffic admin named = drained reads sends (λ link. false) table told held (record {
-  traffic = traffic;
-  admin = admin;
-  named = named;
+  asked = record { traffic = traffic; admin = admin; named = named };
   settled = λ link mark is calm. (let no : ◌≡◌ {A = Option Mark} None (Some mark) = sym (none link) ∙ is in cc);
 }) (λ link. refl)
 

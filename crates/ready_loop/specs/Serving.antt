@@ -1,5 +1,5 @@
 -- What a serving loop keeps, and how it ends.
-use Rattle.std.specs.Prelude.{◌≡◌, ◌⊎◌, ℕ, ◌+◌, ◌<◌, ◌≤◌, Bool, true, false, List, [], ◌∷◌, ◌++◌, filter, not, Option, Some, None, IsSome}
+use Rattle.std.specs.Prelude.{◌≡◌, ◌⊎◌, ℕ, ◌+◌, ◌<◌, ◌≤◌, Bool, true, false, List, [], ◌∷◌, ◌++◌, filter, drop, Option, Some, None, IsSome}
 use Rattle.mx_base.specs.declared.names.LinkId.{LinkId}
 use Rattle.mx_base.specs.declared.names.Port.{Port}
 use Rattle.mx_base.specs.declared.names.Port.TheVariants as port
@@ -48,26 +48,67 @@ pub record Works (old new : Round) : Type 0 where
   pub more : old.calls < new.calls
   pub wakes : new.wakes ≡ old.wakes
 
--- a call that is owed, the first of its kinds: a port, a name, a read, a write
+-- the call of which the entry is the answer, where a wake may owe it
+abbrev pub call_of : Entry → Option Call
+call_of (entry.Accepted at link salt) = Some (call.Accept at)
+call_of (entry.AcceptNothing at) = Some (call.Accept at)
+call_of (entry.AcceptFailed at) = Some (call.Accept at)
+call_of (entry.Named link) = Some call.Name
+call_of entry.NoneNamed = Some call.Name
+call_of (entry.Got link bytes) = Some (call.Read link)
+call_of (entry.ReadNothing link) = Some (call.Read link)
+call_of (entry.Ended link) = Some (call.Read link)
+call_of (entry.ReadFailed link) = Some (call.Read link)
+call_of (entry.Wrote link tag bytes) = Some (call.Write link)
+call_of (entry.WriteNothing link) = Some (call.Write link)
+call_of (entry.WriteFailed link) = Some (call.Write link)
+call_of _ = None
+
+-- the call was made, and no other
+pub record Makes (made : Call) (old new : Option Log) : Type 0 where
+  pub entry_of : Entry
+  pub tells : Tells old entry_of new
+  pub is : call_of entry_of ≡ Some made
+
+-- since the last wake both ports found nobody, and each ready link was named
+pub record IsAsked (round : Round) : Type 0 where
+  pub traffic : round.traffic ≡ true
+  pub admin : round.admin ≡ true
+  pub named : round.named ≡ true
+
+-- ports come first, then names, and then the link at the front of the queue, which is read before it is written
+pub record IsAccepting (table : Table) (traffic admin : Bool) : Type 0 where
+  pub traffic_asked : table.round.traffic ≡ traffic
+  pub admin_asked : traffic ≡ true → table.round.admin ≡ admin
+
+pub record IsNaming (table : Table) : Type 0 where
+  pub traffic : table.round.traffic ≡ true
+  pub admin : table.round.admin ≡ true
+  pub named : table.round.named ≡ false
+
 pub record IsReading (reads : Bool) (table : Table) (link : LinkId) : Type 0 where
+  pub asked : IsAsked table.round
+  pub first : table.links.queue.items ≡ link ∷ drop 1 table.links.queue.items
   pub wanted : reads ≡ true
   pub wet : is_read_dry table.links link ≡ Some false
 
-pub record IsWriting (sends : Option Sent) (table : Table) (link : LinkId) : Type 0 where
+pub record IsWriting (reads : Bool) (sends : Option Sent) (table : Table) (link : LinkId) : Type 0 where
+  pub asked : IsAsked table.round
+  pub first : table.links.queue.items ≡ link ∷ drop 1 table.links.queue.items
+  pub read : reads ≡ true → is_read_dry table.links link ≡ Some true
   pub some : IsSome sends
   pub wet : is_write_dry table.links link ≡ Some false
 
 abbrev pub IsOwed : (LinkId → Bool) → (LinkId → Option Sent) → Table → Call → Type 0
-IsOwed reads sends table (call.Accept at) = Unit {0}
-IsOwed reads sends table call.Name = Unit {0}
+IsOwed reads sends table (call.Accept port.Traffic) = IsAccepting table false false
+IsOwed reads sends table (call.Accept port.Admin) = IsAccepting table true false
+IsOwed reads sends table call.Name = IsNaming table
 IsOwed reads sends table (call.Read link) = IsReading (reads link) table link
-IsOwed reads sends table (call.Write link) = IsWriting (sends link) table link
+IsOwed reads sends table (call.Write link) = IsWriting (reads link) (sends link) table link
 
 -- no call is owed
 pub record IsDone (reads : LinkId → Bool) (sends : LinkId → Option Sent) (changed : LinkId → Bool) (table : Table) : Type 0 where
-  pub traffic : table.round.traffic ≡ true
-  pub admin : table.round.admin ≡ true
-  pub named : table.round.named ≡ true
+  pub asked : IsAsked table.round
   pub settled : (link : LinkId) (mark : Mark) → mark_of table.links link ≡ Some mark → changed link ≡ false → IsSettled (reads link) (sends link) mark
 
 -- the link's bytes, if there are any, are offered to one write

@@ -87,6 +87,7 @@ fn act_once<M: Machine, W: Wire>(
     ensures serves { OnOk result (Serves M.stands M.reads M.sends M.changed core.new table.new (W.told wire.new)) }
     ensures works { IfOk result (λ went. went ≡ true → Works table.old.round table.new.round) }
     ensures none { IfOk result (λ went. went ≡ false → table.new.round ≡ table.old.round) }
+    ensures acted { IfOk result (λ went. went ≡ false → M.asks core.new ≡ false) }
     ensures advances { Advances W.told W.port_faults W.faults wire.old wire.new }
 {
     match core.next_act() {
@@ -110,6 +111,7 @@ pub fn do_acts<M: Machine, W: Wire>(
 ) -> Result<(), ServeEnd>
     requires serves { Serves M.stands M.reads M.sends M.changed core.old table.old (W.told wire.old) }
     ensures serves { OnOk result (Serves M.stands M.reads M.sends M.changed core.new table.new (W.told wire.new)) }
+    ensures acted { OnOk result (M.asks core.new ≡ false) }
     ensures more { OnOk result (table.old.round.calls ≤ table.new.round.calls) }
     ensures wakes { OnOk result (table.new.round.wakes ≡ table.old.round.wakes) }
     ensures ends { IfErr result (Ends M.stands M.is_stopped BusyFor core.new (W.told wire.new)) }

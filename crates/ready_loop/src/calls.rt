@@ -4,9 +4,9 @@ ghost use Rattle.mx_wire.specs.Tells.{Tells};
 ghost use Rattle.mx_wire.specs.declared.entry.Entry.TheVariants as entry;
 ghost use Rattle.ready_loop.specs.Drained.{DrainedFor};
 ghost use Rattle.ready_loop.specs.Links.{is_read_dry, is_write_dry};
-ghost use Rattle.ready_loop.specs.Serving.{Serves, Ends, BusyFor, Advances, Works};
+ghost use Rattle.ready_loop.specs.Serving.{Serves, Ends, BusyFor, Advances, Makes, Works};
 
-use crate::table::Table;
+use crate::table::{Call, Table};
 use crate::{Event, Machine, ServeEnd};
 use mx_base::{LinkId, Port};
 use mx_wire::{Accepted, Got, Listened, Took, Wire, Woke};
@@ -72,10 +72,12 @@ pub fn accept_once<M: Machine, W: Wire>(
     table: &mut Table,
     port: Port,
 ) -> Result<(), ServeEnd>
+    requires acted { M.asks core.old ≡ false }
     requires room { table.old.round.calls < 4294967296 }
     requires going { M.is_stopped core.old ≡ false }
     requires serves { Serves M.stands M.reads M.sends M.changed core.old table.old (W.told wire.old) }
     ensures serves { OnOk result (Serves M.stands M.reads M.sends M.changed core.new table.new (W.told wire.new)) }
+    ensures made { Makes (Call.Accept port) (W.told wire.old) (W.told wire.new) }
     ensures works { OnOk result (Works table.old.round table.new.round) }
     ensures ends { IfErr result (Ends M.stands M.is_stopped BusyFor core.new (W.told wire.new)) }
     ensures rose { IfErr result (λ end. end ≡ ServeEnd.ListenFault → W.port_faults wire.old < W.port_faults wire.new) }
@@ -110,9 +112,11 @@ pub fn name_once<M: Machine, W: Wire>(
     wire: &mut W,
     table: &mut Table,
 ) -> Result<(), ServeEnd>
+    requires acted { M.asks core.now ≡ false }
     requires room { table.old.round.calls < 4294967296 }
     requires serves { Serves M.stands M.reads M.sends M.changed core.now table.old (W.told wire.old) }
     ensures serves { OnOk result (Serves M.stands M.reads M.sends M.changed core.now table.new (W.told wire.new)) }
+    ensures made { Makes (Call.Name) (W.told wire.old) (W.told wire.new) }
     ensures works { OnOk result (Works table.old.round table.new.round) }
     ensures ends { IfErr result (λ end. end ≡ ServeEnd.OutOfMemory) }
     ensures advances { Advances W.told W.port_faults W.faults wire.old wire.new }
@@ -140,10 +144,12 @@ pub fn read_once<M: Machine, W: Wire>(
 ) -> Result<(), ServeEnd>
     requires some { 0 < length buffer.old }
     requires most { length buffer.old ≤ 65536 }
+    requires acted { M.asks core.old ≡ false }
     requires room { table.old.round.calls < 4294967296 }
     requires wet { is_read_dry table.old.links link ≡ Some false }
     requires serves { Serves M.stands M.reads M.sends M.changed core.old table.old (W.told wire.old) }
     ensures serves { OnOk result (Serves M.stands M.reads M.sends M.changed core.new table.new (W.told wire.new)) }
+    ensures made { Makes (Call.Read link) (W.told wire.old) (W.told wire.new) }
     ensures works { OnOk result (Works table.old.round table.new.round) }
     ensures ends { IfErr result (λ end. end ≡ ServeEnd.OutOfMemory) }
     ensures advances { Advances W.told W.port_faults W.faults wire.old wire.new }
@@ -176,11 +182,13 @@ pub fn write_once<M: Machine, W: Wire>(
     table: &mut Table,
     link: LinkId,
 ) -> Result<(), ServeEnd>
+    requires acted { M.asks core.old ≡ false }
     requires room { table.old.round.calls < 4294967296 }
     requires some { IsSome (M.sends core.old link) }
     requires wet { is_write_dry table.old.links link ≡ Some false }
     requires serves { Serves M.stands M.reads M.sends M.changed core.old table.old (W.told wire.old) }
     ensures serves { OnOk result (Serves M.stands M.reads M.sends M.changed core.new table.new (W.told wire.new)) }
+    ensures made { Makes (Call.Write link) (W.told wire.old) (W.told wire.new) }
     ensures works { OnOk result (Works table.old.round table.new.round) }
     ensures ends { IfErr result (λ end. end ≡ ServeEnd.OutOfMemory) }
     ensures advances { Advances W.told W.port_faults W.faults wire.old wire.new }

@@ -1,6 +1,8 @@
 // The open links, and those that are to be looked at.
-ghost use Rattle.std.specs.Prelude.{◌≡◌, ◌++◌, ◌∷◌, [], drop, false, true, IfOk, OnOk, IfSome, IfNone, None, Some, if◌then◌else◌};
+ghost use Rattle.std.specs.Prelude.{◌≡◌, ◌≤◌, ◌++◌, ◌∷◌, [], drop, false, true, IfOk, OnOk, IfSome, IfNone, None, Some, if◌then◌else◌};
+ghost use Rattle.std.specs.HashMap.{spare};
 ghost use Rattle.std.specs.Option.{option_map};
+ghost use Rattle.std.specs.VecDeque.{deque_capacity};
 ghost use Rattle.mx_base.specs.declared.names.LinkId.{LinkId};
 ghost use Rattle.ready_loop.specs.Links.{Marks, mark_of, queue_with};
 ghost use Rattle.ready_loop.specs.declared.links.Mark.{Mark};
@@ -32,6 +34,8 @@ impl Links {
     pub fn with_room(alloc: Global, most: u32) -> Result<Self, OutOfMemory>
         ensures links { IfOk result (λ links. (link : LinkId) → mark_of links link ≡ None) }
         ensures queue { IfOk result (λ links. links.queue.items ≡ []) }
+        ensures room { IfOk result (λ links. most ≤ spare links.marks) }
+        ensures places { IfOk result (λ links. most ≤ deque_capacity links.queue) }
     {
         Ok(Links {
             marks: HashMap::with_capacity(alloc, most as usize)?,

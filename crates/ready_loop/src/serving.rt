@@ -6,7 +6,7 @@ ghost use Rattle.ready_loop.specs.Drained.{DrainedFor};
 ghost use Rattle.ready_loop.specs.Links.{mark_of};
 ghost use Rattle.ready_loop.specs.Machine.{StandsFor};
 ghost use Rattle.ready_loop.specs.Round.{CountsOf};
-ghost use Rattle.ready_loop.specs.Serving.{Serves, Ends, BusyFor, EndsWith, IsOver, IsPortFault, SpentFor, ListensFirst, ListeningFor, Advances, Works, IsOwed};
+ghost use Rattle.ready_loop.specs.Serving.{Serves, Ends, BusyFor, EndsWith, IsOver, IsPortFault, SpentFor, ListensFirst, ListeningFor, Advances, Works, Makes, IsOwed};
 
 use crate::acts::{CALLS_PER_WAKE, do_acts, spent};
 use crate::calls::{accept_once, listen_once, name_once, read_once, wait_once, write_once};
@@ -31,6 +31,7 @@ fn queue_changed<M: Machine, W: Wire>(
     ensures serves { OnOk result (Serves M.stands M.reads M.sends M.changed core.new table.new (W.told wire.now)) }
     ensures calm { OnOk result ((link : LinkId) → M.changed core.new link ≡ false) }
     ensures stopped { M.is_stopped core.new ≡ M.is_stopped core.old }
+    ensures acted { M.asks core.new ≡ M.asks core.old }
     ensures round { table.new.round ≡ table.old.round }
 {
     while let Some(link) = core.next_changed() {
@@ -49,6 +50,7 @@ fn follow<M: Machine, W: Wire>(
     ensures serves { OnOk result (Serves M.stands M.reads M.sends M.changed core.new table.new (W.told wire.new)) }
     ensures calm { OnOk result ((link : LinkId) → M.changed core.new link ≡ false) }
     ensures going { OnOk result (M.is_stopped core.new ≡ false) }
+    ensures acted { OnOk result (M.asks core.new ≡ false) }
     ensures more { OnOk result (table.old.round.calls ≤ table.new.round.calls) }
     ensures wakes { OnOk result (table.new.round.wakes ≡ table.old.round.wakes) }
     ensures ends { IfErr result (Ends M.stands M.is_stopped BusyFor core.new (W.told wire.new)) }
@@ -74,9 +76,11 @@ fn make_call<M: Machine, W: Wire>(
     requires most { length buffer.old ≤ 65536 }
     requires room { table.old.round.calls < 4294967296 }
     requires going { M.is_stopped core.old ≡ false }
+    requires acted { M.asks core.old ≡ false }
     requires owed { IsOwed (M.reads core.old) (M.sends core.old) table.old call }
     requires serves { Serves M.stands M.reads M.sends M.changed core.old table.old (W.told wire.old) }
     ensures serves { OnOk result (Serves M.stands M.reads M.sends M.changed core.new table.new (W.told wire.new)) }
+    ensures made { Makes call (W.told wire.old) (W.told wire.new) }
     ensures works { OnOk result (Works table.old.round table.new.round) }
     ensures ends { IfErr result (Ends M.stands M.is_stopped BusyFor core.new (W.told wire.new)) }
     ensures rose { IfErr result (λ end. end ≡ ServeEnd.ListenFault → W.port_faults wire.old < W.port_faults wire.new) }
@@ -101,11 +105,13 @@ fn settle<M: Machine, W: Wire>(
     requires some { 0 < length buffer.old }
     requires most { length buffer.old ≤ 65536 }
     requires going { M.is_stopped core.old ≡ false }
+    requires acted { M.asks core.old ≡ false }
     requires calm { (link : LinkId) → M.changed core.old link ≡ false }
     requires serves { Serves M.stands M.reads M.sends M.changed core.old table.old (W.told wire.old) }
     ensures serves { OnOk result (Serves M.stands M.reads M.sends M.changed core.new table.new (W.told wire.new)) }
     ensures going { OnOk result (M.is_stopped core.new ≡ false) }
     ensures drained { OnOk result (DrainedFor (M.reads core.new) (M.sends core.new) (W.told wire.new)) }
+    ensures acted { OnOk result (M.asks core.new ≡ false) }
     ensures wakes { OnOk result (table.new.round.wakes ≡ table.old.round.wakes) }
     ensures ends { IfErr result (Ends M.stands M.is_stopped BusyFor core.new (W.told wire.new)) }
     ensures rose { IfErr result (λ end. end ≡ ServeEnd.ListenFault → W.port_faults wire.old < W.port_faults wire.new) }

@@ -1,9 +1,9 @@
 // What the loop knows, and which call of the wire it owes.
-ghost use Rattle.std.specs.Prelude.{◌≡◌, true, IfSome, IfNone, Some};
+ghost use Rattle.std.specs.Prelude.{◌≡◌, ◌∷◌, drop, true, IfSome, IfNone, Some};
 ghost use Rattle.mx_base.specs.declared.names.LinkId.{LinkId};
 ghost use Rattle.ready_loop.specs.Links.{dry_of, mark_of};
 ghost use Rattle.ready_loop.specs.Queued.{Watches, IsSettled};
-ghost use Rattle.ready_loop.specs.Serving.{IsDone, IsOwed};
+ghost use Rattle.ready_loop.specs.Serving.{IsAsked, IsDone, IsOwed};
 ghost use Rattle.ready_loop.specs.declared.links.Mark.{Mark};
 
 use crate::Machine;
@@ -53,9 +53,7 @@ impl Table {
     }
 
     fn owed_in_queue<M: Machine>(&mut self, core: &M) -> Option<Call>
-        requires traffic { self.old.round.traffic ≡ true }
-        requires admin { self.old.round.admin ≡ true }
-        requires named { self.old.round.named ≡ true }
+        requires asked { IsAsked self.old.round }
         requires watches { Watches (M.reads core.now) (M.sends core.now) (M.changed core.now) self.old.links }
         ensures watches { Watches (M.reads core.now) (M.sends core.now) (M.changed core.now) self.new.links }
         ensures dry { (link : LinkId) → dry_of self.new.links link ≡ dry_of self.old.links link }
@@ -72,7 +70,10 @@ impl Table {
         None
     }
 
+    // A call of the link at the front.
     fn owed_on<M: Machine>(&self, core: &M, link: LinkId) -> Option<Call>
+        requires asked { IsAsked self.now.round }
+        requires first { self.now.links.queue.items ≡ link ∷ drop 1 self.now.links.queue.items }
         ensures call { IfSome result (IsOwed (M.reads core.now) (M.sends core.now) self.now) }
         ensures settled { IfNone result ((mark : Mark) → mark_of self.now.links link ≡ Some mark → mark.queued ≡ true → IsSettled (M.reads core.now link) (M.sends core.now link) mark) }
     {

@@ -13,5 +13,6 @@ loop-link-preserved g c = record {
     watches = watching.renamed _ _ g.M.Machine.changed _ _ _ _ _ _ _ c.in-Some.ensures.same c.in-Some.ensures.named c.in_ok-enqueue.ensures.marks c.in_ok-enqueue.ensures.queue c.loop-link.invariant.serves.watches;
   };
   stopped = c.in-Some.ensures.same.stopped ∙ c.loop-link.invariant.stopped;
+  acted = c.in-Some.ensures.asks ∙ c.loop-link.invariant.acted;
   round = c.loop-link.invariant.round;
 }

@@ -6,6 +6,7 @@ abbrev pub invariant-loop-link : goal.invariant-loop-link
 invariant-loop-link g l = record {
   serves : Serves g.M.Machine.stands g.M.Machine.reads g.M.Machine.sends g.M.Machine.changed l.core l.table (g.W.Wire.told l.wire);
   stopped : g.M.Machine.is_stopped l.core ≡ g.M.Machine.is_stopped l.fn.core;
+  acted : g.M.Machine.asks l.core ≡ g.M.Machine.asks l.fn.core;
   round : l.table.round ≡ l.fn.table.round;
 }
 

@@ -7,6 +7,7 @@ abbrev pub invariant-loop-table : goal.invariant-loop-table
 invariant-loop-table g l = record {
   serves : Serves g.M.Machine.stands g.M.Machine.reads g.M.Machine.sends g.M.Machine.changed l.core l.table (g.W.Wire.told l.wire);
   going : g.M.Machine.is_stopped l.core ≡ false;
+  acted : g.M.Machine.asks l.core ≡ false;
   calm : (link : LinkId) → g.M.Machine.changed l.core link ≡ false;
   wakes : l.table.round.wakes ≡ l.fn.table.round.wakes;
   advances : Advances g.W.Wire.told g.W.Wire.port_faults g.W.Wire.faults l.fn.wire l.wire;

@@ -1,5 +1,5 @@
-use Rattle.std.proofs.Common.{refl, sym, ◌∙◌, ap}
-use Rattle.ready_loop.specs.declared.round.Round.{Round}
+use Rattle.std.proofs.Common.{refl, sym, ◌∙◌, ap, subst}
+use Rattle.ready_loop.specs.Serving.{IsAsked}
 use Rattle.ready_loop.proofs.Marking as marking
 use Rattle.ready_loop.proofs.Watching as watching
 use Rattle.ready_loop.proofs.table.Table.owed_in_queue.Goals as goal
@@ -13,8 +13,9 @@ loop-link-preserved g c = record {
 
 pub returns-clause-done : goal.returns-clause-done
 returns-clause-done g c = record {
-  traffic = ap (λ (round : Round). round.traffic) c.loop-link.invariant.round ∙ c.requires.traffic;
-  admin = ap (λ (round : Round). round.admin) c.loop-link.invariant.round ∙ c.requires.admin;
-  named = ap (λ (round : Round). round.named) c.loop-link.invariant.round ∙ c.requires.named;
+  asked = subst IsAsked (sym c.loop-link.invariant.round) c.requires.asked;
   settled = watching.emptied _ _ _ _ c.loop-link.invariant.watches (rw c.in_default.is at c.front.ensures.none);
 }
+
+pub owed_on-requires-clause-asked : goal.owed_on-requires-clause-asked
+owed_on-requires-clause-asked g c = subst IsAsked (sym c.loop-link.invariant.round) c.requires.asked
