@@ -1,14 +1,13 @@
 -- What the loop counts and knows of its links, from entry to entry.
-use Rattle.std.proofs.Common.{◌≡◌, ◌⊎◌, ℕ, ◌+◌, Bool, true, false, cond, nat_eq, List, [], ◌∷◌, ◌++◌, Option, Some, None, refl, sym, ◌∙◌, append_assoc, append-nil, ap, subst, inl, inr, arith}
-use Rattle.std.specs.Prelude.{IsSome, fold}
-use Rattle.std.specs.Option.{option_map}
+use Rattle.std.proofs.Common.{◌≡◌, ℕ, ◌+◌, Bool, true, false, nat_eq, [], ◌∷◌, ◌++◌, Option, Some, None, refl, sym, ◌∙◌, append_assoc, append-nil, ap, subst, inl, inr}
+use Rattle.std.specs.Prelude.{fold}
 use Rattle.std.proofs.lemmas.Bool.{eqb-true}
 use Rattle.std.proofs.lemmas.List.Sums.{fold-append}
 use Rattle.mx_base.specs.declared.names.LinkId.{LinkId}
 use Rattle.mx_base.specs.declared.names.Port.{Port}
 use Rattle.mx_base.specs.declared.names.Port.TheVariants as port
 use Rattle.mx_wire.specs.Log.{Log, IsMark, AreMarks, link_of, is_link, of_link, open_step, is_open}
-use Rattle.mx_wire.specs.Tells.{MayFollow, Appends, Tells, IsNew}
+use Rattle.mx_wire.specs.Tells.{MayFollow, Appends, Tells}
 use Rattle.mx_wire.specs.Growth.{bool_cases, same_number, nat_eq-sym, step-same, step-other}
 use Rattle.mx_wire.specs.declared.entry.Entry.{Entry}
 use Rattle.mx_wire.specs.declared.entry.Entry.TheVariants as entry

@@ -1,5 +1,5 @@
 -- How a loop ends.
-use Rattle.std.proofs.Common.{◌≡◌, ℕ, Bool, true, false, cond, ◌≤◌, List, [], ◌∷◌, ◌++◌, Option, Some, refl, sym, ◌∙◌, ap, subst, inl, inr, arith}
+use Rattle.std.proofs.Common.{◌≡◌, ℕ, Bool, false, cond, ◌≤◌, ◌++◌, Option, refl, sym, ◌∙◌, ap, subst, inl, inr}
 use Rattle.mx_base.specs.declared.names.LinkId.{LinkId}
 use Rattle.mx_wire.specs.Log.{Log}
 use Rattle.mx_wire.specs.Tells.{Tells}
@@ -8,7 +8,7 @@ use Rattle.mx_wire.specs.declared.entry.Entry.{Entry}
 use Rattle.ready_loop.specs.Machine.{StandsFor}
 use Rattle.ready_loop.specs.Sent.{Sent}
 use Rattle.ready_loop.specs.Drained.{DrainedFor}
-use Rattle.ready_loop.specs.Serving.{TracksFor, EndsWith, EndsSo, Ends, IsOver, IsPortFault, BusyFor, SpentFor}
+use Rattle.ready_loop.specs.Serving.{TracksFor, EndsWith, Ends, BusyFor, SpentFor}
 use Rattle.ready_loop.specs.declared.table.Table.{Table}
 use Rattle.ready_loop.specs.declared.ends.ServeEnd.{ServeEnd}
 use Rattle.ready_loop.specs.declared.ends.ServeEnd.TheVariants.{Stopped, Over, ListenFault, TurnsSpent, OutOfMemory}

@@ -1,6 +1,5 @@
 -- The loop listens before it waits.
-use Rattle.std.proofs.Common.{◌≡◌, ◌⊎◌, ℕ, Bool, true, false, List, [], ◌∷◌, ◌++◌, Option, Some, refl, sym, ◌∙◌, ap, subst, append_assoc, append-nil}
-use Rattle.std.specs.Prelude.{filter}
+use Rattle.std.proofs.Common.{◌≡◌, ℕ, true, [], ◌∷◌, ◌++◌, Option, Some, refl, sym, ◌∙◌, ap, subst, append_assoc, append-nil}
 use Rattle.std.proofs.lemmas.List.Elements.{filter-append}
 use Rattle.mx_base.specs.declared.names.Port.{Port}
 use Rattle.mx_base.specs.declared.names.Port.TheVariants as port
@@ -10,7 +9,7 @@ use Rattle.mx_wire.specs.Moments.{LawfulAfter, AllLawful, lawful-more}
 use Rattle.mx_wire.specs.Tells.{Tells}
 use Rattle.mx_wire.specs.declared.entry.Entry.{Entry}
 use Rattle.mx_wire.specs.declared.entry.Entry.TheVariants as entry
-use Rattle.ready_loop.specs.Serving.{Advances, is_call, calls_of, IsListening, ListeningFor, IsWait, ListensBefore, ListensFirst}
+use Rattle.ready_loop.specs.Serving.{Advances, is_call, calls_of, ListeningFor, IsWait, ListensBefore, ListensFirst}
 
 calls-append : (xs ys : Log) → calls_of (xs ++ ys) ≡ calls_of xs ++ calls_of ys
 calls-append xs ys = filter-append is_call xs ys

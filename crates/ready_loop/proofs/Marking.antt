@@ -1,10 +1,8 @@
 -- What a change of one link's mark is for its dryness.
-use Rattle.std.proofs.Common.{◌≡◌, ◌⊎◌, ℕ, Bool, true, false, nat_eq, List, Option, Some, None, refl, sym, ◌∙◌, ap, inl, inr}
+use Rattle.std.proofs.Common.{◌≡◌, Bool, true, false, nat_eq, Option, Some, None, refl, ◌∙◌, ap, inl, inr}
 use Rattle.std.specs.Option.{option_map}
 use Rattle.mx_base.specs.declared.names.LinkId.{LinkId}
-use Rattle.mx_base.specs.declared.tag.Tag.{Tag}
 use Rattle.mx_wire.specs.Growth.{bool_cases}
-use Rattle.mx_wire.specs.declared.entry.Entry.{Entry}
 use Rattle.mx_wire.specs.declared.entry.Entry.TheVariants as entry
 use Rattle.ready_loop.specs.Links.{Dry, wet, dry_at, dry_mark, dry_of, dry_step, mark_of, is_read_dry, is_write_dry, Marks}
 use Rattle.ready_loop.specs.declared.links.Links.{Links}

@@ -1,15 +1,15 @@
 -- From one call of the wire to the next, the machine goes on standing for the log.
-use Rattle.std.proofs.Common.{◌≡◌, ℕ, ◌+◌, ◌<◌, ◌≤◌, Bool, refl, subst, sym, ap, ◌∙◌, List, [], ◌∷◌, ◌++◌, length, take, Option, Some, None, append_assoc, append-nil, length-append, arith}
+use Rattle.std.proofs.Common.{◌≡◌, ℕ, ◌+◌, ◌<◌, ◌≤◌, Bool, refl, subst, sym, ap, ◌∙◌, [], ◌∷◌, ◌++◌, length, take, Option, Some, None, append_assoc, append-nil, length-append, arith}
 use Rattle.mx_base.specs.declared.names.LinkId.{LinkId}
 use Rattle.mx_wire.specs.Log.{Log, IsMark, AreMarks}
-use Rattle.mx_wire.specs.Tells.{MayFollow, Appends, Tells, OpenFor, IsOpen}
+use Rattle.mx_wire.specs.Tells.{MayFollow, Tells, OpenFor}
 use Rattle.mx_wire.specs.declared.entry.Entry.{Entry}
 use Rattle.mx_wire.specs.declared.entry.Entry.TheVariants as entry
 use Rattle.ready_loop.specs.declared.machines.Piece.{Piece}
-use Rattle.ready_loop.specs.Machine.{StandsFor, CarriesOver, Keeps, IsQuiet, IsLent, MayTake, IsFarewell, IsPartOf, Closes}
+use Rattle.ready_loop.specs.Machine.{StandsFor, CarriesOver, Keeps, IsQuiet, IsLent, MayTake, Closes}
 use Rattle.ready_loop.specs.Sent.{Sent}
 use Rattle.ready_loop.specs.Drained.{IsDue, IsDrained, DrainedFor}
-use Rattle.ready_loop.specs.Serving.{IsOffered, Parts}
+use Rattle.ready_loop.specs.Serving.{Parts}
 use Rattle.ready_loop.proofs.Counting.{drained-marks}
 
 -- a mark is told to no machine

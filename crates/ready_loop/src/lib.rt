@@ -9,6 +9,8 @@ mod machines;
 mod round;
 mod serving;
 mod table;
+#[cfg(test)]
+mod tests;
 
 pub use ends::ServeEnd;
 pub use machines::{Act, Event, Machine, Piece};

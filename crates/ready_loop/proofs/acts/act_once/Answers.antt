@@ -1,4 +1,3 @@
-use Rattle.std.proofs.Common.{refl, sym, ◌∙◌, ap}
 use Rattle.ready_loop.proofs.Steps.{keeps, closes}
 use Rattle.ready_loop.proofs.Watching as watching
 use Rattle.ready_loop.proofs.acts.act_once.Goals as goal

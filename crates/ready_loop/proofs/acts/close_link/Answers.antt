@@ -1,4 +1,4 @@
-use Rattle.std.proofs.Common.{refl, sym, ◌∙◌, ap}
+use Rattle.std.proofs.Common.{refl, ◌∙◌, ap}
 use Rattle.std.specs.Option.{option_map}
 use Rattle.ready_loop.specs.Links.{dry_mark, dry_of}
 use Rattle.ready_loop.proofs.Counting.{parted}

@@ -1,8 +1,6 @@
-use Rattle.std.proofs.Common.{refl, sym, ◌∙◌, ap, inl, inr}
-use Rattle.ready_loop.proofs.Steps.{goes_on, stays, waits, written, may_take}
-use Rattle.ready_loop.proofs.Counting.{unnamed, named}
-use Rattle.ready_loop.proofs.Marking as marking
-use Rattle.ready_loop.proofs.Watching as watching
+use Rattle.std.proofs.Common.{refl}
+use Rattle.ready_loop.proofs.Steps.{stays}
+use Rattle.ready_loop.proofs.Counting.{unnamed}
 use Rattle.ready_loop.specs.Serving.{IsPortFault}
 use Rattle.ready_loop.proofs.Ending.{ends_with}
 use Rattle.ready_loop.proofs.calls.listen_once.Goals as goal

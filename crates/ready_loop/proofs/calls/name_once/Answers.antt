@@ -1,5 +1,5 @@
-use Rattle.std.proofs.Common.{refl, sym, ◌∙◌, ap, inl, inr}
-use Rattle.ready_loop.proofs.Steps.{goes_on, stays, waits, written, may_take}
+use Rattle.std.proofs.Common.{refl}
+use Rattle.ready_loop.proofs.Steps.{stays}
 use Rattle.ready_loop.proofs.Counting.{unnamed, named}
 use Rattle.ready_loop.proofs.Marking as marking
 use Rattle.ready_loop.proofs.Watching as watching

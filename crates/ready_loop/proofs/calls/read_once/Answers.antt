@@ -1,6 +1,6 @@
-use Rattle.std.proofs.Common.{refl, sym, ◌∙◌, ap, inl, inr}
-use Rattle.ready_loop.proofs.Steps.{goes_on, stays, waits, written, may_take}
-use Rattle.ready_loop.proofs.Counting.{unnamed, named}
+use Rattle.std.proofs.Common.{refl, inl}
+use Rattle.ready_loop.proofs.Steps.{goes_on, stays}
+use Rattle.ready_loop.proofs.Counting.{named}
 use Rattle.ready_loop.proofs.Marking as marking
 use Rattle.ready_loop.proofs.Watching as watching
 use Rattle.ready_loop.proofs.Opening.{open_marked}

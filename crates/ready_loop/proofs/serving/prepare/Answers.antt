@@ -1,4 +1,4 @@
-use Rattle.std.proofs.Common.{refl, sym, ◌∙◌, ap}
+use Rattle.std.proofs.Common.{◌∙◌, ap}
 use Rattle.ready_loop.specs.Links.{mark_of}
 use Rattle.ready_loop.specs.declared.links.Links.{Links}
 use Rattle.ready_loop.specs.declared.round.Round.{Round}

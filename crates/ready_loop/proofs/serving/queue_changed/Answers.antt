@@ -1,4 +1,4 @@
-use Rattle.std.proofs.Common.{refl, sym, ◌∙◌, ap}
+use Rattle.std.proofs.Common.{refl, ◌∙◌}
 use Rattle.ready_loop.proofs.Steps.{keeps}
 use Rattle.ready_loop.proofs.Counting.{retold}
 use Rattle.ready_loop.proofs.Marking as marking

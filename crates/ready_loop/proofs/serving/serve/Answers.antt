@@ -1,4 +1,3 @@
-use Rattle.std.proofs.Common.{refl, sym, ◌∙◌, ap}
 use Rattle.ready_loop.proofs.Listening.{listens_grown}
 use Rattle.ready_loop.proofs.serving.serve.Goals as goal
 

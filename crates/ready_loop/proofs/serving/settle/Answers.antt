@@ -1,4 +1,3 @@
-use Rattle.std.proofs.Common.{refl, sym, ◌∙◌, ap}
 use Rattle.ready_loop.proofs.Counting.{retold}
 use Rattle.ready_loop.proofs.Opening.{drained}
 use Rattle.ready_loop.proofs.serving.settle.Goals as goal

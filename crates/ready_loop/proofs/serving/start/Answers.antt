@@ -1,4 +1,3 @@
-use Rattle.std.proofs.Common.{refl, sym, ◌∙◌, ap}
 use Rattle.std.proofs.lemmas.Result.{err_from_is_err_and}
 use Rattle.ready_loop.proofs.Listening.{listening, listens_more, listens_fresh}
 use Rattle.ready_loop.proofs.serving.start.Goals as goal
