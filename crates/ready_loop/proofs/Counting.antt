@@ -1,6 +1,7 @@
 -- What the loop counts and knows of its links, from entry to entry.
-use Rattle.std.proofs.Common.{◌≡◌, ℕ, ◌+◌, Bool, true, false, nat_eq, [], ◌∷◌, ◌++◌, Option, Some, None, refl, sym, ◌∙◌, append_assoc, append-nil, ap, subst, inl, inr}
+use Rattle.std.proofs.Common.{◌≡◌, ℕ, ◌+◌, Bool, true, false, cond, nat_eq, [], ◌∷◌, ◌++◌, Option, Some, None, refl, sym, ◌∙◌, append_assoc, append-nil, ap, subst, inl, inr}
 use Rattle.std.specs.Prelude.{fold}
+use Rattle.std.specs.Option.{option_map}
 use Rattle.std.proofs.lemmas.Bool.{eqb-true}
 use Rattle.std.proofs.lemmas.List.Sums.{fold-append}
 use Rattle.mx_base.specs.declared.names.LinkId.{LinkId}
@@ -13,7 +14,7 @@ use Rattle.mx_wire.specs.declared.entry.Entry.{Entry}
 use Rattle.mx_wire.specs.declared.entry.Entry.TheVariants as entry
 use Rattle.ready_loop.specs.Sent.{Sent}
 use Rattle.ready_loop.specs.Drained.{read_step, write_step, read_dry, write_dry, accept_step, name_step, all_accepted, all_named, IsDrained}
-use Rattle.ready_loop.specs.Links.{Dry, dry_at, dry_in, dry_of, dry_step}
+use Rattle.ready_loop.specs.Links.{Dry, wet, dry_at, dry_in, dry_of, dry_step}
 use Rattle.ready_loop.specs.Round.{call_step, wake_step, calls_since_wake, wakes_of, CountsOf, round_step}
 use Rattle.ready_loop.specs.Machine.{IsFarewell}
 use Rattle.ready_loop.specs.Serving.{Tracks, TracksFor, Parts, offered_round}
@@ -52,49 +53,19 @@ IsOpening _ = ⊥
 abbrev pub IsWet : Bool → Bool → Type 0
 IsWet read write = (read ≡ false) × (write ≡ false)
 
+changed : (opened : Bool) (change : Dry → Dry) (dry : Dry) → cond opened (Some (change dry)) None ≡ option_map change (cond opened (Some dry) None)
+changed true change dry = refl
+changed false change dry = refl
+
 dry-steps : (opened read write : Bool) (e : Entry) → (IsOpening e → IsWet read write) → dry_at (open_step opened e) (read_step read e) (write_step write e) ≡ dry_step (dry_at opened read write) e
-dry-steps opened read write (entry.Accepted at link salt) fresh = let wet = fresh tt in let r = wet.0 in let w = wet.1 in cc
-dry-steps opened read write (entry.Opened server address link) fresh = let wet = fresh tt in let r = wet.0 in let w = wet.1 in cc
-dry-steps true read write (entry.Listening at address) fresh = refl
-dry-steps true read write (entry.ListenFailed at) fresh = refl
-dry-steps true read write (entry.Woke until_ms now_ms) fresh = refl
-dry-steps true read write entry.WaitFailed fresh = refl
-dry-steps true read write entry.Over fresh = refl
-dry-steps true read write (entry.Named link) fresh = refl
-dry-steps true read write entry.NoneNamed fresh = refl
-dry-steps true read write (entry.AcceptNothing at) fresh = refl
-dry-steps true read write (entry.AcceptFailed at) fresh = refl
-dry-steps true read write (entry.OpenFailed server address) fresh = refl
-dry-steps true read write (entry.Got link bytes) fresh = refl
-dry-steps true read write (entry.ReadNothing link) fresh = refl
-dry-steps true read write (entry.Ended link) fresh = refl
-dry-steps true read write (entry.ReadFailed link) fresh = refl
-dry-steps true read write (entry.Wrote link tag bytes) fresh = refl
-dry-steps true read write (entry.WriteNothing link) fresh = refl
-dry-steps true read write (entry.WriteFailed link) fresh = refl
-dry-steps true read write (entry.Closed link) fresh = refl
-dry-steps true read write (entry.Exec link) fresh = refl
-dry-steps true read write (entry.Drop link) fresh = refl
-dry-steps false read write (entry.Listening at address) fresh = refl
-dry-steps false read write (entry.ListenFailed at) fresh = refl
-dry-steps false read write (entry.Woke until_ms now_ms) fresh = refl
-dry-steps false read write entry.WaitFailed fresh = refl
-dry-steps false read write entry.Over fresh = refl
-dry-steps false read write (entry.Named link) fresh = refl
-dry-steps false read write entry.NoneNamed fresh = refl
-dry-steps false read write (entry.AcceptNothing at) fresh = refl
-dry-steps false read write (entry.AcceptFailed at) fresh = refl
-dry-steps false read write (entry.OpenFailed server address) fresh = refl
-dry-steps false read write (entry.Got link bytes) fresh = refl
-dry-steps false read write (entry.ReadNothing link) fresh = refl
-dry-steps false read write (entry.Ended link) fresh = refl
-dry-steps false read write (entry.ReadFailed link) fresh = refl
-dry-steps false read write (entry.Wrote link tag bytes) fresh = refl
-dry-steps false read write (entry.WriteNothing link) fresh = refl
-dry-steps false read write (entry.WriteFailed link) fresh = refl
-dry-steps false read write (entry.Closed link) fresh = refl
-dry-steps false read write (entry.Exec link) fresh = refl
-dry-steps false read write (entry.Drop link) fresh = refl
+dry-steps opened read write (entry.Accepted at link salt) fresh = let new = fresh tt in let r = new.0 in let w = new.1 in cc
+dry-steps opened read write (entry.Opened server address link) fresh = let new = fresh tt in let r = new.0 in let w = new.1 in cc
+dry-steps opened read write (entry.Named link) fresh = changed opened (λ dry. wet) (record { read = read; write = write })
+dry-steps opened read write (entry.Got link bytes) fresh = changed opened (λ dry. record dry { read = false }) (record { read = read; write = write })
+dry-steps opened read write (entry.ReadNothing link) fresh = changed opened (λ dry. record dry { read = true }) (record { read = read; write = write })
+dry-steps opened read write (entry.Wrote link tag bytes) fresh = changed opened (λ dry. record dry { write = false }) (record { read = read; write = write })
+dry-steps opened read write (entry.WriteNothing link) fresh = changed opened (λ dry. record dry { write = true }) (record { read = read; write = write })
+dry-steps opened read write _ fresh = refl
 
 dry_at-equal : (o o' r r' w w' : Bool) → o ≡ o' → r ≡ r' → w ≡ w' → dry_at o r w ≡ dry_at o' r' w'
 dry_at-equal o o' r r' w w' opened read write = cc
@@ -142,17 +113,42 @@ links-unnamed old new log e names same was l =
     same l ∙ was l ∙ sym (dry-other l log e not_it)
 
 -- marks change nothing
-mark-dry : (link : LinkId) (log : Log) (e : Entry) → IsMark e → dry_in link (log ++ e ∷ []) ≡ dry_in link log
-mark-dry link log e mark = elim (bool_cases (is_link link (link_of e))) [
-  | inl here ↦ dry_at-equal _ _ _ _ _ _ (step-same open_step false link log e here) (step-same read_step false link log e here) (step-same write_step false link log e here)
-      ∙ mark-idle e mark (is_open link log) (read_dry link log) (write_dry link log)
-  | inr other ↦ dry-other link log e other
+abbrev pub IgnoresMarks : (Bool → Entry → Bool) → Type 0
+IgnoresMarks step = (e : Entry) → IsMark e → (b : Bool) → step b e ≡ b
+
+open-ignores : IgnoresMarks open_step
+open-ignores (entry.Exec link) mark b = refl
+open-ignores (entry.Drop link) mark b = refl
+open-ignores _ mark b = absurd mark
+
+read-ignores : IgnoresMarks read_step
+read-ignores (entry.Exec link) mark b = refl
+read-ignores (entry.Drop link) mark b = refl
+read-ignores _ mark b = absurd mark
+
+write-ignores : IgnoresMarks write_step
+write-ignores (entry.Exec link) mark b = refl
+write-ignores (entry.Drop link) mark b = refl
+write-ignores _ mark b = absurd mark
+
+accept-ignores : (at : Port) → IgnoresMarks (accept_step at)
+accept-ignores at (entry.Exec link) mark b = refl
+accept-ignores at (entry.Drop link) mark b = refl
+accept-ignores at _ mark b = absurd mark
+
+name-ignores : IgnoresMarks name_step
+name-ignores (entry.Exec link) mark b = refl
+name-ignores (entry.Drop link) mark b = refl
+name-ignores _ mark b = absurd mark
+
+mark-idle : (step : Bool → Entry → Bool) → IgnoresMarks step → (link : LinkId) (log : Log) (e : Entry) → IsMark e → fold step false (of_link link (log ++ e ∷ [])) ≡ fold step false (of_link link log)
+mark-idle step ignores link log e mark = elim (bool_cases (is_link link (link_of e))) [
+  | inl here ↦ step-same step false link log e here ∙ ignores e mark (fold step false (of_link link log))
+  | inr other ↦ step-other step false link log e other
 ]
-  where
-    mark-idle : (e : Entry) → IsMark e → (o r w : Bool) → dry_at (open_step o e) (read_step r e) (write_step w e) ≡ dry_at o r w
-    mark-idle (entry.Exec link) mark o r w = refl
-    mark-idle (entry.Drop link) mark o r w = refl
-    mark-idle _ mark o r w = absurd mark
+
+mark-dry : (link : LinkId) (log : Log) (e : Entry) → IsMark e → dry_in link (log ++ e ∷ []) ≡ dry_in link log
+mark-dry link log e mark = dry_at-equal _ _ _ _ _ _ (mark-idle open_step open-ignores link log e mark) (mark-idle read_step read-ignores link log e mark) (mark-idle write_step write-ignores link log e mark)
 
 mark-counts : (round : Round) (log : Log) (e : Entry) → IsMark e → CountsOf round log → CountsOf round (log ++ e ∷ [])
 mark-counts round log (entry.Exec link) mark was = counts-more round round log (entry.Exec link) refl was
@@ -254,55 +250,12 @@ parted old new told now (Some sent) link middle parts first last gone others hel
 }
 
 -- a loop that is drained stays so over marks
-open-idle : (link : LinkId) (log : Log) (e : Entry) → IsMark e → is_open link (log ++ e ∷ []) ≡ is_open link log
-open-idle link log e mark = elim (bool_cases (is_link link (link_of e))) [
-  | inl here ↦ step-same open_step false link log e here ∙ idle e mark (is_open link log)
-  | inr other ↦ step-other open_step false link log e other
-]
-  where
-    idle : (e : Entry) → IsMark e → (b : Bool) → open_step b e ≡ b
-    idle (entry.Exec link) mark b = refl
-    idle (entry.Drop link) mark b = refl
-    idle _ mark b = absurd mark
-
-read-idle : (link : LinkId) (log : Log) (e : Entry) → IsMark e → read_dry link (log ++ e ∷ []) ≡ read_dry link log
-read-idle link log e mark = elim (bool_cases (is_link link (link_of e))) [
-  | inl here ↦ step-same read_step false link log e here ∙ idle e mark (read_dry link log)
-  | inr other ↦ step-other read_step false link log e other
-]
-  where
-    idle : (e : Entry) → IsMark e → (b : Bool) → read_step b e ≡ b
-    idle (entry.Exec link) mark b = refl
-    idle (entry.Drop link) mark b = refl
-    idle _ mark b = absurd mark
-
-write-idle : (link : LinkId) (log : Log) (e : Entry) → IsMark e → write_dry link (log ++ e ∷ []) ≡ write_dry link log
-write-idle link log e mark = elim (bool_cases (is_link link (link_of e))) [
-  | inl here ↦ step-same write_step false link log e here ∙ idle e mark (write_dry link log)
-  | inr other ↦ step-other write_step false link log e other
-]
-  where
-    idle : (e : Entry) → IsMark e → (b : Bool) → write_step b e ≡ b
-    idle (entry.Exec link) mark b = refl
-    idle (entry.Drop link) mark b = refl
-    idle _ mark b = absurd mark
-
-mark-accepts : (at : Port) (e : Entry) → IsMark e → (b : Bool) → accept_step at b e ≡ b
-mark-accepts at (entry.Exec link) mark b = refl
-mark-accepts at (entry.Drop link) mark b = refl
-mark-accepts at _ mark b = absurd mark
-
-mark-names : (e : Entry) → IsMark e → (b : Bool) → name_step b e ≡ b
-mark-names (entry.Exec link) mark b = refl
-mark-names (entry.Drop link) mark b = refl
-mark-names _ mark b = absurd mark
-
 pub drained-marks : (reads : LinkId → Bool) (sends : LinkId → Option Sent) (log marks : Log) → AreMarks marks → IsDrained reads sends log → IsDrained reads sends (log ++ marks)
 drained-marks reads sends log [] all was = subst (IsDrained reads sends) (sym (append-nil log)) was
 drained-marks reads sends log (e ∷ marks) all was =
     subst (IsDrained reads sends) (append_assoc log (e ∷ []) marks) (drained-marks reads sends (log ++ e ∷ []) marks all.1 (record {
-      accepted = λ at. accepted-more at log e ∙ mark-accepts at e all.0 (all_accepted at log) ∙ was.accepted at;
-      named = named-more log e ∙ mark-names e all.0 (all_named log) ∙ was.named;
-      read = λ link opened wants. read-idle link log e all.0 ∙ was.read link (sym (open-idle link log e all.0) ∙ opened) wants;
-      written = λ link opened some. write-idle link log e all.0 ∙ was.written link (sym (open-idle link log e all.0) ∙ opened) some;
+      accepted = λ at. accepted-more at log e ∙ accept-ignores at e all.0 (all_accepted at log) ∙ was.accepted at;
+      named = named-more log e ∙ name-ignores e all.0 (all_named log) ∙ was.named;
+      read = λ link opened wants. mark-idle read_step read-ignores link log e all.0 ∙ was.read link (sym (mark-idle open_step open-ignores link log e all.0) ∙ opened) wants;
+      written = λ link opened some. mark-idle write_step write-ignores link log e all.0 ∙ was.written link (sym (mark-idle open_step open-ignores link log e all.0) ∙ opened) some;
     }))

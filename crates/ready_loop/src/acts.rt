@@ -103,7 +103,8 @@ fn act_once<M: Machine, W: Wire>(
     }
 }
 
-/// Does all that the machine asks for. Fewer calls than the wake may make are left where it ends otherwise.
+/// Does all that the machine asks for, in order. Ends with Stopped or TurnsSpent where the wake made as many calls
+/// as it may, and with OutOfMemory.
 pub fn do_acts<M: Machine, W: Wire>(
     core: &mut M,
     wire: &mut W,
