@@ -1,6 +1,17 @@
 //! The loop that tells a machine what a wire answers, and does what the machine asks.
 #![tactic(auto)]
 
+mod acts;
+mod calls;
+mod ends;
+mod links;
 mod machines;
+mod round;
+mod serving;
+mod table;
+#[cfg(test)]
+mod tests;
 
+pub use ends::ServeEnd;
 pub use machines::{Act, Event, Machine, Piece};
+pub use serving::serve;

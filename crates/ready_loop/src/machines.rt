@@ -1,5 +1,5 @@
 // A machine that is told of events, and asks for acts.
-ghost use Rattle.std.specs.Prelude.{◌≡◌, ℕ, ◌<◌, List, Option, Some, Bool, take, OnOk, IsSome, IfSome};
+ghost use Rattle.std.specs.Prelude.{◌≡◌, ℕ, ◌<◌, List, Option, Some, Bool, false, take, OnOk, IsSome, IfSome, IfNone};
 ghost use Rattle.mx_base.specs.declared.names.LinkId.{LinkId};
 ghost use Rattle.mx_base.specs.declared.names.Port.{Port};
 ghost use Rattle.mx_base.specs.declared.names.Address.{Address};
@@ -84,6 +84,9 @@ pub trait Machine {
     /// How many of those it has yet to name, at most.
     ghost unnamed: { Self → ℕ };
 
+    /// Whether it has an act to ask for.
+    ghost asks: { Self → Bool } = { λ _. false };
+
     ghost address_of: { Self → Port → Address };
 
     ghost most: { Self → ℕ };
@@ -99,7 +102,8 @@ pub trait Machine {
     fn next_act(&mut self) -> Option<Act>
         ensures awaits { IfSome result (IsAwaited (awaits self.new)) }
         ensures act { Acts stands (IsDue reads sends) sends self.old self.new result }
-        ensures changes { ChangesOnly changed reads sends self.old self.new };
+        ensures changes { ChangesOnly changed reads sends self.old self.new }
+        ensures none { IfNone result (asks self.new ≡ false) };
 
     /// The next link on which there may be something new to write, or which may be read again. It isn't named
     /// twice but for a new reason.
@@ -107,6 +111,8 @@ pub trait Machine {
         ensures keeps { Keeps stands self.old self.new }
         ensures same { SaysSame reads sends until is_stopped self.old self.new }
         ensures named { TakesChange changed self.old self.new result }
+        ensures none { IfNone result ((link : LinkId) → changed self.old link ≡ false) }
+        ensures asks { asks self.new ≡ asks self.old }
         ensures fewer { IsSome result → unnamed self.new < unnamed self.old };
 
     /// What is to be written on a link, if anything is.

@@ -1,0 +1,7 @@
+pub mod Counting
+pub mod Ending
+pub mod Listening
+pub mod Marking
+pub mod Opening
+pub mod Steps
+pub mod Watching

@@ -1,0 +1,73 @@
+-- What a table that is true of the log says of its links.
+use Rattle.std.proofs.Common.{◌≡◌, Bool, true, false, [], Option, Some, None, refl, sym, ◌∙◌, ap, subst}
+use Rattle.std.specs.Option.{option_map}
+use Rattle.mx_base.specs.declared.names.LinkId.{LinkId}
+use Rattle.mx_base.specs.declared.names.Port.{Port}
+use Rattle.mx_base.specs.declared.names.Port.TheVariants as port
+use Rattle.mx_wire.specs.Log.{Log, is_open}
+use Rattle.mx_wire.specs.Tells.{OpenFor}
+use Rattle.ready_loop.specs.Sent.{Sent}
+use Rattle.ready_loop.specs.Drained.{read_dry, write_dry, all_accepted, DrainedFor}
+use Rattle.ready_loop.specs.Links.{Dry, dry_at, dry_mark, dry_of, dry_in, mark_of}
+use Rattle.ready_loop.specs.Round.{CountsOf}
+use Rattle.ready_loop.specs.Serving.{Tracks, TracksFor, IsDone}
+use Rattle.ready_loop.specs.declared.links.Mark.{Mark}
+use Rattle.ready_loop.specs.declared.table.Table.{Table}
+
+at_open : (o r w : Bool) (dry : Dry) → dry_at o r w ≡ Some dry → o ≡ true
+at_open true r w dry is = refl
+at_open false r w dry is = cc
+
+pub some_of : {A : Type 0} (f : Mark → A) (o : Option Mark) (a : A) → option_map f o ≡ Some a → (mark : Mark) × (o ≡ Some mark) × (f mark ≡ a)
+some_of f None a is = cc
+some_of f (Some mark) a is = (mark, refl, cc)
+
+-- a link of the table is open
+pub open_marked : {A : Type 0} (f : Mark → A) (a : A) (table : Table) (told : Option Log) (link : LinkId) → TracksFor table told → option_map f (mark_of table.links link) ≡ Some a → OpenFor told link
+open_marked f a table told link held is = record {
+  holds = λ log told_is.
+      let mark = some_of f (mark_of table.links link) a is in
+      let known : dry_of table.links link ≡ Some (dry_mark mark.0) = ap (option_map dry_mark) mark.1 in
+      at_open (is_open link log) (read_dry link log) (write_dry link log) (dry_mark mark.0) (sym ((held.holds log told_is).links link) ∙ known);
+}
+
+-- an open link is in the table
+known_open : (table : Table) (log : Log) (link : LinkId) → Tracks table log → is_open link log ≡ true → (mark : Mark) × (mark_of table.links link ≡ Some mark) × (dry_mark mark ≡ (record { read = read_dry link log; write = write_dry link log }))
+known_open table log link tracks opened =
+    let here : dry_in link log ≡ Some (record { read = read_dry link log; write = write_dry link log }) = ap (λ (o : Bool). dry_at o (read_dry link log) (write_dry link log)) opened in
+    some_of dry_mark (mark_of table.links link) (record { read = read_dry link log; write = write_dry link log }) (tracks.links link ∙ here)
+
+accepts : (at : Port) (log : Log) (table : Table) → CountsOf table.round log → table.round.traffic ≡ true → table.round.admin ≡ true → all_accepted at log ≡ true
+accepts port.Traffic log table counts traffic admin = sym counts.traffic ∙ traffic
+accepts port.Admin log table counts traffic admin = sym counts.admin ∙ admin
+
+-- where no call is owed, the loop is drained
+pub drained : (reads : LinkId → Bool) (sends : LinkId → Option Sent) (changed : LinkId → Bool) (table : Table) (told : Option Log) → TracksFor table told → IsDone reads sends changed table → ((link : LinkId) → changed link ≡ false) → DrainedFor reads sends told
+drained reads sends changed table told held done calm = record {
+  holds = λ log is.
+      let tracks = held.holds log is in
+      record {
+        accepted = λ at. accepts at log table tracks.round done.asked.traffic done.asked.admin;
+        named = sym tracks.round.named ∙ done.asked.named;
+        read = λ link opened wants. let known = known_open table log link tracks opened in
+            sym (ap (λ (d : Dry). d.read) known.2) ∙ (done.settled link known.0 known.1 (calm link)).read wants;
+        written = λ link opened some. let known = known_open table log link tracks opened in
+            sym (ap (λ (d : Dry). d.write) known.2) ∙ (done.settled link known.0 known.1 (calm link)).written some;
+      };
+}
+
+-- a loop without links is drained
+pub drained_empty : (reads : LinkId → Bool) (sends : LinkId → Option Sent) (table : Table) (told : Option Log) → TracksFor table told → ((link : LinkId) → mark_of table.links link ≡ None) → table.round.traffic ≡ true → table.round.admin ≡ true → table.round.named ≡ true → DrainedFor reads sends told
+drained_empty reads sends table told held none traffic admin named = drained reads sends (λ link. false) table told held (record {
+  asked = record { traffic = traffic; admin = admin; named = named };
+  settled = λ link mark is calm. (let no : ◌≡◌ {A = Option Mark} None (Some mark) = sym (none link) ∙ is in cc);
+}) (λ link. refl)
+
+-- before the first call
+pub tracks_none : (table : Table) (told : Option Log) → CountsOf table.round [] → ((link : LinkId) → mark_of table.links link ≡ None) → ((log : Log) → told ≡ Some log → log ≡ []) → TracksFor table told
+tracks_none table told counts none fresh = record {
+  holds = λ log is. subst (Tracks table) (sym (fresh log is)) (record {
+    round = counts;
+    links = λ link. ap (option_map dry_mark) (none link);
+  });
+}

@@ -1,0 +1,198 @@
+-- What a serving loop keeps, and how it ends.
+use Rattle.std.specs.Prelude.{◌≡◌, ◌⊎◌, ℕ, ◌+◌, ◌<◌, ◌≤◌, Bool, true, false, [], ◌∷◌, ◌++◌, filter, drop, Option, Some, None, IsSome}
+use Rattle.mx_base.specs.declared.names.LinkId.{LinkId}
+use Rattle.mx_base.specs.declared.names.Port.TheVariants as port
+use Rattle.mx_base.specs.declared.names.Address.{Address}
+use Rattle.mx_wire.specs.Log.{Log}
+use Rattle.mx_wire.specs.Moments.{AllLawful}
+use Rattle.mx_wire.specs.Tells.{Tells}
+use Rattle.mx_wire.specs.declared.entry.Entry.{Entry}
+use Rattle.mx_wire.specs.declared.entry.Entry.TheVariants as entry
+use Rattle.ready_loop.specs.Sent.{Sent}
+use Rattle.ready_loop.specs.Machine.{StandsFor, IsFarewell}
+use Rattle.ready_loop.specs.Drained.{IsDrained}
+use Rattle.ready_loop.specs.Links.{dry_in, dry_of, is_read_dry, is_write_dry, mark_of}
+use Rattle.ready_loop.specs.Queued.{Watches, IsSettled}
+use Rattle.ready_loop.specs.Round.{CountsOf, calls_since_wake, wakes_of}
+use Rattle.ready_loop.specs.declared.round.Round.{Round}
+use Rattle.ready_loop.specs.declared.links.Mark.{Mark}
+use Rattle.ready_loop.specs.declared.table.Table.{Table}
+use Rattle.ready_loop.specs.declared.table.Call.{Call}
+use Rattle.ready_loop.specs.declared.table.Call.TheVariants as call
+use Rattle.ready_loop.specs.declared.ends.ServeEnd.{ServeEnd}
+use Rattle.ready_loop.specs.declared.ends.ServeEnd.TheVariants.{Stopped, Over, ListenFault, TurnsSpent, OutOfMemory}
+
+-- what a table says is true of the log
+pub record Tracks (table : Table) (log : Log) : Type 0 where
+  pub round : CountsOf table.round log
+  pub links : (link : LinkId) → dry_of table.links link ≡ dry_in link log
+
+pub record TracksFor (table : Table) (told : Option Log) : Type 0 where
+  pub holds : (log : Log) → told ≡ Some log → Tracks table log
+
+-- what holds between two calls of the wire
+pub record Serves {M : Type 0} (stands : M → Log → Type 0) (reads : M → LinkId → Bool) (sends : M → LinkId → Option Sent) (changed : M → LinkId → Bool) (core : M) (table : Table) (told : Option Log) : Type 0 where
+  pub standing : StandsFor stands core told
+  pub tracks : TracksFor table told
+  pub watches : Watches (reads core) (sends core) (changed core) table.links
+
+-- the log only grows, and failures are only added to
+pub record Advances {W : Type 0} (told : W → Option Log) (port_faults faults : W → ℕ) (old new : W) : Type 0 where
+  pub grew : (log : Log) → told new ≡ Some log → (before : Log) × (told old ≡ Some before) × ((more : Log) × (log ≡ before ++ more))
+  pub ports_failed : port_faults old ≤ port_faults new
+  pub links_failed : faults old ≤ faults new
+
+-- at least one call of the wire was made and counted, and no wait woke
+pub record Works (old new : Round) : Type 0 where
+  pub more : old.calls < new.calls
+  pub wakes : new.wakes ≡ old.wakes
+
+-- the call of which the entry is the answer, where a wake may owe it
+abbrev pub call_of : Entry → Option Call
+call_of (entry.Accepted at link salt) = Some (call.Accept at)
+call_of (entry.AcceptNothing at) = Some (call.Accept at)
+call_of (entry.AcceptFailed at) = Some (call.Accept at)
+call_of (entry.Named link) = Some call.Name
+call_of entry.NoneNamed = Some call.Name
+call_of (entry.Got link bytes) = Some (call.Read link)
+call_of (entry.ReadNothing link) = Some (call.Read link)
+call_of (entry.Ended link) = Some (call.Read link)
+call_of (entry.ReadFailed link) = Some (call.Read link)
+call_of (entry.Wrote link tag bytes) = Some (call.Write link)
+call_of (entry.WriteNothing link) = Some (call.Write link)
+call_of (entry.WriteFailed link) = Some (call.Write link)
+call_of _ = None
+
+-- the call was made, and no other
+pub record Makes (made : Call) (old new : Option Log) : Type 0 where
+  pub entry_of : Entry
+  pub tells : Tells old entry_of new
+  pub is : call_of entry_of ≡ Some made
+
+-- since the last wake both ports found nobody, and each ready link was named
+pub record IsAsked (round : Round) : Type 0 where
+  pub traffic : round.traffic ≡ true
+  pub admin : round.admin ≡ true
+  pub named : round.named ≡ true
+
+-- ports come first, then names, and then the link at the front of the queue, which is read before it is written
+pub record IsAccepting (table : Table) (traffic admin : Bool) : Type 0 where
+  pub traffic_asked : table.round.traffic ≡ traffic
+  pub admin_asked : traffic ≡ true → table.round.admin ≡ admin
+
+pub record IsNaming (table : Table) : Type 0 where
+  pub traffic : table.round.traffic ≡ true
+  pub admin : table.round.admin ≡ true
+  pub named : table.round.named ≡ false
+
+pub record IsReading (reads : Bool) (table : Table) (link : LinkId) : Type 0 where
+  pub asked : IsAsked table.round
+  pub first : table.links.queue.items ≡ link ∷ drop 1 table.links.queue.items
+  pub wanted : reads ≡ true
+  pub wet : is_read_dry table.links link ≡ Some false
+
+pub record IsWriting (reads : Bool) (sends : Option Sent) (table : Table) (link : LinkId) : Type 0 where
+  pub asked : IsAsked table.round
+  pub first : table.links.queue.items ≡ link ∷ drop 1 table.links.queue.items
+  pub read : reads ≡ true → is_read_dry table.links link ≡ Some true
+  pub some : IsSome sends
+  pub wet : is_write_dry table.links link ≡ Some false
+
+abbrev pub IsOwed : (LinkId → Bool) → (LinkId → Option Sent) → Table → Call → Type 0
+IsOwed reads sends table (call.Accept port.Traffic) = IsAccepting table false false
+IsOwed reads sends table (call.Accept port.Admin) = IsAccepting table true false
+IsOwed reads sends table call.Name = IsNaming table
+IsOwed reads sends table (call.Read link) = IsReading (reads link) table link
+IsOwed reads sends table (call.Write link) = IsWriting (reads link) (sends link) table link
+
+-- no call is owed
+pub record IsDone (reads : LinkId → Bool) (sends : LinkId → Option Sent) (changed : LinkId → Bool) (table : Table) : Type 0 where
+  pub asked : IsAsked table.round
+  pub settled : (link : LinkId) (mark : Mark) → mark_of table.links link ≡ Some mark → changed link ≡ false → IsSettled (reads link) (sends link) mark
+
+-- the link's bytes, if there are any, are offered to one write
+abbrev pub IsOffered : Option Sent → LinkId → Option Log → Option Log → Type 0
+IsOffered None link old new = new ≡ old
+IsOffered (Some sent) link old new = (e : Entry) × IsFarewell (Some sent) link e × Tells old e new
+
+-- an offer is counted
+abbrev pub offered_round : Option Sent → Round → Round
+offered_round None round = round
+offered_round (Some sent) round = record round { calls = round.calls + 1 }
+
+-- a link is parted with: the offer, and then the close
+pub record Parts (lent : Option Sent) (link : LinkId) (old new : Option Log) : Type 0 where
+  pub offered : Option Log
+  pub offer : IsOffered lent link old offered
+  pub close : Tells offered (entry.Closed link) new
+
+-- the last entry of the log, where it is told
+pub record EndsWith (P : Entry → Type 0) (told : Option Log) : Type 0 where
+  pub last : (log : Log) → told ≡ Some log → (before : Log) × ((e : Entry) × P e × (log ≡ before ++ e ∷ []))
+
+abbrev pub IsOver : Entry → Type 0
+IsOver entry.Over = Unit {0}
+IsOver _ = ⊥
+
+abbrev pub IsPortFault : Entry → Type 0
+IsPortFault (entry.ListenFailed at) = Unit {0}
+IsPortFault entry.WaitFailed = Unit {0}
+IsPortFault (entry.AcceptFailed at) = Unit {0}
+IsPortFault _ = ⊥
+
+-- one wake made as many calls of the wire as it may
+abbrev pub IsBusy : Log → Type 0
+IsBusy log = 4294967296 ≤ calls_since_wake log
+
+pub record BusyFor (told : Option Log) : Type 0 where
+  pub holds : (log : Log) → told ≡ Some log → IsBusy log
+
+-- the loop is due to wait, and so many waits woke
+pub record IsOut (turns : ℕ) (reads : LinkId → Bool) (sends : LinkId → Option Sent) (log : Log) : Type 0 where
+  pub woke : wakes_of log ≡ turns
+  pub drained : IsDrained reads sends log
+
+pub record SpentFor (turns : ℕ) (reads : LinkId → Bool) (sends : LinkId → Option Sent) (told : Option Log) : Type 0 where
+  pub holds : (log : Log) → told ≡ Some log → IsOut turns reads sends log ⊎ IsBusy log
+
+-- how the loop ends, and what stands then
+pub record EndsSo {M : Type 0} (stands : M → Log → Type 0) (core : M) (told : Option Log) (is should : Bool) (last : Option Log → Type 0) : Type 0 where
+  pub standing : StandsFor stands core told
+  pub halted : is ≡ should
+  pub so : last told
+
+abbrev pub Ends : {M : Type 0} → (M → Log → Type 0) → (M → Bool) → (Option Log → Type 0) → M → Option Log → ServeEnd → Type 0
+Ends stands is_stopped spent core told Stopped = EndsSo stands core told (is_stopped core) true (λ t. Unit {0})
+Ends stands is_stopped spent core told Over = EndsSo stands core told (is_stopped core) false (EndsWith IsOver)
+Ends stands is_stopped spent core told ListenFault = EndsSo stands core told (is_stopped core) false (EndsWith IsPortFault)
+Ends stands is_stopped spent core told TurnsSpent = EndsSo stands core told (is_stopped core) false spent
+Ends stands is_stopped spent core told OutOfMemory = Unit {0}
+
+-- the calls of a log, without the marks
+abbrev pub is_call : Entry → Bool
+is_call (entry.Exec link) = false
+is_call (entry.Drop link) = false
+is_call _ = true
+
+abbrev pub calls_of : Log → Log
+calls_of log = filter is_call log
+
+-- the log begins by listening at both addresses, traffic first
+abbrev pub IsListening : Address → Address → Log → Type 0
+IsListening traffic admin log = (rest : Log) × (calls_of log ≡ entry.Listening port.Traffic traffic ∷ entry.Listening port.Admin admin ∷ rest)
+
+pub record ListeningFor (traffic admin : Address) (told : Option Log) : Type 0 where
+  pub holds : (log : Log) → told ≡ Some log → IsListening traffic admin log
+
+abbrev pub IsWait : Entry → Type 0
+IsWait (entry.Woke until_ms now_ms) = Unit {0}
+IsWait entry.WaitFailed = Unit {0}
+IsWait entry.Over = Unit {0}
+IsWait _ = ⊥
+
+abbrev pub ListensBefore : Address → Address → Log → Entry → Type 0
+ListensBefore traffic admin log e = IsWait e → IsListening traffic admin log
+
+-- before each wait the loop listened
+pub record ListensFirst (traffic admin : Address) (told : Option Log) : Type 0 where
+  pub holds : (log : Log) → told ≡ Some log → AllLawful (ListensBefore traffic admin) log

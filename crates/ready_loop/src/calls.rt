@@ -1,0 +1,214 @@
+// One call of the wire at a time, and what the machine is told of it.
+ghost use Rattle.std.specs.Prelude.{◌≡◌, ◌+◌, ◌<◌, ◌≤◌, length, false, Some, OnOk, IfErr, OnErr, IsSome};
+ghost use Rattle.mx_wire.specs.Tells.{Tells};
+ghost use Rattle.mx_wire.specs.declared.entry.Entry.TheVariants as entry;
+ghost use Rattle.ready_loop.specs.Drained.{DrainedFor};
+ghost use Rattle.ready_loop.specs.Links.{is_read_dry, is_write_dry};
+ghost use Rattle.ready_loop.specs.Serving.{Serves, Ends, BusyFor, Advances, Makes, Works};
+
+use crate::table::{Call, Table};
+use crate::{Event, Machine, ServeEnd};
+use mx_base::{LinkId, Port};
+use mx_wire::{Accepted, Got, Listened, Took, Wire, Woke};
+
+/// Listens at the machine's address.
+pub fn listen_once<M: Machine, W: Wire>(
+    core: &M,
+    wire: &mut W,
+    table: &mut Table,
+    port: Port,
+) -> Result<(), ServeEnd>
+    requires room { table.old.round.calls < 4294967296 }
+    requires going { M.is_stopped core.now ≡ false }
+    requires serves { Serves M.stands M.reads M.sends M.changed core.now table.old (W.told wire.old) }
+    ensures serves { OnOk result (Serves M.stands M.reads M.sends M.changed core.now table.new (W.told wire.new)) }
+    ensures told { OnOk result (Tells (W.told wire.old) (entry.Listening port (M.address_of core.now port)) (W.told wire.new)) }
+    ensures failed { OnErr result (Tells (W.told wire.old) (entry.ListenFailed port) (W.told wire.new)) }
+    ensures round { OnOk result (table.new.round ≡ record table.old.round { calls = table.old.round.calls + 1 }) }
+    ensures links { OnOk result (table.new.links ≡ table.old.links) }
+    ensures ends { IfErr result (Ends M.stands M.is_stopped BusyFor core.now (W.told wire.new)) }
+    ensures rose { IfErr result (λ end. end ≡ ServeEnd.ListenFault → W.port_faults wire.old < W.port_faults wire.new) }
+    ensures advances { Advances W.told W.port_faults W.faults wire.old wire.new }
+{
+    table.round.calls += 1;
+    match wire.listen(port, core.address(port)) {
+        Listened::Done => Ok(()),
+        Listened::Failed => Err(ServeEnd::ListenFault),
+    }
+}
+
+/// Waits, and tells the machine of the wake.
+pub fn wait_once<M: Machine, W: Wire>(
+    core: &mut M,
+    wire: &mut W,
+    table: &mut Table,
+) -> Result<(), ServeEnd>
+    requires room { table.old.round.wakes < 18446744073709551615 }
+    requires going { M.is_stopped core.old ≡ false }
+    requires serves { Serves M.stands M.reads M.sends M.changed core.old table.old (W.told wire.old) }
+    requires drained { DrainedFor (M.reads core.old) (M.sends core.old) (W.told wire.old) }
+    ensures serves { OnOk result (Serves M.stands M.reads M.sends M.changed core.new table.new (W.told wire.new)) }
+    ensures calls { OnOk result (table.new.round.calls ≡ 0) }
+    ensures wakes { OnOk result (table.new.round.wakes ≡ table.old.round.wakes + 1) }
+    ensures ends { IfErr result (Ends M.stands M.is_stopped BusyFor core.new (W.told wire.new)) }
+    ensures rose { IfErr result (λ end. end ≡ ServeEnd.ListenFault → W.port_faults wire.old < W.port_faults wire.new) }
+    ensures advances { Advances W.told W.port_faults W.faults wire.old wire.new }
+{
+    match wire.wait(core.until_ms()) {
+        Woke::Woke { now_ms } => {
+            core.take(Event::Woke { now_ms }, &mut [])?;
+            table.round.woke();
+            Ok(())
+        }
+        Woke::Over => Err(ServeEnd::Over),
+        Woke::Failed => Err(ServeEnd::ListenFault),
+    }
+}
+
+/// Takes the next client at a port.
+pub fn accept_once<M: Machine, W: Wire>(
+    core: &mut M,
+    wire: &mut W,
+    table: &mut Table,
+    port: Port,
+) -> Result<(), ServeEnd>
+    requires acted { M.asks core.old ≡ false }
+    requires room { table.old.round.calls < 4294967296 }
+    requires going { M.is_stopped core.old ≡ false }
+    requires serves { Serves M.stands M.reads M.sends M.changed core.old table.old (W.told wire.old) }
+    ensures serves { OnOk result (Serves M.stands M.reads M.sends M.changed core.new table.new (W.told wire.new)) }
+    ensures made { Makes (Call.Accept port) (W.told wire.old) (W.told wire.new) }
+    ensures works { OnOk result (Works table.old.round table.new.round) }
+    ensures ends { IfErr result (Ends M.stands M.is_stopped BusyFor core.new (W.told wire.new)) }
+    ensures rose { IfErr result (λ end. end ≡ ServeEnd.ListenFault → W.port_faults wire.old < W.port_faults wire.new) }
+    ensures advances { Advances W.told W.port_faults W.faults wire.old wire.new }
+{
+    table.round.calls += 1;
+    match wire.accept(port) {
+        Accepted::Link { id, salt } => {
+            core.take(
+                Event::Accepted {
+                    port,
+                    link: id,
+                    salt,
+                },
+                &mut [],
+            )?;
+            table.round.accepted(port, false);
+            table.links.opened(id)?;
+            Ok(())
+        }
+        Accepted::NotReady => {
+            table.round.accepted(port, true);
+            Ok(())
+        }
+        Accepted::Failed => Err(ServeEnd::ListenFault),
+    }
+}
+
+/// Asks for the name of the next ready link.
+pub fn name_once<M: Machine, W: Wire>(
+    core: &M,
+    wire: &mut W,
+    table: &mut Table,
+) -> Result<(), ServeEnd>
+    requires acted { M.asks core.now ≡ false }
+    requires room { table.old.round.calls < 4294967296 }
+    requires serves { Serves M.stands M.reads M.sends M.changed core.now table.old (W.told wire.old) }
+    ensures serves { OnOk result (Serves M.stands M.reads M.sends M.changed core.now table.new (W.told wire.new)) }
+    ensures made { Makes (Call.Name) (W.told wire.old) (W.told wire.new) }
+    ensures works { OnOk result (Works table.old.round table.new.round) }
+    ensures ends { IfErr result (λ end. end ≡ ServeEnd.OutOfMemory) }
+    ensures advances { Advances W.told W.port_faults W.faults wire.old wire.new }
+{
+    table.round.calls += 1;
+    match wire.next_ready() {
+        Some(link) => {
+            table.links.named(link)?;
+            Ok(())
+        }
+        None => {
+            table.round.named = true;
+            Ok(())
+        }
+    }
+}
+
+/// Reads from a link.
+pub fn read_once<M: Machine, W: Wire>(
+    core: &mut M,
+    wire: &mut W,
+    table: &mut Table,
+    link: LinkId,
+    buffer: &mut [u8],
+) -> Result<(), ServeEnd>
+    requires some { 0 < length buffer.old }
+    requires most { length buffer.old ≤ 65536 }
+    requires acted { M.asks core.old ≡ false }
+    requires room { table.old.round.calls < 4294967296 }
+    requires wet { is_read_dry table.old.links link ≡ Some false }
+    requires serves { Serves M.stands M.reads M.sends M.changed core.old table.old (W.told wire.old) }
+    ensures serves { OnOk result (Serves M.stands M.reads M.sends M.changed core.new table.new (W.told wire.new)) }
+    ensures made { Makes (Call.Read link) (W.told wire.old) (W.told wire.new) }
+    ensures works { OnOk result (Works table.old.round table.new.round) }
+    ensures ends { IfErr result (λ end. end ≡ ServeEnd.OutOfMemory) }
+    ensures advances { Advances W.told W.port_faults W.faults wire.old wire.new }
+{
+    table.round.calls += 1;
+    match wire.read(link, buffer) {
+        Got::Got { n } => {
+            core.take(Event::Got { link }, &mut buffer[..n])?;
+            Ok(())
+        }
+        Got::NotReady => {
+            table.links.read_dry(link);
+            Ok(())
+        }
+        Got::End => {
+            core.take(Event::Ended { link }, &mut [])?;
+            Ok(())
+        }
+        Got::Failed => {
+            core.take(Event::Failed { link }, &mut [])?;
+            Ok(())
+        }
+    }
+}
+
+/// Writes what the machine has for a link.
+pub fn write_once<M: Machine, W: Wire>(
+    core: &mut M,
+    wire: &mut W,
+    table: &mut Table,
+    link: LinkId,
+) -> Result<(), ServeEnd>
+    requires acted { M.asks core.old ≡ false }
+    requires room { table.old.round.calls < 4294967296 }
+    requires some { IsSome (M.sends core.old link) }
+    requires wet { is_write_dry table.old.links link ≡ Some false }
+    requires serves { Serves M.stands M.reads M.sends M.changed core.old table.old (W.told wire.old) }
+    ensures serves { OnOk result (Serves M.stands M.reads M.sends M.changed core.new table.new (W.told wire.new)) }
+    ensures made { Makes (Call.Write link) (W.told wire.old) (W.told wire.new) }
+    ensures works { OnOk result (Works table.old.round table.new.round) }
+    ensures ends { IfErr result (λ end. end ≡ ServeEnd.OutOfMemory) }
+    ensures advances { Advances W.told W.port_faults W.faults wire.old wire.new }
+{
+    let Some(piece) = core.outgoing(link) else {
+        return Ok(());
+    };
+    table.round.calls += 1;
+    match wire.write(link, piece.tag, piece.bytes) {
+        Took::Took { n } => {
+            core.taken(link, n);
+            Ok(())
+        }
+        Took::NotReady => {
+            table.links.write_dry(link);
+            Ok(())
+        }
+        Took::Failed => {
+            core.take(Event::Failed { link }, &mut [])?;
+            Ok(())
+        }
+    }
+}

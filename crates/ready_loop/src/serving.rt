@@ -1,0 +1,269 @@
+// The serving loop.
+ghost use Rattle.std.specs.Prelude.{◌≡◌, ◌≢◌, ◌<◌, ◌≤◌, ◌+◌, [], length, false, true, Some, OnOk, OnErr, IfErr, IfOk, None};
+ghost use Rattle.mx_base.specs.declared.names.LinkId.{LinkId};
+ghost use Rattle.mx_wire.specs.Log.{Log};
+ghost use Rattle.ready_loop.specs.Drained.{DrainedFor};
+ghost use Rattle.ready_loop.specs.Links.{mark_of};
+ghost use Rattle.ready_loop.specs.Machine.{StandsFor};
+ghost use Rattle.ready_loop.specs.Round.{CountsOf};
+ghost use Rattle.ready_loop.specs.Serving.{Serves, Ends, BusyFor, EndsWith, IsOver, IsPortFault, SpentFor, ListensFirst, ListeningFor, Advances, Works, Makes, IsOwed};
+
+use crate::acts::{CALLS_PER_WAKE, do_acts, spent};
+use crate::calls::{accept_once, listen_once, name_once, read_once, wait_once, write_once};
+use crate::links::Links;
+use crate::round::Round;
+use crate::table::{Call, Table};
+use crate::{Machine, ServeEnd};
+use mx_base::{OutOfMemory, Port};
+use mx_wire::Wire;
+use std::alloc::Global;
+
+/// How many bytes one read takes at most.
+const READ_SIZE: usize = 65_536;
+
+// Puts the links that the machine names as changed into the queue.
+fn queue_changed<M: Machine, W: Wire>(
+    core: &mut M,
+    wire: &W,
+    table: &mut Table,
+) -> Result<(), OutOfMemory>
+    requires serves { Serves M.stands M.reads M.sends M.changed core.old table.old (W.told wire.now) }
+    ensures serves { OnOk result (Serves M.stands M.reads M.sends M.changed core.new table.new (W.told wire.now)) }
+    ensures calm { OnOk result ((link : LinkId) → M.changed core.new link ≡ false) }
+    ensures stopped { M.is_stopped core.new ≡ M.is_stopped core.old }
+    ensures acted { M.asks core.new ≡ M.asks core.old }
+    ensures round { table.new.round ≡ table.old.round }
+{
+    while let Some(link) = core.next_changed() {
+        table.links.enqueue(link)?;
+    }
+    Ok(())
+}
+
+// After a call: the machine's acts are done, and the links that it then names are queued.
+fn follow<M: Machine, W: Wire>(
+    core: &mut M,
+    wire: &mut W,
+    table: &mut Table,
+) -> Result<(), ServeEnd>
+    requires serves { Serves M.stands M.reads M.sends M.changed core.old table.old (W.told wire.old) }
+    ensures serves { OnOk result (Serves M.stands M.reads M.sends M.changed core.new table.new (W.told wire.new)) }
+    ensures calm { OnOk result ((link : LinkId) → M.changed core.new link ≡ false) }
+    ensures going { OnOk result (M.is_stopped core.new ≡ false) }
+    ensures acted { OnOk result (M.asks core.new ≡ false) }
+    ensures more { OnOk result (table.old.round.calls ≤ table.new.round.calls) }
+    ensures wakes { OnOk result (table.new.round.wakes ≡ table.old.round.wakes) }
+    ensures ends { IfErr result (Ends M.stands M.is_stopped BusyFor core.new (W.told wire.new)) }
+    ensures rose { IfErr result (λ end. end ≡ ServeEnd.ListenFault → ⊥) }
+    ensures advances { Advances W.told W.port_faults W.faults wire.old wire.new }
+{
+    do_acts(core, wire, table)?;
+    if core.stopped() {
+        return Err(ServeEnd::Stopped);
+    }
+    queue_changed(core, wire, table)?;
+    Ok(())
+}
+
+fn make_call<M: Machine, W: Wire>(
+    core: &mut M,
+    wire: &mut W,
+    table: &mut Table,
+    buffer: &mut [u8],
+    call: Call,
+) -> Result<(), ServeEnd>
+    requires some { 0 < length buffer.old }
+    requires most { length buffer.old ≤ 65536 }
+    requires room { table.old.round.calls < 4294967296 }
+    requires going { M.is_stopped core.old ≡ false }
+    requires acted { M.asks core.old ≡ false }
+    requires owed { IsOwed (M.reads core.old) (M.sends core.old) table.old call }
+    requires serves { Serves M.stands M.reads M.sends M.changed core.old table.old (W.told wire.old) }
+    ensures serves { OnOk result (Serves M.stands M.reads M.sends M.changed core.new table.new (W.told wire.new)) }
+    ensures made { Makes call (W.told wire.old) (W.told wire.new) }
+    ensures works { OnOk result (Works table.old.round table.new.round) }
+    ensures ends { IfErr result (Ends M.stands M.is_stopped BusyFor core.new (W.told wire.new)) }
+    ensures rose { IfErr result (λ end. end ≡ ServeEnd.ListenFault → W.port_faults wire.old < W.port_faults wire.new) }
+    ensures advances { Advances W.told W.port_faults W.faults wire.old wire.new }
+{
+    match call {
+        Call::Accept { port } => accept_once(core, wire, table, port)?,
+        Call::Name => name_once(core, wire, table)?,
+        Call::Read { link } => read_once(core, wire, table, link, buffer)?,
+        Call::Write { link } => write_once(core, wire, table, link)?,
+    }
+    Ok(())
+}
+
+// Makes the calls that are owed before the next wait.
+fn settle<M: Machine, W: Wire>(
+    core: &mut M,
+    wire: &mut W,
+    table: &mut Table,
+    buffer: &mut [u8],
+) -> Result<(), ServeEnd>
+    requires some { 0 < length buffer.old }
+    requires most { length buffer.old ≤ 65536 }
+    requires going { M.is_stopped core.old ≡ false }
+    requires acted { M.asks core.old ≡ false }
+    requires calm { (link : LinkId) → M.changed core.old link ≡ false }
+    requires serves { Serves M.stands M.reads M.sends M.changed core.old table.old (W.told wire.old) }
+    ensures serves { OnOk result (Serves M.stands M.reads M.sends M.changed core.new table.new (W.told wire.new)) }
+    ensures going { OnOk result (M.is_stopped core.new ≡ false) }
+    ensures drained { OnOk result (DrainedFor (M.reads core.new) (M.sends core.new) (W.told wire.new)) }
+    ensures acted { OnOk result (M.asks core.new ≡ false) }
+    ensures wakes { OnOk result (table.new.round.wakes ≡ table.old.round.wakes) }
+    ensures ends { IfErr result (Ends M.stands M.is_stopped BusyFor core.new (W.told wire.new)) }
+    ensures rose { IfErr result (λ end. end ≡ ServeEnd.ListenFault → W.port_faults wire.old < W.port_faults wire.new) }
+    ensures advances { Advances W.told W.port_faults W.faults wire.old wire.new }
+{
+    while table.round.calls < CALLS_PER_WAKE {
+        let Some(call) = table.owed(core) else {
+            return Ok(());
+        };
+        make_call(core, wire, table, buffer, call)?;
+        follow(core, wire, table)?;
+    }
+    Err(spent(core))
+}
+
+// Waits, and serves what the wake brings.
+fn serve_wake<M: Machine, W: Wire>(
+    core: &mut M,
+    wire: &mut W,
+    table: &mut Table,
+    buffer: &mut [u8],
+) -> Result<(), ServeEnd>
+    requires some { 0 < length buffer.old }
+    requires most { length buffer.old ≤ 65536 }
+    requires room { table.old.round.wakes < 18446744073709551615 }
+    requires going { M.is_stopped core.old ≡ false }
+    requires serves { Serves M.stands M.reads M.sends M.changed core.old table.old (W.told wire.old) }
+    requires drained { DrainedFor (M.reads core.old) (M.sends core.old) (W.told wire.old) }
+    ensures serves { OnOk result (Serves M.stands M.reads M.sends M.changed core.new table.new (W.told wire.new)) }
+    ensures going { OnOk result (M.is_stopped core.new ≡ false) }
+    ensures drained { OnOk result (DrainedFor (M.reads core.new) (M.sends core.new) (W.told wire.new)) }
+    ensures wakes { OnOk result (table.new.round.wakes ≡ table.old.round.wakes + 1) }
+    ensures ends { IfErr result (Ends M.stands M.is_stopped BusyFor core.new (W.told wire.new)) }
+    ensures rose { IfErr result (λ end. end ≡ ServeEnd.ListenFault → W.port_faults wire.old < W.port_faults wire.new) }
+    ensures advances { Advances W.told W.port_faults W.faults wire.old wire.new }
+{
+    wait_once(core, wire, table)?;
+    follow(core, wire, table)?;
+    settle(core, wire, table, buffer)?;
+    Ok(())
+}
+
+fn serve_turns<M: Machine, W: Wire>(
+    core: &mut M,
+    wire: &mut W,
+    table: &mut Table,
+    buffer: &mut [u8],
+    turns: u64,
+) -> ServeEnd
+    requires some { 0 < length buffer.old }
+    requires most { length buffer.old ≤ 65536 }
+    requires wakes { table.old.round.wakes ≡ 0 }
+    requires going { M.is_stopped core.old ≡ false }
+    requires serves { Serves M.stands M.reads M.sends M.changed core.old table.old (W.told wire.old) }
+    requires drained { DrainedFor (M.reads core.old) (M.sends core.old) (W.told wire.old) }
+    ensures ends { Ends M.stands M.is_stopped (SpentFor turns (M.reads core.new) (M.sends core.new)) core.new (W.told wire.new) result }
+    ensures rose { result ≡ ServeEnd.ListenFault → W.port_faults wire.old < W.port_faults wire.new }
+    ensures advances { Advances W.told W.port_faults W.faults wire.old wire.new }
+{
+    while table.round.wakes < turns {
+        if let Err(end) = serve_wake(core, wire, table, buffer) {
+            return end;
+        }
+    }
+    ServeEnd::TurnsSpent
+}
+
+// Listens at both ports.
+fn start<M: Machine, W: Wire>(core: &M, wire: &mut W, table: &mut Table) -> Result<(), ServeEnd>
+    requires fresh { (log : Log) → W.told wire.old ≡ Some log → log ≡ [] }
+    requires calls { table.old.round.calls ≡ 0 }
+    requires going { M.is_stopped core.now ≡ false }
+    requires serves { Serves M.stands M.reads M.sends M.changed core.now table.old (W.told wire.old) }
+    ensures serves { OnOk result (Serves M.stands M.reads M.sends M.changed core.now table.new (W.told wire.new)) }
+    ensures links { OnOk result (table.new.links ≡ table.old.links) }
+    ensures round { OnOk result (table.new.round ≡ record table.old.round { calls = 2 }) }
+    ensures listening { OnOk result (ListeningFor (M.address_of core.now Port.Traffic) (M.address_of core.now Port.Admin) (W.told wire.new)) }
+    ensures listens { OnErr result (ListensFirst (M.address_of core.now Port.Traffic) (M.address_of core.now Port.Admin) (W.told wire.new)) }
+    ensures ends { IfErr result (Ends M.stands M.is_stopped BusyFor core.now (W.told wire.new)) }
+    ensures rose { IfErr result (λ end. end ≡ ServeEnd.ListenFault → W.port_faults wire.old < W.port_faults wire.new) }
+    ensures advances { Advances W.told W.port_faults W.faults wire.old wire.new }
+{
+    listen_once(core, wire, table, Port::Traffic)?;
+    listen_once(core, wire, table, Port::Admin)?;
+    Ok(())
+}
+
+// The table and the buffer of a loop that listens.
+fn prepare<M: Machine, W: Wire>(
+    alloc: Global,
+    core: &M,
+    wire: &mut W,
+) -> Result<(Table, Vec<u8>), ServeEnd>
+    requires fresh { (log : Log) → W.told wire.old ≡ Some log → log ≡ [] }
+    requires stands { StandsFor M.stands core.now (W.told wire.old) }
+    requires going { M.is_stopped core.now ≡ false }
+    ensures serves { IfOk result (λ made. Serves M.stands M.reads M.sends M.changed core.now made.0 (W.told wire.new)) }
+    ensures wakes { IfOk result (λ made. made.0.round.wakes ≡ 0) }
+    ensures size { IfOk result (λ made. length made.1.items ≡ 65536) }
+    ensures drained { OnOk result (DrainedFor (M.reads core.now) (M.sends core.now) (W.told wire.new)) }
+    ensures listening { OnOk result (ListeningFor (M.address_of core.now Port.Traffic) (M.address_of core.now Port.Admin) (W.told wire.new)) }
+    ensures listens { OnErr result (ListensFirst (M.address_of core.now Port.Traffic) (M.address_of core.now Port.Admin) (W.told wire.new)) }
+    ensures ends { IfErr result (Ends M.stands M.is_stopped BusyFor core.now (W.told wire.new)) }
+    ensures rose { IfErr result (λ end. end ≡ ServeEnd.ListenFault → W.port_faults wire.old < W.port_faults wire.new) }
+    ensures advances { Advances W.told W.port_faults W.faults wire.old wire.new }
+{
+    let (mut table, buffer) = make_room(alloc, core.most_links())?;
+    wire.reserve(core.most_links())?;
+    start(core, wire, &mut table)?;
+    Ok((table, buffer))
+}
+
+fn make_room(alloc: Global, most: u32) -> Result<(Table, Vec<u8>), OutOfMemory>
+    ensures links { IfOk result (λ made. (link : LinkId) → mark_of made.0.links link ≡ None) }
+    ensures counts { IfOk result (λ made. CountsOf made.0.round []) }
+    ensures calls { IfOk result (λ made. made.0.round.calls ≡ 0) }
+    ensures wakes { IfOk result (λ made. made.0.round.wakes ≡ 0) }
+    ensures size { IfOk result (λ made. length made.1.items ≡ 65536) }
+{
+    let table = Table {
+        links: Links::with_room(alloc, most)?,
+        round: Round::new(),
+    };
+    Ok((table, vec![in alloc; 0u8; READ_SIZE]?))
+}
+
+/// Serves a machine over a wire, for `turns` waits at most. Room for `most_links` links is taken first; then the
+/// loop listens at both addresses, traffic first, and then waits. Each wake is told to the machine; then clients are
+/// accepted, traffic first, ready links are named, and the links are served in the order named: each is read
+/// while the machine wants it and then written while it has something, until the wire is not ready. After each
+/// call the machine's acts are done in order.
+///
+/// Stopped comes where the machine stopped, Over where a wait answered Over, ListenFault where a port or a wait
+/// failed, TurnsSpent where a further wait is due after `turns` of them, or one wake made 4,294,967,296 calls of the
+/// wire, and OutOfMemory where memory was refused, of which the machine then isn't told.
+pub fn serve<M: Machine, W: Wire>(alloc: Global, core: &mut M, wire: &mut W, turns: u64) -> ServeEnd
+    requires fresh { (log : Log) → W.told wire.old ≡ Some log → log ≡ [] }
+    requires stands { StandsFor M.stands core.old (W.told wire.old) }
+    requires going { M.is_stopped core.old ≡ false }
+    ensures stands { result ≢ ServeEnd.OutOfMemory → StandsFor M.stands core.new (W.told wire.new) }
+    ensures stopped { result ≡ ServeEnd.Stopped → M.is_stopped core.new ≡ true }
+    ensures going { result ≢ ServeEnd.Stopped → result ≢ ServeEnd.OutOfMemory → M.is_stopped core.new ≡ false }
+    ensures over { result ≡ ServeEnd.Over → EndsWith IsOver (W.told wire.new) }
+    ensures rose { result ≡ ServeEnd.ListenFault → W.port_faults wire.old < W.port_faults wire.new }
+    ensures failed { result ≡ ServeEnd.ListenFault → EndsWith IsPortFault (W.told wire.new) }
+    ensures spent { result ≡ ServeEnd.TurnsSpent → SpentFor turns (M.reads core.new) (M.sends core.new) (W.told wire.new) }
+    ensures listens { ListensFirst (M.address_of core.old Port.Traffic) (M.address_of core.old Port.Admin) (W.told wire.new) }
+    ensures port_faults { W.port_faults wire.old ≤ W.port_faults wire.new }
+    ensures faults { W.faults wire.old ≤ W.faults wire.new }
+{
+    match prepare(alloc, core, wire) {
+        Ok((mut table, mut buffer)) => serve_turns(core, wire, &mut table, &mut buffer, turns),
+        Err(end) => end,
+    }
+}
