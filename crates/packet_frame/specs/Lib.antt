@@ -1,0 +1,3 @@
+pub mod FramerState
+pub mod Laws
+pub mod Packets
