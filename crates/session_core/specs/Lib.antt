@@ -1,0 +1,9 @@
+pub mod Errors
+pub mod Answers
+pub mod Sending
+pub mod Headline
+pub mod Growth
+pub mod Past
+pub mod Held
+pub mod Stands
+pub mod Still
