@@ -53,14 +53,16 @@ and_then Nothing next = Nothing
 and_then (Whole packet rest) next = next packet rest
 and_then (Faulty fault) next = Faulty fault
 
+-- the message that a packet begins: a packet with the longest body isn't the last one
+abbrev pub continued : Framed → List ℕ → Found → Found
+continued packet rest others = if nat_eq (length packet.payload) longest then begun packet others else Whole packet rest
+
 -- the message of at most so many packets
 abbrev pub message_within : (packets limit announced id : ℕ) → List ℕ → Found
 message_within zero limit announced id bytes = Nothing
 message_within (suc packets) limit announced id bytes =
   and_then (first_packet limit announced id bytes) (λ packet rest.
-    if nat_eq (length packet.payload) longest
-    then begun packet (message_within packets limit (announced + longest) (next_id id) rest)
-    else Whole packet rest)
+    continued packet rest (message_within packets limit (announced + longest) (next_id id) rest))
 
 -- the message that the bytes begin with; its first packet's id has to be `first`, and its length at most `limit`
 unfoldable pub first_message : (limit first : ℕ) → List ℕ → Found
@@ -86,6 +88,11 @@ split_within (suc count) limit first bytes = split_found (first_message limit fi
 
 unfoldable pub split : (limit first : ℕ) → List ℕ → Split
 split limit first bytes = split_within (length bytes) limit first bytes
+
+-- messages, the bytes behind them and the fault there, as more bytes come
+abbrev pub grown : (limit first : ℕ) → List Framed → List ℕ → Option FrameFault → List ℕ → Split
+grown limit first messages rest None more = with_front messages (split limit first (rest ++ more))
+grown limit first messages rest (Some fault) more = record { messages = messages; rest = rest ++ more; fault = Some fault }
 
 -- the one spelling of a payload as packets
 abbrev pub packet : (id : ℕ) → List ℕ → List ℕ
