@@ -7,3 +7,9 @@ pub mod Past
 pub mod Held
 pub mod Stands
 pub mod Still
+pub mod Quiet
+pub mod Count
+pub mod Asked
+pub mod Refusals
+pub mod Steps
+pub mod Arriving

@@ -10,9 +10,9 @@ use Rattle.packet_frame.specs.Packets.{Framed, spelling}
 use Rattle.packet_frame.specs.Packets.Found.{Nothing, Whole}
 use Rattle.ready_loop.specs.Sent.{Sent}
 use Rattle.ready_loop.specs.Drained.{IsDue}
-use Rattle.session_core.specs.declared.client.Command.{Command}
-use Rattle.session_core.specs.declared.client.Phase.{Phase}
-use Rattle.session_core.specs.declared.client.Phase.TheVariants.{Idle, Working, Ending, Leaving, Gone}
+use Rattle.session_core.specs.declared.phase.Command.{Command}
+use Rattle.session_core.specs.declared.phase.Phase.{Phase}
+use Rattle.session_core.specs.declared.phase.Phase.TheVariants.{Idle, Working, Ending, Leaving, Gone}
 use Rattle.session_core.specs.declared.client.Client.{Client}
 use Rattle.session_core.specs.declared.server.Server.{Server}
 use Rattle.session_core.specs.declared.core.Core.{Core}
@@ -64,8 +64,8 @@ pub record IsWorking (client : Client) (command : Command) (reply : ℕ → Opti
   pub so_far : Answers reply read done waiting (written ++ client.outgoing) []
   pub next : client_message waiting ≡ Whole message client.framer.kept
   pub query : is_query message.payload ≡ true
-  pub spelled : command.bytes.items ≡ spelling message.first message.payload
-  pub within : command.sent ≤ length command.bytes.items
+  pub spelled : command.bytes ≡ spelling message.first message.payload
+  pub within : command.sent ≤ length command.bytes
 
 -- these are answers so far, and maybe the last
 pub record AreAnswers (reply : ℕ → Option (List ℕ)) (read bytes : List ℕ) : Type 0 where
@@ -104,7 +104,7 @@ pub data IsCarried (n i : ℕ) (command : Command) (server : Option Server) (log
 
 pub record IsOnItsWay (n i : ℕ) (command : Command) (server : Option Server) (log : Log) : Type 0 where
   pub carried : IsCarried n i command server log
-  pub sent : command_sent n i log ≡ take command.sent command.bytes.items
+  pub sent : command_sent n i log ≡ take command.sent command.bytes
 
 abbrev pub IsServedBy : Phase → (n i : ℕ) → Option Server → Log → Type 0
 IsServedBy Idle n i server log = MayBeFree server
@@ -165,7 +165,7 @@ reply_left bytes = if nat_lt 0 (length bytes) then Some (record { tag = Reply; b
 
 abbrev pub command_left : Client → Phase → Option Sent
 command_left client (Working command) =
-    if nat_lt command.sent (length command.bytes.items) then Some (record { tag = For client.number client.arrived; bytes = drop command.sent command.bytes.items }) else None
+    if nat_lt command.sent (length command.bytes) then Some (record { tag = For client.number client.arrived; bytes = drop command.sent command.bytes }) else None
 command_left client _ = None
 
 abbrev pub is_client : Option Client → LinkId → Bool

@@ -11,9 +11,9 @@ use Rattle.mx_wire.specs.declared.entry.Entry.{Entry}
 use Rattle.mx_wire.specs.declared.entry.Entry.TheVariants as entry
 use Rattle.packet_frame.specs.Packets.{Framed}
 use Rattle.ready_loop.specs.Machine.{CarriesOver, IsQuiet}
-use Rattle.session_core.specs.declared.client.Command.{Command}
-use Rattle.session_core.specs.declared.client.Phase.{Phase}
-use Rattle.session_core.specs.declared.client.Phase.TheVariants.{Idle, Working, Ending, Leaving, Gone}
+use Rattle.session_core.specs.declared.phase.Command.{Command}
+use Rattle.session_core.specs.declared.phase.Phase.{Phase}
+use Rattle.session_core.specs.declared.phase.Phase.TheVariants.{Idle, Working, Ending, Leaving, Gone}
 use Rattle.session_core.specs.declared.client.Client.{Client}
 use Rattle.session_core.specs.declared.server.Server.{Server}
 use Rattle.session_core.specs.declared.core.Core.{Core}

@@ -1,8 +1,13 @@
-//! The router's core, as the machine that the serving loop tells of events: one client whose queries go to one server.
+//! The router's core, as the machine that the serving loop tells of events. One client's queries go to one server,
+//! each on a link that is opened when it is needed.
 #![tactic(auto)]
 
+mod asked;
 mod client;
 mod core;
+mod count;
+mod phase;
+mod refusal;
 mod server;
 
 pub use core::Core;
