@@ -1,7 +1,7 @@
 pub mod FramerState
-pub mod PacketLaws
-pub mod MessageLaws
 pub mod Laws
-pub mod SpellingLaws
+pub mod MessageLaws
 pub mod OnePacket
+pub mod PacketLaws
 pub mod Packets
+pub mod SpellingLaws

@@ -2,5 +2,10 @@
 #![tactic(auto)]
 
 mod fault;
+mod framer;
+mod header;
+mod message;
 
 pub use fault::FrameFault;
+pub use framer::Framer;
+pub use message::Message;

@@ -1,0 +1,6 @@
+use Rattle.std.proofs.Common.{sym, ◌∙◌}
+use Rattle.mx_base.proofs.Joined.{joined}
+use Rattle.mx_base.proofs.fields.get_u16.Goals as goal
+
+pub returns : goal.returns
+returns c = sym (joined 1 1 c.args.at c.args.bytes.now c.in_ok-low.low c.in_ok-high.high (sym c.get_u8.ensures ∙ c.in_ok-low.was) (sym c.get_u8-2.ensures ∙ c.in_ok-high.was))
