@@ -46,7 +46,7 @@ short : most_payload < 16777215
 short = Rattle.std.proofs.Common.lit< tt
 
 -- what is found in the kept bytes of a client that is idle
-look-idle : (client : Client) → IsReading client.framer → look 0 client.framer ≡ client_message client.framer.kept
+pub look-idle : (client : Client) → IsReading client.framer → look 0 client.framer ≡ client_message client.framer.kept
 look-idle client reading = rw (reading.faultless, reading.limited) refl
 
 query-asked : (payload : List ℕ) → asked_of payload ≡ Query → is_query payload ≡ true
@@ -56,14 +56,14 @@ query-asked (command ∷ text) is = of (nat_eq command 3) is where
   of true here = refl
   of false here = cc
 
-unknown-asked : (reply : Option (List ℕ)) (payload : List ℕ) → asked_of payload ≡ Unknown → answer_to reply payload ≡ Some unknown_command
+pub unknown-asked : (reply : Option (List ℕ)) (payload : List ℕ) → asked_of payload ≡ Unknown → answer_to reply payload ≡ Some unknown_command
 unknown-asked reply [] is = cc
 unknown-asked reply (command ∷ text) is = of (nat_eq command 3) is where
   of : (b : Bool) → cond b Query Unknown ≡ Unknown → cond b reply (Some unknown_command) ≡ Some unknown_command
   of true here = cc
   of false here = refl
 
-malformed-asked : (reply : Option (List ℕ)) (payload : List ℕ) → asked_of payload ≡ Malformed → answer_to reply payload ≡ Some malformed_command
+pub malformed-asked : (reply : Option (List ℕ)) (payload : List ℕ) → asked_of payload ≡ Malformed → answer_to reply payload ≡ Some malformed_command
 malformed-asked reply [] is = refl
 malformed-asked reply (command ∷ text) is = of (nat_eq command 3) is where
   of : (b : Bool) → cond b Query Unknown ≡ Malformed → answer_to reply (command ∷ text) ≡ Some malformed_command
@@ -71,7 +71,7 @@ malformed-asked reply (command ∷ text) is = of (nat_eq command 3) is where
   of false here = cc
 
 -- a client that has one message more behind it, which is answered
-idle-answered : (old new : Client) (message : Framed) (rest payload : List ℕ) (reply : ℕ → Option (List ℕ)) (read written : List ℕ) → length read < 18446744073709551615
+pub idle-answered : (old new : Client) (message : Framed) (rest payload : List ℕ) (reply : ℕ → Option (List ℕ)) (read written : List ℕ) → length read < 18446744073709551615
     → Refuses message payload old new → client_message old.framer.kept ≡ Whole message rest → ((i : ℕ) → answer_to (reply i) message.payload ≡ Some payload)
     → IsIdle old reply read written → IsIdle new reply read written × (old.arrived < new.arrived)
 idle-answered old new message rest payload reply read written few refuses found answer was =
@@ -96,7 +96,7 @@ idle-answered old new message rest payload reply read written few refuses found 
     }, omega arith)
 
 -- a query of an idle client is the command in work
-idle-started : (old new : Client) (message : Framed) (rest : List ℕ) (reply : ℕ → Option (List ℕ)) (read written : List ℕ) → length read < 18446744073709551615
+pub idle-started : (old new : Client) (message : Framed) (rest : List ℕ) (reply : ℕ → Option (List ℕ)) (read written : List ℕ) → length read < 18446744073709551615
     → Starts message old new → client_message old.framer.kept ≡ Whole message rest → asked_of message.payload ≡ Query
     → IsIdle old reply read written → IsPumped new.phase old.arrived new reply read written
 idle-started old new message rest reply read written few starts found query was =
@@ -116,7 +116,7 @@ idle-started old new message rest reply read written few starts found query was 
       within = omega arith;
     })
 
-idle-ended : (old new : Client) (fault : FrameFault) (reply : ℕ → Option (List ℕ)) (read written : List ℕ) → Ends fault old new → client_message old.framer.kept ≡ Faulty fault
+pub idle-ended : (old new : Client) (fault : FrameFault) (reply : ℕ → Option (List ℕ)) (read written : List ℕ) → Ends fault old new → client_message old.framer.kept ≡ Faulty fault
     → IsIdle old reply read written → IsPumped new.phase old.arrived new reply read written
 idle-ended old new fault reply read written ends found was = subst (λ (c : Client). IsPumped c.phase old.arrived c reply read written) (sym ends) (record {
   done = was.done;

@@ -10,6 +10,8 @@ pub mod Still
 pub mod Quiet
 pub mod Count
 pub mod Asked
-pub mod Refusals
 pub mod Steps
 pub mod Arriving
+pub mod Pumping
+pub mod Refusals
+pub mod Hearing

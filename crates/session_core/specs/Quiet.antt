@@ -115,7 +115,7 @@ tracks-still core log e still was = record {
 }
 
 pub stands-still : (core : Core) (e : Entry) → IsStill e → CarriesOver Stands due_in core core e
-stands-still core e still = record { carried = λ log may is_due held. stands-more core core log e held (still.law log) (tracks-still core log e still held.tracks) }
+stands-still core e still = record { carried = λ log may is_due held. stands-more core core log e may held (still.law log) (tracks-still core log e still held.tracks) }
 
 -- the core stands still where it is told of nothing
 is-quiet : (e : Entry) → IsQuiet e → IsStill e

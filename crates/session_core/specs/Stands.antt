@@ -1,5 +1,5 @@
 -- The state of the core after a log.
-use Rattle.std.specs.Prelude.{◌≡◌, ◌⊎◌, ℕ, suc, ◌<◌, ◌≤◌, Bool, true, false, nat_eq, nat_lt, if◌then◌else◌, List, [], ◌∷◌, ◌++◌, length, take, drop, Option, Some, None}
+use Rattle.std.specs.Prelude.{◌≡◌, ◌⊎◌, ℕ, suc, ◌<◌, ◌≤◌, ◌*◌, Bool, true, false, nat_eq, nat_lt, if◌then◌else◌, List, [], ◌∷◌, ◌++◌, length, take, drop, Option, Some, None}
 use Rattle.mx_base.specs.declared.names.LinkId.{LinkId}
 use Rattle.mx_base.specs.declared.tag.Tag.TheVariants.{For, Reply}
 use Rattle.mx_wire.specs.Log.{Log, accepted_links, read_of, written_of, is_open}
@@ -153,7 +153,12 @@ pub record Tracks (core : Core) (log : Log) : Type 0 where
   pub servers : IsServers core.server log
   pub client : MayHaveClient core.client core.server log
 
+-- one read is of at most 65,536 bytes
+pub record IsFew (log : Log) : Type 0 where
+  pub read : (link : LinkId) → length (read_of link log) ≤ 65536 * length log
+
 pub record Stands (core : Core) (log : Log) : Type 0 where
+  pub few : IsFew log
   pub tracks : Tracks core log
   pub always : AtEachMoment IsServed log
   pub lawful : AllLawful IsLawful log

@@ -1,10 +1,10 @@
 -- What an entry leaves as it is.
-use Rattle.std.specs.Prelude.{◌≡◌, ◌⊎◌, ℕ, zero, suc, ◌<◌, Bool, true, false, nat_eq, List, [], ◌∷◌, ◌++◌, length, slice_get, fold, Option, Some, None, refl}
-use Rattle.std.proofs.Common.{sym, ◌∙◌, ap, subst, append-nil, inl, inr, arith}
+use Rattle.std.specs.Prelude.{◌≡◌, ◌⊎◌, ℕ, zero, suc, ◌+◌, ◌*◌, ◌<◌, ◌≤◌, Bool, true, false, nat_eq, List, [], ◌∷◌, ◌++◌, length, slice_get, fold, Option, Some, None, refl}
+use Rattle.std.proofs.Common.{sym, ◌∙◌, ap, subst, append-nil, inl, inr, arith, length-append}
 use Rattle.std.proofs.lemmas.Bool.{eqb-true}
 use Rattle.mx_base.specs.declared.names.LinkId.{LinkId}
 use Rattle.mx_wire.specs.Log.{Log, link_of, is_link, of_link, got_bytes, wrote_bytes, read_of, written_of, open_step, is_open, accepted_link, accepted_links, opened_link}
-use Rattle.mx_wire.specs.Tells.{IsNew, MayFollow}
+use Rattle.mx_wire.specs.Tells.{IsNew, Fits, MayFollow}
 use Rattle.mx_wire.specs.Moments.{AtEachMoment, AllLawful, moment-more, lawful-more}
 use Rattle.mx_wire.specs.Growth.{bool_cases, same_number, bytes-same, bytes-other, bytes-idle, step-same, step-other}
 use Rattle.mx_wire.specs.declared.entry.Entry.{Entry}
@@ -23,7 +23,7 @@ use Rattle.session_core.specs.Headline.{client_link, replies_to, due, IsPrefix, 
 use Rattle.session_core.specs.Growth.{client_link-more, client_link-same, accepted_links-same, sending-before, sending-now, command_sent-more, reply_to-stays}
 use Rattle.session_core.specs.Held.{AreHeld, held-stays}
 use Rattle.session_core.specs.Past.{Answers, IsLast, Stay, all_answered-stays, answers-due}
-use Rattle.session_core.specs.Stands.{IsIdle, IsWorking, AreAnswers, WasAnswered, IsAt, IsFree, MayBeFree, IsCarried, IsOnItsWay, IsServedBy, IsOther, IsShut, HasClient, HasNone, MayHaveClient, IsServers, Tracks, Stands, held_links, due_in}
+use Rattle.session_core.specs.Stands.{IsIdle, IsWorking, AreAnswers, WasAnswered, IsAt, IsFree, MayBeFree, IsCarried, IsOnItsWay, IsServedBy, IsOther, IsShut, HasClient, HasNone, MayHaveClient, IsServers, Tracks, IsFew, Stands, held_links, due_in}
 use Rattle.session_core.specs.Stands.IsCarried.{Unsent, Begun}
 
 -- A client that came is named by the log.
@@ -133,8 +133,28 @@ served-by (Some client) server log has = record { each = λ n link is. elim (boo
           (at-due client.phase client (replies_to client.number.0 log) (read_of client.link log) (written_of client.link log) has.state)))
   | inr apart ↦ record { rest = due n link log; is = ap (λ xs. xs ++ due n link log) ((has.others n link is apart).silent) } ] }
 
-pub stands-more : (old new : Core) (log : Log) (e : Entry) → Stands old log → IsLawful log e → Tracks new (log ++ e ∷ []) → Stands new (log ++ e ∷ [])
-stands-more old new log e held law tracks = record {
+-- a read of a log is short
+got-few : (log : Log) (e : Entry) → Fits log e → length (got_bytes e) ≤ 65536
+got-few log (entry.Got link bytes) fits = fits.most
+got-few log _ fits = omega arith
+
+pub few-more : (log : Log) (e : Entry) → MayFollow log e → IsFew log → IsFew (log ++ e ∷ [])
+few-more log e may few = record { read = λ link. elim (bool_cases (is_link link (link_of e))) [
+    inl here ↦ (
+      let grown : read_of link (log ++ e ∷ []) ≡ read_of link log ++ got_bytes e = bytes-same got_bytes link log e here in
+      let size : length (read_of link (log ++ e ∷ [])) ≡ length (read_of link log) + length (got_bytes e) = ap length grown ∙ length-append (read_of link log) (got_bytes e) in
+      omega (arith, few.read link, got-few log e may.fits, length-append log (e ∷ [])))
+  | inr other ↦ (
+      let same : length (read_of link (log ++ e ∷ [])) ≡ length (read_of link log) = ap length (bytes-other got_bytes link log e other) in
+      omega (arith, few.read link, length-append log (e ∷ []))) ] }
+
+-- so the bytes that were read can be counted
+pub few-counted : (log : Log) (e : Entry) (link : LinkId) → MayFollow log e → IsFew log → length (read_of link (log ++ e ∷ [])) < 18446744073709551615
+few-counted log e link may few = let more = few-more log e may few in omega (arith, more.read link, may.bounded, length-append log (e ∷ []))
+
+pub stands-more : (old new : Core) (log : Log) (e : Entry) → MayFollow log e → Stands old log → IsLawful log e → Tracks new (log ++ e ∷ []) → Stands new (log ++ e ∷ [])
+stands-more old new log e may held law tracks = record {
+  few = few-more log e may held.few;
   tracks = tracks;
   always = moment-more IsServed log e held.always (served-by new.client new.server (log ++ e ∷ []) tracks.client);
   lawful = lawful-more IsLawful log e held.lawful law;

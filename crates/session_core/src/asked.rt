@@ -17,7 +17,7 @@ pub enum Asked {
 }
 
 /// What a message with this payload asks for.
-pub fn asked(payload: &[u8]) -> Asked
+pub fn kind_of(payload: &[u8]) -> Asked
     ensures { result ≡ asked_of payload.now }
 {
     match payload {

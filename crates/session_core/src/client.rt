@@ -1,21 +1,17 @@
 // The link of the client.
-ghost use Rattle.std.specs.Prelude.{◌≡◌, ◌++◌, ◌∷◌, [], None, true, false, IsSome, OnOk, OnErr, IfOk};
-ghost use Rattle.packet_frame.specs.Packets.{spelling, next_id};
-ghost use Rattle.packet_frame.specs.FramerState.{look};
+ghost use Rattle.std.specs.Prelude.{◌≡◌, ◌++◌, drop, length, ◌≤◌, IsSome, IfSome, OnOk, IfOk};
 ghost use Rattle.session_core.specs.Refusals.{payload_of};
-ghost use Rattle.session_core.specs.Answers.{most_payload};
-ghost use Rattle.session_core.specs.Steps.{Opens, Feeds, Starts, Refuses, EndsWith, Steps, Pumps};
+ghost use Rattle.session_core.specs.Steps.{Opens, Feeds, Steps, Pumps, Ends, Arrives, Refuses, Starts};
+ghost use Rattle.session_core.specs.Asked.{asked_of};
 
-use crate::asked::{Asked, asked};
+use crate::asked::{Asked, kind_of};
 use crate::count::one_more;
 use crate::phase::{Command, Phase};
 use crate::refusal::{Refusal, write_refusal};
+use crate::server::MOST_PAYLOAD;
 use mx_base::{ByteQueue, Bytes, ClientNo, LinkId, OutOfMemory};
 use packet_frame::{FrameFault, Framer, write_message};
 use std::alloc::Global;
-
-/// The longest payload of a message, in bytes, so that each message is one packet.
-pub const MOST_PAYLOAD: u64 = 16_777_214;
 
 /// The link of a client: what was read and isn't answered, and what is to be written.
 #[derive(Drop)]
@@ -54,7 +50,7 @@ pub fn feed(client: &mut Client, bytes: &[u8]) -> Result<(), OutOfMemory>
 // The query that was found becomes the command in work.
 fn start(alloc: Global, client: &mut Client) -> Result<(), OutOfMemory>
     requires { IsSome client.old.framer.found }
-    ensures { OnOk result (Starts client.old client.new) }
+    ensures { OnOk result (IfSome client.old.framer.found (λ message. Starts message client.old client.new)) }
 {
     let mut command = Vec::new(alloc);
     write_message(&mut command, 0, client.framer.payload())?;
@@ -70,7 +66,7 @@ fn start(alloc: Global, client: &mut Client) -> Result<(), OutOfMemory>
 // The message that was found is answered by an error.
 fn refuse(alloc: Global, client: &mut Client, refusal: Refusal) -> Result<(), OutOfMemory>
     requires { IsSome client.old.framer.found }
-    ensures { OnOk result (Refuses client.old (payload_of refusal) client.new) }
+    ensures { OnOk result (IfSome client.old.framer.found (λ message. Refuses message (payload_of refusal) client.old client.new)) }
 {
     let mut packet = Vec::new(alloc);
     write_refusal(alloc, &mut packet, 1, refusal)?;
@@ -83,8 +79,9 @@ fn refuse(alloc: Global, client: &mut Client, refusal: Refusal) -> Result<(), Ou
 // The message that was found arrives. True where the next one may.
 fn arrive(alloc: Global, client: &mut Client) -> Result<bool, OutOfMemory>
     requires { IsSome client.old.framer.found }
+    ensures { IfOk result (λ more. IfSome client.old.framer.found (λ message. Arrives (asked_of message.payload) message client.old client.new more)) }
 {
-    match asked(client.framer.payload()) {
+    match kind_of(client.framer.payload()) {
         Asked::Query => {
             start(alloc, client)?;
             Ok(false)

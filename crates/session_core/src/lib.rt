@@ -7,7 +7,6 @@ mod client;
 mod core;
 mod count;
 mod phase;
-mod refusal;
 mod server;
 
 pub use core::Core;
