@@ -1,1 +1,3 @@
+pub mod Across
 pub mod Finding
+pub mod Spelt

@@ -5,3 +5,4 @@ pub mod OnePacket
 pub mod PacketLaws
 pub mod Packets
 pub mod SpellingLaws
+pub mod Writing

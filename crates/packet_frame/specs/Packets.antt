@@ -117,8 +117,11 @@ id_within (suc packets) last bytes =
   else if nat_eq (packet_length bytes) longest then id_within packets (next_id (packet_id bytes)) (drop (4 + longest) bytes)
   else next_id (packet_id bytes)
 
-unfoldable pub id_of_answer : List ℕ → ℕ
-id_of_answer bytes = id_within (length bytes) 0 bytes
+unfoldable pub id_from : (last : ℕ) → List ℕ → ℕ
+id_from last bytes = id_within (length bytes) last bytes
+
+abbrev pub id_of_answer : List ℕ → ℕ
+id_of_answer bytes = id_from 0 bytes
 
 -- what the packet that the bytes begin with still lacks, 0 while its header isn't whole
 abbrev pub lacking : List ℕ → ℕ

@@ -1,4 +1,5 @@
 // Messages out of bytes that come in pieces.
+use crate::answer_id::answer_id;
 use crate::fault::FrameFault;
 use crate::header::{header_of, message_of};
 use crate::message::Message;
@@ -105,6 +106,14 @@ impl Framer {
         ensures { result ≡ length self.now.kept }
     {
         self.queue.as_slice().len() as u64
+    }
+
+    /// The sequence id of an answer to what is no whole message yet: the id behind that of the last whole header of
+    /// the first message in the kept bytes with `unfed` behind them, 0 where no header is whole. Takes no memory.
+    pub fn err_id(&self, unfed: &[u8]) -> u8
+        ensures { result ≡ id_of_answer (self.now.kept ++ unfed.now) }
+    {
+        answer_id(self.queue.as_slice(), unfed)
     }
 
     /// How many bytes the packet that the kept bytes begin with still lacks, 0 while its header isn't whole.
