@@ -1,5 +1,5 @@
 -- What the messages of a client are answered, where the replies to its queries are known.
-use Rattle.std.specs.Prelude.{◌≡◌, ℕ, ◌+◌, Bool, true, false, nat_eq, if◌then◌else◌, List, [], ◌∷◌, ◌++◌, Option, Some, None}
+use Rattle.std.specs.Prelude.{◌≡◌, ℕ, ◌+◌, Bool, false, nat_eq, if◌then◌else◌, List, [], ◌∷◌, ◌++◌, Option, Some, None}
 use Rattle.packet_frame.specs.declared.fault.FrameFault.{FrameFault}
 use Rattle.packet_frame.specs.declared.fault.FrameFault.TheVariants.{OutOfOrder, TooLarge}
 use Rattle.packet_frame.specs.Packets.{Framed, Split, next_id, split, spelling}
@@ -46,4 +46,4 @@ answers_to reply messages = answers reply 1 messages.messages (fault_answer mess
 abbrev pub AllAnswered : (ℕ → Option (List ℕ)) → ℕ → List Framed → List ℕ → Type 0
 AllAnswered reply i [] bytes = bytes ≡ []
 AllAnswered reply i (message ∷ messages) bytes =
-  (payload : List ℕ) × (later : List ℕ) × (answer_to (reply i) message.payload ≡ Some payload) × (bytes ≡ spelling (next_id message.last) payload ++ later) × AllAnswered reply (i + 1) messages later
+    (payload : List ℕ) × (later : List ℕ) × (answer_to (reply i) message.payload ≡ Some payload) × (bytes ≡ spelling (next_id message.last) payload ++ later) × AllAnswered reply (i + 1) messages later

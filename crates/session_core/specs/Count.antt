@@ -1,5 +1,5 @@
 -- Counts that stand still at their type's end.
-use Rattle.std.specs.Prelude.{◌≡◌, ℕ, ◌+◌, ◌<◌, nat_lt, if◌then◌else◌, refl}
+use Rattle.std.specs.Prelude.{◌≡◌, ℕ, ◌+◌, ◌<◌, nat_lt, if◌then◌else◌}
 use Rattle.std.proofs.Common.{arith}
 
 abbrev pub counted : ℕ → ℕ

@@ -1,15 +1,14 @@
 -- What one more entry changes of the clients of a log, and of what is sent for them.
-use Rattle.std.specs.Prelude.{◌≡◌, ◌⊎◌, ℕ, zero, suc, ◌+◌, ◌<◌, Bool, true, false, List, [], ◌∷◌, ◌++◌, length, slice_get, Option, Some, None, refl}
-use Rattle.std.specs.List.{flat_map}
+use Rattle.std.specs.Prelude.{◌≡◌, ◌⊎◌, ℕ, zero, suc, List, [], ◌∷◌, ◌++◌, length, slice_get, Option, Some, None, refl}
 use Rattle.std.specs.Option.{option_and_then}
-use Rattle.std.proofs.Common.{sym, ◌∙◌, ap, subst, append-nil, append_assoc, inl, inr, arith}
+use Rattle.std.proofs.Common.{sym, ◌∙◌, ap, append-nil, inl, inr}
 use Rattle.std.proofs.lemmas.List.Elements.{filter_map-append}
 use Rattle.std.proofs.lemmas.Grind.{flat_map-append}
 use Rattle.mx_base.specs.declared.names.LinkId.{LinkId}
-use Rattle.mx_wire.specs.Log.{Log, link_of, is_link, of_link, got_bytes, read_of, accepted_link, accepted_links}
+use Rattle.mx_wire.specs.Log.{Log, link_of, is_link, got_bytes, read_of, accepted_link, accepted_links}
 use Rattle.mx_wire.specs.Growth.{bool_cases, bytes-same, bytes-other}
 use Rattle.mx_wire.specs.declared.entry.Entry.{Entry}
-use Rattle.packet_frame.specs.Packets.{Framed, Found, first_message}
+use Rattle.packet_frame.specs.Packets.{Found}
 use Rattle.packet_frame.specs.Packets.Found.{Nothing, Whole, Faulty}
 use Rattle.packet_frame.specs.Laws.{first_message-whole-more, first_message-faulty-more}
 use Rattle.session_core.specs.Answers.{most_payload}
@@ -32,8 +31,9 @@ slice_get-back [] y zero x is = inr (refl, cc)
 slice_get-back [] y (suc i) x is = cc
 slice_get-back (z ∷ xs) y zero x is = inl is
 slice_get-back (z ∷ xs) y (suc i) x is = elim (slice_get-back xs y i x is) [
-    inl before ↦ inl before
-  | inr new ↦ inr (ap suc new.0, new.1) ]
+  | inl before ↦ inl before
+  | inr new ↦ inr (ap suc new.0, new.1)
+]
 
 pub accepted_links-new : (log : Log) (e : Entry) (link : LinkId) → accepted_link e ≡ Some link → accepted_links (log ++ e ∷ []) ≡ accepted_links log ++ link ∷ []
 accepted_links-new log e link is = rw (filter_map-append, is) refl
@@ -62,8 +62,9 @@ client_link-new log e link is = rw (accepted_links-new log e link is) (slice_get
 pub client_link-back : (n : ℕ) (log : Log) (e : Entry) (new link : LinkId) → accepted_link e ≡ Some new → client_link n (log ++ e ∷ []) ≡ Some link → (client_link n log ≡ Some link) ⊎ ((n ≡ suc (length (accepted_links log))) × (new ≡ link))
 client_link-back zero log e new link is has = cc
 client_link-back (suc n) log e new link is has = elim (slice_get-back (accepted_links log) new n link (rw (accepted_links-new log e new is) at has)) [
-    inl before ↦ inl before
-  | inr now ↦ inr (ap suc now.0, now.1) ]
+  | inl before ↦ inl before
+  | inr now ↦ inr (ap suc now.0, now.1)
+]
 
 -- the first byte of a command was written before, is written now, or isn't yet
 pub sending-before : (n i : ℕ) (log : Log) (e : Entry) (sent : Sending) → sending n i log ≡ Some sent → sending n i (log ++ e ∷ []) ≡ Some (record { link = sent.link; since = sent.since ++ e ∷ [] })
@@ -90,8 +91,9 @@ command_sent-more n i log e =
 -- what is read of a link grows by what the entry reads of it
 pub read_of-more : (link : LinkId) (log : Log) (e : Entry) → (more : List ℕ) × (read_of link (log ++ e ∷ []) ≡ read_of link log ++ more)
 read_of-more link log e = elim (bool_cases (is_link link (link_of e))) [
-    inl here ↦ (got_bytes e, bytes-same got_bytes link log e here)
-  | inr other ↦ ([], bytes-other got_bytes link log e other ∙ sym (append-nil (read_of link log))) ]
+  | inl here ↦ (got_bytes e, bytes-same got_bytes link log e here)
+  | inr other ↦ ([], bytes-other got_bytes link log e other ∙ sym (append-nil (read_of link log)))
+]
 
 -- a reply that is whole stays
 reply_in-more : (found : Found) (bytes more payload : List ℕ) → server_message bytes ≡ found → reply_in found ≡ Some payload → reply_in (server_message (bytes ++ more)) ≡ Some payload

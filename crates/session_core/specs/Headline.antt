@@ -1,7 +1,6 @@
 -- What the router promises of a log.
-use Rattle.std.specs.Prelude.{◌≡◌, ℕ, zero, suc, ◌-◌, true, List, [], ◌∷◌, ◌++◌, slice_get, take, Contains, Option, Some, None}
+use Rattle.std.specs.Prelude.{◌≡◌, ℕ, zero, suc, ◌-◌, true, List, ◌++◌, slice_get, take, Option, Some, None}
 use Rattle.mx_base.specs.declared.names.LinkId.{LinkId}
-use Rattle.mx_base.specs.declared.tag.Tag.{Tag}
 use Rattle.mx_base.specs.declared.tag.Tag.TheVariants.{For, Reply}
 use Rattle.mx_wire.specs.Log.{Log, accepted_links, read_of, written_of}
 use Rattle.mx_wire.specs.declared.entry.Entry.{Entry}

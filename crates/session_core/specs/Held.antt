@@ -1,9 +1,9 @@
 -- Links that are open, no two of them the same.
-use Rattle.std.specs.Prelude.{◌≡◌, Bool, true, false, nat_eq, List, [], ◌∷◌, ◌++◌, fold, Option, Some, None, refl}
-use Rattle.std.proofs.Common.{sym, ◌∙◌, ap, subst, inl, inr}
+use Rattle.std.specs.Prelude.{◌≡◌, true, false, nat_eq, List, [], ◌∷◌, ◌++◌, fold, Some}
+use Rattle.std.proofs.Common.{sym, ◌∙◌, ap, inl, inr}
 use Rattle.std.proofs.lemmas.Bool.{eqb-true}
 use Rattle.mx_base.specs.declared.names.LinkId.{LinkId}
-use Rattle.mx_wire.specs.Log.{Log, link_of, is_link, of_link, open_step, is_open}
+use Rattle.mx_wire.specs.Log.{Log, link_of, is_link, open_step, is_open}
 use Rattle.mx_wire.specs.Tells.{IsNew, IsOpen}
 use Rattle.mx_wire.specs.Growth.{bool_cases, nat_eq-sym, same_number, step-same, step-other}
 use Rattle.mx_wire.specs.declared.entry.Entry.{Entry}
@@ -20,10 +20,11 @@ AreHeld (link ∷ links) log = IsOpen link log × AllApart link links × AreHeld
 -- a link that isn't open is none of them
 pub open-apart : (link other : LinkId) (log : Log) → is_open link log ≡ false → IsOpen other log → nat_eq link.0 other.0 ≡ false
 open-apart link other log shut opened = elim (bool_cases (nat_eq link.0 other.0)) [
-    inl same ↦ (
+  | inl same ↦ (
       let here : is_open link log ≡ is_open other log = ap (λ n. is_open (record { 0 = n }) log) (eqb-true link.0 other.0 same) in
       let no : false ≡ true = sym shut ∙ here ∙ opened in cc)
-  | inr apart ↦ apart ]
+  | inr apart ↦ apart
+]
 
 pub held-apart : (link : LinkId) (links : List LinkId) (log : Log) → is_open link log ≡ false → AreHeld links log → AllApart link links
 held-apart link [] log shut held = tt
@@ -35,8 +36,9 @@ new-shut link log new = ap (fold open_step false) new
 -- an entry that closes no link leaves open what is open
 pub open-stays : (link : LinkId) (log : Log) (e : Entry) → (open_step true e ≡ true) → IsOpen link log → IsOpen link (log ++ e ∷ [])
 open-stays link log e keeps opened = elim (bool_cases (is_link link (link_of e))) [
-    inl here ↦ step-same open_step false link log e here ∙ ap (λ b. open_step b e) opened ∙ keeps
-  | inr other ↦ step-other open_step false link log e other ∙ opened ]
+  | inl here ↦ step-same open_step false link log e here ∙ ap (λ b. open_step b e) opened ∙ keeps
+  | inr other ↦ step-other open_step false link log e other ∙ opened
+]
 
 pub held-stays : (links : List LinkId) (log : Log) (e : Entry) → (open_step true e ≡ true) → AreHeld links log → AreHeld links (log ++ e ∷ [])
 held-stays [] log e keeps held = tt
@@ -69,7 +71,7 @@ pub held-remove : (front back : List LinkId) (gone : LinkId) (log : Log) → Are
 held-remove [] back gone log held = held.2
 held-remove (link ∷ front) back gone log held = (held.0, apart-remove link front back gone held.1, held-remove front back gone log held.2)
 
-held-apart-from : (front back : List LinkId) (gone : LinkId) (log : Log) → AreHeld (front ++ gone ∷ back) log → AllApart gone (front ++ back)
+pub held-apart-from : (front back : List LinkId) (gone : LinkId) (log : Log) → AreHeld (front ++ gone ∷ back) log → AllApart gone (front ++ back)
 held-apart-from [] back gone log held = held.1
 held-apart-from (link ∷ front) back gone log held = (nat_eq-sym link.0 gone.0 (apart-at link front back gone held.1), held-apart-from front back gone log held.2)
 
@@ -87,6 +89,6 @@ pub held-comes : (front back : List LinkId) (new : LinkId) (log : Log) (e : Entr
 held-comes front back new log e fresh keeps opens of held =
     let here : is_link new (link_of e) ≡ true = rw of (same_number new.0) in
     held-insert front back new (log ++ e ∷ [])
-        (step-same open_step false new log e here ∙ ap (λ b. open_step b e) (new-shut new log fresh) ∙ opens)
-        (held-apart new (front ++ back) log (new-shut new log fresh) held)
-        (held-stays (front ++ back) log e keeps held)
+    (step-same open_step false new log e here ∙ ap (λ b. open_step b e) (new-shut new log fresh) ∙ opens)
+    (held-apart new (front ++ back) log (new-shut new log fresh) held)
+    (held-stays (front ++ back) log e keeps held)

@@ -15,3 +15,17 @@ pub mod Arriving
 pub mod Pumping
 pub mod Refusals
 pub mod Hearing
+pub mod Cores
+pub mod Going
+pub mod Tracking
+pub mod Ready
+pub mod Saying
+pub mod Replying
+pub mod Replied
+pub mod Coming
+pub mod Writing
+pub mod Commanding
+pub mod Parting
+pub mod Leaving
+pub mod Machining
+pub mod Taking

@@ -1,13 +1,13 @@
 -- How far the messages of a client are answered.
-use Rattle.std.specs.Prelude.{◌≡◌, ◌⊎◌, ℕ, suc, ◌+◌, Bool, true, false, nat_eq, List, [], ◌∷◌, ◌++◌, cond, length, slice_get, take, Option, Some, None, refl}
-use Rattle.std.proofs.Common.{sym, ◌∙◌, ap, subst, append-nil, append_assoc, inl, inr, arith}
+use Rattle.std.specs.Prelude.{◌≡◌, ℕ, ◌+◌, Bool, true, false, nat_eq, List, [], ◌∷◌, ◌++◌, cond, length, slice_get, take, Option, Some, refl}
+use Rattle.std.proofs.Common.{sym, ◌∙◌, ap, subst, append-nil, append_assoc, arith}
 use Rattle.std.proofs.Math.Seq.{take-append_seam}
 use Rattle.packet_frame.specs.declared.fault.FrameFault.{FrameFault}
 use Rattle.packet_frame.specs.Packets.{Framed, Found, Split, with_front, next_id, first_message, spelling}
-use Rattle.packet_frame.specs.Packets.Found.{Nothing, Whole, Faulty}
-use Rattle.packet_frame.specs.Laws.{split-nothing, split-whole, split-faulty, first_message-whole-more, first_message-faulty-more}
+use Rattle.packet_frame.specs.Packets.Found.{Whole, Faulty}
+use Rattle.packet_frame.specs.Laws.{split-whole, split-faulty, first_message-whole-more, first_message-faulty-more}
 use Rattle.session_core.specs.Errors.{unknown_command}
-use Rattle.session_core.specs.Answers.{most_payload, client_messages, is_query, answer_to, fault_answer, answered, answers, answers_to, AllAnswered}
+use Rattle.session_core.specs.Answers.{most_payload, client_messages, answer_to, fault_answer, answers, answers_to, AllAnswered}
 use Rattle.session_core.specs.Growth.{slice_get-at}
 use Rattle.session_core.specs.Headline.{IsPrefix}
 
@@ -22,14 +22,18 @@ pub past-none : Past [] [] []
 past-none = record { whatever = λ more. refl }
 
 pub past-fed : (read : List ℕ) (done : List Framed) (waiting piece : List ℕ) → Past read done waiting → Past (read ++ piece) done (waiting ++ piece)
-past-fed read done waiting piece past = record { whatever = λ more.
-    ap client_messages (append_assoc read piece more) ∙ past.whatever (piece ++ more) ∙ ap (λ bytes. with_front done (client_messages bytes)) (sym (append_assoc waiting piece more)) }
+past-fed read done waiting piece past = record {
+  whatever = λ more.
+      ap client_messages (append_assoc read piece more) ∙ past.whatever (piece ++ more) ∙ ap (λ bytes. with_front done (client_messages bytes)) (sym (append_assoc waiting piece more));
+}
 
 pub past-one : (read : List ℕ) (done : List Framed) (waiting : List ℕ) (message : Framed) (rest : List ℕ) → Past read done waiting → client_message waiting ≡ Whole message rest → Past read (done ++ message ∷ []) rest
-past-one read done waiting message rest past is = record { whatever = λ more.
-    past.whatever more
-    ∙ ap (with_front done) (split-whole most_payload 0 (waiting ++ more) message (rest ++ more) (first_message-whole-more most_payload 0 waiting more message rest is))
-    ∙ ap (λ (messages : List Framed). record { messages = messages; rest = (client_messages (rest ++ more)).rest; fault = (client_messages (rest ++ more)).fault }) (sym (append_assoc done (message ∷ []) (client_messages (rest ++ more)).messages)) }
+past-one read done waiting message rest past is = record {
+  whatever = λ more.
+      past.whatever more
+      ∙ ap (with_front done) (split-whole most_payload 0 (waiting ++ more) message (rest ++ more) (first_message-whole-more most_payload 0 waiting more message rest is))
+      ∙ ap (λ (messages : List Framed). record { messages = messages; rest = (client_messages (rest ++ more)).rest; fault = (client_messages (rest ++ more)).fault }) (sym (append_assoc done (message ∷ []) (client_messages (rest ++ more)).messages));
+}
 
 pub past-now : (read : List ℕ) (done : List Framed) (waiting : List ℕ) → Past read done waiting → client_messages read ≡ with_front done (client_messages waiting)
 past-now read done waiting past = ap client_messages (sym (append-nil read)) ∙ past.whatever [] ∙ ap (λ bytes. with_front done (client_messages bytes)) (append-nil waiting)
@@ -68,10 +72,13 @@ pub all_answered-one : (reply : ℕ → Option (List ℕ)) (i j : ℕ) (messages
 all_answered-one reply i j [] message bytes payload at all is =
     let here : j ≡ i = omega arith in
     (payload, [], subst (λ (k : ℕ). answer_to (reply k) message.payload ≡ Some payload) here is, ap (λ xs. xs ++ spelling (next_id message.last) payload) all ∙ sym (append-nil (spelling (next_id message.last) payload)), refl)
-all_answered-one reply i j (m ∷ messages) message bytes payload at (first, later, is_first, joined, others) is =
-    (first, later ++ spelling (next_id message.last) payload, is_first,
-      ap (λ xs. xs ++ spelling (next_id message.last) payload) joined ∙ append_assoc (spelling (next_id m.last) first) later (spelling (next_id message.last) payload),
-      all_answered-one reply (i + 1) j messages message later payload (omega arith) others is)
+all_answered-one reply i j (m ∷ messages) message bytes payload at (first, later, is_first, joined, others) is = (
+  first,
+  later ++ spelling (next_id message.last) payload,
+  is_first,
+  ap (λ xs. xs ++ spelling (next_id message.last) payload) joined ∙ append_assoc (spelling (next_id m.last) first) later (spelling (next_id message.last) payload),
+  all_answered-one reply (i + 1) j messages message later payload (omega arith) others is,
+)
 
 -- the answers so far, and those to the messages behind
 pub answers-behind : (reply : ℕ → Option (List ℕ)) (i j : ℕ) (messages more : List Framed) (bytes last : List ℕ) → j ≡ i + length messages → AllAnswered reply i messages bytes
@@ -103,11 +110,15 @@ pub record Answers (reply : ℕ → Option (List ℕ)) (read : List ℕ) (done :
 pub answers-due : (reply : ℕ → Option (List ℕ)) (read : List ℕ) (done : List Framed) (waiting bytes last : List ℕ) → Answers reply read done waiting bytes last → IsPrefix bytes (answers_to reply (client_messages read))
 answers-due reply read done waiting bytes last so_far =
     due last so_far.is_last (
-      ap (answers_to reply) (past-now read done waiting so_far.past)
-      ∙ answers-behind reply 1 (1 + length done) done (client_messages waiting).messages so_far.before (fault_answer (client_messages waiting).fault) refl so_far.answered) so_far.is where
-  due : (end : List ℕ) → IsLast waiting end → answers_to reply (client_messages read) ≡ so_far.before ++ answers reply (1 + length done) (client_messages waiting).messages (fault_answer (client_messages waiting).fault)
-      → bytes ≡ so_far.before ++ end → IsPrefix bytes (answers_to reply (client_messages read))
-  due end None_yet all is = record { rest = answers reply (1 + length done) (client_messages waiting).messages (fault_answer (client_messages waiting).fault);
-    is = ap (λ xs. xs ++ answers reply (1 + length done) (client_messages waiting).messages (fault_answer (client_messages waiting).fault)) (is ∙ append-nil so_far.before) ∙ sym all }
-  due end (Refused fault faulty) all is = record { rest = [];
-    is = append-nil bytes ∙ is ∙ sym (all ∙ ap (λ (s : Split). so_far.before ++ answers reply (1 + length done) s.messages (fault_answer s.fault)) (split-faulty most_payload 0 waiting fault faulty)) }
+    ap (answers_to reply) (past-now read done waiting so_far.past)
+    ∙ answers-behind reply 1 (1 + length done) done (client_messages waiting).messages so_far.before (fault_answer (client_messages waiting).fault) refl so_far.answered) so_far.is where
+      due : (end : List ℕ) → IsLast waiting end → answers_to reply (client_messages read) ≡ so_far.before ++ answers reply (1 + length done) (client_messages waiting).messages (fault_answer (client_messages waiting).fault)
+          → bytes ≡ so_far.before ++ end → IsPrefix bytes (answers_to reply (client_messages read))
+      due end None_yet all is = record {
+        rest = answers reply (1 + length done) (client_messages waiting).messages (fault_answer (client_messages waiting).fault);
+        is = ap (λ xs. xs ++ answers reply (1 + length done) (client_messages waiting).messages (fault_answer (client_messages waiting).fault)) (is ∙ append-nil so_far.before) ∙ sym all;
+      }
+      due end (Refused fault faulty) all is = record {
+        rest = [];
+        is = append-nil bytes ∙ is ∙ sym (all ∙ ap (λ (s : Split). so_far.before ++ answers reply (1 + length done) s.messages (fault_answer s.fault)) (split-faulty most_payload 0 waiting fault faulty));
+      }

@@ -8,6 +8,6 @@ use Rattle.session_core.specs.Errors.{unknown_command, malformed_command, bad_se
 abbrev pub payload_of : Refusal → List ℕ
 payload_of UnknownCommand = unknown_command
 payload_of MalformedCommand = malformed_command
-payload_of BadServerBytes = bad_server_bytes 0
+payload_of (BadServerBytes place) = bad_server_bytes place
 payload_of (Frame (TooLarge length) limit) = packet_too_large length limit
 payload_of (Frame (OutOfOrder expected found) limit) = packet_out_of_order expected found

@@ -8,8 +8,8 @@ use Rattle.mx_base.specs.declared.tag.Tag.TheVariants.{For}
 use Rattle.mx_wire.specs.Log.{Log, read_of}
 use Rattle.mx_wire.specs.declared.entry.Entry.{Entry}
 use Rattle.mx_wire.specs.declared.entry.Entry.TheVariants.{Wrote}
-use Rattle.packet_frame.specs.Packets.{Framed, Found, Nothing, Whole, Faulty, first_message}
-use Rattle.reply_text.specs.Replies.{is_lone_reply}
+use Rattle.packet_frame.specs.Packets.{Found, Nothing, Whole, Faulty, first_message}
+use Rattle.reply_text.specs.Replies.{is_lone}
 use Rattle.session_core.specs.Errors.{bad_server_bytes}
 use Rattle.session_core.specs.Answers.{most_payload}
 
@@ -44,11 +44,15 @@ abbrev pub sending : (n i : ℕ) → Log → Option Sending
 sending n i [] = None
 sending n i (e ∷ log) = first_carried (carrier n i e) log (sending n i log)
 
+-- a reply of one payload: an OK without more results, or an ERR
+unfoldable pub is_reply : List ℕ → Bool
+is_reply payload = is_lone payload
+
 -- the payload of the reply that a server's bytes begin with, where it is whole: one OK without more results, or one ERR; other bytes
 -- are answered by an error of the proxy
 abbrev pub reply_in : Found → Option (List ℕ)
 reply_in Nothing = None
-reply_in (Whole message rest) = Some (if is_lone_reply message.payload then message.payload else bad_server_bytes 0)
+reply_in (Whole message rest) = Some (if is_reply message.payload then message.payload else bad_server_bytes 0)
 reply_in (Faulty fault) = Some (bad_server_bytes 0)
 
 -- the messages of a server begin with the id 1, behind that of the command

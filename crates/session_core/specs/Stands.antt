@@ -1,5 +1,5 @@
 -- The state of the core after a log.
-use Rattle.std.specs.Prelude.{◌≡◌, ◌⊎◌, ℕ, suc, ◌<◌, ◌≤◌, ◌*◌, Bool, true, false, nat_eq, nat_lt, if◌then◌else◌, List, [], ◌∷◌, ◌++◌, length, take, drop, Option, Some, None}
+use Rattle.std.specs.Prelude.{◌≡◌, ℕ, suc, ◌<◌, ◌≤◌, ◌*◌, Bool, true, false, nat_eq, nat_lt, if◌then◌else◌, List, [], ◌∷◌, ◌++◌, length, take, drop, Option, Some, None}
 use Rattle.mx_base.specs.declared.names.LinkId.{LinkId}
 use Rattle.mx_base.specs.declared.tag.Tag.TheVariants.{For, Reply}
 use Rattle.mx_wire.specs.Log.{Log, accepted_links, read_of, written_of, is_open}
@@ -17,7 +17,7 @@ use Rattle.session_core.specs.declared.client.Client.{Client}
 use Rattle.session_core.specs.declared.server.Server.{Server}
 use Rattle.session_core.specs.declared.core.Core.{Core}
 use Rattle.session_core.specs.Answers.{most_payload, is_query}
-use Rattle.session_core.specs.Sending.{Sending, sending, command_sent, server_message}
+use Rattle.session_core.specs.Sending.{sending, command_sent, server_message}
 use Rattle.session_core.specs.Headline.{client_link, replies_to, IsPrefix, IsServed, IsLawful}
 use Rattle.session_core.specs.Held.{AreHeld}
 use Rattle.session_core.specs.Past.{client_message, Answers}

@@ -1,14 +1,13 @@
 -- What the calls of a client's link change of it.
-use Rattle.std.specs.Prelude.{◌≡◌, ℕ, ◌+◌, ◌<◌, ◌≤◌, Bool, true, false, List, [], ◌∷◌, ◌++◌, length, drop, Option, Some, None}
+use Rattle.std.specs.Prelude.{◌≡◌, ℕ, ◌+◌, ◌<◌, ◌≤◌, Bool, true, false, List, [], ◌++◌, length, drop, Option, Some, None}
 use Rattle.mx_base.specs.declared.names.LinkId.{LinkId}
 use Rattle.mx_base.specs.declared.names.ClientNo.{ClientNo}
 use Rattle.packet_frame.specs.declared.fault.FrameFault.{FrameFault}
 use Rattle.packet_frame.specs.FramerState.{FramerState, look}
-use Rattle.packet_frame.specs.Packets.{Framed, Found, spelling, next_id}
+use Rattle.packet_frame.specs.Packets.{Framed, Found, spelling}
 use Rattle.packet_frame.specs.Packets.Found.{Nothing, Whole, Faulty}
 use Rattle.session_core.specs.declared.asked.Asked.{Asked}
 use Rattle.session_core.specs.declared.asked.Asked.TheVariants.{Query, Unknown, Malformed}
-use Rattle.session_core.specs.declared.phase.Command.{Command}
 use Rattle.session_core.specs.declared.phase.Phase.{Phase}
 use Rattle.session_core.specs.declared.phase.Phase.TheVariants.{Idle, Working, Ending, Leaving, Gone}
 use Rattle.session_core.specs.declared.client.Client.{Client}
@@ -38,14 +37,16 @@ abbrev pub Starts : Framed → Client → Client → Type 0
 Starts message old new = new ≡ record old {
   framer = past_message message old.framer;
   arrived = counted old.arrived;
-  phase = Working (record { bytes = spelling 0 message.payload; sent = 0 }) }
+  phase = Working (record { bytes = spelling 0 message.payload; sent = 0 });
+}
 
 -- the message is answered by the router itself
 abbrev pub Refuses : Framed → List ℕ → Client → Client → Type 0
 Refuses message payload old new = new ≡ record old {
   framer = past_message message old.framer;
   arrived = counted old.arrived;
-  outgoing = old.outgoing ++ spelling 1 payload }
+  outgoing = old.outgoing ++ spelling 1 payload;
+}
 
 abbrev pub Arrives : Asked → Framed → Client → Client → Bool → Type 0
 Arrives Query message old new more = (more ≡ false) × Starts message old new
@@ -57,7 +58,11 @@ abbrev pub Ends : FrameFault → Client → Client → Type 0
 Ends fault old new = new ≡ record old {
   framer = record old.framer { found = None; fault = Some fault };
   outgoing = old.outgoing ++ fault_answer (Some fault);
-  phase = Ending }
+  phase = Ending;
+}
+
+abbrev pub EndsWith : FrameFault → Client → Client → Type 0
+EndsWith fault old new = new ≡ record old { outgoing = old.outgoing ++ fault_answer (Some fault); phase = Ending }
 
 abbrev pub StepsBy : Found → Client → Client → Bool → Type 0
 StepsBy Nothing old new more = (more ≡ false) × (new ≡ record old { framer = record old.framer { found = None } })
@@ -72,7 +77,7 @@ Steps old new more = StepsBy (look 0 old.framer) old new more
 abbrev pub IsPumped : Phase → (before : ℕ) → Client → (ℕ → Option (List ℕ)) → (read written : List ℕ) → Type 0
 IsPumped Idle before client reply read written = (before ≤ client.arrived) × IsIdle client reply read written × (client_message client.framer.kept ≡ Nothing)
 IsPumped (Working command) before client reply read written = (before < client.arrived) × (command.sent ≡ 0) × IsWorking client command reply read written
-IsPumped Ending before client reply read written = AreAnswers reply read (written ++ client.outgoing)
+IsPumped Ending before client reply read written = (before ≤ client.arrived) × AreAnswers reply read (written ++ client.outgoing)
 IsPumped Leaving before client reply read written = ⊥
 IsPumped Gone before client reply read written = ⊥
 

@@ -1,16 +1,15 @@
 -- What an entry leaves as it is.
-use Rattle.std.specs.Prelude.{◌≡◌, ◌⊎◌, ℕ, zero, suc, ◌+◌, ◌*◌, ◌<◌, ◌≤◌, Bool, true, false, nat_eq, List, [], ◌∷◌, ◌++◌, length, slice_get, fold, Option, Some, None, refl}
+use Rattle.std.specs.Prelude.{◌≡◌, ℕ, zero, suc, ◌+◌, ◌<◌, ◌≤◌, Bool, true, false, nat_eq, List, [], ◌∷◌, ◌++◌, length, slice_get, Option, Some, None, refl}
 use Rattle.std.proofs.Common.{sym, ◌∙◌, ap, subst, append-nil, inl, inr, arith, length-append}
 use Rattle.std.proofs.lemmas.Bool.{eqb-true}
 use Rattle.mx_base.specs.declared.names.LinkId.{LinkId}
-use Rattle.mx_wire.specs.Log.{Log, link_of, is_link, of_link, got_bytes, wrote_bytes, read_of, written_of, open_step, is_open, accepted_link, accepted_links, opened_link}
+use Rattle.mx_wire.specs.Log.{Log, link_of, is_link, of_link, got_bytes, read_of, written_of, accepted_link, accepted_links}
 use Rattle.mx_wire.specs.Tells.{IsNew, Fits, MayFollow}
-use Rattle.mx_wire.specs.Moments.{AtEachMoment, AllLawful, moment-more, lawful-more}
-use Rattle.mx_wire.specs.Growth.{bool_cases, same_number, bytes-same, bytes-other, bytes-idle, step-same, step-other}
+use Rattle.mx_wire.specs.Moments.{moment-more, lawful-more}
+use Rattle.mx_wire.specs.Growth.{bool_cases, same_number, bytes-same, bytes-other, bytes-idle}
 use Rattle.mx_wire.specs.declared.entry.Entry.{Entry}
 use Rattle.mx_wire.specs.declared.entry.Entry.TheVariants as entry
 use Rattle.packet_frame.specs.Packets.{Framed}
-use Rattle.ready_loop.specs.Machine.{CarriesOver, IsQuiet}
 use Rattle.session_core.specs.declared.phase.Command.{Command}
 use Rattle.session_core.specs.declared.phase.Phase.{Phase}
 use Rattle.session_core.specs.declared.phase.Phase.TheVariants.{Idle, Working, Ending, Leaving, Gone}
@@ -18,13 +17,10 @@ use Rattle.session_core.specs.declared.client.Client.{Client}
 use Rattle.session_core.specs.declared.server.Server.{Server}
 use Rattle.session_core.specs.declared.core.Core.{Core}
 use Rattle.session_core.specs.Answers.{answers_to, client_messages}
-use Rattle.session_core.specs.Sending.{carrier, command_bytes, command_sent, Sending, first_carried, sending, reply_to}
 use Rattle.session_core.specs.Headline.{client_link, replies_to, due, IsPrefix, IsServed, IsLawful}
-use Rattle.session_core.specs.Growth.{client_link-more, client_link-same, accepted_links-same, sending-before, sending-now, command_sent-more, reply_to-stays}
-use Rattle.session_core.specs.Held.{AreHeld, held-stays}
-use Rattle.session_core.specs.Past.{Answers, IsLast, Stay, all_answered-stays, answers-due}
-use Rattle.session_core.specs.Stands.{IsIdle, IsWorking, AreAnswers, WasAnswered, IsAt, IsFree, MayBeFree, IsCarried, IsOnItsWay, IsServedBy, IsOther, IsShut, HasClient, HasNone, MayHaveClient, IsServers, Tracks, IsFew, Stands, held_links, due_in}
-use Rattle.session_core.specs.Stands.IsCarried.{Unsent, Begun}
+use Rattle.session_core.specs.Growth.{reply_to-stays}
+use Rattle.session_core.specs.Past.{Answers, Stay, all_answered-stays, answers-due}
+use Rattle.session_core.specs.Stands.{IsIdle, IsWorking, AreAnswers, IsAt, IsOther, MayHaveClient, Tracks, IsFew, Stands}
 
 -- A client that came is named by the log.
 
@@ -38,6 +34,7 @@ known-at (e ∷ log) n link has new = comes (accepted_link e) refl n has (λ m l
   rest : (b : Bool) → is_link link (link_of e) ≡ b → IsNew link log
   rest true here = absurd (let no : e ∷ of_link link log ≡ [] = rw here at new in cc)
   rest false other = rw other at new
+
   comes : (o : Option LinkId) → accepted_link e ≡ o → (m : ℕ) → slice_get (Rattle.std.specs.List.cons_option o (accepted_links log)) m ≡ Some link → ((k : ℕ) → slice_get (accepted_links log) k ≡ Some link → ⊥) → ⊥
   comes None is m at later = later m at
   comes (Some other) is zero at later =
@@ -53,8 +50,9 @@ client-known (suc n) log link has new = known-at log n link has new
 -- a link that is new is none that is known
 pub new-apart : (known link : LinkId) (log : Log) → (IsNew known log → ⊥) → IsNew link log → nat_eq known.0 link.0 ≡ false
 new-apart known link log is_known new = elim (bool_cases (nat_eq known.0 link.0)) [
-    inl same ↦ absurd (is_known (ap (λ n. of_link (record { 0 = n }) log) (eqb-true known.0 link.0 same) ∙ new))
-  | inr apart ↦ apart ]
+  | inl same ↦ absurd (is_known (ap (λ n. of_link (record { 0 = n }) log) (eqb-true known.0 link.0 same) ∙ new))
+  | inr apart ↦ apart
+]
 
 -- Replies stay.
 
@@ -122,16 +120,23 @@ at-due Leaving client reply read written was = prefix-of written (answers_to rep
 at-due Gone client reply read written was = prefix-trans written was.bytes (answers_to reply (client_messages read)) was.front (answers-due reply read was.answers.done was.answers.waiting was.bytes was.answers.last was.answers.so_far)
 
 -- so the headline holds of the log that is tracked
-served-by : (client : Option Client) (server : Option Server) (log : Log) → MayHaveClient client server log → IsServed log
-served-by None server log has = record { each = λ n link is. record { rest = due n link log; is = ap (λ xs. xs ++ due n link log) (has.silent n link is) } }
-served-by (Some client) server log has = record { each = λ n link is. elim (bool_cases (nat_eq n client.number.0)) [
-    inl same ↦ (
-      let at_number : n ≡ client.number.0 = eqb-true n client.number.0 same in
-      let here : client.link ≡ link = (let both : Some client.link ≡ Some link = sym has.number ∙ ap (λ (k : ℕ). client_link k log) (sym at_number) ∙ is in cc) in
-      subst (λ (l : LinkId). IsPrefix (written_of l log) (due n l log)) here
+pub served-one : (client : Client) (log : Log) → client_link client.number.0 log ≡ Some client.link → ((n : ℕ) (link : LinkId) → client_link n log ≡ Some link → nat_eq n client.number.0 ≡ false → IsOther client.link link log)
+    → IsAt client.phase client (replies_to client.number.0 log) (read_of client.link log) (written_of client.link log) → IsServed log
+served-one client log number others state = record {
+  each = λ n link is. elim (bool_cases (nat_eq n client.number.0)) [
+    | inl same ↦ (
+        let at_number : n ≡ client.number.0 = eqb-true n client.number.0 same in
+        let here : client.link ≡ link = (let both : Some client.link ≡ Some link = sym number ∙ ap (λ (k : ℕ). client_link k log) (sym at_number) ∙ is in cc) in
+        subst (λ (l : LinkId). IsPrefix (written_of l log) (due n l log)) here
         (subst (λ (k : ℕ). IsPrefix (written_of client.link log) (due k client.link log)) (sym at_number)
-          (at-due client.phase client (replies_to client.number.0 log) (read_of client.link log) (written_of client.link log) has.state)))
-  | inr apart ↦ record { rest = due n link log; is = ap (λ xs. xs ++ due n link log) ((has.others n link is apart).silent) } ] }
+        (at-due client.phase client (replies_to client.number.0 log) (read_of client.link log) (written_of client.link log) state)))
+    | inr apart ↦ record { rest = due n link log; is = ap (λ xs. xs ++ due n link log) ((others n link is apart).silent) }
+  ];
+}
+
+pub served-by : (client : Option Client) (server : Option Server) (log : Log) → MayHaveClient client server log → IsServed log
+served-by None server log has = record { each = λ n link is. record { rest = due n link log; is = ap (λ xs. xs ++ due n link log) (has.silent n link is) } }
+served-by (Some client) server log has = served-one client log has.number has.others has.state
 
 -- a read of a log is short
 got-few : (log : Log) (e : Entry) → Fits log e → length (got_bytes e) ≤ 65536
@@ -139,22 +144,32 @@ got-few log (entry.Got link bytes) fits = fits.most
 got-few log _ fits = omega arith
 
 pub few-more : (log : Log) (e : Entry) → MayFollow log e → IsFew log → IsFew (log ++ e ∷ [])
-few-more log e may few = record { read = λ link. elim (bool_cases (is_link link (link_of e))) [
-    inl here ↦ (
-      let grown : read_of link (log ++ e ∷ []) ≡ read_of link log ++ got_bytes e = bytes-same got_bytes link log e here in
-      let size : length (read_of link (log ++ e ∷ [])) ≡ length (read_of link log) + length (got_bytes e) = ap length grown ∙ length-append (read_of link log) (got_bytes e) in
-      omega (arith, few.read link, got-few log e may.fits, length-append log (e ∷ [])))
-  | inr other ↦ (
-      let same : length (read_of link (log ++ e ∷ [])) ≡ length (read_of link log) = ap length (bytes-other got_bytes link log e other) in
-      omega (arith, few.read link, length-append log (e ∷ []))) ] }
+few-more log e may few = record {
+  read = λ link. elim (bool_cases (is_link link (link_of e))) [
+    | inl here ↦ (
+        let grown : read_of link (log ++ e ∷ []) ≡ read_of link log ++ got_bytes e = bytes-same got_bytes link log e here in
+        let size : length (read_of link (log ++ e ∷ [])) ≡ length (read_of link log) + length (got_bytes e) = ap length grown ∙ length-append (read_of link log) (got_bytes e) in
+        omega (arith, few.read link, got-few log e may.fits, length-append log (e ∷ [])))
+    | inr other ↦ (
+        let same : length (read_of link (log ++ e ∷ [])) ≡ length (read_of link log) = ap length (bytes-other got_bytes link log e other) in
+        omega (arith, few.read link, length-append log (e ∷ [])))
+  ];
+}
+
+pub few-still : (log : Log) (e : Entry) → got_bytes e ≡ [] → IsFew log → IsFew (log ++ e ∷ [])
+few-still log e no_read few = record {
+  read = λ link.
+      let same : length (read_of link (log ++ e ∷ [])) ≡ length (read_of link log) = ap length (bytes-idle got_bytes link log e no_read) in
+      omega (arith, few.read link, length-append log (e ∷ []));
+}
 
 -- so the bytes that were read can be counted
 pub few-counted : (log : Log) (e : Entry) (link : LinkId) → MayFollow log e → IsFew log → length (read_of link (log ++ e ∷ [])) < 18446744073709551615
 few-counted log e link may few = let more = few-more log e may few in omega (arith, more.read link, may.bounded, length-append log (e ∷ []))
 
-pub stands-more : (old new : Core) (log : Log) (e : Entry) → MayFollow log e → Stands old log → IsLawful log e → Tracks new (log ++ e ∷ []) → Stands new (log ++ e ∷ [])
-stands-more old new log e may held law tracks = record {
-  few = few-more log e may held.few;
+pub stands-more : (old new : Core) (log : Log) (e : Entry) → IsFew (log ++ e ∷ []) → Stands old log → IsLawful log e → Tracks new (log ++ e ∷ []) → Stands new (log ++ e ∷ [])
+stands-more old new log e few held law tracks = record {
+  few = few;
   tracks = tracks;
   always = moment-more IsServed log e held.always (served-by new.client new.server (log ++ e ∷ []) tracks.client);
   lawful = lawful-more IsLawful log e held.lawful law;

@@ -1,7 +1,7 @@
 // The link of the client.
 ghost use Rattle.std.specs.Prelude.{◌≡◌, ◌++◌, drop, length, ◌≤◌, IsSome, IfSome, OnOk, IfOk};
 ghost use Rattle.session_core.specs.Refusals.{payload_of};
-ghost use Rattle.session_core.specs.Steps.{Opens, Feeds, Steps, Pumps, Ends, Arrives, Refuses, Starts};
+ghost use Rattle.session_core.specs.Steps.{Opens, Feeds, Steps, Pumps, EndsWith, Arrives, Refuses, Starts};
 ghost use Rattle.session_core.specs.Asked.{asked_of};
 
 use crate::asked::{Asked, kind_of};
@@ -95,4 +95,48 @@ fn arrive(alloc: Global, client: &mut Client) -> Result<bool, OutOfMemory>
             Ok(true)
         }
     }
+}
+
+// What is kept is no message: the error is the last that the client is answered.
+fn end_with(alloc: Global, client: &mut Client, fault: FrameFault) -> Result<(), OutOfMemory>
+    ensures { OnOk result (EndsWith fault client.old client.new) }
+{
+    let id = match fault {
+        FrameFault::OutOfOrder { found, .. } => found.wrapping_add(1),
+        FrameFault::TooLarge { .. } => 1,
+    };
+    let refusal = Refusal::Frame {
+        fault,
+        limit: MOST_PAYLOAD,
+    };
+    let mut packet = Vec::new(alloc);
+    write_refusal(alloc, &mut packet, id, refusal)?;
+    client.outgoing.push(&packet)?;
+    client.phase = Phase::Ending;
+    Ok(())
+}
+
+// The next message arrives, if one is whole. True where the one behind it may.
+fn step(alloc: Global, client: &mut Client) -> Result<bool, OutOfMemory>
+    ensures { IfOk result (λ more. Steps client.old client.new more) }
+{
+    match client.framer.next(0) {
+        Ok(None) => Ok(false),
+        Ok(Some(_)) => {
+            let more = arrive(alloc, client)?;
+            Ok(more)
+        }
+        Err(fault) => {
+            end_with(alloc, client, fault)?;
+            Ok(false)
+        }
+    }
+}
+
+/// The messages of an idle client arrive in order, until one is a query, or none is left.
+pub fn pump(alloc: Global, client: &mut Client) -> Result<(), OutOfMemory>
+    ensures { OnOk result (Pumps client.old client.new) }
+{
+    while step(alloc, client)? {}
+    Ok(())
 }

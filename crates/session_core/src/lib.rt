@@ -6,7 +6,9 @@ mod asked;
 mod client;
 mod core;
 mod count;
+mod machine;
 mod phase;
+mod refusal;
 mod server;
 
 pub use core::Core;
