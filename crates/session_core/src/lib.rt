@@ -1,2 +1,14 @@
-//! To be written.
+//! The router's core, as the machine that the serving loop tells of events. One client's queries go to one server,
+//! each on a link that is opened when it is needed.
 #![tactic(auto)]
+
+mod asked;
+mod client;
+mod core;
+mod count;
+mod machine;
+mod phase;
+mod refusal;
+mod server;
+
+pub use core::Core;

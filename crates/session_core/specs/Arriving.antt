@@ -1,0 +1,139 @@
+-- What a client stands for as its messages arrive.
+use Rattle.std.specs.Prelude.{◌≡◌, ℕ, ◌+◌, ◌<◌, Bool, true, false, nat_eq, List, [], ◌∷◌, ◌++◌, cond, length, Option, Some, refl}
+use Rattle.std.proofs.Common.{sym, ◌∙◌, ap, subst, append-nil, append_assoc, arith, length-append}
+use Rattle.packet_frame.specs.declared.fault.FrameFault.{FrameFault}
+use Rattle.packet_frame.specs.FramerState.{look}
+use Rattle.packet_frame.specs.Packets.{Framed, spelling, next_id}
+use Rattle.packet_frame.specs.Packets.Found.{Whole, Faulty}
+use Rattle.packet_frame.specs.Laws.{split-count}
+use Rattle.packet_frame.specs.OnePacket.{first_message-whole}
+use Rattle.session_core.specs.declared.asked.Asked.TheVariants.{Query, Unknown, Malformed}
+use Rattle.session_core.specs.declared.client.Client.{Client}
+use Rattle.session_core.specs.Errors.{unknown_command, malformed_command}
+use Rattle.session_core.specs.Answers.{most_payload, is_query, answer_to, fault_answer}
+use Rattle.session_core.specs.Asked.{asked_of}
+use Rattle.session_core.specs.Count.{counted, counted-one}
+use Rattle.session_core.specs.Past.{client_message, Answers, Past, past-fed, past-one, past-next, all_answered-one}
+use Rattle.session_core.specs.Past.IsLast.{None_yet, Refused}
+use Rattle.session_core.specs.Stands.{IsReading, IsIdle}
+use Rattle.session_core.specs.Steps.{Starts, Refuses, Ends, Feeds, IsPumped}
+
+-- more bytes of an idle client
+pub idle-fed : (old new : Client) (bytes : List ℕ) (reply : ℕ → Option (List ℕ)) (read written : List ℕ) → Feeds old bytes new → IsIdle old reply read written → IsIdle new reply (read ++ bytes) written
+idle-fed old new bytes reply read written fed was = subst (λ (c : Client). IsIdle c reply (read ++ bytes) written) (sym fed) (record {
+  framer = record { limited = was.framer.limited; unfound = was.framer.unfound; faultless = was.framer.faultless };
+  done = was.done;
+  count = was.count;
+  so_far = record {
+    past = past-fed read was.done old.framer.kept bytes was.so_far.past;
+    before = was.so_far.before;
+    answered = was.so_far.answered;
+    is_last = None_yet;
+    is = was.so_far.is;
+  };
+})
+
+-- the messages that are done are no more than the bytes that were read
+done-count : (reply : ℕ → Option (List ℕ)) (read : List ℕ) (done : List Framed) (waiting bytes last : List ℕ) (message : Framed) (rest : List ℕ) → Answers reply read done waiting bytes last → client_message waiting ≡ Whole message rest → length done < length read
+done-count reply read done waiting bytes last message rest so_far is =
+    let messages = past-next read done waiting message rest so_far.past is in
+    omega (arith, split-count most_payload 0 read, simp length-append at (ap length messages))
+
+pub short : most_payload < 16777215
+short = Rattle.std.proofs.Common.lit< tt
+
+-- what is found in the kept bytes of a client that is idle
+pub look-idle : (client : Client) → IsReading client.framer → look 0 client.framer ≡ client_message client.framer.kept
+look-idle client reading = rw (reading.faultless, reading.limited) refl
+
+query-asked : (payload : List ℕ) → asked_of payload ≡ Query → is_query payload ≡ true
+query-asked [] is = cc
+query-asked (command ∷ text) is = of (nat_eq command 3) is where
+  of : (b : Bool) → cond b Query Unknown ≡ Query → b ≡ true
+  of true here = refl
+  of false here = cc
+
+pub unknown-asked : (reply : Option (List ℕ)) (payload : List ℕ) → asked_of payload ≡ Unknown → answer_to reply payload ≡ Some unknown_command
+unknown-asked reply [] is = cc
+unknown-asked reply (command ∷ text) is = of (nat_eq command 3) is where
+  of : (b : Bool) → cond b Query Unknown ≡ Unknown → cond b reply (Some unknown_command) ≡ Some unknown_command
+  of true here = cc
+  of false here = refl
+
+pub malformed-asked : (reply : Option (List ℕ)) (payload : List ℕ) → asked_of payload ≡ Malformed → answer_to reply payload ≡ Some malformed_command
+malformed-asked reply [] is = refl
+malformed-asked reply (command ∷ text) is = of (nat_eq command 3) is where
+  of : (b : Bool) → cond b Query Unknown ≡ Malformed → answer_to reply (command ∷ text) ≡ Some malformed_command
+  of true here = cc
+  of false here = cc
+
+-- a client that has one message more behind it, which is answered
+pub idle-answered : (old new : Client) (message : Framed) (rest payload : List ℕ) (reply : ℕ → Option (List ℕ)) (read written : List ℕ) → length read < 18446744073709551615
+    → Refuses message payload old new → client_message old.framer.kept ≡ Whole message rest → ((i : ℕ) → answer_to (reply i) message.payload ≡ Some payload)
+    → IsIdle old reply read written → IsIdle new reply read written × (old.arrived < new.arrived)
+idle-answered old new message rest payload reply read written few refuses found answer was =
+    let one = first_message-whole most_payload 0 old.framer.kept message rest short found in
+    let few_done : length was.done < length read = done-count reply read was.done old.framer.kept (written ++ old.outgoing) [] message rest was.so_far found in
+    let counted_is : counted old.arrived ≡ old.arrived + 1 = counted-one old.arrived (rw was.count (omega arith)) in
+    let id : next_id message.last ≡ 1 = rw one.ends refl in
+    let bytes : written ++ (old.outgoing ++ spelling 1 payload) ≡ (was.so_far.before ++ spelling (next_id message.last) payload) ++ [] =
+    sym (append_assoc written old.outgoing (spelling 1 payload)) ∙ ap (λ xs. xs ++ spelling 1 payload) (was.so_far.is ∙ append-nil was.so_far.before) ∙ ap (λ k. was.so_far.before ++ spelling k payload) (sym id) ∙ sym (append-nil (was.so_far.before ++ spelling (next_id message.last) payload)) in
+    let more : length (was.done ++ message ∷ []) ≡ length was.done + 1 = length-append was.done (message ∷ []) in
+    subst (λ (c : Client). IsIdle c reply read written × (old.arrived < c.arrived)) (sym refuses) (
+      record {
+        framer = record { limited = was.framer.limited; unfound = refl; faultless = was.framer.faultless };
+        done = was.done ++ message ∷ [];
+        count = counted_is ∙ (let c : old.arrived ≡ length was.done = was.count in omega arith);
+        so_far = record {
+          past = subst (λ (xs : List ℕ). Past read (was.done ++ message ∷ []) xs) one.goes (past-one read was.done old.framer.kept message rest was.so_far.past found);
+          before = was.so_far.before ++ spelling (next_id message.last) payload;
+          answered = all_answered-one reply 1 (1 + length was.done) was.done message was.so_far.before payload refl was.so_far.answered (answer (1 + length was.done));
+          is_last = None_yet;
+          is = bytes;
+        };
+      },
+      omega arith,
+    )
+
+-- a query of an idle client is the command in work
+pub idle-started : (old new : Client) (message : Framed) (rest : List ℕ) (reply : ℕ → Option (List ℕ)) (read written : List ℕ) → length read < 18446744073709551615
+    → Starts message old new → client_message old.framer.kept ≡ Whole message rest → asked_of message.payload ≡ Query
+    → IsIdle old reply read written → IsPumped new.phase old.arrived new reply read written
+idle-started old new message rest reply read written few starts found query was =
+    let one = first_message-whole most_payload 0 old.framer.kept message rest short found in
+    let few_done : length was.done < length read = done-count reply read was.done old.framer.kept (written ++ old.outgoing) [] message rest was.so_far found in
+    let counted_is : counted old.arrived ≡ old.arrived + 1 = counted-one old.arrived (rw was.count (omega arith)) in
+    subst (λ (c : Client). IsPumped c.phase old.arrived c reply read written) (sym starts) (
+      omega arith,
+      refl,
+      record {
+        framer = record { limited = was.framer.limited; unfound = refl; faultless = was.framer.faultless };
+        done = was.done;
+        waiting = old.framer.kept;
+        message = message;
+        count = counted_is ∙ (let c : old.arrived ≡ length was.done = was.count in omega arith);
+        so_far = was.so_far;
+        next = found ∙ ap (Whole message) one.goes;
+        query = query-asked message.payload query;
+        spelled = ap (λ k. spelling k message.payload) (sym one.begins);
+        within = omega arith;
+      },
+    )
+
+pub idle-ended : (old new : Client) (fault : FrameFault) (reply : ℕ → Option (List ℕ)) (read written : List ℕ) → Ends fault old new → client_message old.framer.kept ≡ Faulty fault
+    → IsIdle old reply read written → IsPumped new.phase old.arrived new reply read written
+idle-ended old new fault reply read written ends found was = subst (λ (c : Client). IsPumped c.phase old.arrived c reply read written) (sym ends) (
+  omega arith,
+  record {
+    done = was.done;
+    waiting = old.framer.kept;
+    last = fault_answer (Some fault);
+    so_far = record {
+      past = was.so_far.past;
+      before = was.so_far.before;
+      answered = was.so_far.answered;
+      is_last = Refused fault found;
+      is = sym (append_assoc written old.outgoing (fault_answer (Some fault))) ∙ ap (λ xs. xs ++ fault_answer (Some fault)) (was.so_far.is ∙ append-nil was.so_far.before);
+    };
+  },
+)
