@@ -5,7 +5,7 @@ use Rattle.mx_base.specs.declared.names.Port.TheVariants as port
 use Rattle.mx_base.specs.declared.names.Address.{Address}
 use Rattle.mx_wire.specs.Log.{Log}
 use Rattle.mx_wire.specs.Moments.{AllLawful}
-use Rattle.mx_wire.specs.Tells.{Tells}
+use Rattle.mx_wire.specs.Tells.{Tells, KeepsRule}
 use Rattle.mx_wire.specs.declared.entry.Entry.{Entry}
 use Rattle.mx_wire.specs.declared.entry.Entry.TheVariants as entry
 use Rattle.ready_loop.specs.Sent.{Sent}
@@ -37,7 +37,8 @@ pub record Serves {M : Type 0} (stands : M → Log → Type 0) (reads : M → Li
   pub watches : Watches (reads core) (sends core) (changed core) table.links
 
 -- the log only grows, and failures are only added to
-pub record Advances {W : Type 0} (told : W → Option Log) (port_faults faults : W → ℕ) (old new : W) : Type 0 where
+pub record Advances {W : Type 0} (told : W → Option Log) (rule : W → Log → Type 0) (port_faults faults : W → ℕ) (old new : W) : Type 0 where
+  pub ruled : KeepsRule rule old new
   pub grew : (log : Log) → told new ≡ Some log → (before : Log) × (told old ≡ Some before) × ((more : Log) × (log ≡ before ++ more))
   pub ports_failed : port_faults old ≤ port_faults new
   pub links_failed : faults old ≤ faults new

@@ -26,7 +26,7 @@ fn open_link<M: Machine, W: Wire>(
     requires serves { Serves M.stands M.reads M.sends M.changed core.old table.old (W.told wire.old) }
     ensures serves { OnOk result (Serves M.stands M.reads M.sends M.changed core.new table.new (W.told wire.new)) }
     ensures works { OnOk result (Works table.old.round table.new.round) }
-    ensures advances { Advances W.told W.port_faults W.faults wire.old wire.new }
+    ensures advances { Advances W.told W.rule W.port_faults W.faults wire.old wire.new }
 {
     table.round.calls += 1;
     match wire.open(server, address) {
@@ -49,7 +49,7 @@ fn offer<M: Machine, W: Wire>(core: &M, wire: &mut W, table: &mut Table, link: L
     ensures offered { IsOffered (M.sends core.now link) link (W.told wire.old) (W.told wire.new) }
     ensures links { table.new.links ≡ table.old.links }
     ensures round { table.new.round ≡ offered_round (M.sends core.now link) table.old.round }
-    ensures advances { Advances W.told W.port_faults W.faults wire.old wire.new }
+    ensures advances { Advances W.told W.rule W.port_faults W.faults wire.old wire.new }
 {
     let Some(piece) = core.outgoing(link) else {
         return;
@@ -68,7 +68,7 @@ fn close_link<M: Machine, W: Wire>(core: &M, wire: &mut W, table: &mut Table, li
     ensures marks { Marks table.old.links table.new.links link None }
     ensures queue { table.new.links.queue.items ≡ table.old.links.queue.items }
     ensures works { Works table.old.round table.new.round }
-    ensures advances { Advances W.told W.port_faults W.faults wire.old wire.new }
+    ensures advances { Advances W.told W.rule W.port_faults W.faults wire.old wire.new }
 {
     offer(core, wire, table, link);
     table.round.calls += 1;
@@ -88,7 +88,7 @@ fn act_once<M: Machine, W: Wire>(
     ensures works { IfOk result (λ went. went ≡ true → Works table.old.round table.new.round) }
     ensures none { IfOk result (λ went. went ≡ false → table.new.round ≡ table.old.round) }
     ensures acted { IfOk result (λ went. went ≡ false → M.asks core.new ≡ false) }
-    ensures advances { Advances W.told W.port_faults W.faults wire.old wire.new }
+    ensures advances { Advances W.told W.rule W.port_faults W.faults wire.old wire.new }
 {
     match core.next_act() {
         None => Ok(false),
@@ -117,7 +117,7 @@ pub fn do_acts<M: Machine, W: Wire>(
     ensures wakes { OnOk result (table.new.round.wakes ≡ table.old.round.wakes) }
     ensures ends { IfErr result (Ends M.stands M.is_stopped BusyFor core.new (W.told wire.new)) }
     ensures rose { IfErr result (λ end. end ≡ ServeEnd.ListenFault → ⊥) }
-    ensures advances { Advances W.told W.port_faults W.faults wire.old wire.new }
+    ensures advances { Advances W.told W.rule W.port_faults W.faults wire.old wire.new }
 {
     while table.round.calls < CALLS_PER_WAKE {
         if !act_once(core, wire, table)? {

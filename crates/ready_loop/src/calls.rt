@@ -28,7 +28,7 @@ pub fn listen_once<M: Machine, W: Wire>(
     ensures links { OnOk result (table.new.links ≡ table.old.links) }
     ensures ends { IfErr result (Ends M.stands M.is_stopped BusyFor core.now (W.told wire.new)) }
     ensures rose { IfErr result (λ end. end ≡ ServeEnd.ListenFault → W.port_faults wire.old < W.port_faults wire.new) }
-    ensures advances { Advances W.told W.port_faults W.faults wire.old wire.new }
+    ensures advances { Advances W.told W.rule W.port_faults W.faults wire.old wire.new }
 {
     table.round.calls += 1;
     match wire.listen(port, core.address(port)) {
@@ -52,7 +52,7 @@ pub fn wait_once<M: Machine, W: Wire>(
     ensures wakes { OnOk result (table.new.round.wakes ≡ table.old.round.wakes + 1) }
     ensures ends { IfErr result (Ends M.stands M.is_stopped BusyFor core.new (W.told wire.new)) }
     ensures rose { IfErr result (λ end. end ≡ ServeEnd.ListenFault → W.port_faults wire.old < W.port_faults wire.new) }
-    ensures advances { Advances W.told W.port_faults W.faults wire.old wire.new }
+    ensures advances { Advances W.told W.rule W.port_faults W.faults wire.old wire.new }
 {
     match wire.wait(core.until_ms()) {
         Woke::Woke { now_ms } => {
@@ -81,7 +81,7 @@ pub fn accept_once<M: Machine, W: Wire>(
     ensures works { OnOk result (Works table.old.round table.new.round) }
     ensures ends { IfErr result (Ends M.stands M.is_stopped BusyFor core.new (W.told wire.new)) }
     ensures rose { IfErr result (λ end. end ≡ ServeEnd.ListenFault → W.port_faults wire.old < W.port_faults wire.new) }
-    ensures advances { Advances W.told W.port_faults W.faults wire.old wire.new }
+    ensures advances { Advances W.told W.rule W.port_faults W.faults wire.old wire.new }
 {
     table.round.calls += 1;
     match wire.accept(port) {
@@ -119,7 +119,7 @@ pub fn name_once<M: Machine, W: Wire>(
     ensures made { Makes (Call.Name) (W.told wire.old) (W.told wire.new) }
     ensures works { OnOk result (Works table.old.round table.new.round) }
     ensures ends { IfErr result (λ end. end ≡ ServeEnd.OutOfMemory) }
-    ensures advances { Advances W.told W.port_faults W.faults wire.old wire.new }
+    ensures advances { Advances W.told W.rule W.port_faults W.faults wire.old wire.new }
 {
     table.round.calls += 1;
     match wire.next_ready() {
@@ -152,7 +152,7 @@ pub fn read_once<M: Machine, W: Wire>(
     ensures made { Makes (Call.Read link) (W.told wire.old) (W.told wire.new) }
     ensures works { OnOk result (Works table.old.round table.new.round) }
     ensures ends { IfErr result (λ end. end ≡ ServeEnd.OutOfMemory) }
-    ensures advances { Advances W.told W.port_faults W.faults wire.old wire.new }
+    ensures advances { Advances W.told W.rule W.port_faults W.faults wire.old wire.new }
 {
     table.round.calls += 1;
     match wire.read(link, buffer) {
@@ -191,7 +191,7 @@ pub fn write_once<M: Machine, W: Wire>(
     ensures made { Makes (Call.Write link) (W.told wire.old) (W.told wire.new) }
     ensures works { OnOk result (Works table.old.round table.new.round) }
     ensures ends { IfErr result (λ end. end ≡ ServeEnd.OutOfMemory) }
-    ensures advances { Advances W.told W.port_faults W.faults wire.old wire.new }
+    ensures advances { Advances W.told W.rule W.port_faults W.faults wire.old wire.new }
 {
     let Some(piece) = core.outgoing(link) else {
         return Ok(());

@@ -2,6 +2,7 @@
 ghost use Rattle.std.specs.Prelude.{◌≡◌, ◌≢◌, ◌<◌, ◌≤◌, ◌+◌, [], length, false, true, Some, OnOk, OnErr, IfErr, IfOk, None};
 ghost use Rattle.mx_base.specs.declared.names.LinkId.{LinkId};
 ghost use Rattle.mx_wire.specs.Log.{Log};
+ghost use Rattle.mx_wire.specs.Tells.{KeepsRule};
 ghost use Rattle.ready_loop.specs.Drained.{DrainedFor};
 ghost use Rattle.ready_loop.specs.Links.{mark_of};
 ghost use Rattle.ready_loop.specs.Machine.{StandsFor};
@@ -55,7 +56,7 @@ fn follow<M: Machine, W: Wire>(
     ensures wakes { OnOk result (table.new.round.wakes ≡ table.old.round.wakes) }
     ensures ends { IfErr result (Ends M.stands M.is_stopped BusyFor core.new (W.told wire.new)) }
     ensures rose { IfErr result (λ end. end ≡ ServeEnd.ListenFault → ⊥) }
-    ensures advances { Advances W.told W.port_faults W.faults wire.old wire.new }
+    ensures advances { Advances W.told W.rule W.port_faults W.faults wire.old wire.new }
 {
     do_acts(core, wire, table)?;
     if core.stopped() {
@@ -84,7 +85,7 @@ fn make_call<M: Machine, W: Wire>(
     ensures works { OnOk result (Works table.old.round table.new.round) }
     ensures ends { IfErr result (Ends M.stands M.is_stopped BusyFor core.new (W.told wire.new)) }
     ensures rose { IfErr result (λ end. end ≡ ServeEnd.ListenFault → W.port_faults wire.old < W.port_faults wire.new) }
-    ensures advances { Advances W.told W.port_faults W.faults wire.old wire.new }
+    ensures advances { Advances W.told W.rule W.port_faults W.faults wire.old wire.new }
 {
     match call {
         Call::Accept { port } => accept_once(core, wire, table, port)?,
@@ -115,7 +116,7 @@ fn settle<M: Machine, W: Wire>(
     ensures wakes { OnOk result (table.new.round.wakes ≡ table.old.round.wakes) }
     ensures ends { IfErr result (Ends M.stands M.is_stopped BusyFor core.new (W.told wire.new)) }
     ensures rose { IfErr result (λ end. end ≡ ServeEnd.ListenFault → W.port_faults wire.old < W.port_faults wire.new) }
-    ensures advances { Advances W.told W.port_faults W.faults wire.old wire.new }
+    ensures advances { Advances W.told W.rule W.port_faults W.faults wire.old wire.new }
 {
     while table.round.calls < CALLS_PER_WAKE {
         let Some(call) = table.owed(core) else {
@@ -146,7 +147,7 @@ fn serve_wake<M: Machine, W: Wire>(
     ensures wakes { OnOk result (table.new.round.wakes ≡ table.old.round.wakes + 1) }
     ensures ends { IfErr result (Ends M.stands M.is_stopped BusyFor core.new (W.told wire.new)) }
     ensures rose { IfErr result (λ end. end ≡ ServeEnd.ListenFault → W.port_faults wire.old < W.port_faults wire.new) }
-    ensures advances { Advances W.told W.port_faults W.faults wire.old wire.new }
+    ensures advances { Advances W.told W.rule W.port_faults W.faults wire.old wire.new }
 {
     wait_once(core, wire, table)?;
     follow(core, wire, table)?;
@@ -169,7 +170,7 @@ fn serve_turns<M: Machine, W: Wire>(
     requires drained { DrainedFor (M.reads core.old) (M.sends core.old) (W.told wire.old) }
     ensures ends { Ends M.stands M.is_stopped (SpentFor turns (M.reads core.new) (M.sends core.new)) core.new (W.told wire.new) result }
     ensures rose { result ≡ ServeEnd.ListenFault → W.port_faults wire.old < W.port_faults wire.new }
-    ensures advances { Advances W.told W.port_faults W.faults wire.old wire.new }
+    ensures advances { Advances W.told W.rule W.port_faults W.faults wire.old wire.new }
 {
     while table.round.wakes < turns {
         if let Err(end) = serve_wake(core, wire, table, buffer) {
@@ -192,7 +193,7 @@ fn start<M: Machine, W: Wire>(core: &M, wire: &mut W, table: &mut Table) -> Resu
     ensures listens { OnErr result (ListensFirst (M.address_of core.now Port.Traffic) (M.address_of core.now Port.Admin) (W.told wire.new)) }
     ensures ends { IfErr result (Ends M.stands M.is_stopped BusyFor core.now (W.told wire.new)) }
     ensures rose { IfErr result (λ end. end ≡ ServeEnd.ListenFault → W.port_faults wire.old < W.port_faults wire.new) }
-    ensures advances { Advances W.told W.port_faults W.faults wire.old wire.new }
+    ensures advances { Advances W.told W.rule W.port_faults W.faults wire.old wire.new }
 {
     listen_once(core, wire, table, Port::Traffic)?;
     listen_once(core, wire, table, Port::Admin)?;
@@ -216,7 +217,7 @@ fn prepare<M: Machine, W: Wire>(
     ensures listens { OnErr result (ListensFirst (M.address_of core.now Port.Traffic) (M.address_of core.now Port.Admin) (W.told wire.new)) }
     ensures ends { IfErr result (Ends M.stands M.is_stopped BusyFor core.now (W.told wire.new)) }
     ensures rose { IfErr result (λ end. end ≡ ServeEnd.ListenFault → W.port_faults wire.old < W.port_faults wire.new) }
-    ensures advances { Advances W.told W.port_faults W.faults wire.old wire.new }
+    ensures advances { Advances W.told W.rule W.port_faults W.faults wire.old wire.new }
 {
     let (mut table, buffer) = make_room(alloc, core.most_links())?;
     wire.reserve(core.most_links())?;
@@ -259,6 +260,7 @@ pub fn serve<M: Machine, W: Wire>(alloc: Global, core: &mut M, wire: &mut W, tur
     ensures failed { result ≡ ServeEnd.ListenFault → EndsWith IsPortFault (W.told wire.new) }
     ensures spent { result ≡ ServeEnd.TurnsSpent → SpentFor turns (M.reads core.new) (M.sends core.new) (W.told wire.new) }
     ensures listens { ListensFirst (M.address_of core.old Port.Traffic) (M.address_of core.old Port.Admin) (W.told wire.new) }
+    ensures rule { KeepsRule W.rule wire.old wire.new }
     ensures port_faults { W.port_faults wire.old ≤ W.port_faults wire.new }
     ensures faults { W.faults wire.old ≤ W.faults wire.new }
 {

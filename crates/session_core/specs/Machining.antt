@@ -44,6 +44,22 @@ one_if b = if b then 1 else 0
 abbrev pub unnamed : Core → ℕ
 unnamed core = one_if core.client_changed + one_if core.server_changed
 
+-- whether an act is to be asked for
+abbrev pub is_leaving : Phase → Bool
+is_leaving Leaving = true
+is_leaving _ = false
+
+abbrev pub client_leaves : Option Client → Bool
+client_leaves None = false
+client_leaves (Some client) = is_leaving client.phase
+
+abbrev pub is_any : List LinkId → Bool
+is_any [] = false
+is_any (link ∷ links) = true
+
+abbrev pub asks : Core → Bool
+asks core = is_any core.refused.items || client_leaves core.client || core.opens
+
 pub stands-kept : (old new : Core) (log : Log) → KeepsLinks old new → Stands old log → Stands new log
 stands-kept old new log keeps held = record { few = held.few; tracks = tracks-kept old new log keeps held.tracks; always = held.always; lawful = held.lawful }
 

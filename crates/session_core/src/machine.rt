@@ -7,7 +7,7 @@ ghost use Rattle.ready_loop.specs.Machine.{CarriesOver, IsToldOf, Closes, Keeps,
 ghost use Rattle.session_core.specs.Stands.{Stands, sends, reads, due_in, client_sends, server_sends, command_left};
 ghost use Rattle.session_core.specs.Quiet.{quiet};
 ghost use Rattle.session_core.specs.Cores.{written_in, sent_in};
-ghost use Rattle.session_core.specs.Machining.{the_address, the_target, changed, unnamed, Parts};
+ghost use Rattle.session_core.specs.Machining.{the_address, the_target, changed, unnamed, asks, Parts};
 
 use crate::client::Client;
 use crate::core::{
@@ -168,6 +168,8 @@ impl Machine for Core {
     ghost changed = { changed };
 
     ghost unnamed = { unnamed };
+
+    ghost asks = { asks };
 
     ghost address_of = { λ core port. the_address };
 

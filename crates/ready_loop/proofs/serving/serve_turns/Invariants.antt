@@ -9,7 +9,7 @@ invariant-loop-table g l = record {
   going : g.M.Machine.is_stopped l.core ≡ false;
   drained : DrainedFor (g.M.Machine.reads l.core) (g.M.Machine.sends l.core) (g.W.Wire.told l.wire);
   wakes : l.table.round.wakes ≤ l.turns;
-  advances : Advances g.W.Wire.told g.W.Wire.port_faults g.W.Wire.faults l.fn.wire l.wire;
+  advances : Advances g.W.Wire.told g.W.Wire.rule g.W.Wire.port_faults g.W.Wire.faults l.fn.wire l.wire;
 }
 
 abbrev pub decreases-loop-table : goal.decreases-loop-table

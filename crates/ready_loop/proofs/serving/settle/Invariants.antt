@@ -10,7 +10,7 @@ invariant-loop-table g l = record {
   acted : g.M.Machine.asks l.core ≡ false;
   calm : (link : LinkId) → g.M.Machine.changed l.core link ≡ false;
   wakes : l.table.round.wakes ≡ l.fn.table.round.wakes;
-  advances : Advances g.W.Wire.told g.W.Wire.port_faults g.W.Wire.faults l.fn.wire l.wire;
+  advances : Advances g.W.Wire.told g.W.Wire.rule g.W.Wire.port_faults g.W.Wire.faults l.fn.wire l.wire;
 }
 
 abbrev pub decreases-loop-table : goal.decreases-loop-table
