@@ -4,6 +4,7 @@ pub mod Fields
 pub mod Line
 pub mod Pieces
 pub mod Places
+pub mod Playable
 pub mod Recording
 pub mod Runs
 pub mod Spelling

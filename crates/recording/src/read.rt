@@ -1,6 +1,7 @@
 // Reading a recording.
 ghost use Rattle.std.specs.Prelude.{◌≡◌, ◌≤◌, IfOk, IfErr, OnOk, position};
 ghost use Rattle.recording.specs.Ended.{standing_of};
+ghost use Rattle.recording.specs.Playable.{IsPlayable};
 ghost use Rattle.recording.specs.Recording.{recording_of, is_later, is_line_feed, is_skipped, passes_bounds, fault_of, line_of, taken};
 ghost use Rattle.recording.specs.Refusal.{Gives, Refuses, Faults, refused_at};
 
@@ -29,6 +30,7 @@ use std::alloc::Global;
 /// from 01 to 7f. The first faulty line decides, and in it the lowest kind of fault, as `RecordFault` lists them.
 pub fn read_recording(alloc: Global, bytes: &[u8]) -> Result<Vec<RecordEntry>, RecordRefusal>
     ensures entries { IfOk result (λ entries. recording_of bytes.now ≡ Ok entries.items) }
+    ensures playable { IfOk result (λ entries. IsPlayable entries.items) }
     ensures fault { IfErr result (λ refusal. Faults refusal (recording_of bytes.now)) }
 {
     let mut entries = Vec::new(alloc);
