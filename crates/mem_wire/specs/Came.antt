@@ -9,7 +9,8 @@ use Rattle.mx_wire.specs.declared.entry.Entry.TheVariants.{Woke, Accepted, Opene
 use Rattle.recording.specs.declared.entry.RecordLink.{RecordLink}
 use Rattle.recording.specs.declared.entry.RecordLink.TheVariants.{Client, Server}
 use Rattle.recording.specs.declared.entry.RecordEntry.{RecordEntry}
-use Rattle.mem_wire.specs.Lines.{is_port, Waiting, clients_at, released, same_name, bytes_for}
+use Rattle.mem_wire.specs.declared.waiting.Waiting.{Waiting}
+use Rattle.mem_wire.specs.Lines.{is_port, clients_at, released, same_name, bytes_for}
 
 abbrev pub is_woke : Entry → Bool
 is_woke (Woke until_ms now_ms) = true

@@ -1,3 +1,6 @@
 pub mod Lines
 pub mod Came
 pub mod Play
+pub mod Adds
+pub mod Tracks
+pub mod Cuts

@@ -1,11 +1,12 @@
 -- What the lines of a recording give.
-use Rattle.std.specs.Prelude.{ℕ, ◌-◌, ◌==◌, ◌&&◌, Bool, true, false, nat_eq, if◌then◌else◌, List, [], ◌∷◌, length, drop, Option, Some, None}
+use Rattle.std.specs.Prelude.{ℕ, ◌-◌, ◌==◌, ◌&&◌, Bool, true, false, nat_eq, if◌then◌else◌, List, [], ◌∷◌, length, filter, drop, Option, Some, None}
 use Rattle.std.specs.List.{flat_map, filter_map}
 use Rattle.mx_base.specs.declared.names.Port.{Port}
 use Rattle.mx_base.specs.declared.names.Port.TheVariants.{Traffic, Admin}
 use Rattle.recording.specs.declared.entry.RecordLink.{RecordLink}
 use Rattle.recording.specs.declared.entry.RecordLink.TheVariants.{Client, Server}
 use Rattle.recording.specs.declared.entry.RecordEntry.{RecordEntry}
+use Rattle.mem_wire.specs.declared.waiting.Waiting.{Waiting}
 use Rattle.recording.specs.declared.entry.RecordEntry.TheVariants.{At, Accept, Bytes, End, Fail, Take, Exec, Drop}
 
 abbrev pub is_at : RecordEntry → Bool
@@ -30,10 +31,6 @@ released wakes (line ∷ later) =
 -- what the last of so many wakes released
 abbrev pub released_last : ℕ → List RecordEntry → List RecordEntry
 released_last wakes recording = drop (length (released (wakes - 1) recording)) (released wakes recording)
-
-pub record Waiting : Type 0 where
-  pub number : ℕ
-  pub salt : List ℕ
 
 abbrev pub is_port : Port → Port → Bool
 is_port Traffic Traffic = true
@@ -60,6 +57,15 @@ bytes_at name _ = []
 
 abbrev pub bytes_for : RecordLink → List RecordEntry → List ℕ
 bytes_for name lines = flat_map (bytes_at name) lines
+
+-- an `exec` line of the link
+abbrev pub is_mark_for : RecordLink → RecordEntry → Bool
+is_mark_for name (Exec k) = same_name name (Server k)
+is_mark_for name _ = false
+
+-- how many there are
+abbrev pub marks_for : RecordLink → List RecordEntry → ℕ
+marks_for name lines = length (filter (is_mark_for name) lines)
 
 -- the link that the line names
 abbrev pub name_at : RecordEntry → Option RecordLink

@@ -6,9 +6,11 @@ use Rattle.mx_wire.specs.Log.{Log, opened_links, is_open}
 use Rattle.mx_wire.specs.Moments.{AllLawful}
 use Rattle.mx_wire.specs.declared.entry.Entry.{Entry}
 use Rattle.mx_wire.specs.declared.entry.Entry.TheVariants as entry
+use Rattle.recording.specs.declared.entry.RecordLink.TheVariants.{Server}
 use Rattle.recording.specs.declared.entry.RecordEntry.{RecordEntry}
 use Rattle.recording.specs.declared.entry.RecordEntry.TheVariants as line
-use Rattle.mem_wire.specs.Lines.{moments, released, released_last, Waiting, name_at}
+use Rattle.mem_wire.specs.declared.waiting.Waiting.{Waiting}
+use Rattle.mem_wire.specs.Lines.{moments, released, released_last, is_mark_for, name_at}
 use Rattle.mem_wire.specs.Came.{wakes, next_client, Known, known, with_link, with_name, unread_of, unread}
 
 -- Which links a wake names.
@@ -65,15 +67,11 @@ abbrev pub mark_at : List LinkId → RecordEntry → Option Entry
 mark_at links (line.Exec k) = elim (slice_get links (k - 1)) [ Some link ↦ Some (entry.Exec link) | None ↦ None ]
 mark_at links _ = None
 
-abbrev pub is_exec_of : ℕ → RecordEntry → Bool
-is_exec_of k (line.Exec j) = nat_eq j k
-is_exec_of k _ = false
-
 -- those of the link that was opened just before, which the wakes before had released
 abbrev pub late_marks : List RecordEntry → Log → Log
 late_marks recording log =
     if just_opened log
-    then filter_map (mark_at (opened_links log)) (filter (is_exec_of (length (opened_links log))) (released (wakes log) recording))
+    then filter_map (mark_at (opened_links log)) (filter (is_mark_for (Server (length (opened_links log)))) (released (wakes log) recording))
     else []
 
 -- and before a wake those of its own lines

@@ -1,2 +1,10 @@
-//! To be written.
+//! The outside in memory: a wire that plays a recording and tells its log, files, and a sink.
 #![tactic(auto)]
+
+mod lines;
+mod told_log;
+mod track;
+mod tracks;
+mod waiting;
+
+pub use waiting::Waiting;

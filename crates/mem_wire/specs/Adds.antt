@@ -1,0 +1,10 @@
+-- What is put behind a log that may be told.
+use Rattle.std.specs.Prelude.{◌≡◌, ◌<◌, ◌++◌, length, Option, Some}
+use Rattle.mx_wire.specs.Log.{Log}
+
+-- where the log is told now it was told before, and has these entries more
+pub record Adds (old : Option Log) (more : Log) (new : Option Log) : Type 0 where
+  pub told : (log : Log) → new ≡ Some log → (before : Log) × (old ≡ Some before) × (log ≡ before ++ more)
+
+pub record IsBounded (told : Option Log) : Type 0 where
+  pub below : (log : Log) → told ≡ Some log → length log < 281474976710656
