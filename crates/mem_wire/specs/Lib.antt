@@ -4,3 +4,4 @@ pub mod Play
 pub mod Adds
 pub mod Tracks
 pub mod Cuts
+pub mod Steps

@@ -2,6 +2,9 @@
 #![tactic(auto)]
 
 mod lines;
+mod late;
+mod stage;
+mod steps;
 mod told_log;
 mod track;
 mod tracks;

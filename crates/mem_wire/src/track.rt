@@ -1,5 +1,5 @@
 // The lines of one link of a recording.
-ghost use Rattle.std.specs.Prelude.{◌≡◌};
+ghost use Rattle.std.specs.Prelude.{◌≡◌, length, take, drop, min};
 ghost use Rattle.mem_wire.specs.Tracks.{blank};
 
 use mx_base::{ByteQueue, LinkId};
@@ -30,5 +30,18 @@ impl Track {
             marks: 0,
             named: None,
         }
+    }
+
+    /// Moves a front of the unread bytes to the front of `into`, and answers how many there are.
+    pub fn read(&mut self, into: &mut [u8]) -> usize
+        ensures size { result ≡ min (length into.old) (length self.old.unread) }
+        ensures bytes { take result into.new ≡ take result self.old.unread }
+        ensures rest { self.new ≡ record self.old { unread = drop result self.old.unread } }
+    {
+        let ready = self.unread.as_slice();
+        let n = into.len().min(ready.len());
+        into[..n].copy_from_slice(&ready[..n]);
+        self.unread.advance(n);
+        n
     }
 }

@@ -1,5 +1,5 @@
 // The tracks of all links, by place.
-ghost use Rattle.std.specs.Prelude.{◌≡◌, ◌<◌, ◌≤◌, ◌==◌, ◌++◌, ◌+◌, ℕ, length, take, drop, if◌then◌else◌, OnOk, vec_len};
+ghost use Rattle.std.specs.Prelude.{◌≡◌, ◌<◌, ◌≤◌, ◌==◌, ◌++◌, ◌+◌, ℕ, length, take, drop, min, true, Some, if◌then◌else◌, OnOk, vec_len};
 ghost use Rattle.mem_wire.specs.Lines.{marks_for, bytes_for};
 ghost use Rattle.mem_wire.specs.Tracks.{track_at, place, SameTracks, ChangesTrack, Released};
 ghost use Rattle.recording.specs.declared.entry.RecordLink.{RecordLink};
@@ -66,4 +66,33 @@ pub(crate) fn release(alloc: Global, tracks: &mut Vec<Track>, lines: &[RecordEnt
         }
     }
     Ok(())
+}
+
+/// Moves a front of a track's unread bytes to the front of `into`, and answers how many there are.
+pub(crate) fn read_track(tracks: &mut Vec<Track>, at: usize, into: &mut [u8]) -> usize
+    requires { at < vec_len tracks.old }
+    ensures size { result ≡ min (length into.old) (length (track_at tracks.old.items at).unread) }
+    ensures bytes { take result into.new ≡ take result (track_at tracks.old.items at).unread }
+    ensures rest { ChangesTrack at (λ t. record t { unread = drop result t.unread }) tracks.old.items tracks.new.items }
+{
+    let track = &mut tracks[at];
+    track.read(into)
+}
+
+/// Closes the link of a track.
+pub(crate) fn close_track(tracks: &mut Vec<Track>, at: usize)
+    requires { at < vec_len tracks.old }
+    ensures { ChangesTrack at (λ t. record t { closed = true }) tracks.old.items tracks.new.items }
+{
+    let track = &mut tracks[at];
+    track.closed = true;
+}
+
+/// The wake of this line has named the link of a track.
+pub(crate) fn name_track(tracks: &mut Vec<Track>, at: usize, wake: usize)
+    requires { at < vec_len tracks.old }
+    ensures { ChangesTrack at (λ t. record t { named = Some wake }) tracks.old.items tracks.new.items }
+{
+    let track = &mut tracks[at];
+    track.named = Some(wake);
 }
