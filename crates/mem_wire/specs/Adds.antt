@@ -1,6 +1,12 @@
 -- What is put behind a log that may be told.
 use Rattle.std.specs.Prelude.{◌≡◌, ◌<◌, ◌++◌, length, Option, Some}
+use Rattle.std.proofs.Math.ListN.{replicate}
 use Rattle.mx_wire.specs.Log.{Log}
+use Rattle.mx_wire.specs.declared.entry.Entry.TheVariants.{Exec}
+use Rattle.mem_wire.specs.declared.late.Late.{Late}
+
+abbrev pub late_entries : Late → Log
+late_entries late = replicate late.marks (Exec late.link)
 
 -- where the log is told now it was told before, and has these entries more
 pub record Adds (old : Option Log) (more : Log) (new : Option Log) : Type 0 where

@@ -5,3 +5,4 @@ pub mod Adds
 pub mod Tracks
 pub mod Cuts
 pub mod Steps
+pub mod Naming

@@ -1,5 +1,5 @@
 -- How a play's stage changes.
-use Rattle.std.specs.Prelude.{◌≡◌, ℕ, ◌<◌, ◌+◌, ◌*◌, ◌==◌, ◌&&◌, not, Bool, true, false, if◌then◌else◌, List, [], ◌∷◌, ◌++◌, length, take, drop, slice_get, slice_index_or, Option, Some, None}
+use Rattle.std.specs.Prelude.{◌≡◌, ℕ, ◌<◌, ◌≤◌, ◌+◌, ◌*◌, ◌==◌, ◌&&◌, not, Bool, true, false, if◌then◌else◌, List, [], ◌∷◌, ◌++◌, length, take, drop, slice_get, slice_index_or, Option, Some, None}
 use Rattle.mx_base.specs.declared.names.LinkId.{LinkId}
 use Rattle.mx_base.specs.declared.names.Port.{Port}
 use Rattle.mx_base.specs.declared.names.Port.TheVariants.{Traffic, Admin}
@@ -60,3 +60,18 @@ pub record Moves (at : ℕ) (change : Track → Track) (old new : Stage) : Type 
   pub frame : new ≡ record old { tracks = new.tracks; late = new.late }
   pub late : new.late.marks ≡ 0
   pub track : at < length old.tracks.items → ChangesTrack at change old.tracks.items new.tracks.items
+
+-- The places in the lines and in the links stand as they stood.
+pub record KeepsPlaces (old new : Stage) : Type 0 where
+  pub cut : new.cut ≡ old.cut
+  pub last : new.last ≡ old.last
+  pub line : new.line ≡ old.line
+  pub link : new.link ≡ old.link
+  pub places : new.places.items ≡ old.places.items
+
+-- the places are within the recording and the links
+pub record IsWithin (recording : List RecordEntry) (s : Stage) : Type 0 where
+  pub cut : s.cut ≤ length recording
+  pub last : s.last ≤ s.line
+  pub line : s.line ≤ s.cut
+  pub link : s.link ≤ length s.places.items

@@ -3,6 +3,7 @@
 
 mod lines;
 mod late;
+mod naming;
 mod stage;
 mod steps;
 mod told_log;

@@ -1,7 +1,7 @@
 // The steps of a play, call by call.
-ghost use Rattle.std.specs.Prelude.{◌≡◌, ℕ, ◌+◌, ◌-◌, ◌*◌, ◌<◌, ◌≤◌, ◌++◌, ◌∷◌, length, [], take, drop, min, true, slice_get, Some, None, OnOk, IfSome, vec_len};
+ghost use Rattle.std.specs.Prelude.{◌≡◌, ℕ, ◌+◌, ◌-◌, ◌*◌, ◌<◌, ◌≤◌, ◌++◌, ◌∷◌, length, [], take, drop, min, true, slice_get, Some, None, OnOk, OnErr, IfSome, vec_len};
 ghost use Rattle.mem_wire.specs.Tracks.{track_at};
-ghost use Rattle.mem_wire.specs.Steps.{clients_of, accepted_of, place_in, Wakes, Enters, Accepts, Opens, Moves};
+ghost use Rattle.mem_wire.specs.Steps.{clients_of, accepted_of, place_in, Wakes, Enters, Accepts, Opens, Moves, KeepsPlaces};
 
 use crate::late::Late;
 use crate::lines::arrive;
@@ -32,7 +32,8 @@ pub(crate) fn new_stage(alloc: Global) -> Stage {
 
 /// Releases lines, which stand from the cut up to the next one.
 pub(crate) fn wake(stage: &mut Stage, alloc: Global, lines: &[RecordEntry], next: usize) -> Result<(), OutOfMemory>
-    ensures { OnOk result (Wakes lines.now next stage.old stage.new) }
+    ensures ok { OnOk result (Wakes lines.now next stage.old stage.new) }
+    ensures err { OnErr result (KeepsPlaces stage.old stage.new) }
 {
     arrive(Port::Traffic, &mut stage.traffic, lines)?;
     arrive(Port::Admin, &mut stage.admin, lines)?;
@@ -58,6 +59,7 @@ pub(crate) fn next_client(stage: &Stage, port: Port) -> Option<Waiting>
 // The next link comes, and its track is at this place.
 fn enter(stage: &mut Stage, alloc: Global, at: usize) -> Result<(), OutOfMemory>
     ensures enters { OnOk result (Enters at stage.old stage.new) }
+    ensures err { OnErr result (KeepsPlaces stage.old stage.new) }
     ensures reached { OnOk result (at < vec_len stage.new.tracks) }
     ensures frame { OnOk result (stage.new ≡ record stage.old { tracks = stage.new.tracks; places = stage.new.places; line = stage.old.last }) }
 {
@@ -73,7 +75,8 @@ fn enter(stage: &mut Stage, alloc: Global, at: usize) -> Result<(), OutOfMemory>
 /// The client that waits at the port as the next one comes on the next link.
 pub(crate) fn accept(stage: &mut Stage, alloc: Global, port: Port, number: u16) -> Result<(), OutOfMemory>
     requires { accepted_of port stage.old < length (clients_of port stage.old) }
-    ensures { OnOk result (Accepts port number stage.old stage.new) }
+    ensures ok { OnOk result (Accepts port number stage.old stage.new) }
+    ensures err { OnErr result (KeepsPlaces stage.old stage.new) }
 {
     enter(stage, alloc, 2 * usize::from(number))?;
     stage.late = Late::none();
@@ -86,7 +89,8 @@ pub(crate) fn accept(stage: &mut Stage, alloc: Global, port: Port, number: u16) 
 
 /// The next link to a server comes, and its marks are late.
 pub(crate) fn open(stage: &mut Stage, alloc: Global) -> Result<(), OutOfMemory>
-    ensures { OnOk result (Opens stage.old stage.new) }
+    ensures ok { OnOk result (Opens stage.old stage.new) }
+    ensures err { OnErr result (KeepsPlaces stage.old stage.new) }
 {
     let link = LinkId(stage.places.len() as u64);
     stage.opened.push(link)?;

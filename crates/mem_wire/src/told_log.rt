@@ -1,7 +1,8 @@
 // The log that a wire in memory tells.
 ghost use Rattle.std.specs.Prelude.{◌≡◌, ◌<◌, ◌∷◌, [], length, Some, None, option_map};
-ghost use Rattle.mem_wire.specs.Adds.{Adds, IsBounded};
+ghost use Rattle.mem_wire.specs.Adds.{Adds, IsBounded, late_entries};
 
+use crate::late::Late;
 use mx_wire::Entry;
 use std::alloc::Global;
 use std::marker::Model;
@@ -53,6 +54,15 @@ impl ToldLog {
             self.untold = true;
         } else if self.entries.push(entry).is_err() {
             self.untold = true;
+        }
+    }
+
+    /// Adds late marks.
+    pub fn add_marks(&mut self, late: Late)
+        ensures { Adds self.old (late_entries late) self.new }
+    {
+        for _ in 0..late.marks {
+            self.add(Entry::Exec { link: late.link });
         }
     }
 
