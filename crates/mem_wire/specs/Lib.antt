@@ -6,3 +6,6 @@ pub mod Tracks
 pub mod Cuts
 pub mod Steps
 pub mod Naming
+pub mod Below
+pub mod Follows
+pub mod Told

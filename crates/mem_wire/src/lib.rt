@@ -6,9 +6,11 @@ mod late;
 mod naming;
 mod stage;
 mod steps;
+mod tape;
 mod told_log;
 mod track;
 mod tracks;
 mod waiting;
 
+pub use tape::Tape;
 pub use waiting::Waiting;

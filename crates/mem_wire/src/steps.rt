@@ -1,7 +1,7 @@
 // The steps of a play, call by call.
 ghost use Rattle.std.specs.Prelude.{◌≡◌, ℕ, ◌+◌, ◌-◌, ◌*◌, ◌<◌, ◌≤◌, ◌++◌, ◌∷◌, length, [], take, drop, min, true, slice_get, Some, None, OnOk, OnErr, IfSome, vec_len};
 ghost use Rattle.mem_wire.specs.Tracks.{track_at};
-ghost use Rattle.mem_wire.specs.Steps.{clients_of, accepted_of, place_in, Wakes, Enters, Accepts, Opens, Moves, KeepsPlaces};
+ghost use Rattle.mem_wire.specs.Steps.{clients_of, accepted_of, place_in, next_link, Wakes, Enters, Accepts, Opens, Moves, KeepsPlaces};
 
 use crate::late::Late;
 use crate::lines::arrive;
@@ -56,6 +56,13 @@ pub(crate) fn next_client(stage: &Stage, port: Port) -> Option<Waiting>
     }
 }
 
+/// The next link.
+pub(crate) fn next_link(stage: &Stage) -> LinkId
+    ensures { result ≡ next_link stage.now }
+{
+    LinkId(stage.places.len() as u64)
+}
+
 // The next link comes, and its track is at this place.
 fn enter(stage: &mut Stage, alloc: Global, at: usize) -> Result<(), OutOfMemory>
     ensures enters { OnOk result (Enters at stage.old stage.new) }
@@ -63,7 +70,7 @@ fn enter(stage: &mut Stage, alloc: Global, at: usize) -> Result<(), OutOfMemory>
     ensures reached { OnOk result (at < vec_len stage.new.tracks) }
     ensures frame { OnOk result (stage.new ≡ record stage.old { tracks = stage.new.tracks; places = stage.new.places; line = stage.old.last }) }
 {
-    let link = LinkId(stage.places.len() as u64);
+    let link = next_link(stage);
     reach(alloc, &mut stage.tracks, at)?;
     stage.places.push(at)?;
     let track = &mut stage.tracks[at];
@@ -92,7 +99,7 @@ pub(crate) fn open(stage: &mut Stage, alloc: Global) -> Result<(), OutOfMemory>
     ensures ok { OnOk result (Opens stage.old stage.new) }
     ensures err { OnErr result (KeepsPlaces stage.old stage.new) }
 {
-    let link = LinkId(stage.places.len() as u64);
+    let link = next_link(stage);
     stage.opened.push(link)?;
     let at = 2 * stage.opened.len() + 1;
     enter(stage, alloc, at)?;

@@ -1,0 +1,34 @@
+-- How a tape's stage stands to the log that it tells.
+use Rattle.std.specs.Prelude.{◌≡◌, ℕ, true, List, [], ◌∷◌, length, drop, Option, Some}
+use Rattle.mx_wire.specs.Log.{Log, moment_of}
+use Rattle.mx_wire.specs.Tells.{IsSalt}
+use Rattle.recording.specs.declared.entry.RecordEntry.{RecordEntry}
+use Rattle.recording.specs.Playable.{PlayableAfter}
+use Rattle.mem_wire.specs.declared.waiting.Waiting.{Waiting}
+use Rattle.mem_wire.specs.declared.stage.Stage.{Stage}
+use Rattle.mem_wire.specs.Below.{all_below}
+use Rattle.mem_wire.specs.Steps.{IsWithin}
+
+-- the rest of the lines can be played behind this moment
+pub record Continues (moment : ℕ) (lines : List RecordEntry) : Type 0 where
+  pub clients : ℕ
+  pub playable : PlayableAfter moment clients lines
+
+abbrev pub HaveSalts : List Waiting → Type 0
+HaveSalts [] = Unit {0}
+HaveSalts (client ∷ clients) = IsSalt client.salt × HaveSalts clients
+
+-- what keeps the log sound: links are new, moments don't fall, and salts are salts
+pub record IsSound (recording : List RecordEntry) (s : Stage) (log : Log) : Type 0 where
+  pub below : all_below (length s.places.items) log ≡ true
+  pub rest : Continues (moment_of log) (drop s.cut recording)
+  pub traffic : HaveSalts s.traffic.items
+  pub admin : HaveSalts s.admin.items
+
+pub record Follows (recording : List RecordEntry) (s : Stage) (log : Log) : Type 0 where
+  pub sound : IsSound recording s log
+
+-- the places are in range, and the stage follows the log as long as it is told
+pub record IsTape (recording : List RecordEntry) (s : Stage) (told : Option Log) : Type 0 where
+  pub within : IsWithin recording s
+  pub follows : (log : Log) → told ≡ Some log → Follows recording s log
