@@ -1,3 +1,9 @@
 pub mod LineLaws
 pub mod Growth
 pub mod NamingLaws
+pub mod Links
+pub mod Quiet
+pub mod Telling
+pub mod Sound
+pub mod Courses
+pub mod Following

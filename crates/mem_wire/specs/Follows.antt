@@ -6,7 +6,8 @@ use Rattle.recording.specs.declared.entry.RecordEntry.{RecordEntry}
 use Rattle.recording.specs.Playable.{PlayableAfter}
 use Rattle.mem_wire.specs.declared.waiting.Waiting.{Waiting}
 use Rattle.mem_wire.specs.declared.stage.Stage.{Stage}
-use Rattle.mem_wire.specs.Below.{all_below}
+use Rattle.mem_wire.specs.Adds.{late_entries}
+use Rattle.mem_wire.specs.Below.{all_below, links_below}
 use Rattle.mem_wire.specs.Steps.{IsWithin}
 
 -- the rest of the lines can be played behind this moment
@@ -21,6 +22,8 @@ HaveSalts (client ∷ clients) = IsSalt client.salt × HaveSalts clients
 -- what keeps the log sound: links are new, moments don't fall, and salts are salts
 pub record IsSound (recording : List RecordEntry) (s : Stage) (log : Log) : Type 0 where
   pub below : all_below (length s.places.items) log ≡ true
+  pub late : all_below (length s.places.items) (late_entries s.late) ≡ true
+  pub opened : links_below (length s.places.items) s.opened.items ≡ true
   pub rest : Continues (moment_of log) (drop s.cut recording)
   pub traffic : HaveSalts s.traffic.items
   pub admin : HaveSalts s.admin.items

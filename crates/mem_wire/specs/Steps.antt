@@ -1,5 +1,5 @@
 -- How a play's stage changes.
-use Rattle.std.specs.Prelude.{◌≡◌, ℕ, ◌<◌, ◌≤◌, ◌+◌, ◌*◌, ◌==◌, ◌&&◌, not, Bool, true, false, if◌then◌else◌, List, [], ◌∷◌, ◌++◌, length, take, drop, slice_get, slice_index_or, Option, Some, None}
+use Rattle.std.specs.Prelude.{◌≡◌, ℕ, ◌<◌, ◌≤◌, ◌+◌, ◌*◌, ◌==◌, ◌&&◌, not, Bool, true, false, if◌then◌else◌, List, [], ◌∷◌, ◌++◌, length, take, drop, min, slice_get, slice_index_or, Option, Some, None}
 use Rattle.mx_base.specs.declared.names.LinkId.{LinkId}
 use Rattle.mx_base.specs.declared.names.Port.{Port}
 use Rattle.mx_base.specs.declared.names.Port.TheVariants.{Traffic, Admin}
@@ -55,11 +55,22 @@ pub record Opens (old new : Stage) : Type 0 where
 abbrev pub place_in : Stage → LinkId → Option ℕ
 place_in s link = slice_get s.places.items link.0
 
+-- so many bytes of those that are ready were moved to the front
+pub record ReadsFrom (ready old new : List ℕ) (size : ℕ) : Type 0 where
+  pub size_is : size ≡ min (length old) (length ready)
+  pub bytes : take size new ≡ take size ready
+
 -- The track at a place changes, where there is one, and no marks are late.
-pub record Moves (at : ℕ) (change : Track → Track) (old new : Stage) : Type 0 where
+pub record MovesAt (at : ℕ) (change : Track → Track) (old new : Stage) : Type 0 where
   pub frame : new ≡ record old { tracks = new.tracks; late = new.late }
   pub late : new.late.marks ≡ 0
   pub track : at < length old.tracks.items → ChangesTrack at change old.tracks.items new.tracks.items
+
+-- The track of a link changes, where it has one, and no marks are late.
+pub record Moves (link : LinkId) (change : Track → Track) (old new : Stage) : Type 0 where
+  pub frame : new ≡ record old { tracks = new.tracks; late = new.late }
+  pub late : new.late.marks ≡ 0
+  pub track : (at : ℕ) → place_in old link ≡ Some at → at < length old.tracks.items → ChangesTrack at change old.tracks.items new.tracks.items
 
 -- The places in the lines and in the links stand as they stood.
 pub record KeepsPlaces (old new : Stage) : Type 0 where

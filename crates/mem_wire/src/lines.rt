@@ -4,7 +4,7 @@ ghost use Rattle.std.specs.List.{filter_map};
 ghost use Rattle.mem_wire.specs.Adds.{Adds};
 ghost use Rattle.mem_wire.specs.Lines.{is_at, waiting_at, clients_at, name_at};
 ghost use Rattle.mem_wire.specs.Play.{mark_at};
-ghost use Rattle.mem_wire.specs.Cuts.{NoMoment, EndsAtMoment};
+ghost use Rattle.mem_wire.specs.Cuts.{NoMoment, EndsAtMoment, first_moment};
 
 use crate::told_log::ToldLog;
 use crate::waiting::Waiting;
@@ -22,8 +22,8 @@ fn is_moment(line: &RecordEntry) -> bool
     }
 }
 
-/// How many lines stand before the first `at` line, or all.
-pub(crate) fn before_moment(lines: &[RecordEntry]) -> usize
+// How many lines stand before the first `at` line, or all.
+fn before_moment(lines: &[RecordEntry]) -> usize
     ensures end { result ≤ length lines.now }
     ensures none { NoMoment (take result lines.now) }
     ensures at { EndsAtMoment (drop result lines.now) }
@@ -34,6 +34,29 @@ pub(crate) fn before_moment(lines: &[RecordEntry]) -> usize
         }
     }
     lines.len()
+}
+
+/// The moment of the first line.
+pub(crate) fn first_moment(lines: &[RecordEntry]) -> Option<u64>
+    ensures { result ≡ first_moment lines.now }
+{
+    match lines.first()? {
+        RecordEntry::At { ms } => Some(*ms),
+        _ => None,
+    }
+}
+
+/// How many lines stand before the second `at` line, or all.
+pub(crate) fn lines_of_moment(lines: &[RecordEntry]) -> usize
+    ensures end { result ≤ length lines.now }
+    ensures some { 0 < length lines.now → 0 < result }
+    ensures none { NoMoment (drop 1 (take result lines.now)) }
+    ensures at { EndsAtMoment (drop result lines.now) }
+{
+    if lines.is_empty() {
+        return 0;
+    }
+    1 + before_moment(&lines[1..])
 }
 
 // The client that the line brings to the port.

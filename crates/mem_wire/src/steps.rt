@@ -1,7 +1,7 @@
 // The steps of a play, call by call.
-ghost use Rattle.std.specs.Prelude.{◌≡◌, ℕ, ◌+◌, ◌-◌, ◌*◌, ◌<◌, ◌≤◌, ◌++◌, ◌∷◌, length, [], take, drop, min, true, slice_get, Some, None, OnOk, OnErr, IfSome, vec_len};
+ghost use Rattle.std.specs.Prelude.{◌≡◌, ℕ, ◌+◌, ◌-◌, ◌*◌, ◌^◌, ◌<◌, ◌≤◌, ◌++◌, ◌∷◌, length, [], take, drop, min, true, slice_get, Some, None, OnOk, OnErr, IfSome, vec_len};
 ghost use Rattle.mem_wire.specs.Tracks.{track_at};
-ghost use Rattle.mem_wire.specs.Steps.{clients_of, accepted_of, place_in, next_link, Wakes, Enters, Accepts, Opens, Moves, KeepsPlaces};
+ghost use Rattle.mem_wire.specs.Steps.{clients_of, accepted_of, place_in, next_link, Wakes, Enters, Accepts, Opens, Moves, MovesAt, ReadsFrom, KeepsPlaces};
 
 use crate::late::Late;
 use crate::lines::arrive;
@@ -30,16 +30,17 @@ pub(crate) fn new_stage(alloc: Global) -> Stage {
     }
 }
 
-/// Releases lines, which stand from the cut up to the next one.
-pub(crate) fn wake(stage: &mut Stage, alloc: Global, lines: &[RecordEntry], next: usize) -> Result<(), OutOfMemory>
-    ensures ok { OnOk result (Wakes lines.now next stage.old stage.new) }
+/// Releases lines, which stand behind the cut.
+pub(crate) fn wake(stage: &mut Stage, alloc: Global, lines: &[RecordEntry]) -> Result<(), OutOfMemory>
+    requires { stage.old.cut + length lines.now < 2 ^ 64 }
+    ensures ok { OnOk result (Wakes lines.now (stage.old.cut + length lines.now) stage.old stage.new) }
     ensures err { OnErr result (KeepsPlaces stage.old stage.new) }
 {
     arrive(Port::Traffic, &mut stage.traffic, lines)?;
     arrive(Port::Admin, &mut stage.admin, lines)?;
     release(alloc, &mut stage.tracks, lines)?;
     stage.last = stage.cut;
-    stage.cut = next;
+    stage.cut += lines.len();
     stage.line = stage.last;
     stage.link = 0;
     stage.late = Late::none();
@@ -108,8 +109,8 @@ pub(crate) fn open(stage: &mut Stage, alloc: Global) -> Result<(), OutOfMemory>
     Ok(())
 }
 
-/// The place of the link's track.
-pub(crate) fn place_of_link(stage: &Stage, link: LinkId) -> Option<usize>
+// The place of the link's track.
+fn place_of_link(stage: &Stage, link: LinkId) -> Option<usize>
     ensures { result ≡ place_in stage.now link }
 {
     if link.0 >= stage.places.len() as u64 {
@@ -118,24 +119,30 @@ pub(crate) fn place_of_link(stage: &Stage, link: LinkId) -> Option<usize>
     Some(stage.places[link.0 as usize])
 }
 
-/// Moves a front of the unread bytes at a place to the front of `into`, and answers how many there are.
-pub(crate) fn read(stage: &mut Stage, at: usize, into: &mut [u8]) -> usize
-    ensures size { result ≡ min (length into.old) (length (track_at stage.old.tracks.items at).unread) }
-    ensures bytes { take result into.new ≡ take result (track_at stage.old.tracks.items at).unread }
-    ensures moves { Moves at (λ t. record t { unread = drop result t.unread }) stage.old stage.new }
+/// Moves a front of the link's unread bytes to the front of `into`, and answers how many there are.
+pub(crate) fn read(stage: &mut Stage, link: LinkId, into: &mut [u8]) -> usize
+    ensures bound { result ≤ length into.old }
+    ensures bytes { (at : ℕ) → place_in stage.old link ≡ Some at → ReadsFrom (track_at stage.old.tracks.items at).unread into.old into.new result }
+    ensures moves { Moves link (λ t. record t { unread = drop result t.unread }) stage.old stage.new }
 {
     stage.late = Late::none();
+    let Some(at) = place_of_link(stage, link) else {
+        return 0;
+    };
     if at >= stage.tracks.len() {
         return 0;
     }
     read_track(&mut stage.tracks, at, into)
 }
 
-/// The link of the track at this place is closed.
-pub(crate) fn close(stage: &mut Stage, at: usize)
-    ensures { Moves at (λ t. record t { closed = true }) stage.old stage.new }
+/// The link is closed.
+pub(crate) fn close(stage: &mut Stage, link: LinkId)
+    ensures { Moves link (λ t. record t { closed = true }) stage.old stage.new }
 {
     stage.late = Late::none();
+    let Some(at) = place_of_link(stage, link) else {
+        return;
+    };
     if at < stage.tracks.len() {
         close_track(&mut stage.tracks, at);
     }
@@ -143,7 +150,7 @@ pub(crate) fn close(stage: &mut Stage, at: usize)
 
 /// The link of the track at this place was named in this wake.
 pub(crate) fn name(stage: &mut Stage, at: usize)
-    ensures { Moves at (λ t. record t { named = Some stage.old.last }) stage.old stage.new }
+    ensures { MovesAt at (λ t. record t { named = Some stage.old.last }) stage.old stage.new }
 {
     stage.late = Late::none();
     if at < stage.tracks.len() {

@@ -1,9 +1,10 @@
 // A wire that plays a recording.
-ghost use Rattle.std.specs.Prelude.{◌≡◌, [], Some, option_map};
+ghost use Rattle.std.specs.Prelude.{◌≡◌, [], Some, IfSome, option_map};
+ghost use Rattle.mx_wire.specs.declared.entry.Entry.TheVariants as entry;
 ghost use Rattle.recording.specs.Playable.{IsPlayable};
 
 use crate::late::Late;
-use crate::lines::{before_moment, put_marks};
+use crate::lines::{first_moment, lines_of_moment, put_marks};
 use crate::naming::next_to_name;
 use crate::stage::Stage;
 use crate::steps;
@@ -69,42 +70,37 @@ impl Wire for Tape {
     }
 
     fn listen(&mut self, port: Port, address: Address) -> Listened {
-        self.told.add_marks(self.stage.late);
-        self.told.add(Entry::Listening { port, address });
+        self.told.add_call(self.stage.late, Entry::Listening { port, address });
         self.stage.late = Late::none();
         Listened::Done
     }
 
     fn wait(&mut self, until_ms: u64) -> Woke {
-        self.told.add_marks(self.stage.late);
         let rest = &self.entries[self.stage.cut..];
-        let Some(RecordEntry::At { ms }) = rest.first() else {
-            self.told.add(Entry::Over);
+        let Some(now_ms) = first_moment(rest) else {
+            self.told.add_call(self.stage.late, Entry::Over);
             self.stage.late = Late::none();
             return Woke::Over;
         };
-        let now_ms = *ms;
-        let count = 1 + before_moment(&rest[1..]);
-        let lines = &rest[..count];
+        let lines = &rest[..lines_of_moment(rest)];
+        self.told.add_marks(self.stage.late);
         put_marks(&mut self.told, &self.stage.opened, lines);
         self.told.add(Entry::Woke { until_ms, now_ms });
-        let next = self.stage.cut + count;
-        if steps::wake(&mut self.stage, self.alloc, lines, next).is_err() {
+        if steps::wake(&mut self.stage, self.alloc, lines).is_err() {
             self.told.stop();
         }
         Woke::Woke { now_ms }
     }
 
     fn next_ready(&mut self) -> Option<LinkId> {
-        self.told.add_marks(self.stage.late);
         match next_to_name(&mut self.stage, &self.entries) {
             None => {
-                self.told.add(Entry::NoneNamed);
+                self.told.add_call(self.stage.late, Entry::NoneNamed);
                 self.stage.late = Late::none();
                 None
             }
             Some(found) => {
-                self.told.add(Entry::Named { link: found.link });
+                self.told.add_call(self.stage.late, Entry::Named { link: found.link });
                 steps::name(&mut self.stage, found.at);
                 Some(found.link)
             }
@@ -112,15 +108,14 @@ impl Wire for Tape {
     }
 
     fn accept(&mut self, port: Port) -> Accepted {
-        self.told.add_marks(self.stage.late);
         let Some(client) = steps::next_client(&self.stage, port) else {
-            self.told.add(Entry::AcceptNothing { port });
+            self.told.add_call(self.stage.late, Entry::AcceptNothing { port });
             self.stage.late = Late::none();
             return Accepted::NotReady;
         };
         let id = steps::next_link(&self.stage);
         let salt = client.salt;
-        self.told.add(Entry::Accepted { port, link: id, salt });
+        self.told.add_call(self.stage.late, Entry::Accepted { port, link: id, salt });
         if steps::accept(&mut self.stage, self.alloc, port, client.number).is_err() {
             self.told.stop();
         }
@@ -128,13 +123,13 @@ impl Wire for Tape {
     }
 
     fn open(&mut self, server: ServerId, address: Address) -> Opened {
-        self.told.add_marks(self.stage.late);
         let id = steps::next_link(&self.stage);
-        self.told.add(Entry::Opened {
+        let entry = Entry::Opened {
             server,
             address,
             link: id,
-        });
+        };
+        self.told.add_call(self.stage.late, entry);
         if steps::open(&mut self.stage, self.alloc).is_err() {
             self.told.stop();
         }
@@ -142,38 +137,40 @@ impl Wire for Tape {
     }
 
     fn read(&mut self, link: LinkId, into: &mut [u8]) -> Got {
-        self.told.add_marks(self.stage.late);
-        let n = match steps::place_of_link(&self.stage, link) {
-            Some(at) => steps::read(&mut self.stage, at, into),
-            None => 0,
-        };
+        let late = self.stage.late;
+        let n = steps::read(&mut self.stage, link, into);
         if n == 0 {
-            self.told.add(Entry::ReadNothing { link });
+            self.told.add_call(late, Entry::ReadNothing { link });
             return Got::NotReady;
         }
-        match Bytes::from_slice(self.alloc, &into[..n]) {
-            Ok(bytes) => self.told.add(Entry::Got { link, bytes }),
-            Err(_) => self.told.stop(),
-        }
+        self.told.add_call_if(late, got_entry(self.alloc, link, &into[..n]));
         Got::Got { n }
     }
 
     fn write(&mut self, link: LinkId, tag: Tag, piece: &[u8]) -> Took {
-        self.told.add_marks(self.stage.late);
-        match Bytes::from_slice(self.alloc, piece) {
-            Ok(bytes) => self.told.add(Entry::Wrote { link, tag, bytes }),
-            Err(_) => self.told.stop(),
-        }
+        self.told.add_call_if(self.stage.late, wrote_entry(self.alloc, link, tag, piece));
         self.stage.late = Late::none();
         Took::Took { n: piece.len() }
     }
 
     fn close(&mut self, link: LinkId) {
-        self.told.add_marks(self.stage.late);
-        self.told.add(Entry::Closed { link });
-        match steps::place_of_link(&self.stage, link) {
-            Some(at) => steps::close(&mut self.stage, at),
-            None => self.stage.late = Late::none(),
-        }
+        self.told.add_call(self.stage.late, Entry::Closed { link });
+        steps::close(&mut self.stage, link);
     }
+}
+
+// The entry of a read, where there is memory for it.
+fn got_entry(alloc: Global, link: LinkId, bytes: &[u8]) -> Option<Entry>
+    ensures { IfSome result (λ e. e ≡ entry.Got link bytes.now) }
+{
+    let bytes = Bytes::from_slice(alloc, bytes).ok()?;
+    Some(Entry::Got { link, bytes })
+}
+
+// The entry of a write, where there is memory for it.
+fn wrote_entry(alloc: Global, link: LinkId, tag: Tag, bytes: &[u8]) -> Option<Entry>
+    ensures { IfSome result (λ e. e ≡ entry.Wrote link tag bytes.now) }
+{
+    let bytes = Bytes::from_slice(alloc, bytes).ok()?;
+    Some(Entry::Wrote { link, tag, bytes })
 }

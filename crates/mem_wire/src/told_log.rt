@@ -1,6 +1,6 @@
 // The log that a wire in memory tells.
 ghost use Rattle.std.specs.Prelude.{◌≡◌, ◌<◌, ◌∷◌, [], length, Some, None, option_map};
-ghost use Rattle.mem_wire.specs.Adds.{Adds, IsBounded, late_entries};
+ghost use Rattle.mem_wire.specs.Adds.{Adds, IsBounded, Calls, CallsIf, late_entries};
 
 use crate::late::Late;
 use mx_wire::Entry;
@@ -63,6 +63,24 @@ impl ToldLog {
     {
         for _ in 0..late.marks {
             self.add(Entry::Exec { link: late.link });
+        }
+    }
+
+    /// Adds late marks, and a call's entry behind them.
+    pub fn add_call(&mut self, late: Late, entry: Entry)
+        ensures { Calls self.old (late_entries late) entry self.new }
+    {
+        self.add_marks(late);
+        self.add(entry);
+    }
+
+    /// The same where there was memory for the entry, and else it tells the log no more.
+    pub fn add_call_if(&mut self, late: Late, entry: Option<Entry>)
+        ensures { CallsIf self.old (late_entries late) entry self.new }
+    {
+        match entry {
+            Some(entry) => self.add_call(late, entry),
+            None => self.stop(),
         }
     }
 
