@@ -7,3 +7,4 @@ pub mod Telling
 pub mod Sound
 pub mod Courses
 pub mod Following
+pub mod Playable

@@ -24,7 +24,7 @@ pub record KeepsCourse (old new : Stage) : Type 0 where
   pub admin : new.admin ≡ old.admin
   pub late : new.late.marks ≡ 0
 
-no-late : (n k : ℕ) (link : LinkId) → k ≡ 0 → all_below n (replicate k (entry.Exec link)) ≡ true
+pub no-late : (n k : ℕ) (link : LinkId) → k ≡ 0 → all_below n (replicate k (entry.Exec link)) ≡ true
 no-late n k link none = rw none refl
 
 pub sound-call : (recording : List RecordEntry) (old new : Stage) (log marks : Log) (e : Entry) → IsSound recording old log → KeepsCourse old new → AreGood (length old.places.items) marks → link_below (length old.places.items) (link_of e) ≡ true → ((m : ℕ) → moment_step m e ≡ m) → IsSound recording new ((log ++ marks) ++ e ∷ [])

@@ -93,14 +93,15 @@ impl Wire for Tape {
     }
 
     fn next_ready(&mut self) -> Option<LinkId> {
+        let late = self.stage.late;
         match next_to_name(&mut self.stage, &self.entries) {
             None => {
-                self.told.add_call(self.stage.late, Entry::NoneNamed);
+                self.told.add_call(late, Entry::NoneNamed);
                 self.stage.late = Late::none();
                 None
             }
             Some(found) => {
-                self.told.add_call(self.stage.late, Entry::Named { link: found.link });
+                self.told.add_call(late, Entry::Named { link: found.link });
                 steps::name(&mut self.stage, found.at);
                 Some(found.link)
             }
