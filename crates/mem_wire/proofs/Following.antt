@@ -15,7 +15,7 @@ use Rattle.mx_wire.specs.declared.entry.Entry.{Entry}
 use Rattle.mx_wire.specs.declared.entry.Entry.TheVariants as entry
 use Rattle.recording.specs.declared.entry.RecordEntry.{RecordEntry}
 use Rattle.mem_wire.specs.declared.stage.Stage.{Stage}
-use Rattle.mem_wire.specs.Adds.{late_entries, Calls, CallsIf}
+use Rattle.mem_wire.specs.Adds.{late_entries, Adds, IsBounded, Calls, CallsIf}
 use Rattle.mem_wire.specs.Below.{link_below, all_below, links_below}
 use Rattle.mem_wire.specs.Lines.{clients_at}
 use Rattle.mem_wire.specs.Play.{mark_at}
@@ -29,7 +29,7 @@ use Rattle.mem_wire.specs.declared.late.Late.{Late}
 use Rattle.mem_wire.proofs.Links.{late-marks, late-below, is_below, links_below-append, links_below-more, all_below-append, AreGood, good-append, marks-good}
 use Rattle.mem_wire.proofs.Quiet.{moment-marks}
 use Rattle.mem_wire.proofs.Playable.{salts-append, salts-of, salt-at, begins}
-use Rattle.mem_wire.proofs.Telling.{goes_on, goes_on_if}
+use Rattle.mem_wire.proofs.Telling.{goes_on, goes_on_if, calls_in_parts}
 use Rattle.mem_wire.proofs.Sound.{sound-call, sound-late, sound-new, sound-enter, no-late, open-low, open-still}
 use Rattle.mem_wire.proofs.Courses.{Stays, Moved, moved-stays, keeps-moved}
 
@@ -130,3 +130,7 @@ follows-wakes recording old new ms count until_ms rest log follows is first some
         admin = subst HaveSalts (sym wakes.admin) (salts-append old.admin.items (clients_at Admin lines) follows.sound.admin (salts-of Admin (moment_of log) clients count rest playable));
       };
     }
+
+pub wake-calls : (told one two new : Option Log) (s : Stage) (lines : List RecordEntry) (opened : List LinkId) (e : Entry) → opened ≡ s.opened.items → Adds told (late_entries s.late) one → Adds one (filter_map (mark_at opened) lines) two → Adds two (e ∷ []) new → IsBounded new → Calls told (wake-marks s lines) e new
+unfolding wake-marks
+wake-calls told one two new s lines opened e same first next last bounded = calls_in_parts told one two new (late_entries s.late) (filter_map (mark_at s.opened.items) lines) e first (subst (λ (links : List LinkId). Adds one (filter_map (mark_at links) lines) two) same next) last bounded

@@ -8,3 +8,4 @@ pub mod Sound
 pub mod Courses
 pub mod Following
 pub mod Playable
+pub mod Results

@@ -59,3 +59,7 @@ begins moment clients ms (suc k) (line.At at ∷ rest) can first some none =
       after = subst (λ (m : ℕ). Continues m (drop k rest)) same (playable-skip at clients k rest can.1 none);
     }
 begins moment clients ms count (_ ∷ rest) can first some none = cc
+
+pub first-some : (rest : List RecordEntry) (ms : ℕ) → first_moment rest ≡ Some ms → 0 < length rest
+first-some [] ms first = cc
+first-some (l ∷ rest) ms first = omega arith

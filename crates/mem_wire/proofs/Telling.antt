@@ -6,9 +6,10 @@ use Rattle.mx_wire.specs.Tells.{Tells, Fits}
 use Rattle.mx_wire.specs.declared.entry.Entry.{Entry}
 use Rattle.recording.specs.declared.entry.RecordEntry.{RecordEntry}
 use Rattle.mem_wire.specs.declared.stage.Stage.{Stage}
-use Rattle.mem_wire.specs.Adds.{Calls, CallsIf}
+use Rattle.mem_wire.specs.Adds.{Adds, IsBounded, Calls, CallsIf}
 use Rattle.mem_wire.specs.Steps.{IsWithin}
 use Rattle.mem_wire.specs.Follows.{Follows, IsTape}
+use Rattle.mem_wire.proofs.Growth.{adds-append}
 
 pub tells : (old : Option Log) (marks : Log) (e : Entry) (new : Option Log) → Calls old marks e new → AreMarks marks → ((log : Log) → old ≡ Some log → Fits (log ++ marks) e) → Tells old e new
 tells old marks e new call are fits = record {
@@ -48,3 +49,9 @@ tells_if old marks None e new call is are fits = stopped_tells old e new call
 pub goes_on_if : (recording : List RecordEntry) (old new : Stage) (before after : Option Log) (marks : Log) (told : Option Entry) (e : Entry) → IsTape recording old before → IsWithin recording new → CallsIf before marks told after → IfSome told (λ x. x ≡ e) → ((log : Log) → before ≡ Some log → Follows recording old log → Follows recording new ((log ++ marks) ++ e ∷ [])) → IsTape recording new after
 goes_on_if recording old new before after marks (Some x) e tape within call is follows = goes_on recording old new before after marks e tape within (subst (λ (y : Entry). Calls before marks y after) is call) follows
 goes_on_if recording old new before after marks None e tape within call is follows = stops recording new after within call
+
+pub calls_in_parts : (told one two new : Option Log) (late more : Log) (e : Entry) → Adds told late one → Adds one more two → Adds two (e ∷ []) new → IsBounded new → Calls told (late ++ more) e new
+calls_in_parts told one two new late more e first next last bounded = record {
+  adds = adds-append told two new (late ++ more) (e ∷ []) (adds-append told one two late more first next) last;
+  bounded = bounded;
+}
