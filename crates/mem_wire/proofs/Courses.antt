@@ -4,24 +4,20 @@ use Rattle.recording.specs.declared.entry.RecordEntry.{RecordEntry}
 use Rattle.mem_wire.specs.declared.naming.ToName.{ToName}
 use Rattle.std.specs.Prelude.{Option}
 use Rattle.mem_wire.specs.declared.stage.Stage.{Stage}
+use Rattle.mem_wire.specs.Tracks.{track_at, SameLinks}
 use Rattle.mem_wire.specs.Steps.{KeepsPlaces, IsWithin, Enters, Wakes}
 use Rattle.mem_wire.specs.Naming.{Searches}
 use Rattle.mem_wire.proofs.Sound.{KeepsCourse}
 
--- nothing has changed but the search's places, and no marks are late
-pub record Stays (old new : Stage) : Type 0 where
-  pub frame : new ≡ record old { late = new.late; line = new.line; link = new.link }
-  pub late : new.late.marks ≡ 0
-
+-- a call that brings no link and no moment
 pub record Moved (old new : Stage) : Type 0 where
   pub frame : new ≡ record old { tracks = new.tracks; late = new.late; line = new.line; link = new.link }
   pub late : new.late.marks ≡ 0
+  pub links : SameLinks old.tracks.items new.tracks.items
 
-pub moved-stays : (old new : Stage) → Stays old new → Moved old new
-moved-stays old new stays = record { frame = stays.frame ∙ ap (λ tracks. record old { tracks = tracks; late = new.late; line = new.line; link = new.link }) (sym (ap (λ s. s.tracks) stays.frame)); late = stays.late }
-
-pub moved-moves : (old new : Stage) → new ≡ record old { tracks = new.tracks; late = new.late } → new.late.marks ≡ 0 → Moved old new
-moved-moves old new frame late = record {
+pub moved-moves : (old new : Stage) → new ≡ record old { tracks = new.tracks; late = new.late } → new.late.marks ≡ 0 → SameLinks old.tracks.items new.tracks.items → Moved old new
+moved-moves old new frame late links = record {
+  links = links;
   frame = frame ∙ ap (λ line. record old { tracks = new.tracks; late = new.late; line = line }) (sym (ap (λ s. s.line) frame)) ∙ ap (λ link. record old { tracks = new.tracks; late = new.late; line = new.line; link = link }) (sym (ap (λ s. s.link) frame));
   late = late;
 }
@@ -34,6 +30,7 @@ keeps-moved old new moved = record {
   traffic = ap (λ s. s.traffic) moved.frame;
   admin = ap (λ s. s.admin) moved.frame;
   late = moved.late;
+  links = moved.links;
 }
 
 pub within-keeps : (recording : List RecordEntry) (old new : Stage) → IsWithin recording old → KeepsPlaces old new → IsWithin recording new
@@ -82,6 +79,7 @@ within-wakes recording lines next old new within wakes later end = record {
 -- a search, and then the late marks are told
 pub moved-search : (recording : List RecordEntry) (found : Option ToName) (old mid new : Stage) → Searches recording found old mid → new ≡ record mid { late = new.late } → new.late.marks ≡ 0 → Moved old new
 moved-search recording found old mid new looks frame late = record {
+  links = λ at. ap (λ s. (track_at s.tracks.items at).link) frame ∙ ap (λ s. (track_at s.tracks.items at).link) looks.frame;
   frame = frame ∙ ap {A = Stage} (λ s. record s { late = new.late }) looks.frame
     ∙ ap (λ line. record old { late = new.late; line = line; link = mid.link }) (sym (ap (λ s. s.line) frame))
     ∙ ap (λ link. record old { late = new.late; line = new.line; link = link }) (sym (ap (λ s. s.link) frame))
@@ -90,8 +88,9 @@ moved-search recording found old mid new looks frame late = record {
 }
 
 -- a search, and then the track of the link that it found is changed
-pub moved-name : (recording : List RecordEntry) (found : Option ToName) (old mid new : Stage) → Searches recording found old mid → new ≡ record mid { tracks = new.tracks; late = new.late } → new.late.marks ≡ 0 → Moved old new
-moved-name recording found old mid new looks frame late = record {
+pub moved-name : (recording : List RecordEntry) (found : Option ToName) (old mid new : Stage) → Searches recording found old mid → new ≡ record mid { tracks = new.tracks; late = new.late } → new.late.marks ≡ 0 → SameLinks mid.tracks.items new.tracks.items → Moved old new
+moved-name recording found old mid new looks frame late links = record {
+  links = λ at. links at ∙ ap (λ s. (track_at s.tracks.items at).link) looks.frame;
   frame = frame ∙ ap {A = Stage} (λ s. record s { tracks = new.tracks; late = new.late }) looks.frame
     ∙ ap (λ line. record old { tracks = new.tracks; late = new.late; line = line; link = mid.link }) (sym (ap (λ s. s.line) frame))
     ∙ ap (λ link. record old { tracks = new.tracks; late = new.late; line = new.line; link = link }) (sym (ap (λ s. s.link) frame));

@@ -22,16 +22,22 @@ use Rattle.mem_wire.specs.Play.{mark_at}
 use Rattle.mem_wire.specs.Cuts.{NoMoment, EndsAtMoment, first_moment}
 use Rattle.mem_wire.specs.Tracks.{track_at}
 use Rattle.mem_wire.specs.declared.waiting.Waiting.{Waiting}
-use Rattle.recording.specs.Playable.{PlayableAfter}
+use Rattle.recording.specs.Playable.{PlayableAfter, IsPlayable}
 use Rattle.mem_wire.specs.Follows.{IsSound, Follows, IsTape, Continues, HaveSalts}
-use Rattle.mem_wire.specs.Steps.{IsWithin, Enters, Accepts, Opens, Wakes, numbered, next_link, clients_of, accepted_of}
+use Rattle.mem_wire.specs.Steps.{IsFirst, IsWithin, Enters, Accepts, Opens, Wakes, numbered, next_link, clients_of, accepted_of}
+use Rattle.mem_wire.specs.declared.track.Track.{Track}
 use Rattle.mem_wire.specs.declared.late.Late.{Late}
-use Rattle.mem_wire.proofs.Links.{late-marks, late-below, is_below, links_below-append, links_below-more, all_below-append, AreGood, good-append, marks-good}
+use Rattle.mem_wire.proofs.Links.{late-marks, late-below, is_below, links_below-append, links_below-more, all_below-append, AreGood, good-append, marks-good, marks-append, marks-of}
 use Rattle.mem_wire.proofs.Quiet.{moment-marks}
+use Rattle.std.proofs.lemmas.Option.{slice_get_within}
+use Rattle.mem_wire.specs.declared.naming.ToName.{ToName}
+use Rattle.mem_wire.specs.Naming.{Searches}
+use Rattle.mem_wire.proofs.NamingLaws.{named-link}
+use Rattle.mem_wire.proofs.LineLaws.{released-links}
 use Rattle.mem_wire.proofs.Playable.{salts-append, salts-of, salt-at, begins}
 use Rattle.mem_wire.proofs.Telling.{goes_on, goes_on_if, calls_in_parts}
 use Rattle.mem_wire.proofs.Sound.{sound-call, sound-late, sound-new, sound-enter, no-late, open-low, open-still}
-use Rattle.mem_wire.proofs.Courses.{Stays, Moved, moved-stays, keeps-moved}
+use Rattle.mem_wire.proofs.Courses.{Moved, keeps-moved}
 
 -- an entry that brings no link and no moment
 pub follows-moved : (recording : List RecordEntry) (old new : Stage) (log : Log) (e : Entry) → Follows recording old log → Moved old new → link_below (length old.places.items) (link_of e) ≡ true → ((m : ℕ) → moment_step m e ≡ m) → Follows recording new ((log ++ late_entries old.late) ++ e ∷ [])
@@ -62,7 +68,7 @@ open-if-open told shown link late same opened log is = open-still link log (late
 -- an entry that brings a link
 pub follows-enters : (recording : List RecordEntry) (old new : Stage) (at : ℕ) (log : Log) (e : Entry) → Follows recording old log → Enters at old new → new.cut ≡ old.cut → new.traffic ≡ old.traffic → new.admin ≡ old.admin → links_below (length old.places.items + 1) new.opened.items ≡ true → all_below (length old.places.items + 1) (late_entries new.late) ≡ true → link_of e ≡ Some (next_link old) → ((m : ℕ) → moment_step m e ≡ m) → Follows recording new ((log ++ late_entries old.late) ++ e ∷ [])
 follows-enters recording old new at log e follows enters cut traffic admin opened late names idle = record {
-  sound = sound-enter recording old new at log (late_entries old.late) e follows.sound cut traffic admin enters.places opened late (sound-late recording old log follows.sound) names idle;
+  sound = sound-enter recording old new at log (late_entries old.late) e follows.sound cut traffic admin enters.places enters.tracks opened late (sound-late recording old log follows.sound) names idle;
 }
 
 pub opened-more : (n : ℕ) (links : List LinkId) → links_below n links ≡ true → links_below (n + 1) (links ++ numbered n ∷ []) ≡ true
@@ -125,6 +131,7 @@ follows-wakes recording old new ms count until_ms rest log follows is first some
         below = subst (λ (k : ℕ). all_below k ((log ++ wake-marks old lines) ++ entry.Woke until_ms ms ∷ []) ≡ true) (sym same) all;
         late = no-late (length new.places.items) new.late.marks new.late.link wakes.late;
         opened = subst (λ (k : ℕ). links_below k new.opened.items ≡ true) (sym same) (ap (λ s. links_below n s.opened.items) wakes.frame ∙ follows.sound.opened);
+        linked = λ at link is. ap (λ s. slice_get s.places.items link.0) wakes.frame ∙ follows.sound.linked at link (sym (released-links lines old.tracks.items new.tracks.items wakes.tracks at) ∙ is);
         rest = subst (λ (m : ℕ). Continues m (drop new.cut recording)) (sym (moment_of-more (log ++ wake-marks old lines) (entry.Woke until_ms ms))) (subst (Continues ms) left can.after);
         traffic = subst HaveSalts (sym wakes.traffic) (salts-append old.traffic.items (clients_at Traffic lines) follows.sound.traffic (salts-of Traffic (moment_of log) clients count rest playable));
         admin = subst HaveSalts (sym wakes.admin) (salts-append old.admin.items (clients_at Admin lines) follows.sound.admin (salts-of Admin (moment_of log) clients count rest playable));
@@ -134,3 +141,42 @@ follows-wakes recording old new ms count until_ms rest log follows is first some
 pub wake-calls : (told one two new : Option Log) (s : Stage) (lines : List RecordEntry) (opened : List LinkId) (e : Entry) → opened ≡ s.opened.items → Adds told (late_entries s.late) one → Adds one (filter_map (mark_at opened) lines) two → Adds two (e ∷ []) new → IsBounded new → Calls told (wake-marks s lines) e new
 unfolding wake-marks
 wake-calls told one two new s lines opened e same first next last bounded = calls_in_parts told one two new (late_entries s.late) (filter_map (mark_at s.opened.items) lines) e first (subst (λ (links : List LinkId). Adds one (filter_map (mark_at links) lines) two) same next) last bounded
+
+-- the link that a search has found is one of the links
+pub found-low : (recording : List RecordEntry) (found : Option ToName) (t : ToName) (old new : Stage) (log : Log) → Follows recording old log → Searches recording found old new → found ≡ Some t → nat_lt t.link.0 (length old.places.items) ≡ true
+found-low recording found t old new log follows looks is =
+    let looks_t = subst (λ (f : Option ToName). Searches recording f old new) is looks in
+    let here : (track_at old.tracks.items t.at).link ≡ Some t.link = named-link old.last (track_at old.tracks.items t.at) t.link looks_t.stopped.0 in
+    is_below t.link.0 (length old.places.items) (slice_get_within old.places.items t.link.0 t.at (follows.sound.linked t.at t.link here))
+
+pub marks_are : (s : Stage) (lines : List RecordEntry) → AreMarks (wake-marks s lines)
+unfolding wake-marks
+marks_are s lines = marks-append (late_entries s.late) (filter_map (mark_at s.opened.items) lines) (late_are s.late) (marks-of s.opened.items lines)
+
+none_some : (link : LinkId) → None ≡ Some link → ⊥
+none_some link is = cc
+
+-- the first stage follows the empty log
+pub follows-first : (recording : List RecordEntry) (s : Stage) → IsPlayable recording → IsFirst s → Follows recording s []
+follows-first recording s playable first = record {
+  sound = record {
+    below = refl;
+    late = no-late (length s.places.items) s.late.marks s.late.link first.late;
+    opened = ap (links_below (length s.places.items)) first.opened;
+    linked = λ at link is. absurd (let none : (track_at s.tracks.items at).link ≡ None = ap (λ (ts : List Track). (track_at ts at).link) first.tracks in none_some link (sym none ∙ is));
+    rest = subst (λ (k : ℕ). Continues 0 (drop k recording)) (sym first.cut) (record { clients = 0; playable = playable.lines });
+    traffic = subst HaveSalts (sym first.traffic) tt;
+    admin = subst HaveSalts (sym first.admin) tt;
+  };
+}
+
+pub tape-first : (recording : List RecordEntry) (s : Stage) (told : Option Log) → IsPlayable recording → IsFirst s → told ≡ Some [] → IsTape recording s told
+tape-first recording s told playable first is = record {
+  within = record {
+    cut = let e : s.cut ≡ 0 = first.cut in omega arith;
+    last = let e : s.last ≡ 0 = first.last in omega arith;
+    line = let e : s.line ≡ 0 = first.line in omega arith;
+    link = let e : s.link ≡ 0 = first.link in omega arith;
+  };
+  follows = λ log told_is. let same : [] ≡ log = cc in subst (Follows recording s) same (follows-first recording s playable first);
+}

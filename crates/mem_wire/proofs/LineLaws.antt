@@ -1,5 +1,5 @@
 -- What lines release, a line at a time.
-use Rattle.std.proofs.Common.{◌≡◌, ◌⊎◌, ℕ, ◌+◌, ◌*◌, ◌<◌, ◌==◌, Bool, true, false, nat_eq, if◌then◌else◌, List, [], ◌∷◌, ◌++◌, length, filter, refl, sym, ◌∙◌, ap, inl, inr, arith, append-nil, append_assoc, length-append, add_assoc, add-zero, take, get_or}
+use Rattle.std.proofs.Common.{◌≡◌, ◌⊎◌, ℕ, ◌+◌, ◌*◌, ◌<◌, ◌==◌, Bool, true, false, nat_eq, if◌then◌else◌, List, [], ◌∷◌, ◌++◌, length, filter, refl, sym, ◌∙◌, ap, inl, inr, arith, append-nil, append_assoc, length-append, add_assoc, add-zero, take, get_or, subst, zero, suc, ◌%◌, ◌/◌}
 use Rattle.std.proofs.lemmas.List.Elements.{filter-append}
 use Rattle.std.proofs.lemmas.Grind.{flat_map-append}
 use Rattle.recording.specs.declared.entry.RecordLink.{RecordLink}
@@ -69,3 +69,19 @@ released-idle line tracks no_bytes no_mark = released-line line tracks tracks (�
     sym (given-nothing (track_at tracks (place name)))
     ∙ ap (λ bytes. given (track_at tracks (place name)) bytes 0) (sym (no_bytes name))
     ∙ ap (λ here. given (track_at tracks (place name)) (bytes_at name line) (length (if here then line ∷ [] else []))) (sym (no_mark name)))
+
+-- each number is the place of a name
+pub name_of : ℕ → RecordLink
+name_of at = if at % 2 == 0 then Client (at / 2) else Server (at / 2)
+
+name_of-cases : (at half rest : ℕ) → 2 * half + rest ≡ at → rest < 2 → place (if rest == 0 then Client half else Server half) ≡ at
+name_of-cases at half zero is small = omega (arith, is)
+name_of-cases at half (suc zero) is small = omega (arith, is)
+name_of-cases at half (suc (suc r)) is small = absurd (omega arith)
+
+pub place-name_of : (at : ℕ) → place (name_of at) ≡ at
+unfolding name_of
+place-name_of at = name_of-cases at (at / 2) (at % 2) (omega arith) (omega arith)
+
+pub released-links : (lines : List RecordEntry) (old new : List Track) → Released lines old new → (at : ℕ) → (track_at new at).link ≡ (track_at old at).link
+released-links lines old new released at = subst (λ (k : ℕ). (track_at new k).link ≡ (track_at old k).link) (place-name_of at) (ap (λ t. t.link) (released (name_of at)))

@@ -97,7 +97,7 @@ pub record AreGood (n : ℕ) (marks : Log) : Type 0 where
   pub below : all_below n marks ≡ true
   pub are : AreMarks marks
 
-marks-append : (a b : Log) → AreMarks a → AreMarks b → AreMarks (a ++ b)
+pub marks-append : (a b : Log) → AreMarks a → AreMarks b → AreMarks (a ++ b)
 marks-append [] b p q = q
 marks-append (e ∷ a) b p q = (p.0, marks-append a b p.1 q)
 
@@ -118,3 +118,12 @@ marks-good n links (_ ∷ lines) all = marks-good n links lines all
 
 pub late-good : (n k : ℕ) (link : LinkId) → all_below n (replicate k (Exec link)) ≡ true → AreGood n (replicate k (Exec link))
 late-good n k link below = record { below = below; are = late-marks k link }
+
+one-mark : (found : Option LinkId) (later : Log) → AreMarks later → AreMarks (cons_option (elim found [ Some link ↦ Some (Exec link) | None ↦ None ]) later)
+one-mark None later are = are
+one-mark (Some link) later are = (tt, are)
+
+pub marks-of : (links : List LinkId) (lines : List RecordEntry) → AreMarks (filter_map (mark_at links) lines)
+marks-of links [] = tt
+marks-of links (line.Exec k ∷ lines) = one-mark (slice_get links (k - 1)) (filter_map (mark_at links) lines) (marks-of links lines)
+marks-of links (_ ∷ lines) = marks-of links lines

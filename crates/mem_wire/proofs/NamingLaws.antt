@@ -1,12 +1,14 @@
 -- Laws of what is still to be named.
 use Rattle.std.proofs.Common.{◌≡◌, ◌⊎◌, ℕ, ◌<◌, ◌≤◌, ◌+◌, ◌-◌, List, [], ◌∷◌, ◌++◌, length, take, drop, get_or, Option, Some, None, refl, sym, ◌∙◌, ap, subst, arith, inl, inr, length-drop}
-use Rattle.std.specs.Prelude.{IfSome, IfNone, is_some, true, false}
+use Rattle.std.specs.Prelude.{IfSome, IfNone, is_some, Bool, true, false, not, ◌&&◌, if◌then◌else◌}
+use Rattle.mx_base.specs.declared.names.LinkId.{LinkId}
+use Rattle.mem_wire.specs.Play.{is_empty}
 use Rattle.std.proofs.lemmas.List.{take_more, take-take, drop-take, drop-drop, length-take-le}
 use Rattle.recording.specs.declared.entry.RecordEntry.{RecordEntry}
 use Rattle.mem_wire.specs.declared.track.Track.{Track}
 use Rattle.mem_wire.specs.declared.stage.Stage.{Stage}
 use Rattle.mem_wire.specs.declared.naming.ToName.{ToName}
-use Rattle.mem_wire.specs.Naming.{named_at, named_in, NoneIn, NoneAt, BeginsIn, BeginsAt, lines_between, Stopped, Searches}
+use Rattle.mem_wire.specs.Naming.{is_named, named_by, named_at, named_in, NoneIn, NoneAt, BeginsIn, BeginsAt, lines_between, Stopped, Searches}
 
 none_in-more : (last : ℕ) (tracks : List Track) (lines : List RecordEntry) (line : RecordEntry) → NoneIn last tracks lines → named_in last tracks line ≡ None → NoneIn last tracks (lines ++ line ∷ [])
 none_in-more last tracks [] line none this = (this, tt)
@@ -91,3 +93,10 @@ found_rest entries s rest p q found e le1 le2 le3 whole none end none_at all beg
 pub whole_if_none : (found : Option ToName) (P : Type 0) → is_some found ≡ false → IfNone found P → P
 whole_if_none None P absent all = all
 whole_if_none (Some t) P absent all = cc
+
+if-some : (b : Bool) (o : Option LinkId) (link : LinkId) → (if b then o else None) ≡ Some link → o ≡ Some link
+if-some true o link is = is
+if-some false o link is = cc
+
+pub named-link : (last : ℕ) (t : Track) (link : LinkId) → named_by last t ≡ Some link → t.link ≡ Some link
+named-link last t link is = if-some (not t.closed && (not (is_empty t.unread) && not (is_named t.named last))) t.link link is

@@ -1,5 +1,6 @@
 -- What can be played on.
-use Rattle.std.proofs.Common.{◌≡◌, ℕ, zero, suc, ◌<◌, ◌≤◌, ◌+◌, Bool, true, false, List, [], ◌∷◌, ◌++◌, length, drop, take, Option, Some, None, refl, sym, ◌∙◌, ap, subst, arith, if◌then◌else◌}
+use Rattle.std.proofs.Common.{◌≡◌, ℕ, zero, suc, ◌<◌, ◌≤◌, ◌+◌, Bool, true, false, List, [], ◌∷◌, ◌++◌, length, drop, take, Option, Some, None, refl, sym, ◌∙◌, ap, subst, arith, if◌then◌else◌, ◌-◌, min, length-drop}
+use Rattle.std.proofs.lemmas.List.{length-take}
 use Rattle.std.specs.Prelude.{slice_get}
 use Rattle.std.specs.List.{filter_map, cons_option}
 use Rattle.mx_base.specs.declared.names.Port.{Port}
@@ -63,3 +64,9 @@ begins moment clients ms count (_ ∷ rest) can first some none = cc
 pub first-some : (rest : List RecordEntry) (ms : ℕ) → first_moment rest ≡ Some ms → 0 < length rest
 first-some [] ms first = cc
 first-some (l ∷ rest) ms first = omega arith
+
+pub wake-end : (cut count : ℕ) (rest recording : List RecordEntry) → rest ≡ drop cut recording → cut ≤ length recording → cut + length (take count rest) ≤ length recording
+wake-end cut count rest recording is within =
+    let size : length rest ≡ length recording - cut = ap length is ∙ length-drop cut recording in
+    let part : length (take count rest) ≡ min count (length rest) = length-take count rest in
+    omega arith

@@ -1,5 +1,6 @@
 -- How a tape's stage stands to the log that it tells.
-use Rattle.std.specs.Prelude.{◌≡◌, ℕ, true, List, [], ◌∷◌, length, drop, Option, Some}
+use Rattle.std.specs.Prelude.{◌≡◌, ℕ, true, List, [], ◌∷◌, length, drop, slice_get, Option, Some}
+use Rattle.mx_base.specs.declared.names.LinkId.{LinkId}
 use Rattle.mx_wire.specs.Log.{Log, moment_of}
 use Rattle.mx_wire.specs.Tells.{IsSalt}
 use Rattle.recording.specs.declared.entry.RecordEntry.{RecordEntry}
@@ -7,6 +8,7 @@ use Rattle.recording.specs.Playable.{PlayableAfter}
 use Rattle.mem_wire.specs.declared.waiting.Waiting.{Waiting}
 use Rattle.mem_wire.specs.declared.stage.Stage.{Stage}
 use Rattle.mem_wire.specs.Adds.{late_entries}
+use Rattle.mem_wire.specs.Tracks.{track_at}
 use Rattle.mem_wire.specs.Below.{all_below, links_below}
 use Rattle.mem_wire.specs.Steps.{IsWithin}
 
@@ -24,6 +26,7 @@ pub record IsSound (recording : List RecordEntry) (s : Stage) (log : Log) : Type
   pub below : all_below (length s.places.items) log ≡ true
   pub late : all_below (length s.places.items) (late_entries s.late) ≡ true
   pub opened : links_below (length s.places.items) s.opened.items ≡ true
+  pub linked : (at : ℕ) (link : LinkId) → (track_at s.tracks.items at).link ≡ Some link → slice_get s.places.items link.0 ≡ Some at
   pub rest : Continues (moment_of log) (drop s.cut recording)
   pub traffic : HaveSalts s.traffic.items
   pub admin : HaveSalts s.admin.items

@@ -8,7 +8,7 @@ use Rattle.mem_wire.specs.declared.waiting.Waiting.{Waiting}
 use Rattle.mem_wire.specs.declared.track.Track.{Track}
 use Rattle.mem_wire.specs.declared.stage.Stage.{Stage}
 use Rattle.mem_wire.specs.Lines.{clients_at, is_port}
-use Rattle.mem_wire.specs.Tracks.{track_at, ChangesTrack, Released}
+use Rattle.mem_wire.specs.Tracks.{track_at, SameLinks, ChangesTrack, Released}
 
 abbrev pub clients_of : Port → Stage → List Waiting
 clients_of Traffic s = s.traffic.items
@@ -64,12 +64,14 @@ pub record ReadsFrom (ready old new : List ℕ) (size : ℕ) : Type 0 where
 pub record MovesAt (at : ℕ) (change : Track → Track) (old new : Stage) : Type 0 where
   pub frame : new ≡ record old { tracks = new.tracks; late = new.late }
   pub late : new.late.marks ≡ 0
+  pub links : SameLinks old.tracks.items new.tracks.items
   pub track : at < length old.tracks.items → ChangesTrack at change old.tracks.items new.tracks.items
 
 -- The track of a link changes, where it has one, and no marks are late.
 pub record Moves (link : LinkId) (change : Track → Track) (old new : Stage) : Type 0 where
   pub frame : new ≡ record old { tracks = new.tracks; late = new.late }
   pub late : new.late.marks ≡ 0
+  pub links : SameLinks old.tracks.items new.tracks.items
   pub track : (at : ℕ) → place_in old link ≡ Some at → at < length old.tracks.items → ChangesTrack at change old.tracks.items new.tracks.items
 
 -- The places in the lines and in the links stand as they stood.
@@ -86,3 +88,18 @@ pub record IsWithin (recording : List RecordEntry) (s : Stage) : Type 0 where
   pub last : s.last ≤ s.line
   pub line : s.line ≤ s.cut
   pub link : s.link ≤ length s.places.items
+
+-- the stage before the first call
+pub record IsFirst (s : Stage) : Type 0 where
+  pub cut : s.cut ≡ 0
+  pub last : s.last ≡ 0
+  pub traffic : s.traffic.items ≡ []
+  pub admin : s.admin.items ≡ []
+  pub traffic_accepted : s.traffic_accepted ≡ 0
+  pub admin_accepted : s.admin_accepted ≡ 0
+  pub tracks : s.tracks.items ≡ []
+  pub places : s.places.items ≡ []
+  pub opened : s.opened.items ≡ []
+  pub late : s.late.marks ≡ 0
+  pub line : s.line ≡ 0
+  pub link : s.link ≡ 0

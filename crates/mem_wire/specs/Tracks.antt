@@ -20,6 +20,10 @@ place (Server k) = 2 * k + 1
 abbrev pub SameTracks : List Track → List Track → Type 0
 SameTracks old new = (at : ℕ) → track_at new at ≡ track_at old at
 
+-- no track has got another link
+abbrev pub SameLinks : List Track → List Track → Type 0
+SameLinks old new = (at : ℕ) → (track_at new at).link ≡ (track_at old at).link
+
 -- the track at the place has changed in this way, and no other has
 abbrev pub ChangesTrack : ℕ → (Track → Track) → List Track → List Track → Type 0
 ChangesTrack at change old new =

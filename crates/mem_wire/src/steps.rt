@@ -1,7 +1,7 @@
 // The steps of a play, call by call.
 ghost use Rattle.std.specs.Prelude.{◌≡◌, ℕ, ◌+◌, ◌-◌, ◌*◌, ◌^◌, ◌<◌, ◌≤◌, ◌++◌, ◌∷◌, length, [], take, drop, min, true, slice_get, Some, None, OnOk, OnErr, IfSome, vec_len};
 ghost use Rattle.mem_wire.specs.Tracks.{track_at};
-ghost use Rattle.mem_wire.specs.Steps.{clients_of, accepted_of, place_in, next_link, Wakes, Enters, Accepts, Opens, Moves, MovesAt, ReadsFrom, KeepsPlaces};
+ghost use Rattle.mem_wire.specs.Steps.{clients_of, accepted_of, place_in, next_link, Wakes, Enters, Accepts, Opens, IsFirst, Moves, MovesAt, ReadsFrom, KeepsPlaces};
 
 use crate::late::Late;
 use crate::lines::arrive;
@@ -13,7 +13,9 @@ use recording::RecordEntry;
 use std::alloc::Global;
 
 /// The stage before the first call.
-pub(crate) fn new_stage(alloc: Global) -> Stage {
+pub(crate) fn new_stage(alloc: Global) -> Stage
+    ensures { IsFirst result }
+{
     Stage {
         cut: 0,
         last: 0,

@@ -11,7 +11,7 @@ invariant_of-self c =
     let s = c.self.inside.stage in
     let told = c.self.inside.told in
     tape-moved _ s _ told _ (entry.Closed c.args.link) c.self.invariant
-    (within-moves _ s _ c.self.invariant.within c.close.ensures.frame) (moved-moves s _ c.close.ensures.frame c.close.ensures.late)
+    (within-moves _ s _ c.self.invariant.within c.close.ensures.frame) (moved-moves s _ c.close.ensures.frame c.close.ensures.late c.close.ensures.links)
     c.add_call.ensures
     (low-if-open _ s told _ c.args.link (ap (λ v. v.told) c.self.view_is) c.requires.open) (λ m. refl)
 

@@ -10,7 +10,7 @@ pub invariant_of-self : goal.invariant_of-self
 invariant_of-self c =
     let s = c.self.inside.stage in
     tape-moved _ s _ c.self.inside.told _ (entry.Listening c.args.port c.args.address) c.self.invariant
-    (within-moves _ s _ c.self.invariant.within refl) (record { frame = refl; late = ap (λ l. l.marks) c.none-self-inside.ensures })
+    (within-moves _ s _ c.self.invariant.within refl) (record { frame = refl; late = ap (λ l. l.marks) c.none-self-inside.ensures; links = λ at. refl })
     c.add_call.ensures (λ log is follows. refl) (λ m. refl)
 
 pub returns-clause-told : goal.returns-clause-told

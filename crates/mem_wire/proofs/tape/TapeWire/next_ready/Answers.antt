@@ -5,7 +5,7 @@ use Rattle.mem_wire.specs.Adds.{late_entries}
 use Rattle.mem_wire.specs.Naming.{Searches}
 use Rattle.mem_wire.proofs.Telling.{tells}
 use Rattle.mem_wire.proofs.Courses.{within-search, within-moves, moved-search, moved-name}
-use Rattle.mem_wire.proofs.Following.{late_are, tape-moved}
+use Rattle.mem_wire.proofs.Following.{late_are, tape-moved, found-low}
 use Rattle.mem_wire.proofs.tape.TapeWire.next_ready.Goals as goal
 
 pub invariant_of-self : goal.invariant_of-self
@@ -25,8 +25,8 @@ invariant_of-self-in-Some c =
     let looks = subst (λ (es : List RecordEntry). Searches es c.next_to_name.result s mid) c.deref.ensures.value c.next_to_name.ensures in
     tape-moved _ s _ c.self.inside.told _ (entry.Named c.in-Some.found.link) c.self.invariant
     (within-moves _ mid _ (within-search _ c.next_to_name.result s mid c.self.invariant.within looks) c.name.ensures.frame)
-    (moved-name _ c.next_to_name.result s mid _ looks c.name.ensures.frame c.name.ensures.late)
-    c.add_call-in-Some.ensures ? (λ m. refl)
+    (moved-name _ c.next_to_name.result s mid _ looks c.name.ensures.frame c.name.ensures.late c.name.ensures.links)
+    c.add_call-in-Some.ensures (λ log is follows. found-low _ c.next_to_name.result c.in-Some.found s mid log follows looks c.in-Some.is) (λ m. refl)
 
 pub returns-in-None-clause-told : goal.returns-in-None-clause-told
 returns-in-None-clause-told c =

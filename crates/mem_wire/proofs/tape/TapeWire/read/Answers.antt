@@ -13,7 +13,7 @@ invariant_of-self c =
     let told = c.self.inside.told in
     let moves = c.read-n.ensures.moves in
     tape-moved _ s _ told _ (entry.ReadNothing c.args.link) c.self.invariant
-    (within-moves _ s _ c.self.invariant.within moves.frame) (moved-moves s _ moves.frame moves.late)
+    (within-moves _ s _ c.self.invariant.within moves.frame) (moved-moves s _ moves.frame moves.late moves.links)
     c.add_call.ensures
     (low-if-open _ s told _ c.args.link (ap (λ v. v.told) c.self.view_is) c.requires.open) (λ m. refl)
 
@@ -31,7 +31,7 @@ invariant_of-self-2 c =
     let told = c.self.inside.told in
     let moves = c.read-n.ensures.moves in
     tape-moved-if _ s _ told _ c.got_entry.result (entry.Got c.args.link (take c.read-n.result c.read-n.new.into)) c.self.invariant
-    (within-moves _ s _ c.self.invariant.within moves.frame) (moved-moves s _ moves.frame moves.late)
+    (within-moves _ s _ c.self.invariant.within moves.frame) (moved-moves s _ moves.frame moves.late moves.links)
     c.add_call_if.ensures c.got_entry.ensures
     (low-if-open _ s told _ c.args.link (ap (λ v. v.told) c.self.view_is) c.requires.open) (λ m. refl)
 

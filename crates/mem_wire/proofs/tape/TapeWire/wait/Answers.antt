@@ -1,11 +1,11 @@
-use Rattle.std.proofs.Common.{ℕ, ◌<◌, ◌-◌, length, take, drop, refl, ap, sym, ◌∙◌}
+use Rattle.std.proofs.Common.{ℕ, ◌<◌, ◌-◌, length, take, drop, refl, ap, arith, sym, ◌∙◌}
 use Rattle.std.proofs.lemmas.List.{take_rest}
 use Rattle.mx_wire.specs.declared.entry.Entry.TheVariants as entry
 use Rattle.mem_wire.specs.Adds.{late_entries}
-use Rattle.mem_wire.proofs.Telling.{tells}
-use Rattle.mem_wire.proofs.Courses.{within-moves}
-use Rattle.mem_wire.proofs.Following.{late_are, tape-moved, wake-marks, wake-later, wake-calls}
-use Rattle.mem_wire.proofs.Playable.{first-some}
+use Rattle.mem_wire.proofs.Telling.{tells, goes_on}
+use Rattle.mem_wire.proofs.Courses.{within-moves, within-wakes}
+use Rattle.mem_wire.proofs.Following.{late_are, tape-moved, wake-marks, wake-later, wake-calls, follows-wakes, marks_are}
+use Rattle.mem_wire.proofs.Playable.{first-some, wake-end}
 use Rattle.mem_wire.proofs.Results.{on_ok}
 use Rattle.mem_wire.proofs.tape.TapeWire.wait.Goals as goal
 
@@ -13,7 +13,7 @@ pub invariant_of-self : goal.invariant_of-self
 invariant_of-self c =
     let s = c.self.inside.stage in
     tape-moved _ s _ c.self.inside.told _ entry.Over c.self.invariant
-    (within-moves _ s _ c.self.invariant.within refl) (record { frame = refl; late = ap (λ l. l.marks) c.none-self-inside.ensures })
+    (within-moves _ s _ c.self.invariant.within refl) (record { frame = refl; late = ap (λ l. l.marks) c.none-self-inside.ensures; links = λ at. refl })
     c.add_call.ensures (λ log is follows. refl) (λ m. refl)
 
 pub returns-in_default-clause-told : goal.returns-in_default-clause-told
@@ -28,7 +28,11 @@ invariant_of-self-else-is_err c =
     let wakes = on_ok c.wake.result _ (sym c.is_err.ensures.value ∙ c.if-is_err.false) c.wake.ensures.ok in
     let rest = take (length c.deref.result.now - s.cut) (drop s.cut c.deref.result.now) in
     let is = take_rest c.deref.result.now s.cut ∙ ap (drop s.cut) c.deref.ensures.value in
-    ?
+    let some : 0 < count = c.lines_of_moment.ensures.some (first-some rest c.in-Some.now_ms (sym c.first_moment.ensures ∙ c.in-Some.is)) in
+    goes_on _ s c.wake.new.stage c.self.inside.told _ (wake-marks s (take count rest)) (entry.Woke c.args.until_ms c.in-Some.now_ms) c.self.invariant
+    (within-wakes _ _ _ s c.wake.new.stage c.self.invariant.within wakes (omega arith) (wake-end s.cut count rest c.self.inside.entries.items is c.self.invariant.within.cut))
+    (wake-calls c.self.inside.told _ _ _ s (take count rest) c.deref-2.result.now _ c.deref-2.ensures.value c.add_marks.ensures c.put_marks.ensures c.add.ensures.added c.add.ensures.bounded)
+    (λ log told_is follows. follows-wakes _ s c.wake.new.stage c.in-Some.now_ms count c.args.until_ms rest log follows is (sym c.first_moment.ensures ∙ c.in-Some.is) some c.lines_of_moment.ensures.end c.lines_of_moment.ensures.none c.lines_of_moment.ensures.at wakes)
 
 pub returns-else-is_err-clause-told : goal.returns-else-is_err-clause-told
 returns-else-is_err-clause-told c =
@@ -40,5 +44,5 @@ returns-else-is_err-clause-told c =
     let some : 0 < count = c.lines_of_moment.ensures.some (first-some rest c.in-Some.now_ms (sym c.first_moment.ensures ∙ c.in-Some.is)) in
     rw (← c.self.view_is) (tells told (wake-marks s (take count rest)) (entry.Woke c.args.until_ms c.in-Some.now_ms) _
     (wake-calls told _ _ _ s (take count rest) c.deref-2.result.now _ c.deref-2.ensures.value c.add_marks.ensures c.put_marks.ensures c.add.ensures.added c.add.ensures.bounded)
-    ?
+    (marks_are s (take count rest))
     (λ log told_is. wake-later _ s (take count rest) c.in-Some.now_ms count c.args.until_ms rest log (c.self.invariant.follows log told_is) is (sym c.first_moment.ensures ∙ c.in-Some.is) some c.lines_of_moment.ensures.none))

@@ -12,7 +12,7 @@ invariant_of-self c =
     let s = c.self.inside.stage in
     let told = c.self.inside.told in
     tape-moved-if _ s _ told _ c.wrote_entry.result (entry.Wrote c.args.link c.args.tag c.args.piece.now) c.self.invariant
-    (within-moves _ s _ c.self.invariant.within refl) (record { frame = refl; late = ap (λ l. l.marks) c.none-self-inside.ensures })
+    (within-moves _ s _ c.self.invariant.within refl) (record { frame = refl; late = ap (λ l. l.marks) c.none-self-inside.ensures; links = λ at. refl })
     c.add_call_if.ensures c.wrote_entry.ensures
     (low-if-open _ s told _ c.args.link (ap (λ v. v.told) c.self.view_is) c.requires.open) (λ m. refl)
 
