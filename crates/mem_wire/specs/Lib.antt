@@ -9,3 +9,4 @@ pub mod Naming
 pub mod Below
 pub mod Follows
 pub mod Told
+pub mod Held

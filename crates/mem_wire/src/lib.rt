@@ -3,6 +3,8 @@
 
 mod lines;
 mod late;
+mod mem_files;
+mod mem_sink;
 mod naming;
 mod stage;
 mod steps;
@@ -12,5 +14,7 @@ mod track;
 mod tracks;
 mod waiting;
 
+pub use mem_files::MemFiles;
+pub use mem_sink::MemSink;
 pub use tape::Tape;
 pub use waiting::Waiting;
