@@ -18,3 +18,6 @@ pub use mem_files::MemFiles;
 pub use mem_sink::MemSink;
 pub use tape::Tape;
 pub use waiting::Waiting;
+
+#[cfg(test)]
+mod tests;
