@@ -9,3 +9,4 @@ pub mod Courses
 pub mod Following
 pub mod Playable
 pub mod Results
+pub mod Scenes

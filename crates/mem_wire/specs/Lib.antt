@@ -10,3 +10,4 @@ pub mod Below
 pub mod Follows
 pub mod Told
 pub mod Held
+pub mod Stands
