@@ -10,3 +10,5 @@ pub mod Following
 pub mod Playable
 pub mod Results
 pub mod Scenes
+pub mod CutLaws
+pub mod Standing
