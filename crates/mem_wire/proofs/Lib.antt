@@ -12,3 +12,4 @@ pub mod Results
 pub mod Scenes
 pub mod CutLaws
 pub mod Standing
+pub mod StandSteps

@@ -27,12 +27,12 @@ read_by-alike : (recording : List RecordEntry) (old new : Log) (o : Option LinkI
 read_by-alike recording old new None alike = refl
 read_by-alike recording old new (Some link) alike = alike.read link
 
-pub fits-alike : (recording lines : List RecordEntry) (s : Stage) (old new : Log) (name : RecordLink) (t : Track) → Alike recording old new → Fits lines s old name t → Fits lines s new name t
-fits-alike recording lines s old new name t alike fits = record {
+pub fits-alike : (recording lines : List RecordEntry) (last cut : ℕ) (old new : Log) (name : RecordLink) (t : Track) → Alike recording old new → Fits lines last cut old name t → Fits lines last cut new name t
+fits-alike recording lines last cut old new name t alike fits = record {
   marks = fits.marks;
   bytes = ap (λ bytes. bytes ++ t.unread) (read_by-alike recording old new t.link alike) ∙ fits.bytes;
   opened = if-same t.link (λ link. is_open link old ≡ not t.closed) (λ link. is_open link new ≡ not t.closed) (λ link h. alike.open_is link ∙ h) fits.opened;
-  named = if-same t.link (λ link. is_in link (named_since old) ≡ is_named t.named s.last) (λ link. is_in link (named_since new) ≡ is_named t.named s.last) (λ link h. ap (is_in link) alike.named ∙ h) fits.named;
+  named = if-same t.link (λ link. is_in link (named_since old) ≡ is_named t.named last) (λ link. is_in link (named_since new) ≡ is_named t.named last) (λ link h. ap (is_in link) alike.named ∙ h) fits.named;
   stamp = fits.stamp;
 }
 
@@ -40,12 +40,13 @@ pub stands-alike : (recording : List RecordEntry) (s : Stage) (old new : Log) �
 stands-alike recording s old new alike st = record {
   cut = subst (CutsAt recording s.cut) (sym alike.woke) st.cut;
   last = subst (λ (n : ℕ). CutsAt recording s.last (n - 1)) (sym alike.woke) st.last;
+  wake = st.wake;
   clients = st.clients;
   accepted = λ port. st.accepted port ∙ sym (alike.accepted port);
   opened = alike.opened ∙ st.opened;
   links = subst (λ (ks : List Known). Numbered 0 ks s.places.items) (sym alike.links) st.links;
   placed = st.placed;
-  tracks = λ name. fits-alike recording (take s.cut recording) s old new name (track_at s.tracks.items (place name)) alike (st.tracks name);
+  tracks = λ name. fits-alike recording (take s.cut recording) s.last s.cut old new name (track_at s.tracks.items (place name)) alike (st.tracks name);
 }
 
 pub client-is : (recording : List RecordEntry) (s : Stage) (log : Log) (port : Port) → Stands recording s log → next_client recording log port ≡ slice_get (clients_of port s) (accepted_of port s)
@@ -97,7 +98,7 @@ unread-is recording s log link at st here =
     let zero_is : 0 + link.0 ≡ link.0 = omega arith in
     let found = with-number 0 link.0 at (known recording log) s.places.items st.links here in
     let t = track_at s.tracks.items at in
-    let fits = subst (λ (p : ℕ). Fits (take s.cut recording) s log found.k.name (track_at s.tracks.items p)) found.place_is (st.tracks found.k.name) in
+    let fits = subst (λ (p : ℕ). Fits (take s.cut recording) s.last s.cut log found.k.name (track_at s.tracks.items p)) found.place_is (st.tracks found.k.name) in
     let owner : t.link ≡ Some link = st.placed link.0 at here in
     let same : found.k.link ≡ link = found.link_is ∙ ap numbered zero_is in
     let bytes : read_of link log ++ t.unread ≡ bytes_for found.k.name (take s.cut recording) = ap (λ o. read_by o log ++ t.unread) (sym owner) ∙ fits.bytes in

@@ -36,22 +36,23 @@ abbrev pub is_in : LinkId → List LinkId → Bool
 is_in link links = list_any (λ other. nat_eq other.0 link.0) links
 
 -- A track has what the released lines gave to its name, but for the bytes that were read.
-pub record Fits (lines : List RecordEntry) (s : Stage) (log : Log) (name : RecordLink) (t : Track) : Type 0 where
+pub record Fits (lines : List RecordEntry) (last cut : ℕ) (log : Log) (name : RecordLink) (t : Track) : Type 0 where
   pub marks : t.marks ≡ marks_for name lines
   pub bytes : read_by t.link log ++ t.unread ≡ bytes_for name lines
   pub opened : IfSome t.link (λ link. is_open link log ≡ not t.closed)
-  pub named : IfSome t.link (λ link. is_in link (named_since log) ≡ is_named t.named s.last)
-  pub stamp : IfSome t.named (λ wake. wake < s.cut)
+  pub named : IfSome t.link (λ link. is_in link (named_since log) ≡ is_named t.named last)
+  pub stamp : IfSome t.named (λ wake. wake < cut)
 
 pub record Stands (recording : List RecordEntry) (s : Stage) (log : Log) : Type 0 where
   pub cut : CutsAt recording s.cut (wakes log)
   pub last : CutsAt recording s.last (wakes log - 1)
+  pub wake : 0 < s.cut → s.last < s.cut
   pub clients : (port : Port) → clients_of port s ≡ clients_at port (take s.cut recording)
   pub accepted : (port : Port) → accepted_of port s ≡ accepted_at port log
   pub opened : opened_links log ≡ s.opened.items
   pub links : Numbered 0 (known recording log) s.places.items
   pub placed : (number at : ℕ) → slice_get s.places.items number ≡ Some at → (track_at s.tracks.items at).link ≡ Some (numbered number)
-  pub tracks : (name : RecordLink) → Fits (take s.cut recording) s log name (track_at s.tracks.items (place name))
+  pub tracks : (name : RecordLink) → Fits (take s.cut recording) s.last s.cut log name (track_at s.tracks.items (place name))
 
 -- what a search has passed is not to be named
 pub record Passed (recording : List RecordEntry) (s : Stage) : Type 0 where
