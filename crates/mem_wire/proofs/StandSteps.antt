@@ -24,8 +24,22 @@ use Rattle.mem_wire.specs.Tracks.{track_at, place, ChangesTrack}
 use Rattle.mem_wire.specs.Steps.{numbered, clients_of, accepted_of}
 use Rattle.mem_wire.specs.Naming.{is_named}
 use Rattle.mem_wire.specs.Below.{all_below, link_below, links_below}
-use Rattle.mem_wire.specs.Stands.{CutsAt, Numbered, read_by, is_in, Fits, Stands}
+use Rattle.mem_wire.specs.Stands.{CutsAt, Numbered, read_by, is_in, Fits, Stands, Entered, client, server}
 use Rattle.mem_wire.proofs.Scenes.{Alike, wakes-more, accepted-more, opened-more, known-more, named-more}
+
+-- what was entered stays entered
+pub entered-like : (old new : Stage) (at : ℕ) → ((port : Port) → clients_of port new ≡ clients_of port old) → ((port : Port) → accepted_of port new ≡ accepted_of port old) → new.opened.items ≡ old.opened.items → Entered old at → Entered new at
+entered-like old new at clients accepted opened (client port i waiting low is place) =
+    client port i waiting (subst (λ (n : ℕ). i < n) (sym (accepted port)) low) (ap (λ cs. slice_get cs i) (clients port) ∙ is) place
+entered-like old new at clients accepted opened (server k low place) = server k (subst (λ links. k ≤ length links) (sym opened) low) place
+
+same-clients : (s : Stage) (late : Late) (line link : ℕ) (port : Port) → clients_of port (record s { late = late; line = line; link = link }) ≡ clients_of port s
+same-clients s late line link Traffic = refl
+same-clients s late line link Admin = refl
+
+same-accepted : (s : Stage) (late : Late) (line link : ℕ) (port : Port) → accepted_of port (record s { late = late; line = line; link = link }) ≡ accepted_of port s
+same-accepted s late line link Traffic = refl
+same-accepted s late line link Admin = refl
 
 clients-stay : (recording : List RecordEntry) (s : Stage) (log : Log) (late : Late) (line link : ℕ) → Stands recording s log → (port : Port) → clients_of port (record s { late = late; line = line; link = link }) ≡ clients_at port (take s.cut recording)
 clients-stay recording s log late line link st Traffic = st.clients Traffic
@@ -39,7 +53,7 @@ accepted-stay recording s log late line link st Admin = st.accepted Admin
 pub stands-stay : (recording : List RecordEntry) (s : Stage) (log : Log) (late : Late) (line link : ℕ) → Stands recording s log → Stands recording (record s { late = late; line = line; link = link }) log
 stands-stay recording s log late line link st = record {
   cut = st.cut; last = st.last; wake = st.wake; clients = clients-stay recording s log late line link st; accepted = accepted-stay recording s log late line link st;
-  opened = st.opened; links = st.links; placed = st.placed; tracks = st.tracks;
+  opened = st.opened; links = st.links; placed = st.placed; entered = λ at owner is. entered-like s (record s { late = late; line = line; link = link }) at (λ port. same-clients s late line link port) (λ port. same-accepted s late line link port) refl (st.entered at owner is); tracks = st.tracks;
 }
 
 not_apart : (a b : ℕ) → a ≡ b → (a == b) ≡ false → ⊥
@@ -91,6 +105,7 @@ fits-but lines last cut but old new name t alike apart fits = record {
   bytes = ap (λ bytes. bytes ++ t.unread) (read_by-but but old new t.link alike apart) ∙ fits.bytes;
   opened = if-both t.link (λ link. nat_eq link.0 but.0 ≡ false) (λ link. is_open link old ≡ not t.closed) (λ link. is_open link new ≡ not t.closed) (λ link away h. alike.open_is link away ∙ h) apart fits.opened;
   named = if-both t.link (λ link. nat_eq link.0 but.0 ≡ false) (λ link. is_in link (named_since old) ≡ is_named t.named last) (λ link. is_in link (named_since new) ≡ is_named t.named last) (λ link away h. alike.named link away ∙ h) apart fits.named;
+  fresh = fits.fresh;
   stamp = fits.stamp;
 }
 

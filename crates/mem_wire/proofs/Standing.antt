@@ -33,6 +33,7 @@ fits-alike recording lines last cut old new name t alike fits = record {
   bytes = ap (λ bytes. bytes ++ t.unread) (read_by-alike recording old new t.link alike) ∙ fits.bytes;
   opened = if-same t.link (λ link. is_open link old ≡ not t.closed) (λ link. is_open link new ≡ not t.closed) (λ link h. alike.open_is link ∙ h) fits.opened;
   named = if-same t.link (λ link. is_in link (named_since old) ≡ is_named t.named last) (λ link. is_in link (named_since new) ≡ is_named t.named last) (λ link h. ap (is_in link) alike.named ∙ h) fits.named;
+  fresh = fits.fresh;
   stamp = fits.stamp;
 }
 
@@ -46,6 +47,7 @@ stands-alike recording s old new alike st = record {
   opened = alike.opened ∙ st.opened;
   links = subst (λ (ks : List Known). Numbered 0 ks s.places.items) (sym alike.links) st.links;
   placed = st.placed;
+  entered = st.entered;
   tracks = λ name. fits-alike recording (take s.cut recording) s.last s.cut old new name (track_at s.tracks.items (place name)) alike (st.tracks name);
 }
 

@@ -1,11 +1,12 @@
 -- How a tape's stage stands to what its log tells.
-use Rattle.std.specs.Prelude.{◌≡◌, ℕ, ◌+◌, ◌-◌, ◌<◌, not, Bool, nat_eq, List, [], ◌∷◌, ◌++◌, length, take, drop, slice_get, Option, Some, None, IfSome}
+use Rattle.std.specs.Prelude.{◌≡◌, ℕ, ◌+◌, ◌-◌, ◌*◌, ◌<◌, ◌≤◌, not, Bool, false, nat_eq, List, [], ◌∷◌, ◌++◌, length, take, drop, slice_get, Option, Some, None, IfSome, IfNone}
 use Rattle.std.specs.List.{list_any}
 use Rattle.mx_base.specs.declared.names.LinkId.{LinkId}
 use Rattle.mx_base.specs.declared.names.Port.{Port}
 use Rattle.mx_wire.specs.Log.{Log, opened_links, read_of, is_open}
 use Rattle.recording.specs.declared.entry.RecordLink.{RecordLink}
 use Rattle.recording.specs.declared.entry.RecordEntry.{RecordEntry}
+use Rattle.mem_wire.specs.declared.waiting.Waiting.{Waiting}
 use Rattle.mem_wire.specs.declared.track.Track.{Track}
 use Rattle.mem_wire.specs.declared.stage.Stage.{Stage}
 use Rattle.mem_wire.specs.Lines.{moments, clients_at, bytes_for, marks_for}
@@ -41,7 +42,13 @@ pub record Fits (lines : List RecordEntry) (last cut : ℕ) (log : Log) (name : 
   pub bytes : read_by t.link log ++ t.unread ≡ bytes_for name lines
   pub opened : IfSome t.link (λ link. is_open link log ≡ not t.closed)
   pub named : IfSome t.link (λ link. is_in link (named_since log) ≡ is_named t.named last)
+  pub fresh : IfNone t.link ((t.closed ≡ false) × (t.named ≡ None))
   pub stamp : IfSome t.named (λ wake. wake < cut)
+
+-- the places of the clients that were accepted and of the servers that were opened
+pub data Entered (s : Stage) (at : ℕ) : Type 0 where
+  client : (port : Port) (i : ℕ) (waiting : Waiting) → i < accepted_of port s → slice_get (clients_of port s) i ≡ Some waiting → at ≡ 2 * waiting.number → Entered s at
+  server : (k : ℕ) → k ≤ length s.opened.items → at ≡ 2 * k + 1 → Entered s at
 
 pub record Stands (recording : List RecordEntry) (s : Stage) (log : Log) : Type 0 where
   pub cut : CutsAt recording s.cut (wakes log)
@@ -52,6 +59,7 @@ pub record Stands (recording : List RecordEntry) (s : Stage) (log : Log) : Type 
   pub opened : opened_links log ≡ s.opened.items
   pub links : Numbered 0 (known recording log) s.places.items
   pub placed : (number at : ℕ) → slice_get s.places.items number ≡ Some at → (track_at s.tracks.items at).link ≡ Some (numbered number)
+  pub entered : (at : ℕ) (link : LinkId) → (track_at s.tracks.items at).link ≡ Some link → Entered s at
   pub tracks : (name : RecordLink) → Fits (take s.cut recording) s.last s.cut log name (track_at s.tracks.items (place name))
 
 -- what a search has passed is not to be named
