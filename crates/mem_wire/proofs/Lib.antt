@@ -13,3 +13,4 @@ pub mod Scenes
 pub mod CutLaws
 pub mod Standing
 pub mod StandSteps
+pub mod StandMoves
