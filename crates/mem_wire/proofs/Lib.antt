@@ -14,3 +14,4 @@ pub mod CutLaws
 pub mod Standing
 pub mod StandSteps
 pub mod StandMoves
+pub mod StandEnters

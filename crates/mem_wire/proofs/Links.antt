@@ -13,11 +13,11 @@ use Rattle.recording.specs.declared.entry.RecordEntry.TheVariants as line
 use Rattle.mem_wire.specs.Play.{mark_at}
 use Rattle.mem_wire.specs.Below.{link_below, all_below, links_below}
 
-and-left : (a b : Bool) → (a && b) ≡ true → a ≡ true
+pub and-left : (a b : Bool) → (a && b) ≡ true → a ≡ true
 and-left true b h = refl
 and-left false b h = h
 
-and-right : (a b : Bool) → (a && b) ≡ true → b ≡ true
+pub and-right : (a b : Bool) → (a && b) ≡ true → b ≡ true
 and-right true b h = h
 and-right false b h = cc
 
