@@ -15,3 +15,5 @@ pub mod Standing
 pub mod StandSteps
 pub mod StandMoves
 pub mod StandEnters
+pub mod StandWakes
+pub mod Distinct
