@@ -17,3 +17,4 @@ pub mod StandMoves
 pub mod StandEnters
 pub mod StandWakes
 pub mod Distinct
+pub mod Nameable

@@ -34,7 +34,7 @@ pub record Brings_nothing (e : Entry) : Type 0 where
   pub opened : opened_link e ≡ None
   pub known : (recording : List RecordEntry) (log : Log) → known_by recording log e ≡ []
 
-if-own : {A : Type 0} (o : Option A) (P : A → Type 0) (x : A) → o ≡ Some x → IfSome o P → P x
+pub if-own : {A : Type 0} (o : Option A) (P : A → Type 0) (x : A) → o ≡ Some x → IfSome o P → P x
 if-own o P x is holds = let at : IfSome (Some x) P = subst (λ (p : Option _). IfSome p P) is holds in at
 
 own-if : {A : Type 0} (o : Option A) (P : A → Type 0) (x : A) → o ≡ Some x → P x → IfSome o P

@@ -90,7 +90,7 @@ with-number n (suc i) at (k ∷ links) (p ∷ places) all is =
       place_is = later.place_is;
     }
 
-drop-read : (a b : List ℕ) → drop (length a) (a ++ b) ≡ b
+pub drop-read : (a b : List ℕ) → drop (length a) (a ++ b) ≡ b
 drop-read [] b = refl
 drop-read (x ∷ a) b = drop-read a b
 
