@@ -40,23 +40,14 @@ use Rattle.mem_wire.proofs.Sound.{sound-call, sound-late, sound-new, sound-enter
 use Rattle.mem_wire.proofs.Courses.{Moved, keeps-moved}
 
 -- an entry that brings no link and no moment
-pub follows-moved : (recording : List RecordEntry) (old new : Stage) (log : Log) (e : Entry) → Follows recording old log → Moved old new → link_below (length old.places.items) (link_of e) ≡ true → ((m : ℕ) → moment_step m e ≡ m) → Follows recording new ((log ++ late_entries old.late) ++ e ∷ [])
-follows-moved recording old new log e follows moved low idle = record {
-  sound = sound-call recording old new log (late_entries old.late) e follows.sound (keeps-moved old new moved) (sound-late recording old log follows.sound) low idle;
-}
+pub sound-moved : (recording : List RecordEntry) (old new : Stage) (log : Log) (e : Entry) → Follows recording old log → Moved old new → link_below (length old.places.items) (link_of e) ≡ true → ((m : ℕ) → moment_step m e ≡ m) → IsSound recording new ((log ++ late_entries old.late) ++ e ∷ [])
+sound-moved recording old new log e follows moved low idle =
+    sound-call recording old new log (late_entries old.late) e follows.sound (keeps-moved old new moved) (sound-late recording old log follows.sound) low idle
 
 -- The same of a tape.
 
 pub late_are : (late : Late) → AreMarks (late_entries late)
 late_are late = late-marks late.marks late.link
-
-pub tape-moved : (recording : List RecordEntry) (old new : Stage) (before after : Option Log) (e : Entry) → IsTape recording old before → IsWithin recording new → Moved old new → Calls before (late_entries old.late) e after → ((log : Log) → before ≡ Some log → Follows recording old log → link_below (length old.places.items) (link_of e) ≡ true) → ((m : ℕ) → moment_step m e ≡ m) → IsTape recording new after
-tape-moved recording old new before after e tape within moved call low idle =
-    goes_on recording old new before after (late_entries old.late) e tape within call (λ log is follows. follows-moved recording old new log e follows moved (low log is follows) idle)
-
-pub tape-moved-if : (recording : List RecordEntry) (old new : Stage) (before after : Option Log) (told : Option Entry) (e : Entry) → IsTape recording old before → IsWithin recording new → Moved old new → CallsIf before (late_entries old.late) told after → IfSome told (λ x. x ≡ e) → ((log : Log) → before ≡ Some log → Follows recording old log → link_below (length old.places.items) (link_of e) ≡ true) → ((m : ℕ) → moment_step m e ≡ m) → IsTape recording new after
-tape-moved-if recording old new before after told e tape within moved call is low idle =
-    goes_on_if recording old new before after (late_entries old.late) told e tape within call is (λ log told_is follows. follows-moved recording old new log e follows moved (low log told_is follows) idle)
 
 -- a caller's link is below the number of links
 pub low-if-open : (recording : List RecordEntry) (s : Stage) (told shown : Option Log) (link : LinkId) → told ≡ shown → OpenFor shown link → (log : Log) → told ≡ Some log → Follows recording s log → nat_lt link.0 (length s.places.items) ≡ true
@@ -66,26 +57,25 @@ pub open-if-open : (told shown : Option Log) (link : LinkId) (late : Late) → t
 open-if-open told shown link late same opened log is = open-still link log (late_entries late) (late_are late) (opened.holds log (sym same ∙ is))
 
 -- an entry that brings a link
-pub follows-enters : (recording : List RecordEntry) (old new : Stage) (at : ℕ) (log : Log) (e : Entry) → Follows recording old log → Enters at old new → new.cut ≡ old.cut → new.traffic ≡ old.traffic → new.admin ≡ old.admin → links_below (length old.places.items + 1) new.opened.items ≡ true → all_below (length old.places.items + 1) (late_entries new.late) ≡ true → link_of e ≡ Some (next_link old) → ((m : ℕ) → moment_step m e ≡ m) → Follows recording new ((log ++ late_entries old.late) ++ e ∷ [])
-follows-enters recording old new at log e follows enters cut traffic admin opened late names idle = record {
-  sound = sound-enter recording old new at log (late_entries old.late) e follows.sound cut traffic admin enters.places enters.tracks opened late (sound-late recording old log follows.sound) names idle;
-}
+pub sound-enters : (recording : List RecordEntry) (old new : Stage) (at : ℕ) (log : Log) (e : Entry) → Follows recording old log → Enters at old new → new.cut ≡ old.cut → new.traffic ≡ old.traffic → new.admin ≡ old.admin → links_below (length old.places.items + 1) new.opened.items ≡ true → all_below (length old.places.items + 1) (late_entries new.late) ≡ true → link_of e ≡ Some (next_link old) → ((m : ℕ) → moment_step m e ≡ m) → IsSound recording new ((log ++ late_entries old.late) ++ e ∷ [])
+sound-enters recording old new at log e follows enters cut traffic admin opened late names idle =
+    sound-enter recording old new at log (late_entries old.late) e follows.sound cut traffic admin enters.places enters.tracks opened late (sound-late recording old log follows.sound) names idle
 
 pub opened-more : (n : ℕ) (links : List LinkId) → links_below n links ≡ true → links_below (n + 1) (links ++ numbered n ∷ []) ≡ true
 opened-more n links all = links_below-append links (numbered n ∷ []) (n + 1) (links_below-more links n (n + 1) (omega arith) all) (rw (is_below n (n + 1) (omega arith)) refl)
 
-pub follows-accepts : (recording : List RecordEntry) (old new : Stage) (port : Port) (number : ℕ) (salt : List ℕ) (log : Log) → Follows recording old log → Accepts port number old new → Follows recording new ((log ++ late_entries old.late) ++ entry.Accepted port (next_link old) salt ∷ [])
-follows-accepts recording old new port number salt log follows accepts =
+pub sound-accepts : (recording : List RecordEntry) (old new : Stage) (port : Port) (number : ℕ) (salt : List ℕ) (log : Log) → Follows recording old log → Accepts port number old new → IsSound recording new ((log ++ late_entries old.late) ++ entry.Accepted port (next_link old) salt ∷ [])
+sound-accepts recording old new port number salt log follows accepts =
     let n = length old.places.items in
-    follows-enters recording old new (2 * number) log (entry.Accepted port (next_link old) salt) follows accepts.enters
+    sound-enters recording old new (2 * number) log (entry.Accepted port (next_link old) salt) follows accepts.enters
     (ap (λ s. s.cut) accepts.frame) (ap (λ s. s.traffic) accepts.frame) (ap (λ s. s.admin) accepts.frame)
     (ap (λ s. links_below (n + 1) s.opened.items) accepts.frame ∙ links_below-more old.opened.items n (n + 1) (omega arith) follows.sound.opened)
     (no-late (n + 1) new.late.marks new.late.link accepts.late) refl (λ m. refl)
 
-pub follows-opens : (recording : List RecordEntry) (old new : Stage) (server : ServerId) (address : Address) (log : Log) → Follows recording old log → Opens old new → Follows recording new ((log ++ late_entries old.late) ++ entry.Opened server address (next_link old) ∷ [])
-follows-opens recording old new server address log follows opens =
+pub sound-opens : (recording : List RecordEntry) (old new : Stage) (server : ServerId) (address : Address) (log : Log) → Follows recording old log → Opens old new → IsSound recording new ((log ++ late_entries old.late) ++ entry.Opened server address (next_link old) ∷ [])
+sound-opens recording old new server address log follows opens =
     let n = length old.places.items in
-    follows-enters recording old new (2 * length new.opened.items + 1) log (entry.Opened server address (next_link old)) follows opens.enters
+    sound-enters recording old new (2 * length new.opened.items + 1) log (entry.Opened server address (next_link old)) follows opens.enters
     (ap (λ s. s.cut) opens.frame) (ap (λ s. s.traffic) opens.frame) (ap (λ s. s.admin) opens.frame)
     (ap (links_below (n + 1)) opens.opened ∙ opened-more n old.opened.items follows.sound.opened)
     (ap (λ late. all_below (n + 1) (late_entries late)) opens.late ∙ late-below (track_at new.tracks.items (2 * length new.opened.items + 1)).marks (n + 1) (next_link old) (omega arith))
@@ -113,8 +103,8 @@ wake-later recording s lines ms count until_ms rest log follows is first some no
     let can = begins (moment_of log) follows.sound.rest.clients ms count rest (subst (PlayableAfter (moment_of log) follows.sound.rest.clients) (sym is) follows.sound.rest.playable) first some none in
     subst (λ (m : ℕ). m ≤ ms) (sym same) can.later
 
-pub follows-wakes : (recording : List RecordEntry) (old new : Stage) (ms count until_ms : ℕ) (rest : List RecordEntry) (log : Log) → Follows recording old log → rest ≡ drop old.cut recording → first_moment rest ≡ Some ms → 0 < count → count ≤ length rest → NoMoment (drop 1 (take count rest)) → EndsAtMoment (drop count rest) → Wakes (take count rest) (old.cut + length (take count rest)) old new → Follows recording new ((log ++ wake-marks old (take count rest)) ++ entry.Woke until_ms ms ∷ [])
-follows-wakes recording old new ms count until_ms rest log follows is first some most none ends wakes =
+pub sound-wakes : (recording : List RecordEntry) (old new : Stage) (ms count until_ms : ℕ) (rest : List RecordEntry) (log : Log) → Follows recording old log → rest ≡ drop old.cut recording → first_moment rest ≡ Some ms → 0 < count → count ≤ length rest → NoMoment (drop 1 (take count rest)) → EndsAtMoment (drop count rest) → Wakes (take count rest) (old.cut + length (take count rest)) old new → IsSound recording new ((log ++ wake-marks old (take count rest)) ++ entry.Woke until_ms ms ∷ [])
+sound-wakes recording old new ms count until_ms rest log follows is first some most none ends wakes =
     let lines = take count rest in
     let n = length old.places.items in
     let good = wake-good recording old lines log follows in
@@ -127,15 +117,13 @@ follows-wakes recording old new ms count until_ms rest log follows is first some
     let same : length new.places.items ≡ n = ap (λ s. length s.places.items) wakes.frame in
     let all : all_below n ((log ++ wake-marks old lines) ++ entry.Woke until_ms ms ∷ []) ≡ true = all_below-append (log ++ wake-marks old lines) (entry.Woke until_ms ms ∷ []) n (all_below-append log (wake-marks old lines) n follows.sound.below good.below) refl in
     record {
-      sound = record {
-        below = subst (λ (k : ℕ). all_below k ((log ++ wake-marks old lines) ++ entry.Woke until_ms ms ∷ []) ≡ true) (sym same) all;
-        late = no-late (length new.places.items) new.late.marks new.late.link wakes.late;
-        opened = subst (λ (k : ℕ). links_below k new.opened.items ≡ true) (sym same) (ap (λ s. links_below n s.opened.items) wakes.frame ∙ follows.sound.opened);
-        linked = λ at link is. ap (λ s. slice_get s.places.items link.0) wakes.frame ∙ follows.sound.linked at link (sym (released-links lines old.tracks.items new.tracks.items wakes.tracks at) ∙ is);
-        rest = subst (λ (m : ℕ). Continues m (drop new.cut recording)) (sym (moment_of-more (log ++ wake-marks old lines) (entry.Woke until_ms ms))) (subst (Continues ms) left can.after);
-        traffic = subst HaveSalts (sym wakes.traffic) (salts-append old.traffic.items (clients_at Traffic lines) follows.sound.traffic (salts-of Traffic (moment_of log) clients count rest playable));
-        admin = subst HaveSalts (sym wakes.admin) (salts-append old.admin.items (clients_at Admin lines) follows.sound.admin (salts-of Admin (moment_of log) clients count rest playable));
-      };
+      below = subst (λ (k : ℕ). all_below k ((log ++ wake-marks old lines) ++ entry.Woke until_ms ms ∷ []) ≡ true) (sym same) all;
+      late = no-late (length new.places.items) new.late.marks new.late.link wakes.late;
+      opened = subst (λ (k : ℕ). links_below k new.opened.items ≡ true) (sym same) (ap (λ s. links_below n s.opened.items) wakes.frame ∙ follows.sound.opened);
+      linked = λ at link is. ap (λ s. slice_get s.places.items link.0) wakes.frame ∙ follows.sound.linked at link (sym (released-links lines old.tracks.items new.tracks.items wakes.tracks at) ∙ is);
+      rest = subst (λ (m : ℕ). Continues m (drop new.cut recording)) (sym (moment_of-more (log ++ wake-marks old lines) (entry.Woke until_ms ms))) (subst (Continues ms) left can.after);
+      traffic = subst HaveSalts (sym wakes.traffic) (salts-append old.traffic.items (clients_at Traffic lines) follows.sound.traffic (salts-of Traffic (moment_of log) clients count rest playable));
+      admin = subst HaveSalts (sym wakes.admin) (salts-append old.admin.items (clients_at Admin lines) follows.sound.admin (salts-of Admin (moment_of log) clients count rest playable));
     }
 
 pub wake-calls : (told one two new : Option Log) (s : Stage) (lines : List RecordEntry) (opened : List LinkId) (e : Entry) → opened ≡ s.opened.items → Adds told (late_entries s.late) one → Adds one (filter_map (mark_at opened) lines) two → Adds two (e ∷ []) new → IsBounded new → Calls told (wake-marks s lines) e new
@@ -156,27 +144,3 @@ marks_are s lines = marks-append (late_entries s.late) (filter_map (mark_at s.op
 none_some : (link : LinkId) → None ≡ Some link → ⊥
 none_some link is = cc
 
--- the first stage follows the empty log
-pub follows-first : (recording : List RecordEntry) (s : Stage) → IsPlayable recording → IsFirst s → Follows recording s []
-follows-first recording s playable first = record {
-  sound = record {
-    below = refl;
-    late = no-late (length s.places.items) s.late.marks s.late.link first.late;
-    opened = ap (links_below (length s.places.items)) first.opened;
-    linked = λ at link is. absurd (let none : (track_at s.tracks.items at).link ≡ None = ap (λ (ts : List Track). (track_at ts at).link) first.tracks in none_some link (sym none ∙ is));
-    rest = subst (λ (k : ℕ). Continues 0 (drop k recording)) (sym first.cut) (record { clients = 0; playable = playable.lines });
-    traffic = subst HaveSalts (sym first.traffic) tt;
-    admin = subst HaveSalts (sym first.admin) tt;
-  };
-}
-
-pub tape-first : (recording : List RecordEntry) (s : Stage) (told : Option Log) → IsPlayable recording → IsFirst s → told ≡ Some [] → IsTape recording s told
-tape-first recording s told playable first is = record {
-  within = record {
-    cut = let e : s.cut ≡ 0 = first.cut in omega arith;
-    last = let e : s.last ≡ 0 = first.last in omega arith;
-    line = let e : s.line ≡ 0 = first.line in omega arith;
-    link = let e : s.link ≡ 0 = first.link in omega arith;
-  };
-  follows = λ log told_is. let same : [] ≡ log = cc in subst (Follows recording s) same (follows-first recording s playable first);
-}

@@ -6,6 +6,7 @@ pub mod Quiet
 pub mod Telling
 pub mod Sound
 pub mod Courses
+pub mod Playing
 pub mod Following
 pub mod Playable
 pub mod Results
@@ -18,3 +19,4 @@ pub mod StandEnters
 pub mod StandWakes
 pub mod Distinct
 pub mod Nameable
+pub mod Entries
