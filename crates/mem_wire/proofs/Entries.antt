@@ -10,7 +10,7 @@ use Rattle.mx_base.specs.declared.names.Address.{Address}
 use Rattle.mx_base.specs.declared.names.Port.{Port}
 use Rattle.mx_base.specs.declared.names.Port.TheVariants.{Traffic, Admin}
 use Rattle.mx_wire.specs.Log.{Log, link_of, opened_links, accepted_links, moment_step}
-use Rattle.mx_wire.specs.Tells.{IsOpen}
+use Rattle.mx_wire.specs.Tells.{IsOpen, OpenFor}
 use Rattle.mx_wire.specs.Growth.{bool_cases, same_number}
 use Rattle.mx_wire.specs.declared.entry.Entry.{Entry}
 use Rattle.mx_wire.specs.declared.entry.Entry.TheVariants as entry
@@ -49,6 +49,7 @@ use Rattle.mem_wire.proofs.StandWakes.{stands-wakes}
 use Rattle.mem_wire.proofs.Distinct.{client-fresh, server-fresh}
 use Rattle.mem_wire.proofs.Nameable.{passed-more, names-none, names-some}
 use Rattle.mem_wire.proofs.Playing.{IsCall, IsPlain, execs-are, execs-append, late-execs-of, lines-execs, stands-marked, follows-plain, follows-entry, none-late, late-is, late-after}
+use Rattle.mem_wire.proofs.Telling.{goes_on, goes_on_if}
 use Rattle.mem_wire.proofs.Following.{sound-moved, sound-accepts, sound-opens, sound-wakes, wake-marks, wake-good}
 
 -- Entries that a play doesn't look at.
@@ -251,3 +252,27 @@ follows-named recording old mid new log t within follows looks moves moved =
     (names-some recording old mid log1 t (stands-marked recording old log follows) within follows.sound.linked follows.passed looks)
     (λ name spot fits. mine-named (take old.cut recording) old.last old.cut log1 t.link name (track_at old.tracks.items (place name)) (follows.stands.wake positive) (owner-at old t.link t.at name owner spot) fits)
     (passed-change recording mid new t.at (λ y. record y { named = Some mid.last }) (passed-more recording (Some t) old mid within follows.passed looks) moves.frame changes (named-keeps mid.last))
+
+-- The same of a tape.
+
+pub tape-stays : (recording : List RecordEntry) (old new : Stage) (before after : Option Log) (e : Entry) → IsTape recording old before → IsWithin recording new → Stays old new → Calls before (late_entries old.late) e after → ((log : Log) → before ≡ Some log → Follows recording old log → link_below (length old.places.items) (link_of e) ≡ true) → ((m : ℕ) → moment_step m e ≡ m) → IsIdle e → IsPlain recording e → is_opened e ≡ false → ((log : Log) → Follows recording old log → Stands recording old (log ++ late_entries old.late) → Answers recording (log ++ late_entries old.late) e) → ((log : Log) → Follows recording old log → Passed recording new) → IsTape recording new after
+tape-stays recording old new before after e tape within stays call low moment idle plain unopened answer passed =
+    goes_on recording old new before after (late_entries old.late) e tape within call (λ log is follows.
+        follows-stays recording old new log e follows stays (low log is follows) moment idle plain unopened (answer log follows (stands-marked recording old log follows)) (passed log follows))
+
+pub tape-stays-if : (recording : List RecordEntry) (old new : Stage) (before after : Option Log) (told : Option Entry) (e : Entry) → IsTape recording old before → IsWithin recording new → Stays old new → CallsIf before (late_entries old.late) told after → IfSome told (λ x. x ≡ e) → ((log : Log) → before ≡ Some log → Follows recording old log → link_below (length old.places.items) (link_of e) ≡ true) → ((m : ℕ) → moment_step m e ≡ m) → IsIdle e → IsPlain recording e → is_opened e ≡ false → ((log : Log) → Follows recording old log → Stands recording old (log ++ late_entries old.late) → Answers recording (log ++ late_entries old.late) e) → ((log : Log) → Follows recording old log → Passed recording new) → IsTape recording new after
+tape-stays-if recording old new before after told e tape within stays call is low moment idle plain unopened answer passed =
+    goes_on_if recording old new before after (late_entries old.late) told e tape within call is (λ log told_is follows.
+        follows-stays recording old new log e follows stays (low log told_is follows) moment idle plain unopened (answer log follows (stands-marked recording old log follows)) (passed log follows))
+
+pub open-in : (told shown : Option Log) (link : LinkId) (log : Log) → told ≡ shown → OpenFor shown link → told ≡ Some log → IsOpen link log
+open-in told shown link log same opened is = opened.holds log (sym same ∙ is)
+
+-- a search, and then the late marks are told
+pub stays-search : (recording : List RecordEntry) (found : Option ToName) (old mid new : Stage) → Searches recording found old mid → new ≡ record mid { late = new.late } → new.late.marks ≡ 0 → Stays old new
+stays-search recording found old mid new looks frame late = record {
+  frame = frame ∙ ap {A = Stage} (λ s. record s { late = new.late }) looks.frame
+    ∙ ap (λ line. record old { late = new.late; line = line; link = mid.link }) (sym (ap (λ s. s.line) frame))
+    ∙ ap (λ link. record old { late = new.late; line = new.line; link = link }) (sym (ap (λ s. s.link) frame));
+  late = late;
+}

@@ -89,11 +89,10 @@ salt-next recording s log Traffic client follows is = salt-at s.traffic.items s.
 salt-next recording s log Admin client follows is = salt-at s.admin.items s.admin_accepted client follows.sound.admin is
 
 -- the lines of the next moment are released
-pub wake-marks : Stage → List RecordEntry → Log
+abbrev pub wake-marks : Stage → List RecordEntry → Log
 wake-marks s lines = late_entries s.late ++ filter_map (mark_at s.opened.items) lines
 
 pub wake-good : (recording : List RecordEntry) (s : Stage) (lines : List RecordEntry) (log : Log) → Follows recording s log → AreGood (length s.places.items) (wake-marks s lines)
-unfolding wake-marks
 wake-good recording s lines log follows = good-append (length s.places.items) (late_entries s.late) (filter_map (mark_at s.opened.items) lines) (sound-late recording s log follows.sound) (marks-good (length s.places.items) s.opened.items lines follows.sound.opened)
 
 pub wake-later : (recording : List RecordEntry) (s : Stage) (lines : List RecordEntry) (ms count until_ms : ℕ) (rest : List RecordEntry) (log : Log) → Follows recording s log → rest ≡ drop s.cut recording → first_moment rest ≡ Some ms → 0 < count → NoMoment (drop 1 (take count rest)) → Fits (log ++ wake-marks s lines) (entry.Woke until_ms ms)
@@ -127,7 +126,6 @@ sound-wakes recording old new ms count until_ms rest log follows is first some m
     }
 
 pub wake-calls : (told one two new : Option Log) (s : Stage) (lines : List RecordEntry) (opened : List LinkId) (e : Entry) → opened ≡ s.opened.items → Adds told (late_entries s.late) one → Adds one (filter_map (mark_at opened) lines) two → Adds two (e ∷ []) new → IsBounded new → Calls told (wake-marks s lines) e new
-unfolding wake-marks
 wake-calls told one two new s lines opened e same first next last bounded = calls_in_parts told one two new (late_entries s.late) (filter_map (mark_at s.opened.items) lines) e first (subst (λ (links : List LinkId). Adds one (filter_map (mark_at links) lines) two) same next) last bounded
 
 -- the link that a search has found is one of the links
@@ -138,7 +136,6 @@ found-low recording found t old new log follows looks is =
     is_below t.link.0 (length old.places.items) (slice_get_within old.places.items t.link.0 t.at (follows.sound.linked t.at t.link here))
 
 pub marks_are : (s : Stage) (lines : List RecordEntry) → AreMarks (wake-marks s lines)
-unfolding wake-marks
 marks_are s lines = marks-append (late_entries s.late) (filter_map (mark_at s.opened.items) lines) (late_are s.late) (marks-of s.opened.items lines)
 
 none_some : (link : LinkId) → None ≡ Some link → ⊥

@@ -20,3 +20,4 @@ pub mod StandWakes
 pub mod Distinct
 pub mod Nameable
 pub mod Entries
+pub mod Arrivals

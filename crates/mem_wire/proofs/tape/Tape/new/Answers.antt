@@ -1,4 +1,4 @@
-use Rattle.mem_wire.proofs.Following.{tape-first}
+use Rattle.mem_wire.proofs.Arrivals.{tape-first}
 use Rattle.mem_wire.proofs.tape.Tape.new.Goals as goal
 
 pub invariant_of-result : goal.invariant_of-result
