@@ -1,7 +1,9 @@
 // A wire that plays a recording.
 ghost use Rattle.std.specs.Prelude.{◌≡◌, [], Some, IfSome, option_map};
 ghost use Rattle.mx_wire.specs.declared.entry.Entry.TheVariants as entry;
+ghost use Rattle.mx_wire.specs.Log.{Log};
 ghost use Rattle.recording.specs.Playable.{IsPlayable};
+ghost use Rattle.mem_wire.specs.Play.{IsPlay};
 
 use crate::late::Late;
 use crate::lines::{first_moment, lines_of_moment, put_marks};
@@ -50,9 +52,10 @@ impl Tape {
         }
     }
 
-    /// The log so far, where it is told.
+    /// The log so far, where it is told. It is a play of the recording.
     pub fn log(&self) -> Option<&[Entry]>
-        ensures { option_map (λ log. log.now) result ≡ self.now.told }
+        ensures told { option_map (λ log. log.now) result ≡ self.now.told }
+        ensures plays { (log : Log) → self.now.told ≡ Some log → IsPlay self.now.recording log }
     {
         self.told.told()
     }
