@@ -4,8 +4,9 @@ pub mod Fields
 pub mod Line
 pub mod Pieces
 pub mod Places
+pub mod Playable
 pub mod Recording
+pub mod Refusal
 pub mod Runs
 pub mod Spelling
 pub mod Transcript
-pub mod Refusal
