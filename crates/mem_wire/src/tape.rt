@@ -68,6 +68,8 @@ impl Wire for Tape {
 
     ghost faults = { λ tape. 0 };
 
+    ghost rule = { λ tape log. IsPlay tape.recording log };
+
     fn reserve(&mut self, _links: u32) -> Result<(), OutOfMemory> {
         Ok(())
     }
