@@ -1,0 +1,13 @@
+pub mod Lines
+pub mod Came
+pub mod Play
+pub mod Adds
+pub mod Tracks
+pub mod Cuts
+pub mod Steps
+pub mod Naming
+pub mod Below
+pub mod Follows
+pub mod Told
+pub mod Held
+pub mod Stands

@@ -1,2 +1,23 @@
-//! To be written.
+//! The outside in memory: a wire that plays a recording and tells its log, files, and a sink.
 #![tactic(auto)]
+
+mod lines;
+mod late;
+mod mem_files;
+mod mem_sink;
+mod naming;
+mod stage;
+mod steps;
+mod tape;
+mod told_log;
+mod track;
+mod tracks;
+mod waiting;
+
+pub use mem_files::MemFiles;
+pub use mem_sink::MemSink;
+pub use tape::Tape;
+pub use waiting::Waiting;
+
+#[cfg(test)]
+mod tests;

@@ -6,7 +6,7 @@ pub mod Pieces
 pub mod Places
 pub mod Playable
 pub mod Recording
+pub mod Refusal
 pub mod Runs
 pub mod Spelling
 pub mod Transcript
-pub mod Refusal

@@ -20,8 +20,6 @@ pub struct Core {
     pub server: Option<Server>,
     /// Links that are to be closed.
     pub refused: Vec<LinkId>,
-    /// Whether a link to the server is to be opened.
-    pub opens: bool,
     pub client_changed: bool,
     pub server_changed: bool,
 }
@@ -37,7 +35,6 @@ impl Core {
             client: None,
             server: None,
             refused: Vec::new(alloc),
-            opens: false,
             client_changed: false,
             server_changed: false,
         })
@@ -56,16 +53,12 @@ fn release(core: &mut Core) -> Result<(), OutOfMemory>
     Ok(())
 }
 
-// A command in work wants a link to the server, and a client that ends wants none.
+// A client that ends needs no link to the server.
 fn settle(core: &mut Core) -> Result<(), OutOfMemory>
     ensures { OnOk result (Settles core.old.client core.old core.new) }
 {
     match &core.client {
         Some(client) => match client.phase {
-            Phase::Working(_) => {
-                core.opens = core.server.is_none();
-                Ok(())
-            }
             Phase::Ending => release(core),
             _ => Ok(()),
         },
@@ -109,7 +102,7 @@ pub fn is_server(server: &Option<Server>, link: LinkId) -> bool
 }
 
 // Whether a command waits for its reply, or for a link on which it can be sent.
-fn has_work(client: &Option<Client>) -> bool
+pub fn has_work(client: &Option<Client>) -> bool
     ensures { result ≡ has_work client.now }
 {
     match client {

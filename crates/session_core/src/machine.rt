@@ -11,7 +11,7 @@ ghost use Rattle.session_core.specs.Machining.{the_address, the_target, changed,
 
 use crate::client::Client;
 use crate::core::{
-    Core, client_comes, is_client, is_server, link_opens, lose, open_fails, take_bytes,
+    Core, client_comes, has_work, is_client, is_server, link_opens, lose, open_fails, take_bytes,
 };
 use crate::phase::Phase;
 use mx_base::{Address, LinkId, OutOfMemory, Port, ServerId, Tag};
@@ -191,8 +191,7 @@ impl Machine for Core {
         if let Some(link) = close_client(&mut self.client) {
             return Some(Act::Close { link });
         }
-        if self.opens {
-            self.opens = false;
+        if has_work(&self.client) && self.server.is_none() {
             return Some(Act::Open {
                 server: SERVER,
                 address: ADDRESS,

@@ -1,0 +1,284 @@
+-- The stage follows the log where links come and where it wakes.
+use Rattle.std.proofs.Common.{◌≡◌, ℕ, zero, suc, ◌<◌, ◌≤◌, ◌+◌, ◌-◌, ◌*◌, ◌==◌, Bool, true, false, nat_eq, List, [], ◌∷◌, ◌++◌, length, filter, take, drop, if◌then◌else◌, Option, Some, None, refl, sym, ◌∙◌, ap, subst, arith, append-nil, append_assoc, length-append, add-zero, replicate, inl, inr}
+use Rattle.std.specs.Prelude.{IfSome, slice_get, not, ◌&&◌}
+use Rattle.std.specs.List.{filter_map, cons_option}
+use Rattle.std.proofs.lemmas.Option.{slice_get_within}
+use Rattle.std.proofs.lemmas.List.{length-take-le, drop-drop, take-append-le}
+use Rattle.std.proofs.lemmas.Bool.{eqb-true}
+use Rattle.mx_base.specs.declared.names.LinkId.{LinkId}
+use Rattle.mx_base.specs.declared.names.ServerId.{ServerId}
+use Rattle.mx_base.specs.declared.names.Address.{Address}
+use Rattle.mx_base.specs.declared.names.Port.{Port}
+use Rattle.mx_base.specs.declared.names.Port.TheVariants.{Traffic, Admin}
+use Rattle.mx_wire.specs.Log.{Log, link_of, opened_links}
+use Rattle.mx_wire.specs.Growth.{bool_cases}
+use Rattle.mx_wire.specs.declared.entry.Entry.{Entry}
+use Rattle.mx_wire.specs.declared.entry.Entry.TheVariants as entry
+use Rattle.recording.specs.declared.entry.RecordLink.{RecordLink}
+use Rattle.recording.specs.declared.entry.RecordLink.TheVariants.{Client, Server}
+use Rattle.recording.specs.declared.entry.RecordEntry.{RecordEntry}
+use Rattle.recording.specs.declared.entry.RecordEntry.TheVariants as line
+use Rattle.recording.specs.Playable.{IsPlayable, BeginsAtMoment}
+use Rattle.mem_wire.specs.declared.waiting.Waiting.{Waiting}
+use Rattle.mem_wire.specs.declared.track.Track.{Track}
+use Rattle.mem_wire.specs.declared.stage.Stage.{Stage}
+use Rattle.mem_wire.specs.Adds.{late_entries}
+use Rattle.mem_wire.specs.Lines.{bytes_for, is_port, moments, is_mark_for, marks_for, released, released_last, clients_at}
+use Rattle.mem_wire.specs.Cuts.{NoMoment, EndsAtMoment, first_moment}
+use Rattle.mem_wire.specs.Came.{wakes, accepted_at, next_client, known, known_by, as_client}
+use Rattle.mem_wire.specs.Play.{is_opened, mark_at, late_marks, due_marks, just_opened, Answers}
+use Rattle.mem_wire.specs.Below.{link_below, all_below, links_below}
+use Rattle.mem_wire.specs.Tracks.{blank, track_at, place, ChangesTrack}
+use Rattle.mem_wire.specs.Steps.{numbered, next_link, clients_of, accepted_of, Enters, Accepts, Opens, Wakes, IsFirst, IsWithin}
+use Rattle.mem_wire.specs.Naming.{named_by, named_at, NoneIn, NoneAt, lines_between}
+use Rattle.mem_wire.specs.Stands.{Numbered, CutsAt, Fits, Stands, Passed, Entered, client, server}
+use Rattle.mem_wire.specs.Follows.{IsSound, Follows, IsTape, Continues, HaveSalts}
+use Rattle.mem_wire.proofs.Links.{all_below-append}
+use Rattle.mem_wire.proofs.Scenes.{alike-marks, accepted-more, opened-more, just-more, wakes-more}
+use Rattle.mem_wire.proofs.Sound.{sound-late, no-late, get-last, get-front}
+use Rattle.mem_wire.proofs.CutLaws.{moment-is, cut-next, last-lines, cut-released}
+use Rattle.mem_wire.proofs.Standing.{client-is, stands-alike}
+use Rattle.mem_wire.proofs.StandEnters.{Brings_link, stands-enters}
+use Rattle.mem_wire.proofs.StandWakes.{stands-wakes}
+use Rattle.mem_wire.proofs.Distinct.{client-fresh, server-fresh}
+use Rattle.mem_wire.proofs.Playing.{IsCall, IsPlain, execs-are, execs-append, late-execs-of, lines-execs, stands-marked, follows-plain, follows-entry, none-late, late-is, late-after}
+use Rattle.mem_wire.proofs.Following.{sound-accepts, sound-opens, sound-wakes, wake-marks}
+
+-- What a search has passed stays passed where a link comes: its own track is looked for behind them.
+none_at-kept : (last : ℕ) (old new : List Track) (places : List ℕ) → ((i spot : ℕ) → slice_get places i ≡ Some spot → named_at last old spot ≡ None → named_at last new spot ≡ None) → NoneAt last old places → NoneAt last new places
+none_at-kept last old new [] keeps none = tt
+none_at-kept last old new (at ∷ places) keeps none = (keeps 0 at refl none.0, none_at-kept last old new places (λ i spot is. keeps (suc i) spot is) none.1)
+
+get-take : (k : ℕ) (xs : List ℕ) (i x : ℕ) → slice_get (take k xs) i ≡ Some x → slice_get xs i ≡ Some x
+get-take zero xs i x is = cc
+get-take (suc k) [] i x is = cc
+get-take (suc k) (y ∷ xs) zero x is = is
+get-take (suc k) (y ∷ xs) (suc i) x is = get-take k xs i x is
+
+no-lines : (last : ℕ) (tracks : List Track) (at : ℕ) (recording : List RecordEntry) → NoneIn last tracks (lines_between at at recording)
+no-lines last tracks at recording = subst (λ (n : ℕ). NoneIn last tracks (take n (drop at recording))) (let e : 0 ≡ at - at = omega arith in e) tt
+
+none_owner : (link : LinkId) → None ≡ Some link → ⊥
+none_owner link is = cc
+
+passed-enters : (recording : List RecordEntry) (old new : Stage) (log : Log) (at : ℕ) → Stands recording old log → Passed recording old → IsWithin recording old → Enters at old new → new.last ≡ old.last → new.link ≡ old.link → (track_at old.tracks.items at).link ≡ None → Passed recording new
+passed-enters recording old new log at st passed within enters last link none =
+    let kept : NoneAt old.last new.tracks.items (take old.link old.places.items) = none_at-kept old.last old.tracks.items new.tracks.items (take old.link old.places.items) (λ i spot is before. elim (bool_cases (spot == at)) [
+      | inl same ↦ absurd (none_owner (numbered i) (sym none ∙ ap (λ (p : ℕ). (track_at old.tracks.items p).link) (sym (eqb-true spot at same)) ∙ st.placed i spot (get-take old.link old.places.items i spot is)))
+      | inr other ↦ ap (named_by old.last) (enters.tracks spot ∙ ap (λ b. if b then record (track_at old.tracks.items spot) { link = Some (next_link old) } else track_at old.tracks.items spot) other) ∙ before
+    ]) passed.places in
+    record {
+      lines = subst (λ (l : ℕ). NoneIn new.last new.tracks.items (lines_between new.last l recording)) (last ∙ sym enters.line) (no-lines new.last new.tracks.items new.last recording);
+      places = subst (λ (l : ℕ). NoneAt l new.tracks.items (take new.link new.places.items)) (sym last)
+        (subst (NoneAt old.last new.tracks.items) (sym (ap (λ (k : ℕ). take k new.places.items) link ∙ ap (take old.link) enters.places ∙ take-append-le old.link old.places.items (at ∷ []) within.link)) kept);
+    }
+
+clients-same : (old new : Stage) (port : Port) → new.traffic ≡ old.traffic → new.admin ≡ old.admin → clients_of port new ≡ clients_of port old
+clients-same old new Traffic traffic admin = ap (λ v. v.items) traffic
+clients-same old new Admin traffic admin = ap (λ v. v.items) admin
+
+one-more : (b : Bool) (e : Entry) → (if b then 1 else 0) ≡ length (if b then e ∷ [] else [])
+one-more true e = refl
+one-more false e = refl
+
+port-flip : (a b : Port) → is_port a b ≡ is_port b a
+port-flip Traffic Traffic = refl
+port-flip Traffic Admin = refl
+port-flip Admin Traffic = refl
+port-flip Admin Admin = refl
+
+port-self : (a : Port) → is_port a a ≡ true
+port-self Traffic = refl
+port-self Admin = refl
+
+entered-more : (old new : Stage) (at : ℕ) → ((port : Port) → clients_of port new ≡ clients_of port old) → ((port : Port) → accepted_of port old ≤ accepted_of port new) → length old.opened.items ≤ length new.opened.items → Entered old at → Entered new at
+entered-more old new at clients accepted opened (client port i waiting low is spot) =
+    client port i waiting (let more : accepted_of port old ≤ accepted_of port new = accepted port in omega arith) (ap (λ cs. slice_get cs i) (clients port) ∙ is) spot
+entered-more old new at clients accepted opened (server k low spot) = server k (omega arith) spot
+
+pub follows-accepted : (recording : List RecordEntry) (old new : Stage) (log : Log) (port : Port) (c : Waiting) → IsWithin recording old → Follows recording old log → slice_get (clients_of port old) (accepted_of port old) ≡ Some c → Accepts port c.number old new → Follows recording new ((log ++ late_entries old.late) ++ entry.Accepted port (next_link old) c.salt ∷ [])
+follows-accepted recording old new log port c within follows next accepts =
+    let log1 = log ++ late_entries old.late in
+    let e = entry.Accepted port (next_link old) c.salt in
+    let st = stands-marked recording old log follows in
+    let waits : next_client recording log1 port ≡ Some c = client-is recording old log1 port st ∙ next in
+    let fresh : (track_at old.tracks.items (2 * c.number)).link ≡ None = client-fresh recording old log1 port c follows.playable st next in
+    let clients : (p : Port) → clients_of p new ≡ clients_of p old = λ p. clients-same old new p (ap (λ s. s.traffic) accepts.frame) (ap (λ s. s.admin) accepts.frame) in
+    follows-plain recording old new log e follows (record { call = record { unmarked = refl; judge = λ l x. x }; due = λ l. refl })
+    (record { number = c.number; is = waits })
+    (sound-accepts recording old new port c.number c.salt log follows accepts)
+    (stands-enters recording old new log1 e (2 * c.number) (Client c.number) st follows.sound.linked
+    (all_below-append log (late_entries old.late) (length old.places.items) follows.sound.below (sound-late recording old log follows.sound).below)
+    accepts.enters (ap (λ s. s.cut) accepts.frame) (ap (λ s. s.last) accepts.frame) clients
+    (λ p. accepts.accepted p ∙ ap (λ (n : ℕ). n + (if is_port port p then 1 else 0)) (st.accepted p) ∙ ap (λ b. accepted_at p log1 + (if b then 1 else 0)) (port-flip port p) ∙ ap (λ (n : ℕ). accepted_at p log1 + n) (one-more (is_port p port) e) ∙ sym (accepted-more p log1 e))
+    (opened-more log1 e ∙ append-nil (opened_links log1) ∙ st.opened ∙ sym (ap (λ s. s.opened.items) accepts.frame))
+    refl fresh (ap (as_client (next_link old)) waits)
+    (λ spot was. entered-more old new spot clients (λ p. let more : accepted_of p new ≡ accepted_of p old + (if is_port port p then 1 else 0) = accepts.accepted p in omega arith) (let same : length new.opened.items ≡ length old.opened.items = ap (λ s. length s.opened.items) accepts.frame in omega arith) was)
+    (client port (accepted_of port old) c (let more : accepted_of port new ≡ accepted_of port old + 1 = accepts.accepted port ∙ ap (λ b. accepted_of port old + (if b then 1 else 0)) (port-self port) in omega arith) (ap (λ cs. slice_get cs (accepted_of port old)) (clients port) ∙ next) refl)
+    (record { woke = refl; of = refl; got = refl; opens = λ was. refl; names = λ links. refl }))
+    (passed-enters recording old new log1 (2 * c.number) st follows.passed within accepts.enters (ap (λ s. s.last) accepts.frame) (ap (λ s. s.link) accepts.frame) fresh)
+    (none-late recording log1 e new.late refl refl accepts.late)
+
+accepted-frame : (old new : Stage) (port : Port) → new.traffic_accepted ≡ old.traffic_accepted → new.admin_accepted ≡ old.admin_accepted → accepted_of port new ≡ accepted_of port old
+accepted-frame old new Traffic traffic admin = traffic
+accepted-frame old new Admin traffic admin = admin
+
+late-opened : (recording : List RecordEntry) (old new : Stage) (log1 : Log) (at_server : ServerId) (address : Address) → Opens old new → Stands recording new (log1 ++ entry.Opened at_server address (next_link old) ∷ []) → opened_links (log1 ++ entry.Opened at_server address (next_link old) ∷ []) ≡ new.opened.items → length new.opened.items ≡ length old.opened.items + 1 → late_marks recording (log1 ++ entry.Opened at_server address (next_link old) ∷ []) ≡ late_entries new.late
+late-opened recording old new log1 at_server address opens st opened_is count =
+    let e = entry.Opened at_server address (next_link old) in
+    let log2 = log1 ++ e ∷ [] in
+    let k = length new.opened.items in
+    let newest : slice_get new.opened.items (k - 1) ≡ Some (next_link old) =
+        ap (λ (links : List LinkId). slice_get links (k - 1)) opens.opened ∙ ap (slice_get (old.opened.items ++ next_link old ∷ [])) (let i : k - 1 ≡ length old.opened.items = omega arith in i) ∙ get-last old.opened.items (next_link old) in
+    let marks : (track_at new.tracks.items (2 * k + 1)).marks ≡ marks_for (Server k) (take new.cut recording) = (st.tracks (Server k)).marks in
+    ap (λ b. if b then filter_map (mark_at (opened_links log2)) (filter (is_mark_for (Server (length (opened_links log2)))) (released (wakes log2) recording)) else []) (just-more log1 e)
+    ∙ ap (λ (links : List LinkId). filter_map (mark_at links) (filter (is_mark_for (Server (length links))) (released (wakes log2) recording))) opened_is
+    ∙ ap (λ (lines : List RecordEntry). filter_map (mark_at new.opened.items) (filter (is_mark_for (Server k)) lines)) (cut-released recording new.cut (wakes log2) st.cut)
+    ∙ late-is new.opened.items k (next_link old) (take new.cut recording) newest
+    ∙ ap (λ (n : ℕ). replicate n (entry.Exec (next_link old))) (sym marks)
+    ∙ sym (ap late_entries opens.late)
+
+pub follows-opened : (recording : List RecordEntry) (old new : Stage) (log : Log) (at_server : ServerId) (address : Address) → IsWithin recording old → Follows recording old log → Opens old new → Follows recording new ((log ++ late_entries old.late) ++ entry.Opened at_server address (next_link old) ∷ [])
+follows-opened recording old new log at_server address within follows opens =
+    let log1 = log ++ late_entries old.late in
+    let e = entry.Opened at_server address (next_link old) in
+    let log2 = log1 ++ e ∷ [] in
+    let st = stands-marked recording old log follows in
+    let count : length new.opened.items ≡ length old.opened.items + 1 = ap length opens.opened ∙ length-append old.opened.items (next_link old ∷ []) in
+    let fresh : (track_at old.tracks.items (2 * length new.opened.items + 1)).link ≡ None = ap (λ (n : ℕ). (track_at old.tracks.items (2 * n + 1)).link) count ∙ server-fresh recording old log1 st in
+    let clients : (p : Port) → clients_of p new ≡ clients_of p old = λ p. clients-same old new p (ap (λ s. s.traffic) opens.frame) (ap (λ s. s.admin) opens.frame) in
+    let accepted : (p : Port) → accepted_of p new ≡ accepted_of p old = λ p. accepted-frame old new p (ap (λ s. s.traffic_accepted) opens.frame) (ap (λ s. s.admin_accepted) opens.frame) in
+    let opened_is : opened_links log2 ≡ new.opened.items = opened-more log1 e ∙ ap (λ ls. ls ++ next_link old ∷ []) st.opened ∙ sym opens.opened in
+    let named : length (opened_links log1) + 1 ≡ length new.opened.items = ap (λ ls. length ls + 1) st.opened ∙ sym count in
+    let stands = stands-enters recording old new log1 e (2 * length new.opened.items + 1) (Server (length new.opened.items)) st follows.sound.linked
+        (all_below-append log (late_entries old.late) (length old.places.items) follows.sound.below (sound-late recording old log follows.sound).below)
+        opens.enters (ap (λ s. s.cut) opens.frame) (ap (λ s. s.last) opens.frame) clients
+        (λ p. accepted p ∙ st.accepted p ∙ sym (accepted-more p log1 e ∙ add-zero (accepted_at p log1)))
+        opened_is refl fresh (ap (λ (n : ℕ). record { link = next_link old; name = Server n } ∷ []) named)
+        (λ spot was. entered-more old new spot clients (λ p. let same : accepted_of p new ≡ accepted_of p old = accepted p in omega arith) (omega arith) was)
+        (server (length new.opened.items) (omega arith) refl)
+        (record { woke = refl; of = refl; got = refl; opens = λ was. refl; names = λ links. refl }) in
+    follows-plain recording old new log e follows (record { call = record { unmarked = refl; judge = λ l x. x }; due = λ l. refl })
+    tt (sound-opens recording old new at_server address log follows opens) stands
+    (passed-enters recording old new log1 (2 * length new.opened.items + 1) st follows.passed within opens.enters (ap (λ s. s.last) opens.frame) (ap (λ s. s.link) opens.frame) fresh)
+    (late-opened recording old new log1 at_server address opens stands opened_is count)
+
+pub follows-woken : (recording : List RecordEntry) (old new : Stage) (ms count until_ms : ℕ) (rest : List RecordEntry) (log : Log) → IsWithin recording old → Follows recording old log → rest ≡ drop old.cut recording → first_moment rest ≡ Some ms → 0 < count → count ≤ length rest → old.cut + length (take count rest) ≤ length recording → NoMoment (drop 1 (take count rest)) → EndsAtMoment (drop count rest) → Wakes (take count rest) (old.cut + length (take count rest)) old new → Follows recording new ((log ++ wake-marks old (take count rest)) ++ entry.Woke until_ms ms ∷ [])
+follows-woken recording old new ms count until_ms rest log within follows is first some most end none ends step =
+    let lines = take count rest in
+    let e = entry.Woke until_ms ms in
+    let marks = late_entries old.late ++ filter_map (mark_at old.opened.items) lines in
+    let execs = execs-append (late_entries old.late) (filter_map (mark_at old.opened.items) lines) (late-execs-of old.late) (lines-execs old.opened.items lines) in
+    let are = execs-are marks execs in
+    let log1 = log ++ marks in
+    let st = stands-alike recording old log log1 (alike-marks recording log marks are) follows.stands in
+    let size : length lines ≡ count = length-take-le count rest most in
+    let last : new.last ≡ old.cut = ap (λ s. s.last) step.frame in
+    let line_is : new.line ≡ old.cut = ap (λ s. s.line) step.frame in
+    let link_is : new.link ≡ 0 = ap (λ s. s.link) step.frame in
+    let left : drop count rest ≡ drop (old.cut + count) recording = ap (drop count) is ∙ drop-drop count old.cut recording in
+    let cut_now : CutsAt recording old.cut ((wakes log1 + 1) - 1) = subst (CutsAt recording old.cut) (let same : wakes log1 ≡ (wakes log1 + 1) - 1 = omega arith in same) st.cut in
+    let cut_then = cut-next recording rest old.cut (wakes log1) ms count st.cut is first some none (subst EndsAtMoment left ends) in
+    let lines_are : released_last (wakes log1 + 1) recording ≡ lines =
+        last-lines recording old.cut (old.cut + count) (wakes log1 + 1) cut_now cut_then (omega arith) (omega arith)
+        ∙ ap (λ (n : ℕ). take n (drop old.cut recording)) (let n : (old.cut + count) - old.cut ≡ count = omega arith in n) ∙ ap (take count) (sym is) in
+    let due : due_marks recording log1 e ≡ marks =
+        ap (λ (l : Log). l ++ filter_map (mark_at (opened_links log1)) (released_last (wakes log1 + 1) recording)) (late-after recording log marks are ∙ follows.late)
+        ∙ ap (λ (links : List LinkId). late_entries old.late ++ filter_map (mark_at links) (released_last (wakes log1 + 1) recording)) st.opened
+        ∙ ap (λ (ls : List RecordEntry). late_entries old.late ++ filter_map (mark_at old.opened.items) ls) lines_are in
+    follows-entry recording old new log marks e follows execs (record { unmarked = refl; judge = λ l x. x }) due
+    (moment-is recording rest old.cut (wakes log1) ms st.cut is first)
+    (sound-wakes recording old new ms count until_ms rest log follows is first some most none ends step)
+    (stands-wakes recording old new log1 ms count until_ms rest st is first some most none ends step)
+    (record {
+      lines = subst (λ (l : ℕ). NoneIn new.last new.tracks.items (lines_between new.last l recording)) (last ∙ sym line_is) (no-lines new.last new.tracks.items new.last recording);
+      places = subst (λ (k : ℕ). NoneAt new.last new.tracks.items (take k new.places.items)) (sym link_is) tt;
+    })
+    (none-late recording log1 e new.late refl refl step.late)
+
+-- The first stage follows the empty log.
+
+blank-at : (s : Stage) (at : ℕ) → IsFirst s → track_at s.tracks.items at ≡ blank
+blank-at s at first = ap (λ (ts : List Track). track_at ts at) first.tracks
+
+begins-at : (recording : List RecordEntry) → BeginsAtMoment recording → EndsAtMoment recording
+begins-at [] begins = tt
+begins-at (line.At ms ∷ later) begins = refl
+begins-at (_ ∷ later) begins = absurd begins
+
+first-cut : (recording : List RecordEntry) (at n : ℕ) → at ≡ 0 → n ≡ 0 → BeginsAtMoment recording → CutsAt recording at n
+first-cut recording at n none start begins = record {
+  count_is = ap (λ (k : ℕ). length (moments (take k recording))) none ∙ sym start;
+  ends = subst (λ (k : ℕ). EndsAtMoment (drop k recording)) (sym none) (begins-at recording begins);
+}
+
+first-clients : (s : Stage) (port : Port) → IsFirst s → clients_of port s ≡ []
+first-clients s Traffic first = first.traffic
+first-clients s Admin first = first.admin
+
+first-accepted : (s : Stage) (port : Port) → IsFirst s → accepted_of port s ≡ 0
+first-accepted s Traffic first = first.traffic_accepted
+first-accepted s Admin first = first.admin_accepted
+
+no-owner : (s : Stage) (at : ℕ) (link : LinkId) → IsFirst s → (track_at s.tracks.items at).link ≡ Some link → ⊥
+no-owner s at link first is = none_owner link (sym (ap (λ t. t.link) (blank-at s at first)) ∙ is)
+
+none_at : (at : ℕ) → None ≡ Some at → ⊥
+none_at at is = cc
+
+first-stands : (recording : List RecordEntry) (s : Stage) → IsPlayable recording → IsFirst s → Stands recording s []
+first-stands recording s playable first =
+    let none : take s.cut recording ≡ [] = ap (λ (k : ℕ). take k recording) first.cut in
+    record {
+      cut = first-cut recording s.cut 0 first.cut refl playable.begins;
+      last = first-cut recording s.last (0 - 1) first.last (omega arith) playable.begins;
+      wake = λ some. absurd (let zero : s.cut ≡ 0 = first.cut in omega arith);
+      clients = λ port. first-clients s port first ∙ ap (clients_at port) (sym none);
+      accepted = λ port. first-accepted s port first;
+      opened = sym first.opened;
+      links = subst (λ (ps : List ℕ). Numbered 0 [] ps) (sym first.places) tt;
+      placed = λ number at is. absurd (none_at at (ap (λ (ps : List ℕ). slice_get ps number) (sym first.places) ∙ is));
+      entered = λ at link is. absurd (no-owner s at link first is);
+      tracks = λ name. subst (λ t. Fits (take s.cut recording) s.last s.cut [] name t) (sym (blank-at s (place name) first)) (record {
+        marks = ap (marks_for name) (sym none);
+        bytes = ap (bytes_for name) (sym none);
+        opened = tt;
+        named = tt;
+        fresh = (refl, refl);
+        stamp = tt;
+      });
+    }
+
+-- the first stage follows the empty log
+pub follows-first : (recording : List RecordEntry) (s : Stage) → IsPlayable recording → IsFirst s → Follows recording s []
+follows-first recording s playable first = record {
+  playable = playable;
+  sound = record {
+    below = refl;
+    late = no-late (length s.places.items) s.late.marks s.late.link first.late;
+    opened = ap (links_below (length s.places.items)) first.opened;
+    linked = λ at link is. absurd (no-owner s at link first is);
+    rest = subst (λ (k : ℕ). Continues 0 (drop k recording)) (sym first.cut) (record { clients = 0; playable = playable.lines });
+    traffic = subst HaveSalts (sym first.traffic) tt;
+    admin = subst HaveSalts (sym first.admin) tt;
+  };
+  stands = first-stands recording s playable first;
+  passed = record {
+    lines = subst (λ (l : ℕ). NoneIn s.last s.tracks.items (lines_between s.last l recording)) (first.last ∙ sym first.line) (no-lines s.last s.tracks.items s.last recording);
+    places = subst (λ (k : ℕ). NoneAt s.last s.tracks.items (take k s.places.items)) (sym first.link) tt;
+  };
+  late = sym (ap (λ (n : ℕ). replicate n (entry.Exec s.late.link)) first.late);
+  unmarked = refl;
+  played = tt;
+}
+
+pub tape-first : (recording : List RecordEntry) (s : Stage) (told : Option Log) → IsPlayable recording → IsFirst s → told ≡ Some [] → IsTape recording s told
+tape-first recording s told playable first is = record {
+  within = record {
+    cut = let e : s.cut ≡ 0 = first.cut in omega arith;
+    last = let e : s.last ≡ 0 = first.last in omega arith;
+    line = let e : s.line ≡ 0 = first.line in omega arith;
+    link = let e : s.link ≡ 0 = first.link in omega arith;
+  };
+  follows = λ log told_is. let same : [] ≡ log = cc in subst (Follows recording s) same (follows-first recording s playable first);
+}

@@ -1,0 +1,134 @@
+-- The stage goes on standing where a link's track changes.
+use Rattle.std.proofs.Common.{◌≡◌, ◌⊎◌, ℕ, zero, suc, ◌<◌, ◌≤◌, ◌+◌, ◌-◌, ◌*◌, ◌==◌, Bool, true, false, nat_eq, nat_lt, List, [], ◌∷◌, ◌++◌, length, take, drop, if◌then◌else◌, Option, Some, None, refl, sym, ◌∙◌, ap, subst, arith, inl, inr, append-nil, append_assoc, length-append, add-zero, min, get_or}
+use Rattle.std.specs.Prelude.{IfSome, IfNone, slice_get, not, ◌&&◌, ◌||◌, fold}
+use Rattle.std.specs.List.{list_any, list_all, cons_option}
+use Rattle.std.proofs.lemmas.Option.{slice_get_within, slice_get-get_or}
+use Rattle.std.proofs.lemmas.List.{take-append-drop}
+use Rattle.std.proofs.lemmas.List.Folds.{list_any-append}
+use Rattle.mx_base.specs.declared.names.LinkId.{LinkId}
+use Rattle.mx_base.specs.declared.names.Port.{Port}
+use Rattle.mx_base.specs.declared.names.Port.TheVariants.{Traffic, Admin}
+use Rattle.mx_wire.specs.Log.{Log, link_of, is_link, of_link, opened_link, opened_links, read_of, got_bytes, is_open, open_step}
+use Rattle.mx_wire.specs.Growth.{bool_cases, bytes-same, bytes-other, bytes-idle, step-same, same_number}
+use Rattle.mx_wire.specs.declared.entry.Entry.{Entry}
+use Rattle.mx_wire.specs.declared.entry.Entry.TheVariants as entry
+use Rattle.recording.specs.declared.entry.RecordLink.{RecordLink}
+use Rattle.recording.specs.declared.entry.RecordEntry.{RecordEntry}
+use Rattle.mem_wire.specs.declared.track.Track.{Track}
+use Rattle.mem_wire.specs.declared.stage.Stage.{Stage}
+use Rattle.mem_wire.specs.Lines.{bytes_for, clients_at}
+use Rattle.mem_wire.specs.Came.{is_woke, is_accepted_at, wakes, accepted_at, known, known_by, Known}
+use Rattle.mem_wire.specs.Play.{named_since, named_step}
+use Rattle.mem_wire.specs.Tracks.{track_at, place, blank, SameLinks, ChangesTrack}
+use Rattle.mem_wire.specs.Steps.{numbered, clients_of, accepted_of}
+use Rattle.mem_wire.specs.Naming.{is_named}
+use Rattle.mem_wire.specs.Stands.{CutsAt, Numbered, read_by, is_in, Fits, Stands, Entered}
+use Rattle.mem_wire.proofs.Scenes.{wakes-more, accepted-more, opened-more, known-more, named-more}
+use Rattle.mem_wire.proofs.StandSteps.{AlikeBut, but-entry, each-track, fits-but, other-links, entered-like}
+use Rattle.mem_wire.proofs.Quiet.{is_open-idle}
+
+-- an entry that brings no link, no client and no moment
+pub record Brings_nothing (e : Entry) : Type 0 where
+  pub woke : is_woke e ≡ false
+  pub accepted : (port : Port) → is_accepted_at port e ≡ false
+  pub opened : opened_link e ≡ None
+  pub known : (recording : List RecordEntry) (log : Log) → known_by recording log e ≡ []
+
+pub if-own : {A : Type 0} (o : Option A) (P : A → Type 0) (x : A) → o ≡ Some x → IfSome o P → P x
+if-own o P x is holds = let at : IfSome (Some x) P = subst (λ (p : Option _). IfSome p P) is holds in at
+
+own-if : {A : Type 0} (o : Option A) (P : A → Type 0) (x : A) → o ≡ Some x → P x → IfSome o P
+own-if o P x is holds = subst (λ (p : Option _). IfSome p P) (sym is) holds
+
+none-own : {A : Type 0} (o : Option A) (P : Type 0) (x : A) → o ≡ Some x → IfNone o P
+none-own o P x is = subst (λ (p : Option _). IfNone p P) (sym is) tt
+
+clients-now : (old new : Stage) (port : Port) → clients_of port (record old { tracks = new.tracks; late = new.late; line = new.line; link = new.link }) ≡ clients_of port old
+clients-now old new Traffic = refl
+clients-now old new Admin = refl
+
+accepted-now : (old new : Stage) (port : Port) → accepted_of port (record old { tracks = new.tracks; late = new.late; line = new.line; link = new.link }) ≡ accepted_of port old
+accepted-now old new Traffic = refl
+accepted-now old new Admin = refl
+
+-- the track of a link stands in the list
+pub present : (tracks : List Track) (at : ℕ) (link : LinkId) → (track_at tracks at).link ≡ Some link → at < length tracks
+present [] zero link is = cc
+present [] (suc at) link is = cc
+present (t ∷ tracks) zero link is = omega arith
+present (t ∷ tracks) (suc at) link is = let later : at < length tracks = present tracks at link is in omega arith
+
+pub stands-moves : (recording : List RecordEntry) (old new : Stage) (log : Log) (e : Entry) (but : LinkId) (at : ℕ) (change : Track → Track) → Stands recording old log → ((spot : ℕ) (link : LinkId) → (track_at old.tracks.items spot).link ≡ Some link → slice_get old.places.items link.0 ≡ Some spot) → new ≡ record old { tracks = new.tracks; late = new.late; line = new.line; link = new.link } → ChangesTrack at change old.tracks.items new.tracks.items → SameLinks old.tracks.items new.tracks.items → slice_get old.places.items but.0 ≡ Some at → Brings_nothing e → AlikeBut but log (log ++ e ∷ []) → ((name : RecordLink) → place name ≡ at → Fits (take old.cut recording) old.last old.cut log name (track_at old.tracks.items (place name)) → Fits (take old.cut recording) old.last old.cut (log ++ e ∷ []) name (change (track_at old.tracks.items (place name)))) → Stands recording new (log ++ e ∷ [])
+stands-moves recording old new log e but at change st linked frame changes links here brings but_is mine =
+    let woke : wakes (log ++ e ∷ []) ≡ wakes log = wakes-more log e ∙ ap (λ b. wakes log + length (if b then e ∷ [] else [])) brings.woke ∙ add-zero (wakes log) in
+    let known_is : known recording (log ++ e ∷ []) ≡ known recording log = known-more recording log e ∙ ap (λ ks. known recording log ++ ks) (brings.known recording log) ∙ append-nil (known recording log) in
+    let opened_is : opened_links (log ++ e ∷ []) ≡ opened_links log = opened-more log e ∙ ap (λ o. opened_links log ++ cons_option o []) brings.opened ∙ append-nil (opened_links log) in
+    let now : Stage = record old { tracks = new.tracks; late = new.late; line = new.line; link = new.link } in
+    subst (λ (s : Stage). Stands recording s (log ++ e ∷ [])) (sym frame) (record {
+      cut = subst (CutsAt recording old.cut) (sym woke) st.cut;
+      last = subst (λ (n : ℕ). CutsAt recording old.last (n - 1)) (sym woke) st.last;
+      wake = st.wake;
+      clients = λ port. clients-now old new port ∙ st.clients port;
+      accepted = λ port. accepted-now old new port ∙ st.accepted port ∙ sym (accepted-more port log e ∙ ap (λ b. accepted_at port log + length (if b then e ∷ [] else [])) (brings.accepted port) ∙ add-zero (accepted_at port log));
+      opened = opened_is ∙ st.opened;
+      links = subst (λ (ks : List Known). Numbered 0 ks old.places.items) (sym known_is) st.links;
+      placed = λ number spot is. links spot ∙ st.placed number spot is;
+      entered = λ spot link is. entered-like old now spot (clients-now old new) (accepted-now old new) refl (st.entered spot link (sym (links spot) ∙ is));
+      tracks = each-track at change old.tracks.items new.tracks.items (λ name t. Fits (take old.cut recording) old.last old.cut (log ++ e ∷ []) name t) changes
+        (λ name is. mine name is (st.tracks name))
+        (λ name other. fits-but (take old.cut recording) old.last old.cut but log (log ++ e ∷ []) name (track_at old.tracks.items (place name)) but_is (other-links old.places.items old.tracks.items but at linked here name other) (st.tracks name));
+    })
+
+-- Each kind of entry, on the track of its own link.
+
+same-link : (link : LinkId) → is_link link (Some link) ≡ true
+same-link link = same_number link.0
+
+pub mine-got : (lines : List RecordEntry) (last cut : ℕ) (log : Log) (link : LinkId) (bytes : List ℕ) (n : ℕ) (name : RecordLink) (t : Track) → t.link ≡ Some link → bytes ≡ take n t.unread → Fits lines last cut log name t → Fits lines last cut (log ++ entry.Got link bytes ∷ []) name (record t { unread = drop n t.unread })
+mine-got lines last cut log link bytes n name t owner front fits =
+    let e = entry.Got link bytes in
+    let grown : read_of link (log ++ e ∷ []) ≡ read_of link log ++ bytes = bytes-same got_bytes link log e (same-link link) in
+    let before : read_of link log ++ t.unread ≡ bytes_for name lines = ap (λ o. read_by o log ++ t.unread) (sym owner) ∙ fits.bytes in
+    record {
+      marks = fits.marks;
+      bytes = ap (λ o. read_by o (log ++ e ∷ []) ++ drop n t.unread) owner ∙ ap (λ bs. bs ++ drop n t.unread) grown
+        ∙ append_assoc (read_of link log) bytes (drop n t.unread) ∙ ap (λ bs. read_of link log ++ (bs ++ drop n t.unread)) front
+        ∙ ap (λ bs. read_of link log ++ bs) (take-append-drop n t.unread) ∙ before;
+      opened = own-if t.link (λ l. is_open l (log ++ e ∷ []) ≡ not t.closed) link owner (is_open-idle link log e (λ was. refl) ∙ if-own t.link (λ l. is_open l log ≡ not t.closed) link owner fits.opened);
+      named = own-if t.link (λ l. is_in l (named_since (log ++ e ∷ [])) ≡ is_named t.named last) link owner (ap (is_in link) (named-more log e) ∙ if-own t.link (λ l. is_in l (named_since log) ≡ is_named t.named last) link owner fits.named);
+      fresh = none-own t.link ((t.closed ≡ false) × (t.named ≡ None)) link owner;
+      stamp = fits.stamp;
+    }
+
+pub mine-closed : (lines : List RecordEntry) (last cut : ℕ) (log : Log) (link : LinkId) (name : RecordLink) (t : Track) → t.link ≡ Some link → Fits lines last cut log name t → Fits lines last cut (log ++ entry.Closed link ∷ []) name (record t { closed = true })
+mine-closed lines last cut log link name t owner fits =
+    let e = entry.Closed link in
+    let before : read_of link log ++ t.unread ≡ bytes_for name lines = ap (λ o. read_by o log ++ t.unread) (sym owner) ∙ fits.bytes in
+    record {
+      marks = fits.marks;
+      bytes = ap (λ o. read_by o (log ++ e ∷ []) ++ t.unread) owner ∙ ap (λ bs. bs ++ t.unread) (bytes-idle got_bytes link log e refl) ∙ before;
+      opened = own-if t.link (λ l. is_open l (log ++ e ∷ []) ≡ false) link owner (step-same open_step false link log e (same-link link));
+      named = own-if t.link (λ l. is_in l (named_since (log ++ e ∷ [])) ≡ is_named t.named last) link owner (ap (is_in link) (named-more log e) ∙ if-own t.link (λ l. is_in l (named_since log) ≡ is_named t.named last) link owner fits.named);
+      fresh = none-own t.link ((true ≡ false) × (t.named ≡ None)) link owner;
+      stamp = fits.stamp;
+    }
+
+or-true : (b : Bool) → (b || true) ≡ true
+or-true true = refl
+or-true false = refl
+
+in-last : (link : LinkId) (links : List LinkId) → is_in link (links ++ link ∷ []) ≡ true
+in-last link links = list_any-append (λ other. nat_eq other.0 link.0) links (link ∷ []) ∙ ap (λ b. is_in link links || (b || false)) (same_number link.0) ∙ or-true (is_in link links)
+
+pub mine-named : (lines : List RecordEntry) (last cut : ℕ) (log : Log) (link : LinkId) (name : RecordLink) (t : Track) → last < cut → t.link ≡ Some link → Fits lines last cut log name t → Fits lines last cut (log ++ entry.Named link ∷ []) name (record t { named = Some last })
+mine-named lines last cut log link name t low owner fits =
+    let e = entry.Named link in
+    let before : read_of link log ++ t.unread ≡ bytes_for name lines = ap (λ o. read_by o log ++ t.unread) (sym owner) ∙ fits.bytes in
+    record {
+      marks = fits.marks;
+      bytes = ap (λ o. read_by o (log ++ e ∷ []) ++ t.unread) owner ∙ ap (λ bs. bs ++ t.unread) (bytes-idle got_bytes link log e refl) ∙ before;
+      opened = own-if t.link (λ l. is_open l (log ++ e ∷ []) ≡ not t.closed) link owner (is_open-idle link log e (λ was. refl) ∙ if-own t.link (λ l. is_open l log ≡ not t.closed) link owner fits.opened);
+      named = own-if t.link (λ l. is_in l (named_since (log ++ e ∷ [])) ≡ (last == last)) link owner (ap (is_in link) (named-more log e) ∙ in-last link (named_since log) ∙ sym (same_number last));
+      fresh = none-own t.link ((t.closed ≡ false) × (Some last ≡ None)) link owner;
+      stamp = low;
+    }

@@ -1,0 +1,79 @@
+-- What the lines of a recording give.
+use Rattle.std.specs.Prelude.{ℕ, ◌-◌, ◌==◌, ◌&&◌, Bool, true, false, nat_eq, if◌then◌else◌, List, [], ◌∷◌, length, filter, drop, Option, Some, None}
+use Rattle.std.specs.List.{flat_map, filter_map}
+use Rattle.mx_base.specs.declared.names.Port.{Port}
+use Rattle.mx_base.specs.declared.names.Port.TheVariants.{Traffic, Admin}
+use Rattle.recording.specs.declared.entry.RecordLink.{RecordLink}
+use Rattle.recording.specs.declared.entry.RecordLink.TheVariants.{Client, Server}
+use Rattle.recording.specs.declared.entry.RecordEntry.{RecordEntry}
+use Rattle.mem_wire.specs.declared.waiting.Waiting.{Waiting}
+use Rattle.recording.specs.declared.entry.RecordEntry.TheVariants.{At, Accept, Bytes, End, Fail, Take, Exec, Drop}
+
+abbrev pub is_at : RecordEntry → Bool
+is_at (At ms) = true
+is_at _ = false
+
+abbrev pub moment_at : RecordEntry → Option ℕ
+moment_at (At ms) = Some ms
+moment_at _ = None
+
+abbrev pub moments : List RecordEntry → List ℕ
+moments recording = filter_map moment_at recording
+
+-- what so many wakes release: the lines before the next moment
+abbrev pub released : ℕ → List RecordEntry → List RecordEntry
+released wakes [] = []
+released wakes (line ∷ later) =
+    if is_at line && (wakes == 0)
+    then []
+    else line ∷ released (if is_at line then wakes - 1 else wakes) later
+
+-- what the last of so many wakes released
+abbrev pub released_last : ℕ → List RecordEntry → List RecordEntry
+released_last wakes recording = drop (length (released (wakes - 1) recording)) (released wakes recording)
+
+abbrev pub is_port : Port → Port → Bool
+is_port Traffic Traffic = true
+is_port Admin Admin = true
+is_port _ _ = false
+
+abbrev pub waiting_at : Port → RecordEntry → Option Waiting
+waiting_at port (Accept n at salt) = if is_port port at then Some (record { number = n; salt = salt }) else None
+waiting_at port _ = None
+
+-- the clients that come to the port
+abbrev pub clients_at : Port → List RecordEntry → List Waiting
+clients_at port lines = filter_map (waiting_at port) lines
+
+abbrev pub same_name : RecordLink → RecordLink → Bool
+same_name (Client n) (Client m) = nat_eq n m
+same_name (Server n) (Server m) = nat_eq n m
+same_name _ _ = false
+
+-- the bytes that can be read of a link
+abbrev pub bytes_at : RecordLink → RecordEntry → List ℕ
+bytes_at name (Bytes link bytes) = if same_name name link then bytes else []
+bytes_at name _ = []
+
+abbrev pub bytes_for : RecordLink → List RecordEntry → List ℕ
+bytes_for name lines = flat_map (bytes_at name) lines
+
+-- an `exec` line of the link
+abbrev pub is_mark_for : RecordLink → RecordEntry → Bool
+is_mark_for name (Exec k) = same_name name (Server k)
+is_mark_for name _ = false
+
+-- how many there are
+abbrev pub marks_for : RecordLink → List RecordEntry → ℕ
+marks_for name lines = length (filter (is_mark_for name) lines)
+
+-- the link that the line names
+abbrev pub name_at : RecordEntry → Option RecordLink
+name_at (Accept n port salt) = Some (Client n)
+name_at (Bytes link bytes) = Some link
+name_at (End link) = Some link
+name_at (Fail link) = Some link
+name_at (Take link n) = Some link
+name_at (Exec k) = Some (Server k)
+name_at (Drop k) = Some (Server k)
+name_at _ = None

@@ -1,0 +1,125 @@
+-- What a play of a recording is.
+use Rattle.std.specs.Prelude.{◌≡◌, ℕ, ◌+◌, ◌-◌, ◌<◌, ◌≤◌, ◌&&◌, not, Bool, true, false, nat_eq, if◌then◌else◌, List, [], ◌∷◌, ◌++◌, length, filter, fold, slice_get, Option, Some, None}
+use Rattle.std.specs.List.{filter_map, find, list_any}
+use Rattle.mx_base.specs.declared.names.LinkId.{LinkId}
+use Rattle.mx_wire.specs.Log.{Log, opened_links, is_open}
+use Rattle.mx_wire.specs.Moments.{AllLawful}
+use Rattle.mx_wire.specs.declared.entry.Entry.{Entry}
+use Rattle.mx_wire.specs.declared.entry.Entry.TheVariants as entry
+use Rattle.recording.specs.declared.entry.RecordLink.TheVariants.{Server}
+use Rattle.recording.specs.declared.entry.RecordEntry.{RecordEntry}
+use Rattle.recording.specs.declared.entry.RecordEntry.TheVariants as line
+use Rattle.mem_wire.specs.declared.waiting.Waiting.{Waiting}
+use Rattle.mem_wire.specs.Lines.{moments, released, released_last, is_mark_for, name_at}
+use Rattle.mem_wire.specs.Came.{wakes, next_client, Known, known, with_link, with_name, unread_of, unread}
+
+-- Which links a wake names.
+
+-- the links that were named since the last wake
+abbrev pub named_step : List LinkId → Entry → List LinkId
+named_step links (entry.Woke until_ms now_ms) = []
+named_step links (entry.Named link) = links ++ link ∷ []
+named_step links _ = links
+
+abbrev pub named_since : Log → List LinkId
+named_since log = fold named_step [] log
+
+abbrev pub is_empty : List ℕ → Bool
+is_empty [] = true
+is_empty (byte ∷ bytes) = false
+
+-- a link is ready while it is open and has bytes to read; it is named once
+abbrev pub is_to_name : List RecordEntry → Log → Known → Bool
+is_to_name recording log k =
+    is_open k.link log && (not (is_empty (unread_of recording log k)) && not (list_any (λ link. nat_eq link.0 k.link.0) (named_since log)))
+
+abbrev pub known_at : List Known → RecordEntry → Option Known
+known_at links l = elim (name_at l) [ Some name ↦ with_name name links | None ↦ None ]
+
+-- those of the wake's lines first, and then the others as they came
+abbrev pub naming_order : List RecordEntry → Log → List Known
+naming_order recording log = filter_map (known_at (known recording log)) (released_last (wakes log) recording) ++ known recording log
+
+abbrev pub next_named : List RecordEntry → Log → Option Known
+next_named recording log = find (is_to_name recording log) (naming_order recording log)
+
+-- Where marks stand.
+
+abbrev pub is_mark : Entry → Bool
+is_mark (entry.Exec link) = true
+is_mark (entry.Drop link) = true
+is_mark _ = false
+
+-- the marks behind the last entry that is none
+abbrev pub last_marks : Log → Log
+last_marks log = fold (λ marks e. if is_mark e then marks ++ e ∷ [] else []) [] log
+
+abbrev pub is_opened : Entry → Bool
+is_opened (entry.Opened server address link) = true
+is_opened _ = false
+
+-- the last entry that is no mark says that a link was opened
+abbrev pub just_opened : Log → Bool
+just_opened log = fold (λ was e. if is_mark e then was else is_opened e) false log
+
+-- the mark of an `exec` line, where its link has been opened
+abbrev pub mark_at : List LinkId → RecordEntry → Option Entry
+mark_at links (line.Exec k) = elim (slice_get links (k - 1)) [ Some link ↦ Some (entry.Exec link) | None ↦ None ]
+mark_at links _ = None
+
+-- those of the link that was opened just before, which the wakes before had released
+abbrev pub late_marks : List RecordEntry → Log → Log
+late_marks recording log =
+    if just_opened log
+    then filter_map (mark_at (opened_links log)) (filter (is_mark_for (Server (length (opened_links log)))) (released (wakes log) recording))
+    else []
+
+-- and before a wake those of its own lines
+abbrev pub due_marks : List RecordEntry → Log → Entry → Log
+due_marks recording log (entry.Woke until_ms now_ms) =
+    late_marks recording log ++ filter_map (mark_at (opened_links log)) (released_last (wakes log + 1) recording)
+due_marks recording log _ = late_marks recording log
+
+-- What each call answers.
+
+pub record Reads (ready bytes : List ℕ) : Type 0 where
+  pub some : 0 < length bytes
+  pub later : List ℕ
+  pub is : ready ≡ bytes ++ later
+
+pub record Brings (next : Option Waiting) (salt : List ℕ) : Type 0 where
+  pub number : ℕ
+  pub is : next ≡ Some (record { number = number; salt = salt })
+
+pub record Names (next : Option Known) (link : LinkId) : Type 0 where
+  pub named : Known
+  pub is : next ≡ Some named
+  pub link_is : named.link ≡ link
+
+abbrev pub Answers : List RecordEntry → Log → Entry → Type 0
+Answers recording before (entry.Listening port address) = Unit {0}
+Answers recording before (entry.Woke until_ms now_ms) = slice_get (moments recording) (wakes before) ≡ Some now_ms
+Answers recording before entry.Over = length (moments recording) ≤ wakes before
+Answers recording before (entry.Named link) = Names (next_named recording before) link
+Answers recording before entry.NoneNamed = next_named recording before ≡ None
+Answers recording before (entry.Accepted port link salt) = Brings (next_client recording before port) salt
+Answers recording before (entry.AcceptNothing port) = next_client recording before port ≡ None
+Answers recording before (entry.Opened server address link) = Unit {0}
+Answers recording before (entry.Got link bytes) = Reads (unread recording before (with_link link (known recording before))) bytes
+Answers recording before (entry.ReadNothing link) = unread recording before (with_link link (known recording before)) ≡ []
+Answers recording before (entry.Wrote link tag bytes) = 0 < length bytes
+Answers recording before (entry.Closed link) = Unit {0}
+Answers recording before _ = ⊥
+
+pub record IsCallOf (recording : List RecordEntry) (before : Log) (e : Entry) : Type 0 where
+  pub marks : last_marks before ≡ due_marks recording before e
+  pub answer : Answers recording before e
+
+-- An `exec` mark is judged at the entry that it stands before.
+abbrev pub IsAnswerOf : List RecordEntry → Log → Entry → Type 0
+IsAnswerOf recording before (entry.Exec link) = Unit {0}
+IsAnswerOf recording before e = IsCallOf recording before e
+
+-- Each answer of the wire is the one that the recording gives at that place.
+abbrev pub IsPlay : List RecordEntry → Log → Type 0
+IsPlay recording log = AllLawful (IsAnswerOf recording) log

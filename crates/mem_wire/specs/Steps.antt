@@ -1,0 +1,105 @@
+-- How a play's stage changes.
+use Rattle.std.specs.Prelude.{◌≡◌, ℕ, ◌<◌, ◌≤◌, ◌+◌, ◌*◌, ◌==◌, ◌&&◌, not, Bool, true, false, if◌then◌else◌, List, [], ◌∷◌, ◌++◌, length, take, drop, min, slice_get, slice_index_or, Option, Some, None}
+use Rattle.mx_base.specs.declared.names.LinkId.{LinkId}
+use Rattle.mx_base.specs.declared.names.Port.{Port}
+use Rattle.mx_base.specs.declared.names.Port.TheVariants.{Traffic, Admin}
+use Rattle.recording.specs.declared.entry.RecordEntry.{RecordEntry}
+use Rattle.mem_wire.specs.declared.waiting.Waiting.{Waiting}
+use Rattle.mem_wire.specs.declared.track.Track.{Track}
+use Rattle.mem_wire.specs.declared.stage.Stage.{Stage}
+use Rattle.mem_wire.specs.Lines.{clients_at, is_port}
+use Rattle.mem_wire.specs.Tracks.{track_at, SameLinks, ChangesTrack, Released}
+
+abbrev pub clients_of : Port → Stage → List Waiting
+clients_of Traffic s = s.traffic.items
+clients_of Admin s = s.admin.items
+
+abbrev pub accepted_of : Port → Stage → ℕ
+accepted_of Traffic s = s.traffic_accepted
+accepted_of Admin s = s.admin_accepted
+
+-- the link of this number
+abbrev pub numbered : ℕ → LinkId
+numbered n = record { 0 = n }
+
+abbrev pub next_link : Stage → LinkId
+next_link s = numbered (length s.places.items)
+
+-- the lines from the cut to the next one are released
+pub record Wakes (lines : List RecordEntry) (next : ℕ) (old new : Stage) : Type 0 where
+  pub frame : new ≡ record old { cut = next; last = old.cut; line = old.cut; link = 0; late = new.late; traffic = new.traffic; admin = new.admin; tracks = new.tracks }
+  pub late : new.late.marks ≡ 0
+  pub traffic : new.traffic.items ≡ old.traffic.items ++ clients_at Traffic lines
+  pub admin : new.admin.items ≡ old.admin.items ++ clients_at Admin lines
+  pub tracks : Released lines old.tracks.items new.tracks.items
+
+-- a link comes, whose track is at this place
+pub record Enters (at : ℕ) (old new : Stage) : Type 0 where
+  pub places : new.places.items ≡ old.places.items ++ at ∷ []
+  pub tracks : ChangesTrack at (λ t. record t { link = Some (next_link old) }) old.tracks.items new.tracks.items
+  pub line : new.line ≡ old.last
+
+pub record Accepts (port : Port) (number : ℕ) (old new : Stage) : Type 0 where
+  pub frame : new ≡ record old { tracks = new.tracks; places = new.places; line = old.last; late = new.late; traffic_accepted = new.traffic_accepted; admin_accepted = new.admin_accepted }
+  pub late : new.late.marks ≡ 0
+  pub accepted : (other : Port) → accepted_of other new ≡ accepted_of other old + (if is_port port other then 1 else 0)
+  pub enters : Enters (2 * number) old new
+
+pub record Opens (old new : Stage) : Type 0 where
+  pub frame : new ≡ record old { tracks = new.tracks; places = new.places; opened = new.opened; line = old.last; late = new.late }
+  pub opened : new.opened.items ≡ old.opened.items ++ next_link old ∷ []
+  pub late : new.late ≡ record { link = next_link old; marks = (track_at new.tracks.items (2 * length new.opened.items + 1)).marks }
+  pub enters : Enters (2 * length new.opened.items + 1) old new
+
+-- where the track of a link is, if it has one
+abbrev pub place_in : Stage → LinkId → Option ℕ
+place_in s link = slice_get s.places.items link.0
+
+-- so many bytes of those that are ready were moved to the front
+pub record ReadsFrom (ready old new : List ℕ) (size : ℕ) : Type 0 where
+  pub size_is : size ≡ min (length old) (length ready)
+  pub bytes : take size new ≡ take size ready
+
+-- The track at a place changes, where there is one, and no marks are late.
+pub record MovesAt (at : ℕ) (change : Track → Track) (old new : Stage) : Type 0 where
+  pub frame : new ≡ record old { tracks = new.tracks; late = new.late }
+  pub late : new.late.marks ≡ 0
+  pub links : SameLinks old.tracks.items new.tracks.items
+  pub track : at < length old.tracks.items → ChangesTrack at change old.tracks.items new.tracks.items
+
+-- The track of a link changes, where it has one, and no marks are late.
+pub record Moves (link : LinkId) (change : Track → Track) (old new : Stage) : Type 0 where
+  pub frame : new ≡ record old { tracks = new.tracks; late = new.late }
+  pub late : new.late.marks ≡ 0
+  pub links : SameLinks old.tracks.items new.tracks.items
+  pub track : (at : ℕ) → place_in old link ≡ Some at → at < length old.tracks.items → ChangesTrack at change old.tracks.items new.tracks.items
+
+-- The places in the lines and in the links stand as they stood.
+pub record KeepsPlaces (old new : Stage) : Type 0 where
+  pub cut : new.cut ≡ old.cut
+  pub last : new.last ≡ old.last
+  pub line : new.line ≡ old.line
+  pub link : new.link ≡ old.link
+  pub places : new.places.items ≡ old.places.items
+
+-- the places are within the recording and the links
+pub record IsWithin (recording : List RecordEntry) (s : Stage) : Type 0 where
+  pub cut : s.cut ≤ length recording
+  pub last : s.last ≤ s.line
+  pub line : s.line ≤ s.cut
+  pub link : s.link ≤ length s.places.items
+
+-- the stage before the first call
+pub record IsFirst (s : Stage) : Type 0 where
+  pub cut : s.cut ≡ 0
+  pub last : s.last ≡ 0
+  pub traffic : s.traffic.items ≡ []
+  pub admin : s.admin.items ≡ []
+  pub traffic_accepted : s.traffic_accepted ≡ 0
+  pub admin_accepted : s.admin_accepted ≡ 0
+  pub tracks : s.tracks.items ≡ []
+  pub places : s.places.items ≡ []
+  pub opened : s.opened.items ≡ []
+  pub late : s.late.marks ≡ 0
+  pub line : s.line ≡ 0
+  pub link : s.link ≡ 0

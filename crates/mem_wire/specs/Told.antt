@@ -1,0 +1,9 @@
+-- What a tape shows.
+use Rattle.std.specs.Prelude.{List, Option}
+use Rattle.mx_wire.specs.Log.{Log}
+use Rattle.recording.specs.declared.entry.RecordEntry.{RecordEntry}
+
+-- the recording that it plays, and its log where it is told
+pub record Played : Type 0 where
+  pub recording : List RecordEntry
+  pub told : Option Log

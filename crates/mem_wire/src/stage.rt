@@ -1,0 +1,30 @@
+// Where a play stands.
+use crate::late::Late;
+use crate::track::Track;
+use crate::waiting::Waiting;
+use mx_base::LinkId;
+
+/// Where a play stands. Links are numbered from 0 as they come.
+#[derive(Drop, Debug)]
+pub(crate) struct Stage {
+    /// The lines before this one are released.
+    pub cut: usize,
+    /// The lines of the last wake begin here.
+    pub last: usize,
+    /// The clients that came to the two ports, and how many of them were accepted.
+    pub traffic: Vec<Waiting>,
+    pub admin: Vec<Waiting>,
+    pub traffic_accepted: usize,
+    pub admin_accepted: usize,
+    /// The track of each name, by its place.
+    pub tracks: Vec<Track>,
+    /// The place of each link's track.
+    pub places: Vec<usize>,
+    /// The links to servers.
+    pub opened: Vec<LinkId>,
+    pub late: Late,
+    /// No line of the last wake before this one names a link that is still to be named.
+    pub line: usize,
+    /// No link before this one is still to be named.
+    pub link: usize,
+}

@@ -1,0 +1,161 @@
+// The steps of a play, call by call.
+ghost use Rattle.std.specs.Prelude.{◌≡◌, ℕ, ◌+◌, ◌-◌, ◌*◌, ◌^◌, ◌<◌, ◌≤◌, ◌++◌, ◌∷◌, length, [], take, drop, min, true, slice_get, Some, None, OnOk, OnErr, IfSome, vec_len};
+ghost use Rattle.mem_wire.specs.Tracks.{track_at};
+ghost use Rattle.mem_wire.specs.Steps.{clients_of, accepted_of, place_in, next_link, Wakes, Enters, Accepts, Opens, IsFirst, Moves, MovesAt, ReadsFrom, KeepsPlaces};
+
+use crate::late::Late;
+use crate::lines::arrive;
+use crate::stage::Stage;
+use crate::tracks::{close_track, name_track, reach, read_track, release};
+use crate::waiting::Waiting;
+use mx_base::{LinkId, OutOfMemory, Port};
+use recording::RecordEntry;
+use std::alloc::Global;
+
+/// The stage before the first call.
+pub(crate) fn new_stage(alloc: Global) -> Stage
+    ensures { IsFirst result }
+{
+    Stage {
+        cut: 0,
+        last: 0,
+        traffic: Vec::new(alloc),
+        admin: Vec::new(alloc),
+        traffic_accepted: 0,
+        admin_accepted: 0,
+        tracks: Vec::new(alloc),
+        places: Vec::new(alloc),
+        opened: Vec::new(alloc),
+        late: Late::none(),
+        line: 0,
+        link: 0,
+    }
+}
+
+/// Releases lines, which stand behind the cut.
+pub(crate) fn wake(stage: &mut Stage, alloc: Global, lines: &[RecordEntry]) -> Result<(), OutOfMemory>
+    requires { stage.old.cut + length lines.now < 2 ^ 64 }
+    ensures ok { OnOk result (Wakes lines.now (stage.old.cut + length lines.now) stage.old stage.new) }
+    ensures err { OnErr result (KeepsPlaces stage.old stage.new) }
+{
+    arrive(Port::Traffic, &mut stage.traffic, lines)?;
+    arrive(Port::Admin, &mut stage.admin, lines)?;
+    release(alloc, &mut stage.tracks, lines)?;
+    stage.last = stage.cut;
+    stage.cut += lines.len();
+    stage.line = stage.last;
+    stage.link = 0;
+    stage.late = Late::none();
+    Ok(())
+}
+
+/// The client that waits at the port as the next one.
+pub(crate) fn next_client(stage: &Stage, port: Port) -> Option<Waiting>
+    ensures { result ≡ slice_get (clients_of port stage.now) (accepted_of port stage.now) }
+{
+    match port {
+        Port::Traffic => stage.traffic.get(stage.traffic_accepted).copied(),
+        Port::Admin => stage.admin.get(stage.admin_accepted).copied(),
+    }
+}
+
+/// The next link.
+pub(crate) fn next_link(stage: &Stage) -> LinkId
+    ensures { result ≡ next_link stage.now }
+{
+    LinkId(stage.places.len() as u64)
+}
+
+// The next link comes, and its track is at this place.
+fn enter(stage: &mut Stage, alloc: Global, at: usize) -> Result<(), OutOfMemory>
+    ensures enters { OnOk result (Enters at stage.old stage.new) }
+    ensures err { OnErr result (KeepsPlaces stage.old stage.new) }
+    ensures reached { OnOk result (at < vec_len stage.new.tracks) }
+    ensures frame { OnOk result (stage.new ≡ record stage.old { tracks = stage.new.tracks; places = stage.new.places; line = stage.old.last }) }
+{
+    let link = next_link(stage);
+    reach(alloc, &mut stage.tracks, at)?;
+    stage.places.push(at)?;
+    let track = &mut stage.tracks[at];
+    track.link = Some(link);
+    stage.line = stage.last;
+    Ok(())
+}
+
+/// The client that waits at the port as the next one comes on the next link.
+pub(crate) fn accept(stage: &mut Stage, alloc: Global, port: Port, number: u16) -> Result<(), OutOfMemory>
+    requires { accepted_of port stage.old < length (clients_of port stage.old) }
+    ensures ok { OnOk result (Accepts port number stage.old stage.new) }
+    ensures err { OnErr result (KeepsPlaces stage.old stage.new) }
+{
+    enter(stage, alloc, 2 * usize::from(number))?;
+    stage.late = Late::none();
+    match port {
+        Port::Traffic => stage.traffic_accepted += 1,
+        Port::Admin => stage.admin_accepted += 1,
+    }
+    Ok(())
+}
+
+/// The next link to a server comes, and its marks are late.
+pub(crate) fn open(stage: &mut Stage, alloc: Global) -> Result<(), OutOfMemory>
+    ensures ok { OnOk result (Opens stage.old stage.new) }
+    ensures err { OnErr result (KeepsPlaces stage.old stage.new) }
+{
+    let link = next_link(stage);
+    stage.opened.push(link)?;
+    let at = 2 * stage.opened.len() + 1;
+    enter(stage, alloc, at)?;
+    let marks = stage.tracks[at].marks;
+    stage.late = Late { link, marks };
+    Ok(())
+}
+
+// The place of the link's track.
+fn place_of_link(stage: &Stage, link: LinkId) -> Option<usize>
+    ensures { result ≡ place_in stage.now link }
+{
+    if link.0 >= stage.places.len() as u64 {
+        return None;
+    }
+    Some(stage.places[link.0 as usize])
+}
+
+/// Moves a front of the link's unread bytes to the front of `into`, and answers how many there are.
+pub(crate) fn read(stage: &mut Stage, link: LinkId, into: &mut [u8]) -> usize
+    ensures bound { result ≤ length into.old }
+    ensures bytes { (at : ℕ) → place_in stage.old link ≡ Some at → ReadsFrom (track_at stage.old.tracks.items at).unread into.old into.new result }
+    ensures moves { Moves link (λ t. record t { unread = drop result t.unread }) stage.old stage.new }
+{
+    stage.late = Late::none();
+    let Some(at) = place_of_link(stage, link) else {
+        return 0;
+    };
+    if at >= stage.tracks.len() {
+        return 0;
+    }
+    read_track(&mut stage.tracks, at, into)
+}
+
+/// The link is closed.
+pub(crate) fn close(stage: &mut Stage, link: LinkId)
+    ensures { Moves link (λ t. record t { closed = true }) stage.old stage.new }
+{
+    stage.late = Late::none();
+    let Some(at) = place_of_link(stage, link) else {
+        return;
+    };
+    if at < stage.tracks.len() {
+        close_track(&mut stage.tracks, at);
+    }
+}
+
+/// The link of the track at this place was named in this wake.
+pub(crate) fn name(stage: &mut Stage, at: usize)
+    ensures { MovesAt at (λ t. record t { named = Some stage.old.last }) stage.old stage.new }
+{
+    stage.late = Late::none();
+    if at < stage.tracks.len() {
+        name_track(&mut stage.tracks, at, stage.last);
+    }
+}

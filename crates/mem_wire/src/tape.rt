@@ -1,0 +1,182 @@
+// A wire that plays a recording.
+ghost use Rattle.std.specs.Prelude.{◌≡◌, [], Some, IfSome, option_map};
+ghost use Rattle.mx_wire.specs.declared.entry.Entry.TheVariants as entry;
+ghost use Rattle.mx_wire.specs.Log.{Log};
+ghost use Rattle.recording.specs.Playable.{IsPlayable};
+ghost use Rattle.mem_wire.specs.Play.{IsPlay};
+
+use crate::late::Late;
+use crate::lines::{first_moment, lines_of_moment, put_marks};
+use crate::naming::next_to_name;
+use crate::stage::Stage;
+use crate::steps;
+use crate::told_log::ToldLog;
+use mx_base::{Address, Bytes, LinkId, OutOfMemory, Port, ServerId, Tag};
+use mx_wire::{Accepted, Entry, Got, Listened, Opened, Took, Wire, Woke};
+use recording::RecordEntry;
+use std::alloc::Global;
+use std::marker::Model;
+
+/// A wire that plays a recording, and tells its log until it finds no memory for an entry, or would reach 2^48
+/// entries.
+#[derive(Drop)]
+pub struct Tape {
+    alloc: Global,
+    entries: Vec<RecordEntry>,
+    told: ToldLog,
+    stage: Stage,
+}
+
+impl Model for Tape {
+    ghost use Rattle.mem_wire.specs.Told.{Played};
+    ghost use Rattle.mem_wire.specs.Follows.{IsTape};
+
+    ghost Value = { Played };
+
+    ghost view = { λ t. record { recording = t.entries.items; told = t.told } };
+
+    ghost invariant = { λ t. IsTape t.entries.items t.stage t.told };
+}
+
+impl Tape {
+    /// A tape at its beginning. Takes no memory.
+    pub fn new(alloc: Global, entries: Vec<RecordEntry>) -> Self
+        requires { IsPlayable entries.items }
+        ensures { result ≡ record { recording = entries.items; told = Some [] } }
+    {
+        Tape {
+            alloc,
+            entries,
+            told: ToldLog::new(alloc),
+            stage: steps::new_stage(alloc),
+        }
+    }
+
+    /// The log so far, where it is told. It is a play of the recording.
+    pub fn log(&self) -> Option<&[Entry]>
+        ensures told { option_map (λ log. log.now) result ≡ self.now.told }
+        ensures plays { (log : Log) → self.now.told ≡ Some log → IsPlay self.now.recording log }
+    {
+        self.told.told()
+    }
+}
+
+impl Wire for Tape {
+    ghost told = { λ tape. tape.told };
+
+    ghost port_faults = { λ tape. 0 };
+
+    ghost faults = { λ tape. 0 };
+
+    ghost rule = { λ tape log. IsPlay tape.recording log };
+
+    fn reserve(&mut self, _links: u32) -> Result<(), OutOfMemory> {
+        Ok(())
+    }
+
+    fn listen(&mut self, port: Port, address: Address) -> Listened {
+        self.told.add_call(self.stage.late, Entry::Listening { port, address });
+        self.stage.late = Late::none();
+        Listened::Done
+    }
+
+    fn wait(&mut self, until_ms: u64) -> Woke {
+        let rest = &self.entries[self.stage.cut..];
+        let Some(now_ms) = first_moment(rest) else {
+            self.told.add_call(self.stage.late, Entry::Over);
+            self.stage.late = Late::none();
+            return Woke::Over;
+        };
+        let lines = &rest[..lines_of_moment(rest)];
+        self.told.add_marks(self.stage.late);
+        put_marks(&mut self.told, &self.stage.opened, lines);
+        self.told.add(Entry::Woke { until_ms, now_ms });
+        if steps::wake(&mut self.stage, self.alloc, lines).is_err() {
+            self.told.stop();
+        }
+        Woke::Woke { now_ms }
+    }
+
+    fn next_ready(&mut self) -> Option<LinkId> {
+        let late = self.stage.late;
+        match next_to_name(&mut self.stage, &self.entries) {
+            None => {
+                self.told.add_call(late, Entry::NoneNamed);
+                self.stage.late = Late::none();
+                None
+            }
+            Some(found) => {
+                self.told.add_call(late, Entry::Named { link: found.link });
+                steps::name(&mut self.stage, found.at);
+                Some(found.link)
+            }
+        }
+    }
+
+    fn accept(&mut self, port: Port) -> Accepted {
+        let Some(client) = steps::next_client(&self.stage, port) else {
+            self.told.add_call(self.stage.late, Entry::AcceptNothing { port });
+            self.stage.late = Late::none();
+            return Accepted::NotReady;
+        };
+        let id = steps::next_link(&self.stage);
+        let salt = client.salt;
+        self.told.add_call(self.stage.late, Entry::Accepted { port, link: id, salt });
+        if steps::accept(&mut self.stage, self.alloc, port, client.number).is_err() {
+            self.told.stop();
+        }
+        Accepted::Link { id, salt }
+    }
+
+    fn open(&mut self, server: ServerId, address: Address) -> Opened {
+        let id = steps::next_link(&self.stage);
+        let entry = Entry::Opened {
+            server,
+            address,
+            link: id,
+        };
+        self.told.add_call(self.stage.late, entry);
+        if steps::open(&mut self.stage, self.alloc).is_err() {
+            self.told.stop();
+        }
+        Opened::Link { id }
+    }
+
+    fn read(&mut self, link: LinkId, into: &mut [u8]) -> Got {
+        let late = self.stage.late;
+        let n = steps::read(&mut self.stage, link, into);
+        if n == 0 {
+            self.told.add_call(late, Entry::ReadNothing { link });
+            return Got::NotReady;
+        }
+        self.told.add_call_if(late, got_entry(self.alloc, link, &into[..n]));
+        Got::Got { n }
+    }
+
+    fn write(&mut self, link: LinkId, tag: Tag, piece: &[u8]) -> Took {
+        self.told.add_call_if(self.stage.late, wrote_entry(self.alloc, link, tag, piece));
+        self.stage.late = Late::none();
+        Took::Took { n: piece.len() }
+    }
+
+    fn close(&mut self, link: LinkId) {
+        self.told.add_call(self.stage.late, Entry::Closed { link });
+        steps::close(&mut self.stage, link);
+    }
+}
+
+// The entry of a read, where there is memory for it.
+fn got_entry(alloc: Global, link: LinkId, bytes: &[u8]) -> Option<Entry>
+    ensures { IfSome result (λ e. e ≡ entry.Got link bytes.now) }
+{
+    let bytes = Bytes::from_slice(alloc, bytes).ok()?;
+    Some(Entry::Got { link, bytes })
+}
+
+// The entry of a write, where there is memory for it.
+fn wrote_entry(alloc: Global, link: LinkId, tag: Tag, bytes: &[u8]) -> Option<Entry>
+    ensures { IfSome result (λ e. e ≡ entry.Wrote link tag bytes.now) }
+{
+    let bytes = Bytes::from_slice(alloc, bytes).ok()?;
+    Some(Entry::Wrote { link, tag, bytes })
+}
