@@ -1,8 +1,7 @@
 -- The stage follows the log where links come and where it wakes.
-use Rattle.std.proofs.Common.{◌≡◌, ℕ, zero, suc, ◌<◌, ◌≤◌, ◌+◌, ◌-◌, ◌*◌, ◌==◌, Bool, true, false, nat_eq, List, [], ◌∷◌, ◌++◌, length, filter, take, drop, if◌then◌else◌, Option, Some, None, refl, sym, ◌∙◌, ap, subst, arith, append-nil, append_assoc, length-append, add-zero, replicate, inl, inr}
-use Rattle.std.specs.Prelude.{IfSome, slice_get, not, ◌&&◌}
-use Rattle.std.specs.List.{filter_map, cons_option}
-use Rattle.std.proofs.lemmas.Option.{slice_get_within}
+use Rattle.std.proofs.Common.{◌≡◌, ℕ, zero, suc, ◌<◌, ◌≤◌, ◌+◌, ◌-◌, ◌*◌, ◌==◌, Bool, true, false, List, [], ◌∷◌, ◌++◌, length, filter, take, drop, if◌then◌else◌, Option, Some, None, refl, sym, ◌∙◌, ap, subst, arith, append-nil, length-append, add-zero, replicate, inl, inr}
+use Rattle.std.specs.Prelude.{slice_get}
+use Rattle.std.specs.List.{filter_map}
 use Rattle.std.proofs.lemmas.List.{length-take-le, drop-drop, take-append-le}
 use Rattle.std.proofs.lemmas.Bool.{eqb-true}
 use Rattle.mx_base.specs.declared.names.LinkId.{LinkId}
@@ -10,11 +9,10 @@ use Rattle.mx_base.specs.declared.names.ServerId.{ServerId}
 use Rattle.mx_base.specs.declared.names.Address.{Address}
 use Rattle.mx_base.specs.declared.names.Port.{Port}
 use Rattle.mx_base.specs.declared.names.Port.TheVariants.{Traffic, Admin}
-use Rattle.mx_wire.specs.Log.{Log, link_of, opened_links}
+use Rattle.mx_wire.specs.Log.{Log, opened_links}
 use Rattle.mx_wire.specs.Growth.{bool_cases}
 use Rattle.mx_wire.specs.declared.entry.Entry.{Entry}
 use Rattle.mx_wire.specs.declared.entry.Entry.TheVariants as entry
-use Rattle.recording.specs.declared.entry.RecordLink.{RecordLink}
 use Rattle.recording.specs.declared.entry.RecordLink.TheVariants.{Client, Server}
 use Rattle.recording.specs.declared.entry.RecordEntry.{RecordEntry}
 use Rattle.recording.specs.declared.entry.RecordEntry.TheVariants as line
@@ -25,23 +23,23 @@ use Rattle.mem_wire.specs.declared.stage.Stage.{Stage}
 use Rattle.mem_wire.specs.Adds.{late_entries}
 use Rattle.mem_wire.specs.Lines.{bytes_for, is_port, moments, is_mark_for, marks_for, released, released_last, clients_at}
 use Rattle.mem_wire.specs.Cuts.{NoMoment, EndsAtMoment, first_moment}
-use Rattle.mem_wire.specs.Came.{wakes, accepted_at, next_client, known, known_by, as_client}
-use Rattle.mem_wire.specs.Play.{is_opened, mark_at, late_marks, due_marks, just_opened, Answers}
-use Rattle.mem_wire.specs.Below.{link_below, all_below, links_below}
-use Rattle.mem_wire.specs.Tracks.{blank, track_at, place, ChangesTrack}
+use Rattle.mem_wire.specs.Came.{wakes, accepted_at, next_client, as_client}
+use Rattle.mem_wire.specs.Play.{mark_at, late_marks, due_marks}
+use Rattle.mem_wire.specs.Below.{links_below}
+use Rattle.mem_wire.specs.Tracks.{blank, track_at, place}
 use Rattle.mem_wire.specs.Steps.{numbered, next_link, clients_of, accepted_of, Enters, Accepts, Opens, Wakes, IsFirst, IsWithin}
 use Rattle.mem_wire.specs.Naming.{named_by, named_at, NoneIn, NoneAt, lines_between}
 use Rattle.mem_wire.specs.Stands.{Numbered, CutsAt, Fits, Stands, Passed, Entered, client, server}
-use Rattle.mem_wire.specs.Follows.{IsSound, Follows, IsTape, Continues, HaveSalts}
+use Rattle.mem_wire.specs.Follows.{Follows, IsTape, Continues, HaveSalts}
 use Rattle.mem_wire.proofs.Links.{all_below-append}
-use Rattle.mem_wire.proofs.Scenes.{alike-marks, accepted-more, opened-more, just-more, wakes-more}
-use Rattle.mem_wire.proofs.Sound.{sound-late, no-late, get-last, get-front}
+use Rattle.mem_wire.proofs.Scenes.{alike-marks, accepted-more, opened-more, just-more}
+use Rattle.mem_wire.proofs.Sound.{sound-late, no-late, get-last}
 use Rattle.mem_wire.proofs.CutLaws.{moment-is, cut-next, last-lines, cut-released}
 use Rattle.mem_wire.proofs.Standing.{client-is, stands-alike}
-use Rattle.mem_wire.proofs.StandEnters.{Brings_link, stands-enters}
+use Rattle.mem_wire.proofs.StandEnters.{stands-enters}
 use Rattle.mem_wire.proofs.StandWakes.{stands-wakes}
 use Rattle.mem_wire.proofs.Distinct.{client-fresh, server-fresh}
-use Rattle.mem_wire.proofs.Playing.{IsCall, IsPlain, execs-are, execs-append, late-execs-of, lines-execs, stands-marked, follows-plain, follows-entry, none-late, late-is, late-after}
+use Rattle.mem_wire.proofs.Playing.{execs-are, execs-append, late-execs-of, lines-execs, stands-marked, follows-plain, follows-entry, none-late, late-is, late-after}
 use Rattle.mem_wire.proofs.Following.{sound-accepts, sound-opens, sound-wakes, wake-marks}
 
 -- What a search has passed stays passed where a link comes: its own track is looked for behind them.
@@ -70,7 +68,7 @@ passed-enters recording old new log at st passed within enters last link none =
     record {
       lines = subst (λ (l : ℕ). NoneIn new.last new.tracks.items (lines_between new.last l recording)) (last ∙ sym enters.line) (no-lines new.last new.tracks.items new.last recording);
       places = subst (λ (l : ℕ). NoneAt l new.tracks.items (take new.link new.places.items)) (sym last)
-        (subst (NoneAt old.last new.tracks.items) (sym (ap (λ (k : ℕ). take k new.places.items) link ∙ ap (take old.link) enters.places ∙ take-append-le old.link old.places.items (at ∷ []) within.link)) kept);
+          (subst (NoneAt old.last new.tracks.items) (sym (ap (λ (k : ℕ). take k new.places.items) link ∙ ap (take old.link) enters.places ∙ take-append-le old.link old.places.items (at ∷ []) within.link)) kept);
     }
 
 clients-same : (old new : Stage) (port : Port) → new.traffic ≡ old.traffic → new.admin ≡ old.admin → clients_of port new ≡ clients_of port old
@@ -129,7 +127,7 @@ late-opened recording old new log1 at_server address opens st opened_is count =
     let log2 = log1 ++ e ∷ [] in
     let k = length new.opened.items in
     let newest : slice_get new.opened.items (k - 1) ≡ Some (next_link old) =
-        ap (λ (links : List LinkId). slice_get links (k - 1)) opens.opened ∙ ap (slice_get (old.opened.items ++ next_link old ∷ [])) (let i : k - 1 ≡ length old.opened.items = omega arith in i) ∙ get-last old.opened.items (next_link old) in
+    ap (λ (links : List LinkId). slice_get links (k - 1)) opens.opened ∙ ap (slice_get (old.opened.items ++ next_link old ∷ [])) (let i : k - 1 ≡ length old.opened.items = omega arith in i) ∙ get-last old.opened.items (next_link old) in
     let marks : (track_at new.tracks.items (2 * k + 1)).marks ≡ marks_for (Server k) (take new.cut recording) = (st.tracks (Server k)).marks in
     ap (λ b. if b then filter_map (mark_at (opened_links log2)) (filter (is_mark_for (Server (length (opened_links log2)))) (released (wakes log2) recording)) else []) (just-more log1 e)
     ∙ ap (λ (links : List LinkId). filter_map (mark_at links) (filter (is_mark_for (Server (length links))) (released (wakes log2) recording))) opened_is
@@ -151,13 +149,13 @@ follows-opened recording old new log at_server address within follows opens =
     let opened_is : opened_links log2 ≡ new.opened.items = opened-more log1 e ∙ ap (λ ls. ls ++ next_link old ∷ []) st.opened ∙ sym opens.opened in
     let named : length (opened_links log1) + 1 ≡ length new.opened.items = ap (λ ls. length ls + 1) st.opened ∙ sym count in
     let stands = stands-enters recording old new log1 e (2 * length new.opened.items + 1) (Server (length new.opened.items)) st follows.sound.linked
-        (all_below-append log (late_entries old.late) (length old.places.items) follows.sound.below (sound-late recording old log follows.sound).below)
-        opens.enters (ap (λ s. s.cut) opens.frame) (ap (λ s. s.last) opens.frame) clients
-        (λ p. accepted p ∙ st.accepted p ∙ sym (accepted-more p log1 e ∙ add-zero (accepted_at p log1)))
-        opened_is refl fresh (ap (λ (n : ℕ). record { link = next_link old; name = Server n } ∷ []) named)
-        (λ spot was. entered-more old new spot clients (λ p. let same : accepted_of p new ≡ accepted_of p old = accepted p in omega arith) (omega arith) was)
-        (server (length new.opened.items) (omega arith) refl)
-        (record { woke = refl; of = refl; got = refl; opens = λ was. refl; names = λ links. refl }) in
+    (all_below-append log (late_entries old.late) (length old.places.items) follows.sound.below (sound-late recording old log follows.sound).below)
+    opens.enters (ap (λ s. s.cut) opens.frame) (ap (λ s. s.last) opens.frame) clients
+    (λ p. accepted p ∙ st.accepted p ∙ sym (accepted-more p log1 e ∙ add-zero (accepted_at p log1)))
+    opened_is refl fresh (ap (λ (n : ℕ). record { link = next_link old; name = Server n } ∷ []) named)
+    (λ spot was. entered-more old new spot clients (λ p. let same : accepted_of p new ≡ accepted_of p old = accepted p in omega arith) (omega arith) was)
+    (server (length new.opened.items) (omega arith) refl)
+    (record { woke = refl; of = refl; got = refl; opens = λ was. refl; names = λ links. refl }) in
     follows-plain recording old new log e follows (record { call = record { unmarked = refl; judge = λ l x. x }; due = λ l. refl })
     tt (sound-opens recording old new at_server address log follows opens) stands
     (passed-enters recording old new log1 (2 * length new.opened.items + 1) st follows.passed within opens.enters (ap (λ s. s.last) opens.frame) (ap (λ s. s.link) opens.frame) fresh)
@@ -180,12 +178,12 @@ follows-woken recording old new ms count until_ms rest log within follows is fir
     let cut_now : CutsAt recording old.cut ((wakes log1 + 1) - 1) = subst (CutsAt recording old.cut) (let same : wakes log1 ≡ (wakes log1 + 1) - 1 = omega arith in same) st.cut in
     let cut_then = cut-next recording rest old.cut (wakes log1) ms count st.cut is first some none (subst EndsAtMoment left ends) in
     let lines_are : released_last (wakes log1 + 1) recording ≡ lines =
-        last-lines recording old.cut (old.cut + count) (wakes log1 + 1) cut_now cut_then (omega arith) (omega arith)
-        ∙ ap (λ (n : ℕ). take n (drop old.cut recording)) (let n : (old.cut + count) - old.cut ≡ count = omega arith in n) ∙ ap (take count) (sym is) in
+    last-lines recording old.cut (old.cut + count) (wakes log1 + 1) cut_now cut_then (omega arith) (omega arith)
+    ∙ ap (λ (n : ℕ). take n (drop old.cut recording)) (let n : (old.cut + count) - old.cut ≡ count = omega arith in n) ∙ ap (take count) (sym is) in
     let due : due_marks recording log1 e ≡ marks =
-        ap (λ (l : Log). l ++ filter_map (mark_at (opened_links log1)) (released_last (wakes log1 + 1) recording)) (late-after recording log marks are ∙ follows.late)
-        ∙ ap (λ (links : List LinkId). late_entries old.late ++ filter_map (mark_at links) (released_last (wakes log1 + 1) recording)) st.opened
-        ∙ ap (λ (ls : List RecordEntry). late_entries old.late ++ filter_map (mark_at old.opened.items) ls) lines_are in
+    ap (λ (l : Log). l ++ filter_map (mark_at (opened_links log1)) (released_last (wakes log1 + 1) recording)) (late-after recording log marks are ∙ follows.late)
+    ∙ ap (λ (links : List LinkId). late_entries old.late ++ filter_map (mark_at links) (released_last (wakes log1 + 1) recording)) st.opened
+    ∙ ap (λ (ls : List RecordEntry). late_entries old.late ++ filter_map (mark_at old.opened.items) ls) lines_are in
     follows-entry recording old new log marks e follows execs (record { unmarked = refl; judge = λ l x. x }) due
     (moment-is recording rest old.cut (wakes log1) ms st.cut is first)
     (sound-wakes recording old new ms count until_ms rest log follows is first some most none ends step)

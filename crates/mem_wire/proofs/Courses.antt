@@ -1,5 +1,5 @@
 -- What the steps of a play leave of its stage.
-use Rattle.std.proofs.Common.{◌≡◌, ℕ, ◌≤◌, ◌<◌, ◌+◌, ◌++◌, ◌∷◌, [], List, length, refl, sym, ◌∙◌, ap, subst, arith, length-append}
+use Rattle.std.proofs.Common.{◌≡◌, ℕ, ◌≤◌, ◌+◌, ◌∷◌, [], List, length, sym, ◌∙◌, ap, subst, arith, length-append}
 use Rattle.recording.specs.declared.entry.RecordEntry.{RecordEntry}
 use Rattle.mem_wire.specs.declared.naming.ToName.{ToName}
 use Rattle.std.specs.Prelude.{Option}
@@ -64,8 +64,8 @@ within-enters recording old new at within enters cut last link = record {
   last = let line : new.line ≡ old.last = enters.line in omega arith;
   line = let line : new.line ≡ old.last = enters.line in let h1 : old.last ≤ old.line = within.last in let h2 : old.line ≤ old.cut = within.line in omega arith;
   link =
-    let size : length new.places.items ≡ length old.places.items + 1 = ap length enters.places ∙ length-append old.places.items (at ∷ []) in
-    let h : old.link ≤ length old.places.items = within.link in omega arith;
+      let size : length new.places.items ≡ length old.places.items + 1 = ap length enters.places ∙ length-append old.places.items (at ∷ []) in
+      let h : old.link ≤ length old.places.items = within.link in omega arith;
 }
 
 pub within-wakes : (recording lines : List RecordEntry) (next : ℕ) (old new : Stage) → IsWithin recording old → Wakes lines next old new → old.cut ≤ next → next ≤ length recording → IsWithin recording new
@@ -81,9 +81,9 @@ pub moved-search : (recording : List RecordEntry) (found : Option ToName) (old m
 moved-search recording found old mid new looks frame late = record {
   links = λ at. ap (λ s. (track_at s.tracks.items at).link) frame ∙ ap (λ s. (track_at s.tracks.items at).link) looks.frame;
   frame = frame ∙ ap {A = Stage} (λ s. record s { late = new.late }) looks.frame
-    ∙ ap (λ line. record old { late = new.late; line = line; link = mid.link }) (sym (ap (λ s. s.line) frame))
-    ∙ ap (λ link. record old { late = new.late; line = new.line; link = link }) (sym (ap (λ s. s.link) frame))
-    ∙ ap (λ tracks. record old { tracks = tracks; late = new.late; line = new.line; link = new.link }) (sym (ap (λ s. s.tracks) frame ∙ ap (λ s. s.tracks) looks.frame));
+      ∙ ap (λ line. record old { late = new.late; line = line; link = mid.link }) (sym (ap (λ s. s.line) frame))
+      ∙ ap (λ link. record old { late = new.late; line = new.line; link = link }) (sym (ap (λ s. s.link) frame))
+      ∙ ap (λ tracks. record old { tracks = tracks; late = new.late; line = new.line; link = new.link }) (sym (ap (λ s. s.tracks) frame ∙ ap (λ s. s.tracks) looks.frame));
   late = late;
 }
 
@@ -92,7 +92,7 @@ pub moved-name : (recording : List RecordEntry) (found : Option ToName) (old mid
 moved-name recording found old mid new looks frame late links = record {
   links = λ at. links at ∙ ap (λ s. (track_at s.tracks.items at).link) looks.frame;
   frame = frame ∙ ap {A = Stage} (λ s. record s { tracks = new.tracks; late = new.late }) looks.frame
-    ∙ ap (λ line. record old { tracks = new.tracks; late = new.late; line = line; link = mid.link }) (sym (ap (λ s. s.line) frame))
-    ∙ ap (λ link. record old { tracks = new.tracks; late = new.late; line = new.line; link = link }) (sym (ap (λ s. s.link) frame));
+      ∙ ap (λ line. record old { tracks = new.tracks; late = new.late; line = line; link = mid.link }) (sym (ap (λ s. s.line) frame))
+      ∙ ap (λ link. record old { tracks = new.tracks; late = new.late; line = new.line; link = link }) (sym (ap (λ s. s.link) frame));
   late = late;
 }

@@ -1,8 +1,8 @@
 -- What a cut says of the lines that are released.
-use Rattle.std.proofs.Common.{◌≡◌, ℕ, zero, suc, ◌<◌, ◌≤◌, ◌+◌, ◌-◌, ◌==◌, Bool, true, false, List, [], ◌∷◌, ◌++◌, length, take, drop, if◌then◌else◌, Option, Some, None, refl, sym, ◌∙◌, ap, subst, arith, append-nil, append_assoc, length-append, add-zero, length-drop}
+use Rattle.std.proofs.Common.{◌≡◌, ℕ, zero, suc, ◌<◌, ◌≤◌, ◌+◌, ◌-◌, ◌==◌, Bool, true, false, List, [], ◌∷◌, ◌++◌, length, take, drop, if◌then◌else◌, Some, None, refl, sym, ◌∙◌, ap, subst, arith, append-nil, length-append}
 use Rattle.std.specs.Prelude.{◌&&◌, slice_get}
-use Rattle.std.specs.List.{filter_map, cons_option}
-use Rattle.std.proofs.lemmas.List.{take-append-drop, drop-take, length-take-le, take_all}
+use Rattle.std.specs.List.{cons_option}
+use Rattle.std.proofs.lemmas.List.{take-append-drop, drop-take, length-take-le}
 use Rattle.std.proofs.lemmas.List.Elements.{filter_map-append}
 use Rattle.std.proofs.Math.Seq.{take-add}
 use Rattle.recording.specs.declared.entry.RecordEntry.{RecordEntry}
@@ -75,9 +75,9 @@ moment-is recording rest at n ms cut is first =
 pub cut-next : (recording rest : List RecordEntry) (at n ms count : ℕ) → CutsAt recording at n → rest ≡ drop at recording → first_moment rest ≡ Some ms → 0 < count → NoMoment (drop 1 (take count rest)) → EndsAtMoment (drop (at + count) recording) → CutsAt recording (at + count) (n + 1)
 cut-next recording rest at n ms count cut is first some none ends = record {
   count_is =
-    ap (λ (lines : List RecordEntry). length (moments lines)) (take-add at count recording ∙ ap (λ (lines : List RecordEntry). take at recording ++ take count lines) (sym is))
-    ∙ ap length (filter_map-append moment_at (take at recording) (take count rest)) ∙ length-append (moments (take at recording)) (moments (take count rest))
-    ∙ ap (λ (k : ℕ). k + length (moments (take count rest))) cut.count_is ∙ ap (λ (k : ℕ). n + k) (one-moment rest ms count first some none);
+      ap (λ (lines : List RecordEntry). length (moments lines)) (take-add at count recording ∙ ap (λ (lines : List RecordEntry). take at recording ++ take count lines) (sym is))
+      ∙ ap length (filter_map-append moment_at (take at recording) (take count rest)) ∙ length-append (moments (take at recording)) (moments (take count rest))
+      ∙ ap (λ (k : ℕ). k + length (moments (take count rest))) cut.count_is ∙ ap (λ (k : ℕ). n + k) (one-moment rest ms count first some none);
   ends = ends;
 }
 
@@ -93,6 +93,6 @@ pub over-is : (recording rest : List RecordEntry) (at n : ℕ) → CutsAt record
 over-is recording rest at n cut is first =
     let left : moments rest ≡ [] = none-left rest (subst EndsAtMoment (sym is) cut.ends) first in
     let all : length (moments recording) ≡ n =
-        ap length (moments-parts recording at ∙ ap (λ (lines : List RecordEntry). moments (take at recording) ++ moments lines) (sym is) ∙ ap (λ (ms : List ℕ). moments (take at recording) ++ ms) left ∙ append-nil (moments (take at recording)))
-        ∙ cut.count_is in
+    ap length (moments-parts recording at ∙ ap (λ (lines : List RecordEntry). moments (take at recording) ++ moments lines) (sym is) ∙ ap (λ (ms : List ℕ). moments (take at recording) ++ ms) left ∙ append-nil (moments (take at recording)))
+    ∙ cut.count_is in
     omega arith

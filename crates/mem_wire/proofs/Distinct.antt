@@ -1,14 +1,13 @@
 -- No two clients of a recording have one number, and so no link comes twice.
-use Rattle.std.proofs.Common.{◌≡◌, ◌⊎◌, ℕ, zero, suc, ◌<◌, ◌≤◌, ◌+◌, ◌*◌, Bool, true, false, List, [], ◌∷◌, ◌++◌, length, take, drop, if◌then◌else◌, Option, Some, None, refl, sym, ◌∙◌, ap, subst, arith, inl, inr}
+use Rattle.std.proofs.Common.{◌≡◌, ℕ, zero, suc, ◌<◌, ◌+◌, ◌*◌, Bool, true, false, List, [], ◌∷◌, length, take, drop, if◌then◌else◌, Option, Some, None, refl, sym, ◌∙◌, ap, subst, arith}
 use Rattle.std.specs.Prelude.{slice_get}
-use Rattle.std.specs.List.{filter_map, cons_option}
+use Rattle.std.specs.List.{cons_option}
 use Rattle.std.proofs.lemmas.List.{take-append-drop}
 use Rattle.std.proofs.lemmas.List.Elements.{filter_map-append}
 use Rattle.mx_base.specs.declared.names.LinkId.{LinkId}
 use Rattle.mx_base.specs.declared.names.Port.{Port}
 use Rattle.mx_base.specs.declared.names.Port.TheVariants.{Traffic, Admin}
 use Rattle.mx_wire.specs.Log.{Log}
-use Rattle.mx_wire.specs.Growth.{bool_cases}
 use Rattle.recording.specs.declared.entry.RecordEntry.{RecordEntry}
 use Rattle.recording.specs.declared.entry.RecordEntry.TheVariants as line
 use Rattle.recording.specs.Playable.{PlayableAfter, IsPlayable}
@@ -93,8 +92,8 @@ client-again : (recording : List RecordEntry) (s : Stage) (log : Log) (port : Po
 client-again recording s log port c playable st is (client other i d low found spot) =
     let same : c.number ≡ d.number = omega arith in
     let twice = distinct 0 0 port other recording playable.lines (accepted_of port s) i c d
-        (in-whole recording s.cut port (accepted_of port s) c (ap (λ cs. slice_get cs (accepted_of port s)) (sym (st.clients port)) ∙ is))
-        (in-whole recording s.cut other i d (ap (λ cs. slice_get cs i) (sym (st.clients other)) ∙ found)) same in
+    (in-whole recording s.cut port (accepted_of port s) c (ap (λ cs. slice_get cs (accepted_of port s)) (sym (st.clients port)) ∙ is))
+    (in-whole recording s.cut other i d (ap (λ cs. slice_get cs i) (sym (st.clients other)) ∙ found)) same in
     let port_low : i < accepted_of port s = subst (λ (p : Port). i < accepted_of p s) (sym twice.port) low in
     let place : accepted_of port s ≡ i = twice.place in
     omega arith

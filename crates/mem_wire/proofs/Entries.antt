@@ -1,56 +1,42 @@
 -- The stage follows the log, entry by entry.
-use Rattle.std.proofs.Common.{◌≡◌, ◌⊎◌, ℕ, zero, suc, ◌<◌, ◌≤◌, ◌+◌, ◌-◌, ◌*◌, ◌==◌, Bool, true, false, nat_eq, nat_lt, List, [], ◌∷◌, ◌++◌, length, filter, take, drop, if◌then◌else◌, Option, Some, None, refl, sym, ◌∙◌, ap, subst, arith, inl, inr, append-nil, append_assoc, length-append, add-zero, min, get_or}
+use Rattle.std.proofs.Common.{◌≡◌, ◌⊎◌, ℕ, zero, suc, ◌<◌, ◌≤◌, ◌==◌, Bool, true, false, nat_lt, List, [], ◌∷◌, ◌++◌, length, take, drop, if◌then◌else◌, Option, Some, None, refl, sym, ◌∙◌, ap, subst, arith, inl, inr, min, get_or}
 use Rattle.std.specs.Prelude.{IfSome, slice_get, not, ◌&&◌}
-use Rattle.std.specs.List.{filter_map, cons_option}
-use Rattle.std.proofs.lemmas.Option.{slice_get-get_or, slice_get_past, slice_get_within}
-use Rattle.std.proofs.lemmas.List.{take-append-drop, length-take-le, drop-drop}
+use Rattle.std.proofs.lemmas.Option.{slice_get-get_or, slice_get_within}
+use Rattle.std.proofs.lemmas.List.{take-append-drop, length-take-le}
 use Rattle.mx_base.specs.declared.names.LinkId.{LinkId}
-use Rattle.mx_base.specs.declared.names.ServerId.{ServerId}
-use Rattle.mx_base.specs.declared.names.Address.{Address}
-use Rattle.mx_base.specs.declared.names.Port.{Port}
-use Rattle.mx_base.specs.declared.names.Port.TheVariants.{Traffic, Admin}
-use Rattle.mx_wire.specs.Log.{Log, link_of, opened_links, accepted_links, moment_step}
+use Rattle.mx_wire.specs.Log.{Log, link_of, moment_step}
 use Rattle.mx_wire.specs.Tells.{IsOpen, OpenFor}
 use Rattle.mx_wire.specs.Growth.{bool_cases, same_number}
 use Rattle.mx_wire.specs.declared.entry.Entry.{Entry}
 use Rattle.mx_wire.specs.declared.entry.Entry.TheVariants as entry
 use Rattle.recording.specs.declared.entry.RecordLink.{RecordLink}
-use Rattle.recording.specs.declared.entry.RecordLink.TheVariants.{Client, Server}
 use Rattle.recording.specs.declared.entry.RecordEntry.{RecordEntry}
-use Rattle.recording.specs.Playable.{IsPlayable}
-use Rattle.mem_wire.specs.declared.waiting.Waiting.{Waiting}
 use Rattle.mem_wire.specs.declared.late.Late.{Late}
 use Rattle.mem_wire.specs.declared.naming.ToName.{ToName}
 use Rattle.mem_wire.specs.declared.track.Track.{Track}
 use Rattle.mem_wire.specs.declared.stage.Stage.{Stage}
 use Rattle.mem_wire.specs.Adds.{late_entries, Calls, CallsIf}
-use Rattle.mem_wire.specs.Lines.{bytes_for, moments, name_at, is_mark_for, marks_for, released, released_last, clients_at}
-use Rattle.mem_wire.specs.Cuts.{NoMoment, EndsAtMoment, first_moment}
-use Rattle.mem_wire.specs.Came.{wakes, accepted_at, next_client, known, with_link, unread}
-use Rattle.mem_wire.specs.Play.{is_empty, is_opened, mark_at, late_marks, due_marks, just_opened, named_step, next_named, Reads, Brings, Names, Answers}
-use Rattle.mem_wire.specs.Below.{link_below, all_below}
-use Rattle.mem_wire.specs.Tracks.{track_at, place, blank, SameLinks, ChangesTrack}
-use Rattle.mem_wire.specs.Steps.{numbered, next_link, clients_of, accepted_of, place_in, ReadsFrom, Moves, MovesAt, Accepts, Opens, Wakes, IsFirst, IsWithin}
-use Rattle.mem_wire.specs.Naming.{is_named, named_by, named_at, named_in, NoneIn, NoneAt, lines_between, Searches}
-use Rattle.mem_wire.specs.Stands.{read_by, CutsAt, Fits, Stands, Passed, Entered, client, server}
-use Rattle.mem_wire.specs.Follows.{IsSound, Follows, IsTape}
-use Rattle.mem_wire.proofs.Links.{is_below, AreGood, all_below-append, open-below}
-use Rattle.mem_wire.proofs.Scenes.{IsIdle, alike-idle, alike-marks, accepted-more, opened-more, just-more}
-use Rattle.mem_wire.proofs.Sound.{sound-late, get-last, get-front}
+use Rattle.mem_wire.specs.Lines.{bytes_for, name_at}
+use Rattle.mem_wire.specs.Came.{unread}
+use Rattle.mem_wire.specs.Play.{is_empty, is_opened, named_step, Answers}
+use Rattle.mem_wire.specs.Below.{link_below}
+use Rattle.mem_wire.specs.Tracks.{track_at, place, ChangesTrack}
+use Rattle.mem_wire.specs.Steps.{place_in, ReadsFrom, Moves, MovesAt, IsWithin}
+use Rattle.mem_wire.specs.Naming.{is_named, named_by, named_at, NoneIn, NoneAt, lines_between, Searches}
+use Rattle.mem_wire.specs.Stands.{read_by, Fits, Stands, Passed}
+use Rattle.mem_wire.specs.Follows.{Follows, IsTape}
+use Rattle.mem_wire.proofs.Links.{is_below, open-below}
+use Rattle.mem_wire.proofs.Scenes.{IsIdle, alike-idle}
 use Rattle.mem_wire.proofs.Courses.{Moved, moved-moves}
 use Rattle.mem_wire.proofs.LineLaws.{name_of, place-name_of}
 use Rattle.mem_wire.proofs.NamingLaws.{named-link}
-use Rattle.mem_wire.proofs.CutLaws.{moment-is, over-is, cut-next, last-lines, cut-released}
-use Rattle.mem_wire.proofs.Standing.{stands-alike, fits-alike, client-is, unread-is}
-use Rattle.mem_wire.proofs.StandSteps.{AlikeBut, but-entry, stands-stay, entered-like}
+use Rattle.mem_wire.proofs.Standing.{stands-alike, fits-alike, unread-is}
+use Rattle.mem_wire.proofs.StandSteps.{but-entry, stands-stay}
 use Rattle.mem_wire.proofs.StandMoves.{Brings_nothing, present, stands-moves, mine-got, mine-closed, mine-named}
-use Rattle.mem_wire.proofs.StandEnters.{Brings_link, stands-enters}
-use Rattle.mem_wire.proofs.StandWakes.{stands-wakes}
-use Rattle.mem_wire.proofs.Distinct.{client-fresh, server-fresh}
-use Rattle.mem_wire.proofs.Nameable.{passed-more, names-none, names-some}
-use Rattle.mem_wire.proofs.Playing.{IsCall, IsPlain, execs-are, execs-append, late-execs-of, lines-execs, stands-marked, follows-plain, follows-entry, none-late, late-is, late-after}
+use Rattle.mem_wire.proofs.Nameable.{passed-more, names-some}
+use Rattle.mem_wire.proofs.Playing.{IsPlain, stands-marked, follows-plain, none-late}
 use Rattle.mem_wire.proofs.Telling.{goes_on, goes_on_if}
-use Rattle.mem_wire.proofs.Following.{sound-moved, sound-accepts, sound-opens, sound-wakes, wake-marks, wake-good}
+use Rattle.mem_wire.proofs.Following.{sound-moved}
 
 -- Entries that a play doesn't look at.
 
@@ -229,7 +215,7 @@ some-cut recording s log t st named =
     let name = name_of t.at in
     let fits = subst (λ (p : ℕ). Fits (take s.cut recording) s.last s.cut log name (track_at s.tracks.items p)) (place-name_of t.at) (st.tracks name) in
     positive-or s.cut (λ none. not-empty x.closed (is_named x.named s.last) x.unread x.link t.link named
-        (no-front (read_by x.link log) x.unread (fits.bytes ∙ ap (λ (c : ℕ). bytes_for name (take c recording)) none)))
+    (no-front (read_by x.link log) x.unread (fits.bytes ∙ ap (λ (c : ℕ). bytes_for name (take c recording)) none)))
 
 -- The link that a search has found.
 
@@ -244,8 +230,8 @@ follows-named recording old mid new log t within follows looks moves moved =
     let inside : t.at < length mid.tracks.items = subst (λ ts. t.at < length ts.items) (sym tracks_are) (present old.tracks.items t.at t.link owner) in
     let changes : ChangesTrack t.at (λ y. record y { named = Some mid.last }) mid.tracks.items new.tracks.items = moves.track inside in
     let changes_old : ChangesTrack t.at (λ y. record y { named = Some old.last }) old.tracks.items new.tracks.items =
-        subst (λ (l : ℕ). ChangesTrack t.at (λ y. record y { named = Some l }) old.tracks.items new.tracks.items) last_is
-        (subst (λ ts. ChangesTrack t.at (λ y. record y { named = Some mid.last }) ts.items new.tracks.items) tracks_are changes) in
+    subst (λ (l : ℕ). ChangesTrack t.at (λ y. record y { named = Some l }) old.tracks.items new.tracks.items) last_is
+    (subst (λ ts. ChangesTrack t.at (λ y. record y { named = Some mid.last }) ts.items new.tracks.items) tracks_are changes) in
     let positive : 0 < old.cut = some-cut recording old log1 t (stands-marked recording old log follows) looks.stopped.0 in
     follows-moves recording old new log (entry.Named t.link) t.link t.at (λ y. record y { named = Some old.last }) follows moved changes_old here refl (is_below t.link.0 (length old.places.items) (slice_get_within old.places.items t.link.0 t.at here)) (λ m. refl)
     (record { woke = refl; accepted = λ port. refl; opened = refl; known = λ r l. refl }) (λ links. inr refl) (record { call = record { unmarked = refl; judge = λ l c. c }; due = λ l. refl }) refl
@@ -258,12 +244,12 @@ follows-named recording old mid new log t within follows looks moves moved =
 pub tape-stays : (recording : List RecordEntry) (old new : Stage) (before after : Option Log) (e : Entry) → IsTape recording old before → IsWithin recording new → Stays old new → Calls before (late_entries old.late) e after → ((log : Log) → before ≡ Some log → Follows recording old log → link_below (length old.places.items) (link_of e) ≡ true) → ((m : ℕ) → moment_step m e ≡ m) → IsIdle e → IsPlain recording e → is_opened e ≡ false → ((log : Log) → Follows recording old log → Stands recording old (log ++ late_entries old.late) → Answers recording (log ++ late_entries old.late) e) → ((log : Log) → Follows recording old log → Passed recording new) → IsTape recording new after
 tape-stays recording old new before after e tape within stays call low moment idle plain unopened answer passed =
     goes_on recording old new before after (late_entries old.late) e tape within call (λ log is follows.
-        follows-stays recording old new log e follows stays (low log is follows) moment idle plain unopened (answer log follows (stands-marked recording old log follows)) (passed log follows))
+    follows-stays recording old new log e follows stays (low log is follows) moment idle plain unopened (answer log follows (stands-marked recording old log follows)) (passed log follows))
 
 pub tape-stays-if : (recording : List RecordEntry) (old new : Stage) (before after : Option Log) (told : Option Entry) (e : Entry) → IsTape recording old before → IsWithin recording new → Stays old new → CallsIf before (late_entries old.late) told after → IfSome told (λ x. x ≡ e) → ((log : Log) → before ≡ Some log → Follows recording old log → link_below (length old.places.items) (link_of e) ≡ true) → ((m : ℕ) → moment_step m e ≡ m) → IsIdle e → IsPlain recording e → is_opened e ≡ false → ((log : Log) → Follows recording old log → Stands recording old (log ++ late_entries old.late) → Answers recording (log ++ late_entries old.late) e) → ((log : Log) → Follows recording old log → Passed recording new) → IsTape recording new after
 tape-stays-if recording old new before after told e tape within stays call is low moment idle plain unopened answer passed =
     goes_on_if recording old new before after (late_entries old.late) told e tape within call is (λ log told_is follows.
-        follows-stays recording old new log e follows stays (low log told_is follows) moment idle plain unopened (answer log follows (stands-marked recording old log follows)) (passed log follows))
+    follows-stays recording old new log e follows stays (low log told_is follows) moment idle plain unopened (answer log follows (stands-marked recording old log follows)) (passed log follows))
 
 pub open-in : (told shown : Option Log) (link : LinkId) (log : Log) → told ≡ shown → OpenFor shown link → told ≡ Some log → IsOpen link log
 open-in told shown link log same opened is = opened.holds log (sym same ∙ is)
@@ -272,7 +258,7 @@ open-in told shown link log same opened is = opened.holds log (sym same ∙ is)
 pub stays-search : (recording : List RecordEntry) (found : Option ToName) (old mid new : Stage) → Searches recording found old mid → new ≡ record mid { late = new.late } → new.late.marks ≡ 0 → Stays old new
 stays-search recording found old mid new looks frame late = record {
   frame = frame ∙ ap {A = Stage} (λ s. record s { late = new.late }) looks.frame
-    ∙ ap (λ line. record old { late = new.late; line = line; link = mid.link }) (sym (ap (λ s. s.line) frame))
-    ∙ ap (λ link. record old { late = new.late; line = new.line; link = link }) (sym (ap (λ s. s.link) frame));
+      ∙ ap (λ line. record old { late = new.late; line = line; link = mid.link }) (sym (ap (λ s. s.line) frame))
+      ∙ ap (λ link. record old { late = new.late; line = new.line; link = link }) (sym (ap (λ s. s.link) frame));
   late = late;
 }

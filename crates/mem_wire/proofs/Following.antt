@@ -1,7 +1,7 @@
 -- The stage follows the log, call by call.
-use Rattle.std.proofs.Common.{◌≡◌, ℕ, ◌<◌, ◌≤◌, ◌+◌, ◌*◌, Bool, true, false, nat_lt, List, [], ◌∷◌, ◌++◌, length, drop, take, Option, Some, None, refl, sym, ◌∙◌, ap, subst, arith, replicate}
+use Rattle.std.proofs.Common.{◌≡◌, ℕ, ◌<◌, ◌≤◌, ◌+◌, ◌*◌, true, nat_lt, List, [], ◌∷◌, ◌++◌, length, drop, take, Option, Some, None, refl, sym, ◌∙◌, ap, subst, arith}
 use Rattle.mx_base.specs.declared.names.LinkId.{LinkId}
-use Rattle.std.specs.Prelude.{IfSome, slice_get}
+use Rattle.std.specs.Prelude.{slice_get}
 use Rattle.std.specs.List.{filter_map}
 use Rattle.std.proofs.lemmas.List.{drop-drop, length-take-le}
 use Rattle.mx_base.specs.declared.names.ServerId.{ServerId}
@@ -15,17 +15,16 @@ use Rattle.mx_wire.specs.declared.entry.Entry.{Entry}
 use Rattle.mx_wire.specs.declared.entry.Entry.TheVariants as entry
 use Rattle.recording.specs.declared.entry.RecordEntry.{RecordEntry}
 use Rattle.mem_wire.specs.declared.stage.Stage.{Stage}
-use Rattle.mem_wire.specs.Adds.{late_entries, Adds, IsBounded, Calls, CallsIf}
+use Rattle.mem_wire.specs.Adds.{late_entries, Adds, IsBounded, Calls}
 use Rattle.mem_wire.specs.Below.{link_below, all_below, links_below}
 use Rattle.mem_wire.specs.Lines.{clients_at}
 use Rattle.mem_wire.specs.Play.{mark_at}
 use Rattle.mem_wire.specs.Cuts.{NoMoment, EndsAtMoment, first_moment}
 use Rattle.mem_wire.specs.Tracks.{track_at}
 use Rattle.mem_wire.specs.declared.waiting.Waiting.{Waiting}
-use Rattle.recording.specs.Playable.{PlayableAfter, IsPlayable}
-use Rattle.mem_wire.specs.Follows.{IsSound, Follows, IsTape, Continues, HaveSalts}
-use Rattle.mem_wire.specs.Steps.{IsFirst, IsWithin, Enters, Accepts, Opens, Wakes, numbered, next_link, clients_of, accepted_of}
-use Rattle.mem_wire.specs.declared.track.Track.{Track}
+use Rattle.recording.specs.Playable.{PlayableAfter}
+use Rattle.mem_wire.specs.Follows.{IsSound, Follows, Continues, HaveSalts}
+use Rattle.mem_wire.specs.Steps.{Enters, Accepts, Opens, Wakes, numbered, next_link, clients_of, accepted_of}
 use Rattle.mem_wire.specs.declared.late.Late.{Late}
 use Rattle.mem_wire.proofs.Links.{late-marks, late-below, is_below, links_below-append, links_below-more, all_below-append, AreGood, good-append, marks-good, marks-append, marks-of}
 use Rattle.mem_wire.proofs.Quiet.{moment-marks}
@@ -35,7 +34,7 @@ use Rattle.mem_wire.specs.Naming.{Searches}
 use Rattle.mem_wire.proofs.NamingLaws.{named-link}
 use Rattle.mem_wire.proofs.LineLaws.{released-links}
 use Rattle.mem_wire.proofs.Playable.{salts-append, salts-of, salt-at, begins}
-use Rattle.mem_wire.proofs.Telling.{goes_on, goes_on_if, calls_in_parts}
+use Rattle.mem_wire.proofs.Telling.{calls_in_parts}
 use Rattle.mem_wire.proofs.Sound.{sound-call, sound-late, sound-new, sound-enter, no-late, open-low, open-still}
 use Rattle.mem_wire.proofs.Courses.{Moved, keeps-moved}
 
@@ -140,4 +139,3 @@ marks_are s lines = marks-append (late_entries s.late) (filter_map (mark_at s.op
 
 none_some : (link : LinkId) → None ≡ Some link → ⊥
 none_some link is = cc
-

@@ -1,5 +1,5 @@
 -- What one more line, or one more entry, adds.
-use Rattle.std.proofs.Common.{◌≡◌, ℕ, ◌<◌, ◌+◌, Bool, true, false, List, [], ◌∷◌, ◌++◌, length, take, drop, get_or, Option, Some, None, refl, sym, ◌∙◌, ap, subst, append-nil, append_assoc}
+use Rattle.std.proofs.Common.{◌≡◌, ℕ, ◌<◌, ◌+◌, false, List, [], ◌∷◌, ◌++◌, length, take, get_or, Option, sym, ◌∙◌, ap, subst, append-nil, append_assoc}
 use Rattle.std.specs.List.{filter_map, cons_option}
 use Rattle.std.proofs.lemmas.List.{take_more}
 use Rattle.std.proofs.lemmas.List.Elements.{filter_map-append}
@@ -25,9 +25,9 @@ filter_map-next f lines i d o within this =
 pub adds-append : (old mid new : Option Log) (a b : Log) → Adds old a mid → Adds mid b new → Adds old (a ++ b) new
 adds-append old mid new a b first next = record {
   told = λ log told.
-    let late = next.told log told in
-    let early = first.told late.0 late.1 in
-    (early.0, early.1, late.2 ∙ ap (λ (front : Log). front ++ b) early.2 ∙ append_assoc early.0 a b)
+      let late = next.told log told in
+      let early = first.told late.0 late.1 in
+      (early.0, early.1, late.2 ∙ ap (λ (front : Log). front ++ b) early.2 ∙ append_assoc early.0 a b);
 }
 
 pub adds-none : (told : Option Log) → Adds told [] told

@@ -1,5 +1,5 @@
 -- What lines release, a line at a time.
-use Rattle.std.proofs.Common.{◌≡◌, ◌⊎◌, ℕ, ◌+◌, ◌*◌, ◌<◌, ◌==◌, Bool, true, false, nat_eq, if◌then◌else◌, List, [], ◌∷◌, ◌++◌, length, filter, refl, sym, ◌∙◌, ap, inl, inr, arith, append-nil, append_assoc, length-append, add_assoc, add-zero, take, get_or, subst, zero, suc, ◌%◌, ◌/◌}
+use Rattle.std.proofs.Common.{◌≡◌, ℕ, ◌+◌, ◌*◌, ◌<◌, ◌==◌, Bool, true, false, if◌then◌else◌, List, [], ◌∷◌, ◌++◌, length, filter, sym, ◌∙◌, ap, arith, append-nil, append_assoc, length-append, add_assoc, add-zero, subst, zero, suc, ◌%◌, ◌/◌}
 use Rattle.std.proofs.lemmas.List.Elements.{filter-append}
 use Rattle.std.proofs.lemmas.Grind.{flat_map-append}
 use Rattle.recording.specs.declared.entry.RecordLink.{RecordLink}

@@ -1,12 +1,11 @@
 -- A number above all links of a log.
-use Rattle.std.proofs.Common.{◌≡◌, ◌⊎◌, ℕ, zero, ◌≤◌, ◌<◌, ◌+◌, ◌-◌, Bool, true, false, nat_eq, nat_lt, List, [], ◌∷◌, ◌++◌, length, Option, Some, None, suc, refl, sym, ◌∙◌, ap, inl, inr, arith, replicate}
-use Rattle.std.specs.Prelude.{◌&&◌, fold, slice_get}
-use Rattle.std.specs.List.{list_all, filter_map, cons_option}
+use Rattle.std.proofs.Common.{◌≡◌, ◌⊎◌, ℕ, zero, ◌≤◌, ◌<◌, ◌-◌, Bool, true, false, nat_lt, List, [], ◌∷◌, ◌++◌, Option, Some, None, suc, refl, sym, ◌∙◌, inl, inr, arith, replicate}
+use Rattle.std.specs.Prelude.{◌&&◌, slice_get}
+use Rattle.std.specs.List.{filter_map, cons_option}
 use Rattle.std.proofs.lemmas.List.Folds.{list_all-append}
 use Rattle.mx_base.specs.declared.names.LinkId.{LinkId}
-use Rattle.mx_wire.specs.Log.{Log, link_of, is_link, of_link, is_open, AreMarks, IsMark}
+use Rattle.mx_wire.specs.Log.{Log, link_of, is_link, of_link, is_open, AreMarks}
 use Rattle.mx_wire.specs.Tells.{IsOpen}
-use Rattle.mx_wire.specs.declared.entry.Entry.{Entry}
 use Rattle.mx_wire.specs.declared.entry.Entry.TheVariants.{Exec}
 use Rattle.recording.specs.declared.entry.RecordEntry.{RecordEntry}
 use Rattle.recording.specs.declared.entry.RecordEntry.TheVariants as line
@@ -70,9 +69,9 @@ pub open-below : (link : LinkId) (log : Log) (n : ℕ) → all_below n log ≡ t
 open-below link log n all opened = elim (low_or_high link.0 n) [
   | inl low ↦ low
   | inr high ↦
-    let none : of_link link log ≡ [] = below-fresh link log (all_below-more log n link.0 high all) in
-    let shut : is_open link log ≡ false = rw none refl in
-    absurd (true_false (sym opened ∙ shut))
+      let none : of_link link log ≡ [] = below-fresh link log (all_below-more log n link.0 high all) in
+      let shut : is_open link log ≡ false = rw none refl in
+      absurd (true_false (sym opened ∙ shut))
 ]
 
 -- marks name links that were opened

@@ -1,6 +1,6 @@
 -- The link that a search finds is the one that a play names.
-use Rattle.std.proofs.Common.{◌≡◌, ◌⊎◌, ℕ, zero, suc, ◌<◌, ◌≤◌, ◌+◌, ◌-◌, ◌*◌, ◌==◌, Bool, true, false, nat_eq, List, [], ◌∷◌, ◌++◌, length, take, drop, if◌then◌else◌, Option, Some, None, refl, sym, ◌∙◌, ap, subst, arith, inl, inr, append-nil}
-use Rattle.std.specs.Prelude.{IfSome, slice_get, not, ◌&&◌}
+use Rattle.std.proofs.Common.{◌≡◌, ℕ, zero, suc, ◌≤◌, ◌+◌, ◌-◌, ◌==◌, Bool, true, false, List, [], ◌∷◌, ◌++◌, length, take, drop, if◌then◌else◌, Option, Some, None, refl, sym, ◌∙◌, ap, subst, arith, inl, inr}
+use Rattle.std.specs.Prelude.{slice_get, not, ◌&&◌}
 use Rattle.std.specs.Option.{option_or}
 use Rattle.std.specs.List.{filter_map, cons_option, find}
 use Rattle.std.proofs.lemmas.List.{take-append-drop, drop-drop, take_rest}
@@ -12,18 +12,17 @@ use Rattle.mx_base.specs.declared.names.LinkId.{LinkId}
 use Rattle.mx_wire.specs.Log.{Log, is_open}
 use Rattle.mx_wire.specs.Growth.{bool_cases, same_number}
 use Rattle.recording.specs.declared.entry.RecordLink.{RecordLink}
-use Rattle.recording.specs.declared.entry.RecordLink.TheVariants.{Client, Server}
 use Rattle.recording.specs.declared.entry.RecordEntry.{RecordEntry}
 use Rattle.mem_wire.specs.declared.naming.ToName.{ToName}
 use Rattle.mem_wire.specs.declared.track.Track.{Track}
 use Rattle.mem_wire.specs.declared.stage.Stage.{Stage}
-use Rattle.mem_wire.specs.Lines.{same_name, name_at, bytes_for, released, released_last}
+use Rattle.mem_wire.specs.Lines.{same_name, name_at, bytes_for}
 use Rattle.mem_wire.specs.Came.{wakes, Known, known, with_name, unread_of}
 use Rattle.mem_wire.specs.Play.{named_since, is_empty, is_to_name, known_at, naming_order, next_named, Names}
 use Rattle.mem_wire.specs.Tracks.{track_at, place}
 use Rattle.mem_wire.specs.Steps.{numbered, IsWithin}
-use Rattle.mem_wire.specs.Naming.{is_named, named_by, named_at, named_in, NoneIn, NoneAt, BeginsIn, BeginsAt, lines_between, Stopped, Searches}
-use Rattle.mem_wire.specs.Stands.{Numbered, read_by, is_in, Fits, Stands, Passed}
+use Rattle.mem_wire.specs.Naming.{is_named, named_by, named_at, NoneIn, NoneAt, BeginsIn, BeginsAt, lines_between, Searches}
+use Rattle.mem_wire.specs.Stands.{Numbered, read_by, is_in, Stands, Passed}
 use Rattle.mem_wire.proofs.LineLaws.{same_place}
 use Rattle.mem_wire.proofs.CutLaws.{cut-released, last-lines}
 use Rattle.mem_wire.proofs.NamingLaws.{named-link}
@@ -43,9 +42,10 @@ owned-from : (tracks : List Track) (n : ℕ) (links : List Known) (places : List
 owned-from tracks n [] [] all owner = tt
 owned-from tracks n [] (p ∷ places) all owner = absurd all
 owned-from tracks n (k ∷ links) [] all owner = absurd all
-owned-from tracks n (k ∷ links) (p ∷ places) all owner =
-    (ap (λ (at : ℕ). (track_at tracks at).link) all.1 ∙ owner 0 p refl ∙ ap (λ (m : ℕ). Some (numbered m)) (let e : n + 0 ≡ n = omega arith in e) ∙ ap Some (sym all.0),
-    owned-from tracks (n + 1) links places all.2 (λ i at is. owner (suc i) at is ∙ ap (λ (m : ℕ). Some (numbered m)) (let e : n + suc i ≡ (n + 1) + i = omega arith in e)))
+owned-from tracks n (k ∷ links) (p ∷ places) all owner = (
+  ap (λ (at : ℕ). (track_at tracks at).link) all.1 ∙ owner 0 p refl ∙ ap (λ (m : ℕ). Some (numbered m)) (let e : n + 0 ≡ n = omega arith in e) ∙ ap Some (sym all.0),
+  owned-from tracks (n + 1) links places all.2 (λ i at is. owner (suc i) at is ∙ ap (λ (m : ℕ). Some (numbered m)) (let e : n + suc i ≡ (n + 1) + i = omega arith in e)),
+)
 
 -- whether a link is to be named, by its track
 pub to-name : (recording : List RecordEntry) (s : Stage) (log : Log) (k : Known) → Stands recording s log → (track_at s.tracks.items (place k.name)).link ≡ Some k.link → is_to_name recording log k ≡ test s.last (track_at s.tracks.items (place k.name))
@@ -53,9 +53,9 @@ to-name recording s log k st owner =
     let t = track_at s.tracks.items (place k.name) in
     let fits = st.tracks k.name in
     let unread : unread_of recording log k ≡ t.unread =
-        ap (λ (lines : List RecordEntry). drop (length (read_by (Some k.link) log)) (bytes_for k.name lines)) (cut-released recording s.cut (wakes log) st.cut)
-        ∙ ap (drop (length (read_by (Some k.link) log))) (sym (ap (λ o. read_by o log ++ t.unread) (sym owner) ∙ fits.bytes))
-        ∙ drop-read (read_by (Some k.link) log) t.unread in
+    ap (λ (lines : List RecordEntry). drop (length (read_by (Some k.link) log)) (bytes_for k.name lines)) (cut-released recording s.cut (wakes log) st.cut)
+    ∙ ap (drop (length (read_by (Some k.link) log))) (sym (ap (λ o. read_by o log ++ t.unread) (sym owner) ∙ fits.bytes))
+    ∙ drop-read (read_by (Some k.link) log) t.unread in
     ap (λ b. b && (not (is_empty (unread_of recording log k)) && not (is_in k.link (named_since log)))) (if-own t.link (λ l. is_open l log ≡ not t.closed) k.link owner fits.opened)
     ∙ ap (λ bs. not t.closed && (not (is_empty bs) && not (is_in k.link (named_since log)))) unread
     ∙ ap (λ b. not t.closed && (not (is_empty t.unread) && not b)) (if-own t.link (λ l. is_in l (named_since log) ≡ is_named t.named s.last) k.link owner fits.named)
@@ -118,9 +118,9 @@ owner-of : (tracks : List Track) (name : RecordLink) (links : List Known) (k : K
 owner-of tracks name [] k owned is = cc
 owner-of tracks name (l ∷ links) k owned is = elim (bool_cases (same_name l.name name)) [
   | inl same ↦
-    let e : l ≡ k = let s : Some l ≡ Some k = sym (ap (λ b. if b then Some l else with_name name links) same) ∙ is in cc in
-    let spot : place l.name ≡ place name = name-same l.name name same in
-    subst (Owns tracks name) e (record { owner = ap (λ (p : ℕ). (track_at tracks p).link) (sym spot) ∙ owned.0; place_is = spot })
+      let e : l ≡ k = let s : Some l ≡ Some k = sym (ap (λ b. if b then Some l else with_name name links) same) ∙ is in cc in
+      let spot : place l.name ≡ place name = name-same l.name name same in
+      subst (Owns tracks name) e (record { owner = ap (λ (p : ℕ). (track_at tracks p).link) (sym spot) ∙ owned.0; place_is = spot })
   | inr other ↦ owner-of tracks name links k owned.1 (sym (ap (λ b. if b then Some l else with_name name links) other) ∙ is)
 ]
 
@@ -204,9 +204,9 @@ none_at-append last tracks (l ∷ a) b p q = (p.0, none_at-append last tracks a 
 pub passed-more : (recording : List RecordEntry) (found : Option ToName) (old new : Stage) → IsWithin recording old → Passed recording old → Searches recording found old new → Passed recording new
 passed-more recording found old new within passed looks = subst (Passed recording) (sym looks.frame) (record {
   lines = subst (NoneIn old.last old.tracks.items) (sym (between-parts old.last old.line new.line recording within.last looks.later_line))
-    (none_in-append old.last old.tracks.items (lines_between old.last old.line recording) (lines_between old.line new.line recording) passed.lines looks.lines);
+      (none_in-append old.last old.tracks.items (lines_between old.last old.line recording) (lines_between old.line new.line recording) passed.lines looks.lines);
   places = subst (NoneAt old.last old.tracks.items) (sym (ap (λ (n : ℕ). take n old.places.items) (let le : old.link ≤ new.link = looks.later_link in let e : new.link ≡ old.link + (new.link - old.link) = omega arith in e) ∙ take-add old.link (new.link - old.link) old.places.items))
-    (none_at-append old.last old.tracks.items (take old.link old.places.items) (take (new.link - old.link) (drop old.link old.places.items)) passed.places looks.places);
+      (none_at-append old.last old.tracks.items (take old.link old.places.items) (take (new.link - old.link) (drop old.link old.places.items)) passed.places looks.places);
 })
 
 lines-of : (recording : List RecordEntry) (s : Stage) (log : Log) → Stands recording s log → ((spot : ℕ) (link : LinkId) → (track_at s.tracks.items spot).link ≡ Some link → slice_get s.places.items link.0 ≡ Some spot) → Lines s.tracks.items s.last (known recording log) s.places.items (is_to_name recording log)
@@ -236,12 +236,12 @@ names-none recording old new log st within linked passed looks =
     let ended : new.link ≡ length old.places.items = looks.stopped.1 in
     let now = passed-more recording None old new within passed looks in
     let lines : NoneIn old.last old.tracks.items (lines_between old.last old.cut recording) =
-        subst (λ (to : ℕ). NoneIn old.last old.tracks.items (lines_between old.last to recording)) done
-        (subst (NoneIn old.last old.tracks.items) (sym (between-parts old.last old.line new.line recording le1 le2)) (none_in-append old.last old.tracks.items (lines_between old.last old.line recording) (lines_between old.line new.line recording) passed.lines looks.lines)) in
+    subst (λ (to : ℕ). NoneIn old.last old.tracks.items (lines_between old.last to recording)) done
+    (subst (NoneIn old.last old.tracks.items) (sym (between-parts old.last old.line new.line recording le1 le2)) (none_in-append old.last old.tracks.items (lines_between old.last old.line recording) (lines_between old.line new.line recording) passed.lines looks.lines)) in
     let places : NoneAt old.last old.tracks.items old.places.items =
-        subst (NoneAt old.last old.tracks.items) (take-append-drop old.link old.places.items)
-        (none_at-append old.last old.tracks.items (take old.link old.places.items) (drop old.link old.places.items) passed.places
-        (subst (NoneAt old.last old.tracks.items) (ap (λ (n : ℕ). take (n - old.link) (drop old.link old.places.items)) ended ∙ take_rest old.places.items old.link) looks.places)) in
+    subst (NoneAt old.last old.tracks.items) (take-append-drop old.link old.places.items)
+    (none_at-append old.last old.tracks.items (take old.link old.places.items) (drop old.link old.places.items) passed.places
+    (subst (NoneAt old.last old.tracks.items) (ap (λ (n : ℕ). take (n - old.link) (drop old.link old.places.items)) ended ∙ take_rest old.places.items old.link) looks.places)) in
     ap (find p) (order-is recording old log st within) ∙ find-order p links (lines_between old.last old.cut recording)
     ∙ ap (λ o. option_or o (find p links)) (none-lines old.tracks.items old.last links old.places.items p (lines_between old.last old.cut recording) all lines)
     ∙ none-links p old.last old.tracks.items 0 links old.places.items all.tests all.owned all.all places
@@ -259,21 +259,21 @@ names-some recording old new log t st within linked passed looks =
     let all = lines-of recording old log st linked in
     let le1 : old.last ≤ old.line = within.last in let le2 : old.line ≤ new.line = looks.later_line in let le3 : new.line ≤ old.cut = looks.line in
     let before : NoneIn old.last old.tracks.items (lines_between old.last new.line recording) =
-        subst (NoneIn old.last old.tracks.items) (sym (between-parts old.last old.line new.line recording le1 le2)) (none_in-append old.last old.tracks.items (lines_between old.last old.line recording) (lines_between old.line new.line recording) passed.lines looks.lines) in
+    subst (NoneIn old.last old.tracks.items) (sym (between-parts old.last old.line new.line recording le1 le2)) (none_in-append old.last old.tracks.items (lines_between old.last old.line recording) (lines_between old.line new.line recording) passed.lines looks.lines) in
     let found : Found t.link (find p (filter_map (known_at links) (lines_between old.last old.cut recording) ++ links)) =
-        subst (Found t.link) (sym (find-order p links (lines_between old.last old.cut recording))) (elim looks.stopped.1 [
-          | inl begins ↦ first-found (find p (filter_map (known_at links) (lines_between old.last old.cut recording))) (find p links) t.link
-            (subst (λ (ls : List RecordEntry). Found t.link (find p (filter_map (known_at links) ls))) (sym (between-parts old.last new.line old.cut recording (omega arith) le3))
-            (subst (Found t.link) (sym (ap (find p) (filter_map-append (known_at links) (lines_between old.last new.line recording) (lines_between new.line old.cut recording)) ∙ find-append p (filter_map (known_at links) (lines_between old.last new.line recording)) (filter_map (known_at links) (lines_between new.line old.cut recording))))
-            (then-found (find p (filter_map (known_at links) (lines_between old.last new.line recording))) (find p (filter_map (known_at links) (lines_between new.line old.cut recording))) t.link
-            (none-lines old.tracks.items old.last links old.places.items p (lines_between old.last new.line recording) all before)
-            (some-lines old.tracks.items old.last links old.places.items p (lines_between new.line old.cut recording) t.link all begins))))
-          | inr rest ↦ then-found (find p (filter_map (known_at links) (lines_between old.last old.cut recording))) (find p links) t.link
-            (none-lines old.tracks.items old.last links old.places.items p (lines_between old.last old.cut recording) all (subst (λ (to : ℕ). NoneIn old.last old.tracks.items (lines_between old.last to recording)) rest.0 before))
-            (some-links p old.last old.tracks.items 0 new.link t.link links old.places.items all.tests all.owned all.all
-            (let le : old.link ≤ new.link = looks.later_link in
-            subst (NoneAt old.last old.tracks.items) (sym (ap (λ (n : ℕ). take n old.places.items) (let e : new.link ≡ old.link + (new.link - old.link) = omega arith in e) ∙ take-add old.link (new.link - old.link) old.places.items))
-            (none_at-append old.last old.tracks.items (take old.link old.places.items) (take (new.link - old.link) (drop old.link old.places.items)) passed.places looks.places))
-            rest.1)
-        ]) in
+    subst (Found t.link) (sym (find-order p links (lines_between old.last old.cut recording))) (elim looks.stopped.1 [
+      | inl begins ↦ first-found (find p (filter_map (known_at links) (lines_between old.last old.cut recording))) (find p links) t.link
+          (subst (λ (ls : List RecordEntry). Found t.link (find p (filter_map (known_at links) ls))) (sym (between-parts old.last new.line old.cut recording (omega arith) le3))
+          (subst (Found t.link) (sym (ap (find p) (filter_map-append (known_at links) (lines_between old.last new.line recording) (lines_between new.line old.cut recording)) ∙ find-append p (filter_map (known_at links) (lines_between old.last new.line recording)) (filter_map (known_at links) (lines_between new.line old.cut recording))))
+          (then-found (find p (filter_map (known_at links) (lines_between old.last new.line recording))) (find p (filter_map (known_at links) (lines_between new.line old.cut recording))) t.link
+          (none-lines old.tracks.items old.last links old.places.items p (lines_between old.last new.line recording) all before)
+          (some-lines old.tracks.items old.last links old.places.items p (lines_between new.line old.cut recording) t.link all begins))))
+      | inr rest ↦ then-found (find p (filter_map (known_at links) (lines_between old.last old.cut recording))) (find p links) t.link
+          (none-lines old.tracks.items old.last links old.places.items p (lines_between old.last old.cut recording) all (subst (λ (to : ℕ). NoneIn old.last old.tracks.items (lines_between old.last to recording)) rest.0 before))
+          (some-links p old.last old.tracks.items 0 new.link t.link links old.places.items all.tests all.owned all.all
+          (let le : old.link ≤ new.link = looks.later_link in
+          subst (NoneAt old.last old.tracks.items) (sym (ap (λ (n : ℕ). take n old.places.items) (let e : new.link ≡ old.link + (new.link - old.link) = omega arith in e) ∙ take-add old.link (new.link - old.link) old.places.items))
+          (none_at-append old.last old.tracks.items (take old.link old.places.items) (take (new.link - old.link) (drop old.link old.places.items)) passed.places looks.places))
+          rest.1)
+    ]) in
     record { named = found.k; is = ap (find p) (order-is recording old log st within) ∙ found.is; link_is = found.link_is }

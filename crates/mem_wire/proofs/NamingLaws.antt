@@ -1,5 +1,5 @@
 -- Laws of what is still to be named.
-use Rattle.std.proofs.Common.{◌≡◌, ◌⊎◌, ℕ, ◌<◌, ◌≤◌, ◌+◌, ◌-◌, List, [], ◌∷◌, ◌++◌, length, take, drop, get_or, Option, Some, None, refl, sym, ◌∙◌, ap, subst, arith, inl, inr, length-drop}
+use Rattle.std.proofs.Common.{◌≡◌, ℕ, ◌<◌, ◌≤◌, ◌+◌, ◌-◌, List, [], ◌∷◌, ◌++◌, length, take, drop, get_or, Option, Some, None, refl, sym, ◌∙◌, ap, subst, arith, inl, inr, length-drop}
 use Rattle.std.specs.Prelude.{IfSome, IfNone, is_some, Bool, true, false, not, ◌&&◌, if◌then◌else◌}
 use Rattle.mx_base.specs.declared.names.LinkId.{LinkId}
 use Rattle.mem_wire.specs.Play.{is_empty}

@@ -1,17 +1,16 @@
 -- What can be played on.
-use Rattle.std.proofs.Common.{◌≡◌, ℕ, zero, suc, ◌<◌, ◌≤◌, ◌+◌, Bool, true, false, List, [], ◌∷◌, ◌++◌, length, drop, take, Option, Some, None, refl, sym, ◌∙◌, ap, subst, arith, if◌then◌else◌, ◌-◌, min, length-drop}
+use Rattle.std.proofs.Common.{◌≡◌, ℕ, zero, suc, ◌<◌, ◌≤◌, ◌+◌, Bool, true, false, List, [], ◌∷◌, ◌++◌, length, drop, take, Some, None, ◌∙◌, ap, subst, arith, if◌then◌else◌, ◌-◌, min, length-drop}
 use Rattle.std.proofs.lemmas.List.{length-take}
 use Rattle.std.specs.Prelude.{slice_get}
-use Rattle.std.specs.List.{filter_map, cons_option}
+use Rattle.std.specs.List.{cons_option}
 use Rattle.mx_base.specs.declared.names.Port.{Port}
-use Rattle.mx_base.specs.declared.names.Port.TheVariants.{Traffic, Admin}
 use Rattle.mx_wire.specs.Tells.{IsSalt}
 use Rattle.recording.specs.declared.entry.RecordEntry.{RecordEntry}
 use Rattle.recording.specs.declared.entry.RecordEntry.TheVariants as line
 use Rattle.recording.specs.Playable.{PlayableAfter}
 use Rattle.mem_wire.specs.declared.waiting.Waiting.{Waiting}
-use Rattle.mem_wire.specs.Lines.{is_at, is_port, waiting_at, clients_at}
-use Rattle.mem_wire.specs.Cuts.{NoMoment, EndsAtMoment, first_moment}
+use Rattle.mem_wire.specs.Lines.{is_port, clients_at}
+use Rattle.mem_wire.specs.Cuts.{NoMoment, first_moment}
 use Rattle.mem_wire.specs.Follows.{Continues, HaveSalts}
 
 pub salts-append : (a b : List Waiting) → HaveSalts a → HaveSalts b → HaveSalts (a ++ b)

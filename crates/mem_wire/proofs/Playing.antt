@@ -1,28 +1,24 @@
 -- A call's entry goes on with the play.
-use Rattle.std.proofs.Common.{◌≡◌, ℕ, zero, suc, ◌<◌, ◌≤◌, ◌+◌, ◌-◌, ◌*◌, ◌==◌, Bool, true, false, nat_eq, nat_lt, List, [], ◌∷◌, ◌++◌, length, filter, take, drop, if◌then◌else◌, Option, Some, None, refl, sym, ◌∙◌, ap, subst, arith, replicate, append-nil, append_assoc, length-append, min, get_or}
-use Rattle.std.specs.Prelude.{slice_get, not, ◌&&◌}
+use Rattle.std.proofs.Common.{◌≡◌, ℕ, zero, suc, ◌-◌, Bool, true, false, nat_eq, List, [], ◌∷◌, ◌++◌, length, filter, if◌then◌else◌, Option, Some, None, refl, sym, ◌∙◌, ap, subst, replicate, append-nil, append_assoc}
+use Rattle.std.specs.Prelude.{slice_get}
 use Rattle.std.specs.List.{filter_map, cons_option}
 use Rattle.std.proofs.lemmas.Bool.{eqb-true}
 use Rattle.mx_base.specs.declared.names.LinkId.{LinkId}
-use Rattle.mx_wire.specs.Log.{Log, AreMarks, opened_links, moment_step, link_of}
-use Rattle.mx_wire.specs.Growth.{bool_cases}
-use Rattle.mx_wire.specs.Moments.{AllLawful, lawful-more}
+use Rattle.mx_wire.specs.Log.{Log, AreMarks, opened_links}
+use Rattle.mx_wire.specs.Moments.{lawful-more}
 use Rattle.mx_wire.specs.declared.entry.Entry.{Entry}
 use Rattle.mx_wire.specs.declared.entry.Entry.TheVariants as entry
-use Rattle.recording.specs.declared.entry.RecordLink.{RecordLink}
-use Rattle.recording.specs.declared.entry.RecordLink.TheVariants.{Client, Server}
+use Rattle.recording.specs.declared.entry.RecordLink.TheVariants.{Server}
 use Rattle.recording.specs.declared.entry.RecordEntry.{RecordEntry}
 use Rattle.recording.specs.declared.entry.RecordEntry.TheVariants as line
 use Rattle.mem_wire.specs.declared.late.Late.{Late}
-use Rattle.mem_wire.specs.declared.track.Track.{Track}
 use Rattle.mem_wire.specs.declared.stage.Stage.{Stage}
 use Rattle.mem_wire.specs.Adds.{late_entries}
-use Rattle.mem_wire.specs.Lines.{same_name, is_mark_for, marks_for, released, released_last}
+use Rattle.mem_wire.specs.Lines.{is_mark_for, marks_for, released}
 use Rattle.mem_wire.specs.Came.{wakes}
 use Rattle.mem_wire.specs.Play.{is_mark, is_opened, last_marks, just_opened, mark_at, late_marks, due_marks, Answers, IsCallOf, IsAnswerOf, IsPlay}
 use Rattle.mem_wire.specs.Follows.{IsSound, Follows}
 use Rattle.mem_wire.specs.Stands.{Stands, Passed}
-use Rattle.mem_wire.proofs.Links.{late-marks}
 use Rattle.mem_wire.proofs.Scenes.{Alike, alike-marks, just-marks, last-marks, just-more, marks-more}
 use Rattle.mem_wire.proofs.Standing.{stands-alike}
 
@@ -95,7 +91,7 @@ follows-entry recording old new log marks e follows execs call due answer sound 
       late = late;
       unmarked = marks-more (log ++ marks) e ∙ ap (λ b. if b then last_marks (log ++ marks) ++ e ∷ [] else []) call.unmarked;
       played = lawful-more (IsAnswerOf recording) (log ++ marks) e (played-marks recording log marks follows.played execs)
-        (call.judge (log ++ marks) (record { marks = marked-is log marks are follows.unmarked ∙ sym due; answer = answer }));
+          (call.judge (log ++ marks) (record { marks = marked-is log marks are follows.unmarked ∙ sym due; answer = answer }));
     }
 
 pub late-execs-of : (late : Late) → AreExecs (late_entries late)

@@ -1,7 +1,7 @@
 -- What marks leave as it is.
-use Rattle.std.proofs.Common.{◌≡◌, ℕ, Bool, true, false, List, [], ◌∷◌, ◌++◌, refl, sym, ◌∙◌, ap, subst, append_assoc, append-nil, inl, inr}
+use Rattle.std.proofs.Common.{◌≡◌, Bool, false, [], ◌∷◌, ◌++◌, refl, sym, ◌∙◌, ap, append_assoc, append-nil, inl, inr}
 use Rattle.mx_base.specs.declared.names.LinkId.{LinkId}
-use Rattle.mx_wire.specs.Log.{Log, link_of, is_link, of_link, is_open, open_step, moment_of, AreMarks, IsMark, read_of, got_bytes}
+use Rattle.mx_wire.specs.Log.{Log, link_of, is_link, is_open, open_step, moment_of, AreMarks, IsMark, read_of, got_bytes}
 use Rattle.mx_wire.specs.Growth.{bool_cases, step-same, step-other, moment_of-more, bytes-idle}
 use Rattle.mx_wire.specs.declared.entry.Entry.{Entry}
 use Rattle.mx_wire.specs.declared.entry.Entry.TheVariants.{Exec, Drop}

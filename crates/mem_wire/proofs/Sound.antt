@@ -1,11 +1,11 @@
 -- What keeps the log of a tape sound.
-use Rattle.std.proofs.Common.{◌≡◌, ℕ, ◌<◌, ◌≤◌, ◌+◌, ◌-◌, ◌*◌, Bool, true, false, nat_lt, List, [], ◌∷◌, ◌++◌, length, drop, take, Option, Some, None, suc, refl, sym, ◌∙◌, ap, subst, append_assoc, arith, length-append, replicate, zero, inl, inr, ◌==◌, if◌then◌else◌}
+use Rattle.std.proofs.Common.{◌≡◌, ℕ, ◌+◌, true, nat_lt, List, [], ◌∷◌, ◌++◌, length, drop, Some, suc, refl, sym, ◌∙◌, ap, subst, arith, length-append, replicate, zero, inl, inr, ◌==◌, if◌then◌else◌}
 use Rattle.std.specs.Prelude.{slice_get}
 use Rattle.std.proofs.lemmas.Bool.{eqb-true}
 use Rattle.mx_base.specs.declared.names.LinkId.{LinkId}
-use Rattle.mx_wire.specs.Log.{Log, AreMarks, link_of, of_link, is_open, moment_of, moment_step}
+use Rattle.mx_wire.specs.Log.{Log, AreMarks, link_of, moment_of, moment_step}
 use Rattle.mx_wire.specs.Growth.{moment_of-more, bool_cases}
-use Rattle.mx_wire.specs.Tells.{IsNew, IsOpen, IsSalt}
+use Rattle.mx_wire.specs.Tells.{IsNew, IsOpen}
 use Rattle.mx_wire.specs.declared.entry.Entry.{Entry}
 use Rattle.mx_wire.specs.declared.entry.Entry.TheVariants as entry
 use Rattle.recording.specs.declared.entry.RecordEntry.{RecordEntry}
@@ -15,7 +15,7 @@ use Rattle.mem_wire.specs.Below.{link_below, all_below, links_below}
 use Rattle.mem_wire.specs.Tracks.{track_at, SameLinks, ChangesTrack}
 use Rattle.mem_wire.specs.Steps.{numbered, next_link}
 use Rattle.mem_wire.specs.Follows.{Continues, HaveSalts, IsSound}
-use Rattle.mem_wire.proofs.Links.{AreGood, all_below-append, all_below-more, links_below-more, below-fresh, open-below, is_below, late-good, late-below}
+use Rattle.mem_wire.proofs.Links.{AreGood, all_below-append, all_below-more, below-fresh, open-below, is_below, late-good}
 use Rattle.mem_wire.proofs.Quiet.{moment-marks, is_open-marks}
 
 -- what a call that brings no link and no moment leaves of a stage
@@ -72,13 +72,13 @@ get-front (y ∷ xs) ys (suc i) x is = get-front xs ys i x is
 enter-linked : (old new : Stage) (at : ℕ) → ((place : ℕ) (link : LinkId) → (track_at old.tracks.items place).link ≡ Some link → slice_get old.places.items link.0 ≡ Some place) → ChangesTrack at (λ t. record t { link = Some (next_link old) }) old.tracks.items new.tracks.items → (place : ℕ) (link : LinkId) → (track_at new.tracks.items place).link ≡ Some link → slice_get (old.places.items ++ at ∷ []) link.0 ≡ Some place
 enter-linked old new at linked changes place link is = elim (bool_cases (place == at)) [
   | inl here ↦
-    let made : (track_at new.tracks.items place).link ≡ Some (next_link old) = ap (λ t. t.link) (changes place ∙ ap (λ b. if b then record (track_at old.tracks.items place) { link = Some (next_link old) } else track_at old.tracks.items place) here) in
-    let same : next_link old ≡ link = cc in
-    let spot : place ≡ at = eqb-true place at here in
-    subst (λ (l : LinkId). slice_get (old.places.items ++ at ∷ []) l.0 ≡ Some place) same (subst (λ (p : ℕ). slice_get (old.places.items ++ at ∷ []) (length old.places.items) ≡ Some p) (sym spot) (get-last old.places.items at))
+      let made : (track_at new.tracks.items place).link ≡ Some (next_link old) = ap (λ t. t.link) (changes place ∙ ap (λ b. if b then record (track_at old.tracks.items place) { link = Some (next_link old) } else track_at old.tracks.items place) here) in
+      let same : next_link old ≡ link = cc in
+      let spot : place ≡ at = eqb-true place at here in
+      subst (λ (l : LinkId). slice_get (old.places.items ++ at ∷ []) l.0 ≡ Some place) same (subst (λ (p : ℕ). slice_get (old.places.items ++ at ∷ []) (length old.places.items) ≡ Some p) (sym spot) (get-last old.places.items at))
   | inr other ↦
-    let kept : (track_at new.tracks.items place).link ≡ (track_at old.tracks.items place).link = ap (λ t. t.link) (changes place ∙ ap (λ b. if b then record (track_at old.tracks.items place) { link = Some (next_link old) } else track_at old.tracks.items place) other) in
-    get-front old.places.items (at ∷ []) link.0 place (linked place link (sym kept ∙ is))
+      let kept : (track_at new.tracks.items place).link ≡ (track_at old.tracks.items place).link = ap (λ t. t.link) (changes place ∙ ap (λ b. if b then record (track_at old.tracks.items place) { link = Some (next_link old) } else track_at old.tracks.items place) other) in
+      get-front old.places.items (at ∷ []) link.0 place (linked place link (sym kept ∙ is))
 ]
 
 -- one more link, which the entry names

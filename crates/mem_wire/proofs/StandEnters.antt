@@ -1,9 +1,8 @@
 -- The stage goes on standing where a link comes.
-use Rattle.std.proofs.Common.{◌≡◌, ◌⊎◌, ℕ, zero, suc, ◌<◌, ◌≤◌, ◌+◌, ◌-◌, ◌*◌, ◌==◌, Bool, true, false, nat_eq, nat_lt, List, [], ◌∷◌, ◌++◌, length, take, drop, if◌then◌else◌, Option, Some, None, refl, sym, ◌∙◌, ap, subst, arith, inl, inr, append-nil, length-append, add-zero}
-use Rattle.std.specs.Prelude.{IfSome, IfNone, slice_get, not, ◌&&◌, ◌||◌, fold}
-use Rattle.std.specs.List.{list_any, list_all, cons_option, flat_map}
+use Rattle.std.proofs.Common.{◌≡◌, ◌⊎◌, ℕ, zero, suc, ◌<◌, ◌+◌, ◌-◌, ◌==◌, Bool, true, false, nat_eq, nat_lt, List, [], ◌∷◌, ◌++◌, length, take, if◌then◌else◌, Option, Some, None, refl, sym, ◌∙◌, ap, subst, arith, inl, inr, add-zero}
+use Rattle.std.specs.Prelude.{IfSome, IfNone, slice_get, not, fold}
+use Rattle.std.specs.List.{flat_map}
 use Rattle.std.proofs.lemmas.Bool.{eqb-true}
-use Rattle.std.proofs.lemmas.Option.{slice_get_within}
 use Rattle.mx_base.specs.declared.names.LinkId.{LinkId}
 use Rattle.mx_base.specs.declared.names.Port.{Port}
 use Rattle.mx_wire.specs.Log.{Log, link_of, is_link, of_link, opened_links, read_of, got_bytes, is_open, open_step}
@@ -14,17 +13,17 @@ use Rattle.recording.specs.declared.entry.RecordLink.{RecordLink}
 use Rattle.recording.specs.declared.entry.RecordEntry.{RecordEntry}
 use Rattle.mem_wire.specs.declared.track.Track.{Track}
 use Rattle.mem_wire.specs.declared.stage.Stage.{Stage}
-use Rattle.mem_wire.specs.Lines.{bytes_for, clients_at}
+use Rattle.mem_wire.specs.Lines.{clients_at}
 use Rattle.mem_wire.specs.Came.{is_woke, wakes, accepted_at, known, known_by, Known}
 use Rattle.mem_wire.specs.Play.{named_since, named_step}
-use Rattle.mem_wire.specs.Tracks.{track_at, place, ChangesTrack}
+use Rattle.mem_wire.specs.Tracks.{track_at, place}
 use Rattle.mem_wire.specs.Steps.{numbered, next_link, clients_of, accepted_of, Enters}
 use Rattle.mem_wire.specs.Naming.{is_named}
 use Rattle.mem_wire.specs.Below.{link_below, all_below, links_below}
 use Rattle.mem_wire.specs.Stands.{CutsAt, Numbered, read_by, is_in, Fits, Stands, Entered}
 use Rattle.mem_wire.proofs.Scenes.{wakes-more, known-more, named-more}
-use Rattle.mem_wire.proofs.StandSteps.{AlikeBut, but-entry, each-track, fits-but, new-links}
-use Rattle.mem_wire.proofs.Links.{below-fresh, and-left, and-right, links_below-append, is_below}
+use Rattle.mem_wire.proofs.StandSteps.{but-entry, each-track, fits-but, new-links}
+use Rattle.mem_wire.proofs.Links.{below-fresh, and-left, and-right, links_below-append}
 
 named-one : (n : ℕ) (links : List LinkId) (e : Entry) → links_below n links ≡ true → link_below n (link_of e) ≡ true → links_below n (named_step links e) ≡ true
 named-one n links (entry.Woke until_ms now_ms) low one = refl
@@ -101,8 +100,8 @@ stands-enters recording old new log e at name st linked below enters cut last cl
     let woke : wakes (log ++ e ∷ []) ≡ wakes log = wakes-more log e ∙ ap (λ b. wakes log + length (if b then e ∷ [] else [])) brings.woke ∙ add-zero (wakes log) in
     let change : Track → Track = λ t. record t { link = Some (next_link old) } in
     let each = each-track at change old.tracks.items new.tracks.items (λ x t. Fits (take old.cut recording) old.last old.cut (log ++ e ∷ []) x t) enters.tracks
-      (λ x is. mine-enters (take old.cut recording) old.last old.cut n log e x (track_at old.tracks.items (place x)) below brings (ap (λ (p : ℕ). (track_at old.tracks.items p).link) is ∙ none) (st.tracks x))
-      (λ x other. fits-but (take old.cut recording) old.last old.cut (next_link old) log (log ++ e ∷ []) x (track_at old.tracks.items (place x)) (but-entry (next_link old) log e brings.of (λ links. inl (brings.names links))) (new-links old.places.items old.tracks.items linked x) (st.tracks x)) in
+    (λ x is. mine-enters (take old.cut recording) old.last old.cut n log e x (track_at old.tracks.items (place x)) below brings (ap (λ (p : ℕ). (track_at old.tracks.items p).link) is ∙ none) (st.tracks x))
+    (λ x other. fits-but (take old.cut recording) old.last old.cut (next_link old) log (log ++ e ∷ []) x (track_at old.tracks.items (place x)) (but-entry (next_link old) log e brings.of (λ links. inl (brings.names links))) (new-links old.places.items old.tracks.items linked x) (st.tracks x)) in
     record {
       cut = subst (λ (c : ℕ). CutsAt recording c (wakes (log ++ e ∷ []))) (sym cut) (subst (CutsAt recording old.cut) (sym woke) st.cut);
       last = subst (λ (c : ℕ). CutsAt recording c (wakes (log ++ e ∷ []) - 1)) (sym last) (subst (λ (k : ℕ). CutsAt recording old.last (k - 1)) (sym woke) st.last);
@@ -111,19 +110,19 @@ stands-enters recording old new log e at name st linked below enters cut last cl
       accepted = accepted;
       opened = opened;
       links = subst (λ (ps : List ℕ). Numbered 0 (known recording (log ++ e ∷ [])) ps) (sym enters.places)
-        (subst (λ (ks : List Known). Numbered 0 ks (old.places.items ++ at ∷ [])) (sym (known-more recording log e ∙ ap (λ ks. known recording log ++ ks) known_is))
-        (numbered-more 0 (known recording log) old.places.items (record { link = next_link old; name = name }) at st.links (ap numbered (let z : n ≡ 0 + n = omega arith in z)) spot_is));
+          (subst (λ (ks : List Known). Numbered 0 ks (old.places.items ++ at ∷ [])) (sym (known-more recording log e ∙ ap (λ ks. known recording log ++ ks) known_is))
+          (numbered-more 0 (known recording log) old.places.items (record { link = next_link old; name = name }) at st.links (ap numbered (let z : n ≡ 0 + n = omega arith in z)) spot_is));
       placed = λ number spot is. elim (get-cases old.places.items at number spot (ap (λ (ps : List ℕ). slice_get ps number) (sym enters.places) ∙ is)) [
         | inl before ↦
-          let owner : (track_at old.tracks.items spot).link ≡ Some (numbered number) = st.placed number spot before in
-          elim (bool_cases (spot == at)) [
-            | inl same ↦ absurd (none_some (numbered number) (sym none ∙ ap (λ (p : ℕ). (track_at old.tracks.items p).link) (sym (eqb-true spot at same)) ∙ owner))
-            | inr apart ↦ ap (λ t. t.link) (enters.tracks spot ∙ ap (λ b. if b then change (track_at old.tracks.items spot) else track_at old.tracks.items spot) apart) ∙ owner
-          ]
+            let owner : (track_at old.tracks.items spot).link ≡ Some (numbered number) = st.placed number spot before in
+            elim (bool_cases (spot == at)) [
+              | inl same ↦ absurd (none_some (numbered number) (sym none ∙ ap (λ (p : ℕ). (track_at old.tracks.items p).link) (sym (eqb-true spot at same)) ∙ owner))
+              | inr apart ↦ ap (λ t. t.link) (enters.tracks spot ∙ ap (λ b. if b then change (track_at old.tracks.items spot) else track_at old.tracks.items spot) apart) ∙ owner
+            ]
         | inr made ↦
-          ap (λ (p : ℕ). (track_at new.tracks.items p).link) (sym made.1)
-          ∙ ap (λ t. t.link) (enters.tracks at ∙ ap (λ b. if b then change (track_at old.tracks.items at) else track_at old.tracks.items at) (same_number at))
-          ∙ ap (λ (k : ℕ). Some (numbered k)) (sym made.0)
+            ap (λ (p : ℕ). (track_at new.tracks.items p).link) (sym made.1)
+            ∙ ap (λ t. t.link) (enters.tracks at ∙ ap (λ b. if b then change (track_at old.tracks.items at) else track_at old.tracks.items at) (same_number at))
+            ∙ ap (λ (k : ℕ). Some (numbered k)) (sym made.0)
       ];
       entered = λ spot link is. elim (bool_cases (spot == at)) [
         | inl same ↦ subst (Entered new) (sym (eqb-true spot at same)) entered_at

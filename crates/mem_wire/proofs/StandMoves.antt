@@ -1,30 +1,29 @@
 -- The stage goes on standing where a link's track changes.
-use Rattle.std.proofs.Common.{◌≡◌, ◌⊎◌, ℕ, zero, suc, ◌<◌, ◌≤◌, ◌+◌, ◌-◌, ◌*◌, ◌==◌, Bool, true, false, nat_eq, nat_lt, List, [], ◌∷◌, ◌++◌, length, take, drop, if◌then◌else◌, Option, Some, None, refl, sym, ◌∙◌, ap, subst, arith, inl, inr, append-nil, append_assoc, length-append, add-zero, min, get_or}
-use Rattle.std.specs.Prelude.{IfSome, IfNone, slice_get, not, ◌&&◌, ◌||◌, fold}
-use Rattle.std.specs.List.{list_any, list_all, cons_option}
-use Rattle.std.proofs.lemmas.Option.{slice_get_within, slice_get-get_or}
+use Rattle.std.proofs.Common.{◌≡◌, ℕ, zero, suc, ◌<◌, ◌+◌, ◌-◌, ◌==◌, Bool, true, false, nat_eq, List, [], ◌∷◌, ◌++◌, length, take, drop, if◌then◌else◌, Option, Some, None, refl, sym, ◌∙◌, ap, subst, arith, append-nil, append_assoc, add-zero}
+use Rattle.std.specs.Prelude.{IfSome, IfNone, slice_get, not, ◌||◌}
+use Rattle.std.specs.List.{cons_option}
 use Rattle.std.proofs.lemmas.List.{take-append-drop}
 use Rattle.std.proofs.lemmas.List.Folds.{list_any-append}
 use Rattle.mx_base.specs.declared.names.LinkId.{LinkId}
 use Rattle.mx_base.specs.declared.names.Port.{Port}
 use Rattle.mx_base.specs.declared.names.Port.TheVariants.{Traffic, Admin}
-use Rattle.mx_wire.specs.Log.{Log, link_of, is_link, of_link, opened_link, opened_links, read_of, got_bytes, is_open, open_step}
-use Rattle.mx_wire.specs.Growth.{bool_cases, bytes-same, bytes-other, bytes-idle, step-same, same_number}
+use Rattle.mx_wire.specs.Log.{Log, is_link, opened_link, opened_links, read_of, got_bytes, is_open, open_step}
+use Rattle.mx_wire.specs.Growth.{bytes-same, bytes-idle, step-same, same_number}
 use Rattle.mx_wire.specs.declared.entry.Entry.{Entry}
 use Rattle.mx_wire.specs.declared.entry.Entry.TheVariants as entry
 use Rattle.recording.specs.declared.entry.RecordLink.{RecordLink}
 use Rattle.recording.specs.declared.entry.RecordEntry.{RecordEntry}
 use Rattle.mem_wire.specs.declared.track.Track.{Track}
 use Rattle.mem_wire.specs.declared.stage.Stage.{Stage}
-use Rattle.mem_wire.specs.Lines.{bytes_for, clients_at}
+use Rattle.mem_wire.specs.Lines.{bytes_for}
 use Rattle.mem_wire.specs.Came.{is_woke, is_accepted_at, wakes, accepted_at, known, known_by, Known}
-use Rattle.mem_wire.specs.Play.{named_since, named_step}
-use Rattle.mem_wire.specs.Tracks.{track_at, place, blank, SameLinks, ChangesTrack}
-use Rattle.mem_wire.specs.Steps.{numbered, clients_of, accepted_of}
+use Rattle.mem_wire.specs.Play.{named_since}
+use Rattle.mem_wire.specs.Tracks.{track_at, place, SameLinks, ChangesTrack}
+use Rattle.mem_wire.specs.Steps.{clients_of, accepted_of}
 use Rattle.mem_wire.specs.Naming.{is_named}
-use Rattle.mem_wire.specs.Stands.{CutsAt, Numbered, read_by, is_in, Fits, Stands, Entered}
+use Rattle.mem_wire.specs.Stands.{CutsAt, Numbered, read_by, is_in, Fits, Stands}
 use Rattle.mem_wire.proofs.Scenes.{wakes-more, accepted-more, opened-more, known-more, named-more}
-use Rattle.mem_wire.proofs.StandSteps.{AlikeBut, but-entry, each-track, fits-but, other-links, entered-like}
+use Rattle.mem_wire.proofs.StandSteps.{AlikeBut, each-track, fits-but, other-links, entered-like}
 use Rattle.mem_wire.proofs.Quiet.{is_open-idle}
 
 -- an entry that brings no link, no client and no moment
@@ -75,8 +74,8 @@ stands-moves recording old new log e but at change st linked frame changes links
       placed = λ number spot is. links spot ∙ st.placed number spot is;
       entered = λ spot link is. entered-like old now spot (clients-now old new) (accepted-now old new) refl (st.entered spot link (sym (links spot) ∙ is));
       tracks = each-track at change old.tracks.items new.tracks.items (λ name t. Fits (take old.cut recording) old.last old.cut (log ++ e ∷ []) name t) changes
-        (λ name is. mine name is (st.tracks name))
-        (λ name other. fits-but (take old.cut recording) old.last old.cut but log (log ++ e ∷ []) name (track_at old.tracks.items (place name)) but_is (other-links old.places.items old.tracks.items but at linked here name other) (st.tracks name));
+          (λ name is. mine name is (st.tracks name))
+          (λ name other. fits-but (take old.cut recording) old.last old.cut but log (log ++ e ∷ []) name (track_at old.tracks.items (place name)) but_is (other-links old.places.items old.tracks.items but at linked here name other) (st.tracks name));
     })
 
 -- Each kind of entry, on the track of its own link.
@@ -92,8 +91,8 @@ mine-got lines last cut log link bytes n name t owner front fits =
     record {
       marks = fits.marks;
       bytes = ap (λ o. read_by o (log ++ e ∷ []) ++ drop n t.unread) owner ∙ ap (λ bs. bs ++ drop n t.unread) grown
-        ∙ append_assoc (read_of link log) bytes (drop n t.unread) ∙ ap (λ bs. read_of link log ++ (bs ++ drop n t.unread)) front
-        ∙ ap (λ bs. read_of link log ++ bs) (take-append-drop n t.unread) ∙ before;
+          ∙ append_assoc (read_of link log) bytes (drop n t.unread) ∙ ap (λ bs. read_of link log ++ (bs ++ drop n t.unread)) front
+          ∙ ap (λ bs. read_of link log ++ bs) (take-append-drop n t.unread) ∙ before;
       opened = own-if t.link (λ l. is_open l (log ++ e ∷ []) ≡ not t.closed) link owner (is_open-idle link log e (λ was. refl) ∙ if-own t.link (λ l. is_open l log ≡ not t.closed) link owner fits.opened);
       named = own-if t.link (λ l. is_in l (named_since (log ++ e ∷ [])) ≡ is_named t.named last) link owner (ap (is_in link) (named-more log e) ∙ if-own t.link (λ l. is_in l (named_since log) ≡ is_named t.named last) link owner fits.named);
       fresh = none-own t.link ((t.closed ≡ false) × (t.named ≡ None)) link owner;

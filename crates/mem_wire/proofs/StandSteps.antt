@@ -1,31 +1,28 @@
 -- How the stage goes on standing to the log, entry by entry.
-use Rattle.std.proofs.Common.{◌≡◌, ◌⊎◌, ℕ, zero, suc, ◌<◌, ◌≤◌, ◌+◌, ◌-◌, ◌*◌, ◌==◌, Bool, true, false, nat_eq, nat_lt, List, [], ◌∷◌, ◌++◌, length, take, drop, if◌then◌else◌, Option, Some, None, refl, sym, ◌∙◌, ap, subst, arith, inl, inr, append-nil, append_assoc, length-append}
-use Rattle.std.specs.Prelude.{IfSome, slice_get, not, ◌&&◌, ◌||◌, fold}
-use Rattle.std.specs.List.{list_any, list_all, cons_option}
+use Rattle.std.proofs.Common.{◌≡◌, ◌⊎◌, ℕ, ◌<◌, ◌≤◌, ◌==◌, Bool, true, false, nat_eq, List, [], ◌∷◌, ◌++◌, length, take, if◌then◌else◌, Option, Some, None, refl, sym, ◌∙◌, ap, subst, arith, inl, inr}
+use Rattle.std.specs.Prelude.{IfSome, slice_get, not, ◌||◌}
 use Rattle.std.proofs.lemmas.Bool.{eqb-true}
 use Rattle.std.proofs.lemmas.Option.{slice_get_within}
 use Rattle.std.proofs.lemmas.List.Folds.{list_any-append}
 use Rattle.mx_base.specs.declared.names.LinkId.{LinkId}
 use Rattle.mx_base.specs.declared.names.Port.{Port}
 use Rattle.mx_base.specs.declared.names.Port.TheVariants.{Traffic, Admin}
-use Rattle.mx_wire.specs.Log.{Log, link_of, is_link, of_link, opened_link, opened_links, read_of, got_bytes, is_open, open_step}
-use Rattle.mx_wire.specs.Growth.{bool_cases, bytes-same, bytes-other, step-same, step-other, nat_eq-sym, same_number}
+use Rattle.mx_wire.specs.Log.{Log, link_of, is_link, read_of, got_bytes, is_open, open_step}
+use Rattle.mx_wire.specs.Growth.{bool_cases, bytes-other, step-other, nat_eq-sym}
 use Rattle.mx_wire.specs.declared.entry.Entry.{Entry}
-use Rattle.mx_wire.specs.declared.entry.Entry.TheVariants as entry
 use Rattle.recording.specs.declared.entry.RecordLink.{RecordLink}
 use Rattle.recording.specs.declared.entry.RecordEntry.{RecordEntry}
 use Rattle.mem_wire.specs.declared.track.Track.{Track}
 use Rattle.mem_wire.specs.declared.late.Late.{Late}
 use Rattle.mem_wire.specs.declared.stage.Stage.{Stage}
-use Rattle.mem_wire.specs.Lines.{bytes_for, clients_at}
-use Rattle.mem_wire.specs.Came.{wakes, accepted_at, known, Known}
+use Rattle.mem_wire.specs.Lines.{clients_at}
+use Rattle.mem_wire.specs.Came.{accepted_at}
 use Rattle.mem_wire.specs.Play.{named_since, named_step}
 use Rattle.mem_wire.specs.Tracks.{track_at, place, ChangesTrack}
-use Rattle.mem_wire.specs.Steps.{numbered, clients_of, accepted_of}
+use Rattle.mem_wire.specs.Steps.{clients_of, accepted_of}
 use Rattle.mem_wire.specs.Naming.{is_named}
-use Rattle.mem_wire.specs.Below.{all_below, link_below, links_below}
-use Rattle.mem_wire.specs.Stands.{CutsAt, Numbered, read_by, is_in, Fits, Stands, Entered, client, server}
-use Rattle.mem_wire.proofs.Scenes.{Alike, wakes-more, accepted-more, opened-more, known-more, named-more}
+use Rattle.mem_wire.specs.Stands.{read_by, is_in, Fits, Stands, Entered, client, server}
+use Rattle.mem_wire.proofs.Scenes.{named-more}
 
 -- what was entered stays entered
 pub entered-like : (old new : Stage) (at : ℕ) → ((port : Port) → clients_of port new ≡ clients_of port old) → ((port : Port) → accepted_of port new ≡ accepted_of port old) → new.opened.items ≡ old.opened.items → Entered old at → Entered new at
@@ -52,8 +49,16 @@ accepted-stay recording s log late line link st Admin = st.accepted Admin
 -- a change of the places where a search stands, and of the late marks
 pub stands-stay : (recording : List RecordEntry) (s : Stage) (log : Log) (late : Late) (line link : ℕ) → Stands recording s log → Stands recording (record s { late = late; line = line; link = link }) log
 stands-stay recording s log late line link st = record {
-  cut = st.cut; last = st.last; wake = st.wake; clients = clients-stay recording s log late line link st; accepted = accepted-stay recording s log late line link st;
-  opened = st.opened; links = st.links; placed = st.placed; entered = λ at owner is. entered-like s (record s { late = late; line = line; link = link }) at (λ port. same-clients s late line link port) (λ port. same-accepted s late line link port) refl (st.entered at owner is); tracks = st.tracks;
+  cut = st.cut;
+  last = st.last;
+  wake = st.wake;
+  clients = clients-stay recording s log late line link st;
+  accepted = accepted-stay recording s log late line link st;
+  opened = st.opened;
+  links = st.links;
+  placed = st.placed;
+  entered = λ at owner is. entered-like s (record s { late = late; line = line; link = link }) at (λ port. same-clients s late line link port) (λ port. same-accepted s late line link port) refl (st.entered at owner is);
+  tracks = st.tracks;
 }
 
 not_apart : (a b : ℕ) → a ≡ b → (a == b) ≡ false → ⊥
@@ -127,5 +132,5 @@ other-links places tracks but at linked here name other =
 pub new-links : (places : List ℕ) (tracks : List Track) → ((spot : ℕ) (link : LinkId) → (track_at tracks spot).link ≡ Some link → slice_get places link.0 ≡ Some spot) → (name : RecordLink) → IfSome (track_at tracks (place name)).link (λ link. nat_eq link.0 (length places) ≡ false)
 new-links places tracks linked name =
     all-some (track_at tracks (place name)).link (λ link. nat_eq link.0 (length places) ≡ false) (λ link is.
-        let low : link.0 < length places = slice_get_within places link.0 (place name) (linked (place name) link is) in
-        grind arith)
+    let low : link.0 < length places = slice_get_within places link.0 (place name) (linked (place name) link is) in
+    grind arith)

@@ -1,20 +1,17 @@
 -- The stage goes on standing at a wake.
-use Rattle.std.proofs.Common.{◌≡◌, ℕ, ◌<◌, ◌≤◌, ◌+◌, ◌-◌, ◌==◌, Bool, true, false, List, [], ◌∷◌, ◌++◌, length, take, drop, Option, Some, None, refl, sym, ◌∙◌, ap, subst, arith, append-nil, append_assoc, add-zero}
-use Rattle.std.specs.Prelude.{IfSome, IfNone, slice_get, not}
-use Rattle.std.specs.List.{cons_option}
+use Rattle.std.proofs.Common.{◌≡◌, ℕ, ◌<◌, ◌≤◌, ◌+◌, ◌-◌, ◌==◌, false, List, [], ◌∷◌, ◌++◌, length, take, drop, Option, Some, None, refl, sym, ◌∙◌, ap, subst, arith, append-nil, append_assoc, add-zero}
+use Rattle.std.specs.Prelude.{IfSome, slice_get, not}
 use Rattle.std.proofs.lemmas.List.{length-take-le, drop-drop}
 use Rattle.std.proofs.lemmas.List.Elements.{filter_map-append}
 use Rattle.std.proofs.Math.Seq.{take-add}
 use Rattle.mx_base.specs.declared.names.LinkId.{LinkId}
 use Rattle.mx_base.specs.declared.names.Port.{Port}
 use Rattle.mx_base.specs.declared.names.Port.TheVariants.{Traffic, Admin}
-use Rattle.mx_wire.specs.Log.{Log, opened_links, read_of, got_bytes, is_open}
+use Rattle.mx_wire.specs.Log.{Log, opened_links, got_bytes, is_open}
 use Rattle.mx_wire.specs.Growth.{bytes-idle}
-use Rattle.mx_wire.specs.declared.entry.Entry.{Entry}
 use Rattle.mx_wire.specs.declared.entry.Entry.TheVariants as entry
 use Rattle.recording.specs.declared.entry.RecordLink.{RecordLink}
 use Rattle.recording.specs.declared.entry.RecordEntry.{RecordEntry}
-use Rattle.mem_wire.specs.declared.waiting.Waiting.{Waiting}
 use Rattle.mem_wire.specs.declared.track.Track.{Track}
 use Rattle.mem_wire.specs.declared.stage.Stage.{Stage}
 use Rattle.mem_wire.specs.Lines.{waiting_at, clients_at, bytes_for, marks_for}
@@ -57,8 +54,8 @@ fits-woke front lines all last cut next log until_ms ms name t parts later fits 
     record {
       marks = ap (λ (m : ℕ). m + marks_for name lines) fits.marks ∙ sym (ap (marks_for name) parts ∙ marks_for-append name front lines);
       bytes = ap (λ bs. bs ++ (t.unread ++ bytes_for name lines)) (read-woke t.link log until_ms ms)
-        ∙ sym (append_assoc (read_by t.link log) t.unread (bytes_for name lines)) ∙ ap (λ bs. bs ++ bytes_for name lines) fits.bytes
-        ∙ sym (ap (bytes_for name) parts ∙ bytes_for-append name front lines);
+          ∙ sym (append_assoc (read_by t.link log) t.unread (bytes_for name lines)) ∙ ap (λ bs. bs ++ bytes_for name lines) fits.bytes
+          ∙ sym (ap (bytes_for name) parts ∙ bytes_for-append name front lines);
       opened = if-same t.link (λ l. is_open l log ≡ not t.closed) (λ l. is_open l (log ++ e ∷ []) ≡ not t.closed) (λ l h. is_open-idle l log e (λ was. refl) ∙ h) fits.opened;
       named = always t.link (λ l. is_in l (named_since (log ++ e ∷ [])) ≡ is_named t.named cut) (λ l. ap (is_in l) (named-more log e) ∙ sym (not-named t.named cut fits.stamp));
       fresh = fits.fresh;
@@ -102,6 +99,6 @@ stands-wakes recording old new log ms count until_ms rest st is first some most 
       placed = λ number spot here. released-links lines old.tracks.items new.tracks.items step.tracks spot ∙ st.placed number spot (ap (λ (ps : List ℕ). slice_get ps number) (sym (ap (λ s. s.places.items) step.frame)) ∙ here);
       entered = λ spot link owner. entered-woke recording lines (old.cut + length lines) old new spot step (st.entered spot link (sym (released-links lines old.tracks.items new.tracks.items step.tracks spot) ∙ owner));
       tracks = λ name. subst (λ (l : ℕ). Fits (take new.cut recording) l new.cut (log ++ e ∷ []) name (track_at new.tracks.items (place name))) (sym last)
-        (subst (λ t. Fits (take new.cut recording) old.cut new.cut (log ++ e ∷ []) name t) (sym (step.tracks name))
-        (fits-woke (take old.cut recording) lines (take new.cut recording) old.last old.cut new.cut log until_ms ms name (track_at old.tracks.items (place name)) parts (omega arith) (st.tracks name)));
+          (subst (λ t. Fits (take new.cut recording) old.cut new.cut (log ++ e ∷ []) name t) (sym (step.tracks name))
+          (fits-woke (take old.cut recording) lines (take new.cut recording) old.last old.cut new.cut log until_ms ms name (track_at old.tracks.items (place name)) parts (omega arith) (st.tracks name)));
     }

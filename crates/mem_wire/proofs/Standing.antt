@@ -1,16 +1,16 @@
 -- The stage stands to the log as a play asks.
-use Rattle.std.proofs.Common.{◌≡◌, ℕ, zero, suc, ◌<◌, ◌≤◌, ◌+◌, ◌-◌, ◌==◌, Bool, true, false, nat_eq, List, [], ◌∷◌, ◌++◌, length, take, drop, Option, Some, None, refl, sym, ◌∙◌, ap, subst, arith}
+use Rattle.std.proofs.Common.{◌≡◌, ℕ, zero, suc, ◌+◌, ◌-◌, true, false, nat_eq, List, [], ◌∷◌, ◌++◌, length, take, drop, Option, Some, None, refl, sym, ◌∙◌, ap, subst, arith}
 use Rattle.std.specs.Prelude.{IfSome, slice_get, not, if◌then◌else◌}
-use Rattle.std.specs.List.{list_any, find}
+use Rattle.std.specs.List.{find}
 use Rattle.mx_base.specs.declared.names.LinkId.{LinkId}
 use Rattle.mx_base.specs.declared.names.Port.{Port}
-use Rattle.mx_wire.specs.Log.{Log, opened_links, read_of, is_open}
+use Rattle.mx_wire.specs.Log.{Log, read_of, is_open}
 use Rattle.recording.specs.declared.entry.RecordLink.{RecordLink}
 use Rattle.recording.specs.declared.entry.RecordEntry.{RecordEntry}
 use Rattle.mem_wire.specs.declared.track.Track.{Track}
 use Rattle.mem_wire.specs.declared.stage.Stage.{Stage}
-use Rattle.mem_wire.specs.Lines.{clients_at, bytes_for, marks_for, released}
-use Rattle.mem_wire.specs.Came.{wakes, accepted_at, next_client, Known, known, with_link, unread, unread_of}
+use Rattle.mem_wire.specs.Lines.{clients_at, bytes_for, released}
+use Rattle.mem_wire.specs.Came.{wakes, accepted_at, next_client, Known, known, with_link, unread}
 use Rattle.mem_wire.specs.Play.{named_since}
 use Rattle.mem_wire.specs.Tracks.{track_at, place}
 use Rattle.mem_wire.specs.Steps.{clients_of, accepted_of, numbered}
@@ -85,7 +85,7 @@ with-number n (suc i) at (k ∷ links) (p ∷ places) all is =
     record {
       k = later.k;
       is = ap (λ b. if b then Some k else find (λ x. nat_eq x.link.0 (n + suc i)) links) (ap (λ (l : LinkId). nat_eq l.0 (n + suc i)) all.0 ∙ number-misses n i)
-        ∙ ap (λ (m : ℕ). with_link (numbered m) links) step ∙ later.is;
+          ∙ ap (λ (m : ℕ). with_link (numbered m) links) step ∙ later.is;
       link_is = later.link_is ∙ ap numbered (sym step);
       place_is = later.place_is;
     }

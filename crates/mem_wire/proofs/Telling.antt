@@ -1,5 +1,5 @@
 -- What a call adds to a log that is told.
-use Rattle.std.proofs.Common.{◌≡◌, ℕ, ◌<◌, ◌≤◌, ◌+◌, true, List, [], ◌∷◌, ◌++◌, length, Option, Some, None, refl, sym, ◌∙◌, ap, subst, append_assoc, arith, length-append}
+use Rattle.std.proofs.Common.{◌≡◌, ◌<◌, ◌+◌, List, [], ◌∷◌, ◌++◌, length, Option, Some, None, sym, ◌∙◌, ap, subst, append_assoc, arith, length-append}
 use Rattle.std.specs.Prelude.{IfSome}
 use Rattle.mx_wire.specs.Log.{Log, AreMarks}
 use Rattle.mx_wire.specs.Tells.{Tells, Fits}
@@ -14,16 +14,19 @@ use Rattle.mem_wire.proofs.Growth.{adds-append}
 pub tells : (old : Option Log) (marks : Log) (e : Entry) (new : Option Log) → Calls old marks e new → AreMarks marks → ((log : Log) → old ≡ Some log → Fits (log ++ marks) e) → Tells old e new
 tells old marks e new call are fits = record {
   appended = λ log is.
-    let added = call.adds.told log is in
-    let size : length (added.0 ++ (marks ++ e ∷ [])) ≡ length log = ap length (sym added.2) in
-    let parts : length (added.0 ++ (marks ++ e ∷ [])) ≡ length (added.0 ++ marks) + 1 = ap length (sym (append_assoc added.0 marks (e ∷ []))) ∙ length-append (added.0 ++ marks) (e ∷ []) in
-    let most : length log < 281474976710656 = call.bounded.below log is in
-    (added.0, added.1, record {
-      marks = marks;
-      only_marks = are;
-      lawful = record { bounded = omega arith; fits = fits added.0 added.1 };
-      is = added.2 ∙ sym (append_assoc added.0 marks (e ∷ []));
-    })
+      let added = call.adds.told log is in
+      let size : length (added.0 ++ (marks ++ e ∷ [])) ≡ length log = ap length (sym added.2) in
+      let parts : length (added.0 ++ (marks ++ e ∷ [])) ≡ length (added.0 ++ marks) + 1 = ap length (sym (append_assoc added.0 marks (e ∷ []))) ∙ length-append (added.0 ++ marks) (e ∷ []) in
+      let most : length log < 281474976710656 = call.bounded.below log is in (
+        added.0,
+        added.1,
+        record {
+          marks = marks;
+          only_marks = are;
+          lawful = record { bounded = omega arith; fits = fits added.0 added.1 };
+          is = added.2 ∙ sym (append_assoc added.0 marks (e ∷ []));
+        },
+      );
 }
 
 -- the stage follows the log that the call leaves
@@ -31,8 +34,8 @@ pub goes_on : (recording : List RecordEntry) (old new : Stage) (before after : O
 goes_on recording old new before after marks e tape within call follows = record {
   within = within;
   follows = λ log is.
-    let added = call.adds.told log is in
-    subst (Follows recording new) (append_assoc added.0 marks (e ∷ []) ∙ sym added.2) (follows added.0 added.1 (tape.follows added.0 added.1));
+      let added = call.adds.told log is in
+      subst (Follows recording new) (append_assoc added.0 marks (e ∷ []) ∙ sym added.2) (follows added.0 added.1 (tape.follows added.0 added.1));
 }
 
 pub stops : (recording : List RecordEntry) (new : Stage) (after : Option Log) → IsWithin recording new → after ≡ None → IsTape recording new after

@@ -1,8 +1,8 @@
 //! The outside in memory: a wire that plays a recording and tells its log, files, and a sink.
 #![tactic(auto)]
 
-mod lines;
 mod late;
+mod lines;
 mod mem_files;
 mod mem_sink;
 mod naming;

@@ -79,7 +79,11 @@ fn waiting_in(port: Port, line: &RecordEntry) -> Option<Waiting>
 }
 
 /// Puts the clients that the lines bring to the port behind those that wait there.
-pub(crate) fn arrive(port: Port, clients: &mut Vec<Waiting>, lines: &[RecordEntry]) -> Result<(), OutOfMemory>
+pub(crate) fn arrive(
+    port: Port,
+    clients: &mut Vec<Waiting>,
+    lines: &[RecordEntry],
+) -> Result<(), OutOfMemory>
     ensures { OnOk result (clients.new.items ≡ clients.old.items ++ clients_at port lines.now) }
 {
     for line in lines {

@@ -63,7 +63,11 @@ impl Files for MemFiles {
 }
 
 // A copy of the bytes under the name.
-fn bytes_under(alloc: Global, files: &[(Bytes, Bytes)], name: &[u8]) -> Result<Option<Vec<u8>>, OutOfMemory>
+fn bytes_under(
+    alloc: Global,
+    files: &[(Bytes, Bytes)],
+    name: &[u8],
+) -> Result<Option<Vec<u8>>, OutOfMemory>
     ensures { IfOk result (λ found. option_map (λ v. v.items) found ≡ lookup (bytes_eq name.now) files.now) }
 {
     for (key, bytes) in files {

@@ -33,7 +33,11 @@ pub(crate) fn new_stage(alloc: Global) -> Stage
 }
 
 /// Releases lines, which stand behind the cut.
-pub(crate) fn wake(stage: &mut Stage, alloc: Global, lines: &[RecordEntry]) -> Result<(), OutOfMemory>
+pub(crate) fn wake(
+    stage: &mut Stage,
+    alloc: Global,
+    lines: &[RecordEntry],
+) -> Result<(), OutOfMemory>
     requires { stage.old.cut + length lines.now < 2 ^ 64 }
     ensures ok { OnOk result (Wakes lines.now (stage.old.cut + length lines.now) stage.old stage.new) }
     ensures err { OnErr result (KeepsPlaces stage.old stage.new) }
@@ -83,7 +87,12 @@ fn enter(stage: &mut Stage, alloc: Global, at: usize) -> Result<(), OutOfMemory>
 }
 
 /// The client that waits at the port as the next one comes on the next link.
-pub(crate) fn accept(stage: &mut Stage, alloc: Global, port: Port, number: u16) -> Result<(), OutOfMemory>
+pub(crate) fn accept(
+    stage: &mut Stage,
+    alloc: Global,
+    port: Port,
+    number: u16,
+) -> Result<(), OutOfMemory>
     requires { accepted_of port stage.old < length (clients_of port stage.old) }
     ensures ok { OnOk result (Accepts port number stage.old stage.new) }
     ensures err { OnErr result (KeepsPlaces stage.old stage.new) }

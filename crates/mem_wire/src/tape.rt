@@ -75,7 +75,8 @@ impl Wire for Tape {
     }
 
     fn listen(&mut self, port: Port, address: Address) -> Listened {
-        self.told.add_call(self.stage.late, Entry::Listening { port, address });
+        self.told
+            .add_call(self.stage.late, Entry::Listening { port, address });
         self.stage.late = Late::none();
         Listened::Done
     }
@@ -115,13 +116,21 @@ impl Wire for Tape {
 
     fn accept(&mut self, port: Port) -> Accepted {
         let Some(client) = steps::next_client(&self.stage, port) else {
-            self.told.add_call(self.stage.late, Entry::AcceptNothing { port });
+            self.told
+                .add_call(self.stage.late, Entry::AcceptNothing { port });
             self.stage.late = Late::none();
             return Accepted::NotReady;
         };
         let id = steps::next_link(&self.stage);
         let salt = client.salt;
-        self.told.add_call(self.stage.late, Entry::Accepted { port, link: id, salt });
+        self.told.add_call(
+            self.stage.late,
+            Entry::Accepted {
+                port,
+                link: id,
+                salt,
+            },
+        );
         if steps::accept(&mut self.stage, self.alloc, port, client.number).is_err() {
             self.told.stop();
         }
@@ -149,12 +158,14 @@ impl Wire for Tape {
             self.told.add_call(late, Entry::ReadNothing { link });
             return Got::NotReady;
         }
-        self.told.add_call_if(late, got_entry(self.alloc, link, &into[..n]));
+        self.told
+            .add_call_if(late, got_entry(self.alloc, link, &into[..n]));
         Got::Got { n }
     }
 
     fn write(&mut self, link: LinkId, tag: Tag, piece: &[u8]) -> Took {
-        self.told.add_call_if(self.stage.late, wrote_entry(self.alloc, link, tag, piece));
+        self.told
+            .add_call_if(self.stage.late, wrote_entry(self.alloc, link, tag, piece));
         self.stage.late = Late::none();
         Took::Took { n: piece.len() }
     }

@@ -31,7 +31,12 @@ pub(crate) fn reach(alloc: Global, tracks: &mut Vec<Track>, at: usize) -> Result
 }
 
 /// Gives bytes to a track.
-pub(crate) fn give_bytes(alloc: Global, tracks: &mut Vec<Track>, at: usize, bytes: &[u8]) -> Result<(), OutOfMemory>
+pub(crate) fn give_bytes(
+    alloc: Global,
+    tracks: &mut Vec<Track>,
+    at: usize,
+    bytes: &[u8],
+) -> Result<(), OutOfMemory>
     ensures { OnOk result (ChangesTrack at (λ t. record t { unread = t.unread ++ bytes.now }) tracks.old.items tracks.new.items) }
 {
     reach(alloc, tracks, at)?;
@@ -40,7 +45,11 @@ pub(crate) fn give_bytes(alloc: Global, tracks: &mut Vec<Track>, at: usize, byte
 }
 
 /// Gives a mark to a track.
-pub(crate) fn give_mark(alloc: Global, tracks: &mut Vec<Track>, at: usize) -> Result<(), OutOfMemory>
+pub(crate) fn give_mark(
+    alloc: Global,
+    tracks: &mut Vec<Track>,
+    at: usize,
+) -> Result<(), OutOfMemory>
     ensures { OnOk result (ChangesTrack at (λ t. record t { marks = t.marks + 1 }) tracks.old.items tracks.new.items) }
 {
     reach(alloc, tracks, at)?;
@@ -53,7 +62,11 @@ pub(crate) fn give_mark(alloc: Global, tracks: &mut Vec<Track>, at: usize) -> Re
 }
 
 /// Gives each line's bytes and marks to the track of its link.
-pub(crate) fn release(alloc: Global, tracks: &mut Vec<Track>, lines: &[RecordEntry]) -> Result<(), OutOfMemory>
+pub(crate) fn release(
+    alloc: Global,
+    tracks: &mut Vec<Track>,
+    lines: &[RecordEntry],
+) -> Result<(), OutOfMemory>
     ensures { OnOk result (Released lines.now tracks.old.items tracks.new.items) }
 {
     for line in lines {

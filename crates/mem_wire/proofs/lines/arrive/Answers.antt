@@ -10,8 +10,8 @@ loop-line-preserved c =
     let lines = c.args.lines.now in
     let i = c.loop-line.line-index in
     let grown : clients_at c.args.port (take (i + 1) lines) ≡ clients_at c.args.port (take i lines) ++ cons_option c.waiting_in.result [] =
-        filter_map-next (waiting_at c.args.port) lines i c.line-item.result c.waiting_in.result c.loop-line-test.true
-        (ap (waiting_at c.args.port) (sym c.line-item.is) ∙ sym c.waiting_in.ensures) in
+    filter_map-next (waiting_at c.args.port) lines i c.line-item.result c.waiting_in.result c.loop-line-test.true
+    (ap (waiting_at c.args.port) (sym c.line-item.is) ∙ sym c.waiting_in.ensures) in
     elim c.match-waiting_in.branch [
       | in-Some+in_ok-push w ↦ rw grown (grind (arith, append_assoc))
       | in_default w ↦ rw grown (grind (arith, append-nil))

@@ -1,8 +1,6 @@
-use Rattle.std.proofs.Common.{◌≡◌, ◌+◌, ◌++◌, [], take, ◌∙◌, ap, sym, subst, arith, append_assoc, append-nil}
+use Rattle.std.proofs.Common.{◌≡◌, ◌+◌, ◌++◌, [], take, ◌∙◌, ap, sym, append-nil}
 use Rattle.std.specs.List.{filter_map, cons_option}
-use Rattle.mx_wire.specs.Log.{Log}
 use Rattle.mem_wire.specs.Play.{mark_at}
-use Rattle.mem_wire.specs.Adds.{Adds}
 use Rattle.mem_wire.proofs.Growth.{filter_map-next, adds-append}
 use Rattle.mem_wire.proofs.lines.put_marks.Goals as goal
 use Rattle.mem_wire.proofs.lines.put_marks.Goals.{in-Some, in_default}
@@ -13,8 +11,8 @@ loop-line-preserved c =
     let i = c.loop-line.line-index in
     let f = mark_at c.args.opened.now in
     let grown : filter_map f (take (i + 1) lines) ≡ filter_map f (take i lines) ++ cons_option c.mark_in.result [] =
-        filter_map-next f lines i c.line-item.result c.mark_in.result c.loop-line-test.true
-        (ap f (sym c.line-item.is) ∙ sym c.mark_in.ensures) in
+    filter_map-next f lines i c.line-item.result c.mark_in.result c.loop-line-test.true
+    (ap f (sym c.line-item.is) ∙ sym c.mark_in.ensures) in
     elim c.match-mark_in.branch [
       | in-Some w ↦ rw (w.told-is, grown, w.in-Some.is) (adds-append _ _ _ _ _ c.loop-line.invariant w.add.ensures.added)
       | in_default w ↦ rw (w.told-is, grown, w.in_default.is, append-nil) c.loop-line.invariant

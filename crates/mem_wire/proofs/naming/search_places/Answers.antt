@@ -1,5 +1,4 @@
-use Rattle.std.proofs.Common.{◌∙◌, ap, sym}
-use Rattle.mem_wire.specs.Naming.{named_at}
+use Rattle.std.proofs.Common.{◌∙◌, sym}
 use Rattle.mem_wire.proofs.NamingLaws.{none_at-next}
 use Rattle.mem_wire.proofs.naming.search_places.Goals as goal
 

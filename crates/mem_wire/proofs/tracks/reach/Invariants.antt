@@ -1,4 +1,4 @@
-use Rattle.std.proofs.Common.{ℕ, ◌-◌, ◌+◌, vec_len}
+use Rattle.std.proofs.Common.{◌-◌, ◌+◌, vec_len}
 use Rattle.mem_wire.specs.Tracks.{SameTracks}
 use Rattle.mem_wire.proofs.tracks.reach.Given as goal
 

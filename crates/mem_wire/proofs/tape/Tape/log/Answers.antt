@@ -1,4 +1,4 @@
-use Rattle.std.proofs.Common.{◌∙◌, ap, sym, subst}
+use Rattle.std.proofs.Common.{◌∙◌, ap, subst}
 use Rattle.mem_wire.specs.Play.{IsPlay}
 use Rattle.mem_wire.proofs.tape.Tape.log.Goals as goal
 

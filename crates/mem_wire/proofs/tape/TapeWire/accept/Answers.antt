@@ -40,8 +40,8 @@ pub returns-else-is_err-clause-told : goal.returns-else-is_err-clause-told
 returns-else-is_err-clause-told c =
     let s = c.self.inside.stage in
     rw (← c.self.view_is) (tells c.self.inside.told (late_entries s.late) _ _ c.add_call-2.ensures (late_are s.late) (λ log is.
-        let follows = c.self.invariant.follows log is in
-        record {
-          fresh = rw c.next_link-id.ensures (new-link _ s log follows);
-          salted = salt-next _ s log c.args.port c.in-Some.client follows (sym c.next_client.ensures ∙ c.in-Some.is);
-        }))
+    let follows = c.self.invariant.follows log is in
+    record {
+      fresh = rw c.next_link-id.ensures (new-link _ s log follows);
+      salted = salt-next _ s log c.args.port c.in-Some.client follows (sym c.next_client.ensures ∙ c.in-Some.is);
+    }))

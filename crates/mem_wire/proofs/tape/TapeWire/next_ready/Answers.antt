@@ -33,7 +33,7 @@ invariant_of-self-in-Some c =
     goes_on _ s c.name.new.stage c.self.inside.told _ (late_entries s.late) (entry.Named c.in-Some.found.link) c.self.invariant
     (within-moves _ mid _ (within-search _ c.next_to_name.result s mid c.self.invariant.within looks) c.name.ensures.frame) c.add_call-in-Some.ensures
     (λ log is follows. follows-named _ s mid c.name.new.stage log c.in-Some.found c.self.invariant.within follows some c.name.ensures
-        (moved-name _ c.next_to_name.result s mid _ looks c.name.ensures.frame c.name.ensures.late c.name.ensures.links))
+    (moved-name _ c.next_to_name.result s mid _ looks c.name.ensures.frame c.name.ensures.late c.name.ensures.links))
 
 pub returns-in-None-clause-told : goal.returns-in-None-clause-told
 returns-in-None-clause-told c =

@@ -1,5 +1,4 @@
-use Rattle.std.proofs.Common.{refl, ap, sym, ◌∙◌}
-use Rattle.mx_wire.specs.declared.entry.Entry.TheVariants as entry
+use Rattle.std.proofs.Common.{ap, sym, ◌∙◌}
 use Rattle.mem_wire.specs.Adds.{late_entries}
 use Rattle.mem_wire.proofs.Telling.{tells, goes_on}
 use Rattle.mem_wire.proofs.Courses.{within-enters}
@@ -21,4 +20,4 @@ pub returns-else-is_err-clause-told : goal.returns-else-is_err-clause-told
 returns-else-is_err-clause-told c =
     let s = c.self.inside.stage in
     rw (← c.self.view_is) (tells c.self.inside.told (late_entries s.late) _ _ c.add_call.ensures (late_are s.late) (λ log is.
-        rw c.next_link-id.ensures (new-link _ s log (c.self.invariant.follows log is))))
+    rw c.next_link-id.ensures (new-link _ s log (c.self.invariant.follows log is))))

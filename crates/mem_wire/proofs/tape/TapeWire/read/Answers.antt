@@ -1,4 +1,4 @@
-use Rattle.std.proofs.Common.{◌≡◌, ◌≤◌, ◌<◌, length, take, refl, ap, sym, arith}
+use Rattle.std.proofs.Common.{◌≡◌, ◌≤◌, length, take, ap, arith}
 use Rattle.mx_wire.specs.declared.entry.Entry.TheVariants as entry
 use Rattle.mem_wire.specs.Adds.{late_entries}
 use Rattle.mem_wire.proofs.Telling.{tells, tells_if, goes_on, goes_on_if}
@@ -15,7 +15,7 @@ invariant_of-self c =
     goes_on _ s c.read-n.new.stage told _ (late_entries s.late) (entry.ReadNothing c.args.link) c.self.invariant
     (within-moves _ s _ c.self.invariant.within c.read-n.ensures.moves.frame) c.add_call.ensures
     (λ log is follows. follows-nothing _ s c.read-n.new.stage log c.args.link c.read-n.result c.args.into.now c.read-n.new.into follows
-        (open-in told _ c.args.link log (ap (λ v. v.told) c.self.view_is) c.requires.open is) c.read-n.ensures.moves c.read-n.ensures.bytes c.if-n-eq0.true c.requires.some)
+    (open-in told _ c.args.link log (ap (λ v. v.told) c.self.view_is) c.requires.open is) c.read-n.ensures.moves c.read-n.ensures.bytes c.if-n-eq0.true c.requires.some)
 
 pub returns-then-n-eq0-clause-told : goal.returns-then-n-eq0-clause-told
 returns-then-n-eq0-clause-told c =
@@ -36,7 +36,7 @@ invariant_of-self-2 c =
     goes_on_if _ s c.read-n.new.stage told _ (late_entries s.late) c.got_entry.result (entry.Got c.args.link (take n into)) c.self.invariant
     (within-moves _ s _ c.self.invariant.within c.read-n.ensures.moves.frame) c.add_call_if.ensures c.got_entry.ensures
     (λ log is follows. follows-got _ s c.read-n.new.stage log c.args.link n c.args.into.now into follows
-        (open-in told _ c.args.link log (ap (λ v. v.told) c.self.view_is) c.requires.open is) c.read-n.ensures.moves c.read-n.ensures.bytes (omega (arith, c.if-n-eq0.false)) (omega arith))
+    (open-in told _ c.args.link log (ap (λ v. v.told) c.self.view_is) c.requires.open is) c.read-n.ensures.moves c.read-n.ensures.bytes (omega (arith, c.if-n-eq0.false)) (omega arith))
 
 pub returns-clause-told : goal.returns-clause-told
 returns-clause-told c =

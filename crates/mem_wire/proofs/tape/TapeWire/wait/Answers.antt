@@ -1,4 +1,4 @@
-use Rattle.std.proofs.Common.{ℕ, ◌<◌, ◌-◌, length, take, drop, refl, ap, arith, sym, ◌∙◌}
+use Rattle.std.proofs.Common.{◌<◌, ◌-◌, length, take, drop, refl, ap, arith, sym, ◌∙◌}
 use Rattle.std.proofs.lemmas.List.{take_rest}
 use Rattle.mx_wire.specs.declared.entry.Entry.TheVariants as entry
 use Rattle.mem_wire.specs.Adds.{late_entries}

@@ -1,4 +1,4 @@
-use Rattle.std.proofs.Common.{refl, ap, sym, take, length, ◌≡◌, arith}
+use Rattle.std.proofs.Common.{refl, ap, length, arith}
 use Rattle.std.proofs.lemmas.List.{take_all}
 use Rattle.mx_wire.specs.declared.entry.Entry.TheVariants as entry
 use Rattle.mem_wire.specs.Adds.{late_entries}
