@@ -15,7 +15,7 @@ use Rattle.session_core.specs.declared.phase.Phase.{Phase}
 use Rattle.session_core.specs.declared.phase.Phase.TheVariants.{Working}
 use Rattle.session_core.specs.declared.client.Client.{Client}
 use Rattle.session_core.specs.declared.server.Server.{Server}
-use Rattle.session_core.specs.declared.core.Core.{Core}
+use Rattle.session_core.specs.declared.router.Core.{Core}
 use Rattle.session_core.specs.Answers.{most_payload}
 use Rattle.session_core.specs.Sending.{carrier, command_bytes, Sending, first_carried, sending, server_message}
 use Rattle.session_core.specs.Headline.{client_link, replies_to, messages_of, MaySend}

@@ -9,7 +9,7 @@ use Rattle.session_core.specs.declared.client.Client.{Client}
 use Rattle.session_core.specs.declared.server.Server.{Server}
 use Rattle.session_core.specs.declared.server.Heard.{Heard}
 use Rattle.session_core.specs.declared.server.Heard.TheVariants.{Quiet, Reply}
-use Rattle.session_core.specs.declared.core.Core.{Core}
+use Rattle.session_core.specs.declared.router.Core.{Core}
 use Rattle.session_core.specs.Stands.{server_links, is_client, is_server}
 use Rattle.session_core.specs.Count.{counted}
 use Rattle.session_core.specs.Hearing.{Hears}

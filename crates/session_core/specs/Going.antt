@@ -2,7 +2,7 @@
 use Rattle.std.specs.Prelude.{◌≡◌, ℕ, Bool, true, false, ◌&&◌, List, Option, Some, refl}
 use Rattle.std.proofs.Common.{sym, ◌∙◌, ap, subst}
 use Rattle.session_core.specs.declared.client.Client.{Client}
-use Rattle.session_core.specs.declared.core.Core.{Core}
+use Rattle.session_core.specs.declared.router.Core.{Core}
 use Rattle.session_core.specs.Steps.{Pumps}
 use Rattle.session_core.specs.Cores.{Settles, GoesOn, ClientSays, SaysIn, fed_in, is_idle, AnswersBy, IsAnswered, answered_in, is_sent, Releases}
 

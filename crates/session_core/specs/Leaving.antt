@@ -15,7 +15,7 @@ use Rattle.session_core.specs.declared.phase.Phase.{Phase}
 use Rattle.session_core.specs.declared.phase.Phase.TheVariants.{Leaving, Gone}
 use Rattle.session_core.specs.declared.client.Client.{Client}
 use Rattle.session_core.specs.declared.server.Server.{Server}
-use Rattle.session_core.specs.declared.core.Core.{Core}
+use Rattle.session_core.specs.declared.router.Core.{Core}
 use Rattle.session_core.specs.Sending.{sending}
 use Rattle.session_core.specs.Headline.{client_link, replies_to, IsServed, IsLawful}
 use Rattle.session_core.specs.Growth.{client_link-more, client_link-same, accepted_links-same}

@@ -15,7 +15,7 @@ use Rattle.session_core.specs.declared.phase.Phase.{Phase}
 use Rattle.session_core.specs.declared.phase.Phase.TheVariants.{Leaving, Gone}
 use Rattle.session_core.specs.declared.client.Client.{Client}
 use Rattle.session_core.specs.declared.server.Server.{Server}
-use Rattle.session_core.specs.declared.core.Core.{Core}
+use Rattle.session_core.specs.declared.router.Core.{Core}
 use Rattle.session_core.specs.Headline.{IsLawful}
 use Rattle.session_core.specs.Growth.{accepted_links-same}
 use Rattle.session_core.specs.Held.{held-stays}

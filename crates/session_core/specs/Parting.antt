@@ -13,7 +13,7 @@ use Rattle.session_core.specs.declared.phase.Phase.{Phase}
 use Rattle.session_core.specs.declared.phase.Phase.TheVariants.{Idle, Working, Ending, Leaving, Gone}
 use Rattle.session_core.specs.declared.client.Client.{Client}
 use Rattle.session_core.specs.declared.server.Server.{Server}
-use Rattle.session_core.specs.declared.core.Core.{Core}
+use Rattle.session_core.specs.declared.router.Core.{Core}
 use Rattle.session_core.specs.Growth.{accepted_links-same}
 use Rattle.session_core.specs.Held.{AllApart, AreHeld, held-at, open-apart, held-closed, held-apart-from}
 use Rattle.session_core.specs.Stands.{server_links, while_held, client_links, IsShut, MayHaveClient, IsServers, Tracks, Stands, is_client, is_server, sends, due_in}

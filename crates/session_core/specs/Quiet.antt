@@ -12,7 +12,7 @@ use Rattle.session_core.specs.declared.phase.Phase.{Phase}
 use Rattle.session_core.specs.declared.phase.Phase.TheVariants.{Idle, Working, Ending, Leaving, Gone}
 use Rattle.session_core.specs.declared.client.Client.{Client}
 use Rattle.session_core.specs.declared.server.Server.{Server}
-use Rattle.session_core.specs.declared.core.Core.{Core}
+use Rattle.session_core.specs.declared.router.Core.{Core}
 use Rattle.session_core.specs.Sending.{carrier, command_bytes, command_sent, first_carried, sending}
 use Rattle.session_core.specs.Headline.{replies_to, IsLawful}
 use Rattle.session_core.specs.Growth.{client_link-more, client_link-same, accepted_links-same, sending-before, sending-now, command_sent-more}

@@ -10,7 +10,7 @@ use Rattle.session_core.specs.declared.phase.Phase.{Phase}
 use Rattle.session_core.specs.declared.phase.Phase.TheVariants.{Idle, Working, Ending, Leaving, Gone}
 use Rattle.session_core.specs.declared.client.Client.{Client}
 use Rattle.session_core.specs.declared.server.Server.{Server}
-use Rattle.session_core.specs.declared.core.Core.{Core}
+use Rattle.session_core.specs.declared.router.Core.{Core}
 use Rattle.session_core.specs.Sending.{is_command, carrier, command_bytes, command_sent, first_carried, sending}
 use Rattle.session_core.specs.Headline.{client_link, replies_to}
 use Rattle.session_core.specs.Held.{AreHeld}

@@ -16,7 +16,7 @@ use Rattle.session_core.specs.declared.client.Client.{Client}
 use Rattle.session_core.specs.declared.server.Server.{Server}
 use Rattle.session_core.specs.declared.server.Heard.{Heard}
 use Rattle.session_core.specs.declared.server.Heard.TheVariants.{Quiet, Reply}
-use Rattle.session_core.specs.declared.core.Core.{Core}
+use Rattle.session_core.specs.declared.router.Core.{Core}
 use Rattle.session_core.specs.Errors.{bad_server_bytes}
 use Rattle.session_core.specs.Sending.{is_reply, server_message}
 use Rattle.session_core.specs.Headline.{replies_to}

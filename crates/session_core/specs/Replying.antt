@@ -14,7 +14,7 @@ use Rattle.session_core.specs.declared.phase.Phase.{Phase}
 use Rattle.session_core.specs.declared.phase.Phase.TheVariants.{Working}
 use Rattle.session_core.specs.declared.client.Client.{Client}
 use Rattle.session_core.specs.declared.server.Server.{Server}
-use Rattle.session_core.specs.declared.core.Core.{Core}
+use Rattle.session_core.specs.declared.router.Core.{Core}
 use Rattle.session_core.specs.Answers.{most_payload, is_query, answer_to}
 use Rattle.session_core.specs.Sending.{sending, reply_in, reply_on, server_message}
 use Rattle.session_core.specs.Headline.{replies_to}

@@ -14,7 +14,7 @@ use Rattle.session_core.specs.declared.phase.Phase.{Phase}
 use Rattle.session_core.specs.declared.phase.Phase.TheVariants.{Idle, Working, Ending, Leaving, Gone}
 use Rattle.session_core.specs.declared.client.Client.{Client}
 use Rattle.session_core.specs.declared.server.Server.{Server}
-use Rattle.session_core.specs.declared.core.Core.{Core}
+use Rattle.session_core.specs.declared.router.Core.{Core}
 use Rattle.session_core.specs.Answers.{most_payload}
 use Rattle.session_core.specs.Headline.{client_link, replies_to}
 use Rattle.session_core.specs.Growth.{client_link-more, client_link-same, accepted_links-same}

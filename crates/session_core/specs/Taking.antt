@@ -13,7 +13,7 @@ use Rattle.session_core.specs.declared.phase.Phase.{Phase}
 use Rattle.session_core.specs.declared.phase.Phase.TheVariants.{Idle, Working, Ending, Leaving, Gone}
 use Rattle.session_core.specs.declared.client.Client.{Client}
 use Rattle.session_core.specs.declared.server.Server.{Server}
-use Rattle.session_core.specs.declared.core.Core.{Core}
+use Rattle.session_core.specs.declared.router.Core.{Core}
 use Rattle.session_core.specs.Stands.{Stands, is_client, is_server, client_sends, server_sends, reply_left, command_left, sends, due_in}
 use Rattle.session_core.specs.Still.{few-more, stands-more}
 use Rattle.session_core.specs.Cores.{sent_in}

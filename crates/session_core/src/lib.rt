@@ -4,11 +4,11 @@
 
 mod asked;
 mod client;
-mod core;
 mod count;
 mod machine;
 mod phase;
 mod refusal;
+mod router;
 mod server;
 
-pub use core::Core;
+pub use router::Core;

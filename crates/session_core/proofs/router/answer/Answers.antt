@@ -1,5 +1,5 @@
 use Rattle.session_core.specs.Going.{answered-kept, answered-released}
-use Rattle.session_core.proofs.core.answer.Goals as goal
+use Rattle.session_core.proofs.router.answer.Goals as goal
 
 pub returns-in_ok-go_on-in-Some : goal.returns-in_ok-go_on-in-Some
 returns-in_ok-go_on-in-Some c = answered-kept _ _ _ _ _ _ _ c.in-Some.is c.in_ok-keeps-in-Some.ensures.client c.in_ok-keeps-in-Some.ensures.keeps c.if-keeps.true c.in_ok-go_on-in-Some.ensures
