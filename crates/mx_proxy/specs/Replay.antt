@@ -1,0 +1,138 @@
+-- What a replay puts, and why it stops short.
+use Rattle.std.specs.Prelude.{◌≡◌, ◌⊎◌, ℕ, ◌+◌, ◌*◌, ◌<◌, ◌≤◌, List, [], ◌∷◌, ◌++◌, length, Option, Some, None, Result, Ok, Err}
+use Rattle.mx_wire.specs.Log.{Log}
+use Rattle.mx_wire.specs.Moments.{AtEachMoment, AllLawful}
+use Rattle.mx_wire.specs.Outside.{HasUnder, Takes, TakesFront}
+use Rattle.mx_wire.specs.declared.entry.Entry.TheVariants.{Over}
+use Rattle.recording.specs.declared.entry.RecordEntry.{RecordEntry}
+use Rattle.recording.specs.declared.fault.RecordFault.{RecordFault}
+use Rattle.recording.specs.Recording.{recording_of}
+use Rattle.recording.specs.Transcript.{transcript_of}
+use Rattle.mem_wire.specs.Play.{IsPlay}
+use Rattle.mem_wire.specs.Told.{Played}
+use Rattle.ready_loop.specs.Round.{wakes_of, calls_since_wake}
+use Rattle.session_core.specs.Headline.{IsServed, IsLawful}
+use Rattle.mx_proxy.specs.declared.stop.Stop.{Stop}
+use Rattle.mx_proxy.specs.declared.stop.Stop.TheVariants as stop
+use Rattle.mx_proxy.specs.Words.{recording_name}
+
+-- names with their bytes, where they are told
+abbrev pub Held : Type 0
+Held = Option (List (List ℕ × List ℕ))
+
+-- the bytes under the name say these entries
+pub record IsUnder (name : List ℕ) (held : Held) (entries : List RecordEntry) : Type 0 where
+  pub bytes : List ℕ
+  pub under : HasUnder name bytes held
+  pub said : recording_of bytes ≡ Ok entries
+
+-- they are no recording, and this is their first fault
+pub record IsFaulty (name : List ℕ) (held : Held) (fault : RecordFault) : Type 0 where
+  pub bytes : List ℕ
+  pub under : HasUnder name bytes held
+  pub said : recording_of bytes ≡ Err fault
+
+-- At each moment of the log what was written to each client is a beginning of the answers to its messages, and each byte
+-- was written as it may be. The log goes on until the wire has nothing more.
+pub record ServesToEnd (log : Log) : Type 0 where
+  pub served : AtEachMoment IsServed log
+  pub lawful : AllLawful IsLawful log
+  pub over : (before : Log) × (log ≡ before ++ Over ∷ [])
+
+-- the wire answered as the recording says
+pub record ReplaysTo (entries : List RecordEntry) (log : Log) : Type 0 where
+  pub play : IsPlay entries log
+  pub serves : ServesToEnd log
+
+-- what a tape tells that has played these entries
+pub record HasPlayed (entries : List RecordEntry) (tape : Played) : Type 0 where
+  pub keeps : (log : Log) → IsPlay tape.recording log → IsPlay entries log
+  pub serves : (log : Log) → tape.told ≡ Some log → ServesToEnd log
+
+-- a play in which one wake took more calls than it may, or more waits woke than the loop allows
+pub record IsSpent (entries : List RecordEntry) (log : Log) : Type 0 where
+  pub play : IsPlay entries log
+  pub spent : (wakes_of log ≡ 2 * length entries + 16) ⊎ (4294967296 ≤ calls_since_wake log)
+
+abbrev pub ReadStops : Stop → List ℕ → Held → (before now : ℕ) → Type 0
+ReadStops stop.ReadFault name held before now = before < now
+ReadStops (stop.BadRecording fault) name held before now = IsFaulty name held fault
+ReadStops stop.OutOfMemory name held before now = Unit {0}
+ReadStops _ name held before now = ⊥
+
+abbrev pub PlayStops : Stop → List RecordEntry → Type 0
+PlayStops stop.OutOfMemory entries = Unit {0}
+PlayStops stop.TurnsSpent entries = (log : Log) × IsSpent entries log
+PlayStops _ entries = ⊥
+
+-- the transcript of the log is put
+pub record Puts (tape : Played) (old new : Option (List ℕ)) : Type 0 where
+  pub log : Log
+  pub is : tape.told ≡ Some log
+  pub play : IsPlay tape.recording log
+  pub put : Takes old (transcript_of log) new
+
+-- a front of it is, where the sink failed
+pub record PutsFront (tape : Played) (old : Option (List ℕ)) (before : ℕ) (new : Option (List ℕ)) (now : ℕ) : Type 0 where
+  pub log : Log
+  pub is : tape.told ≡ Some log
+  pub play : IsPlay tape.recording log
+  pub put : TakesFront old (transcript_of log) new
+  pub rose : before < now
+
+-- nothing was put
+pub record PutsNothing (old : Option (List ℕ)) (before : ℕ) (new : Option (List ℕ)) (now : ℕ) : Type 0 where
+  pub same : new ≡ old
+  pub calm : now ≡ before
+
+abbrev pub PutStops : Stop → Played → Option (List ℕ) → ℕ → Option (List ℕ) → ℕ → Type 0
+PutStops stop.OutOfMemory tape old before new now = PutsNothing old before new now
+PutStops stop.SinkFault tape old before new now = PutsFront tape old before new now
+PutStops _ tape old before new now = ⊥
+
+-- The recording under the name that the words give is replayed to this log.
+pub record IsReplay (words : List (List ℕ)) (held : Held) (log : Log) : Type 0 where
+  pub name : List ℕ
+  pub named : recording_name words ≡ Some name
+  pub entries : List RecordEntry
+  pub under : IsUnder name held entries
+  pub replays : ReplaysTo entries log
+
+-- and the transcript of that log is put
+pub record Replayed (words : List (List ℕ)) (held : Held) (old new : Option (List ℕ)) : Type 0 where
+  pub log : Log
+  pub replay : IsReplay words held log
+  pub put : Takes old (transcript_of log) new
+
+pub record ReplayedInPart (words : List (List ℕ)) (held : Held) (old : Option (List ℕ)) (before : ℕ) (new : Option (List ℕ)) (now : ℕ) : Type 0 where
+  pub log : Log
+  pub replay : IsReplay words held log
+  pub put : TakesFront old (transcript_of log) new
+  pub rose : before < now
+
+pub record IsRefused (words : List (List ℕ)) (held : Held) (fault : RecordFault) : Type 0 where
+  pub name : List ℕ
+  pub named : recording_name words ≡ Some name
+  pub faulty : IsFaulty name held fault
+
+pub record RanOut (words : List (List ℕ)) (held : Held) : Type 0 where
+  pub name : List ℕ
+  pub named : recording_name words ≡ Some name
+  pub entries : List RecordEntry
+  pub under : IsUnder name held entries
+  pub log : Log
+  pub spent : IsSpent entries log
+
+pub record IsUnread (words : List (List ℕ)) (before now : ℕ) : Type 0 where
+  pub name : List ℕ
+  pub named : recording_name words ≡ Some name
+  pub rose : before < now
+
+-- Why a replay stops short: of a sink that failed a front of the transcript is put, and else nothing.
+abbrev pub Stops : Stop → List (List ℕ) → Held → (read_before read_now : ℕ) → Option (List ℕ) → ℕ → Option (List ℕ) → ℕ → Type 0
+Stops stop.Usage words held read_before read_now old before new now = (recording_name words ≡ None) × PutsNothing old before new now
+Stops stop.ReadFault words held read_before read_now old before new now = IsUnread words read_before read_now × PutsNothing old before new now
+Stops stop.SinkFault words held read_before read_now old before new now = ReplayedInPart words held old before new now
+Stops stop.OutOfMemory words held read_before read_now old before new now = ((name : List ℕ) × (recording_name words ≡ Some name)) × PutsNothing old before new now
+Stops (stop.BadRecording fault) words held read_before read_now old before new now = IsRefused words held fault × PutsNothing old before new now
+Stops stop.TurnsSpent words held read_before read_now old before new now = RanOut words held × PutsNothing old before new now
