@@ -14,7 +14,8 @@ use std::thread::Threads;
 #[derive(Clone, Copy, Debug, PartialEq, Eq)]
 pub struct Status(pub u8);
 
-const USAGE: &str = "usage: mx_proxy serve <config> or replay <config> <recording> or load <start> <clients> <statements> or audit <config> <lines> <workers>\n";
+const USAGE: &str =
+    "usage: mx_proxy serve <config> or replay <config> <recording> or load <start> <clients> <statements> or audit <config> <lines> <workers>\n";
 
 // Puts a line. A sink that fails leaves the status.
 fn say<O: Sink>(out: &mut O, line: &str, status: u8) -> Status

@@ -8,7 +8,9 @@ pub fn recording_name(words: &[String]) -> Option<&str>
     ensures { option_map (λ name. name.now) result ≡ recording_name (texts words.now) }
 {
     match words {
-        [command, config, name] if command.as_str() == "replay" && config.as_str() == "-" => Some(name.as_str()),
+        [command, config, name] if command.as_str() == "replay" && config.as_str() == "-" => Some(
+            name.as_str(),
+        ),
         _ => None,
     }
 }

@@ -1,4 +1,4 @@
-use Rattle.std.specs.Prelude.{◌≡◌, ◌⊎◌, ℕ, ◌+◌, ◌*◌, ◌≤◌, [], ◌∷◌, ◌++◌, Some}
+use Rattle.std.specs.Prelude.{◌≡◌, ◌⊎◌, ℕ, ◌+◌, ◌*◌, ◌≤◌, [], ◌∷◌, ◌++◌}
 use Rattle.std.proofs.Common.{inl, inr, subst, ap, sym, ◌∙◌}
 use Rattle.mx_wire.specs.Log.{Log}
 use Rattle.mx_wire.specs.declared.entry.Entry.{Entry}
@@ -21,19 +21,21 @@ pub returns-in-Over-clause-ok : goal.returns-in-Over-clause-ok
 returns-in-Over-clause-ok c = record {
   keeps = λ log play. subst (λ lines. IsPlay lines log) (ap (λ tape. tape.recording) c.new-tape.ensures) (c.serve.ensures.rule.kept log play);
   serves = λ log is.
-    let stands = (c.serve.ensures.stands (λ ran_out. let h : ended.Over ≡ ended.OutOfMemory = sym c.in-Over.is ∙ ran_out in cc)).holds log is in
-    record {
-      served = stands.always;
-      lawful = stands.lawful;
-      over = ends log ((c.serve.ensures.over c.in-Over.is).last log is);
-    };
+      let stands = (c.serve.ensures.stands (λ ran_out. let h : ended.Over ≡ ended.OutOfMemory = sym c.in-Over.is ∙ ran_out in cc)).holds log is in
+      record {
+        served = stands.always;
+        lawful = stands.lawful;
+        over = ends log ((c.serve.ensures.over c.in-Over.is).last log is);
+      };
 }
 
 pub returns-in-Some-clause-err : goal.returns-in-Some-clause-err
 returns-in-Some-clause-err c =
     let log : Log = c.in-Some.field-0.now in
-    let is = sym c.in-Some.ensures.told in
-    (log, record {
-      play = subst (λ lines. IsPlay lines log) (ap (λ tape. tape.recording) c.new-tape.ensures) (c.serve.ensures.rule.kept log (c.in-Some.ensures.plays log is));
-      spent = subst (λ n. (wakes_of log ≡ 2 * n + 16) ⊎ (4294967296 ≤ calls_since_wake log)) (c.len.ensures ∙ c.args.entries.ok.0) (spends _ _ _ log ((c.serve.ensures.spent c.in-TurnsSpent.is).holds log is));
-    })
+    let is = sym c.in-Some.ensures.told in (
+      log,
+      record {
+        play = subst (λ lines. IsPlay lines log) (ap (λ tape. tape.recording) c.new-tape.ensures) (c.serve.ensures.rule.kept log (c.in-Some.ensures.plays log is));
+        spent = subst (λ n. (wakes_of log ≡ 2 * n + 16) ⊎ (4294967296 ≤ calls_since_wake log)) (c.len.ensures ∙ c.args.entries.ok.0) (spends _ _ _ log ((c.serve.ensures.spent c.in-TurnsSpent.is).holds log is));
+      },
+    )
