@@ -6,6 +6,8 @@ mod replay;
 mod run;
 mod standard_out;
 mod stop;
+#[cfg(test)]
+mod tests;
 mod words;
 
 use disk_files::DiskFiles;
