@@ -56,13 +56,6 @@ drained reads sends changed table told held done calm = record {
       };
 }
 
--- a loop without links is drained
-pub drained_empty : (reads : LinkId → Bool) (sends : LinkId → Option Sent) (table : Table) (told : Option Log) → TracksFor table told → ((link : LinkId) → mark_of table.links link ≡ None) → table.round.traffic ≡ true → table.round.admin ≡ true → table.round.named ≡ true → DrainedFor reads sends told
-drained_empty reads sends table told held none traffic admin named = drained reads sends (λ link. false) table told held (record {
-  asked = record { traffic = traffic; admin = admin; named = named };
-  settled = λ link mark is calm. (let no : ◌≡◌ {A = Option Mark} None (Some mark) = sym (none link) ∙ is in cc);
-}) (λ link. refl)
-
 -- before the first call
 pub tracks_none : (table : Table) (told : Option Log) → CountsOf table.round [] → ((link : LinkId) → mark_of table.links link ≡ None) → ((log : Log) → told ≡ Some log → log ≡ []) → TracksFor table told
 tracks_none table told counts none fresh = record {

@@ -25,7 +25,6 @@ pub fn listen_once<M: Machine, W: Wire>(
     ensures told { OnOk result (Tells (W.told wire.old) (entry.Listening port (M.address_of core.now port)) (W.told wire.new)) }
     ensures failed { OnErr result (Tells (W.told wire.old) (entry.ListenFailed port) (W.told wire.new)) }
     ensures round { OnOk result (table.new.round ≡ record table.old.round { calls = table.old.round.calls + 1 }) }
-    ensures links { OnOk result (table.new.links ≡ table.old.links) }
     ensures ends { IfErr result (Ends M.stands M.is_stopped BusyFor core.now (W.told wire.new)) }
     ensures rose { IfErr result (λ end. end ≡ ServeEnd.ListenFault → W.port_faults wire.old < W.port_faults wire.new) }
     ensures advances { Advances W.told W.rule W.port_faults W.faults wire.old wire.new }
@@ -43,6 +42,7 @@ pub fn wait_once<M: Machine, W: Wire>(
     wire: &mut W,
     table: &mut Table,
 ) -> Result<(), ServeEnd>
+    requires acted { M.asks core.old ≡ false }
     requires room { table.old.round.wakes < 18446744073709551615 }
     requires going { M.is_stopped core.old ≡ false }
     requires serves { Serves M.stands M.reads M.sends M.changed core.old table.old (W.told wire.old) }
