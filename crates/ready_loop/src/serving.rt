@@ -7,7 +7,7 @@ ghost use Rattle.ready_loop.specs.Drained.{DrainedFor};
 ghost use Rattle.ready_loop.specs.Links.{mark_of};
 ghost use Rattle.ready_loop.specs.Machine.{StandsFor};
 ghost use Rattle.ready_loop.specs.Round.{CountsOf};
-ghost use Rattle.ready_loop.specs.Serving.{Serves, Ends, BusyFor, EndsWith, IsOver, IsPortFault, SpentFor, ListensFirst, ListeningFor, Advances, Works, Makes, IsOwed};
+ghost use Rattle.ready_loop.specs.Serving.{Serves, Ends, BusyFor, EndsWith, IsOver, IsPortFault, SpentFor, WokeFor, ListensFirst, ListeningFor, Advances, Makes, IsOwed};
 
 use crate::acts::{CALLS_PER_WAKE, do_acts, spent};
 use crate::calls::{accept_once, listen_once, name_once, read_once, wait_once, write_once};
@@ -53,8 +53,8 @@ fn follow<M: Machine, W: Wire>(
     ensures going { OnOk result (M.is_stopped core.new ≡ false) }
     ensures acted { OnOk result (M.asks core.new ≡ false) }
     ensures more { OnOk result (table.old.round.calls ≤ table.new.round.calls) }
-    ensures wakes { OnOk result (table.new.round.wakes ≡ table.old.round.wakes) }
-    ensures ends { IfErr result (Ends M.stands M.is_stopped BusyFor core.new (W.told wire.new)) }
+    ensures wakes { table.new.round.wakes ≡ table.old.round.wakes }
+    ensures ends { IfErr result (Ends M.stands M.is_stopped table.new.round.wakes BusyFor core.new (W.told wire.new)) }
     ensures rose { IfErr result (λ end. end ≡ ServeEnd.ListenFault → ⊥) }
     ensures advances { Advances W.told W.rule W.port_faults W.faults wire.old wire.new }
 {
@@ -82,8 +82,9 @@ fn make_call<M: Machine, W: Wire>(
     requires serves { Serves M.stands M.reads M.sends M.changed core.old table.old (W.told wire.old) }
     ensures serves { OnOk result (Serves M.stands M.reads M.sends M.changed core.new table.new (W.told wire.new)) }
     ensures made { Makes call (W.told wire.old) (W.told wire.new) }
-    ensures works { OnOk result (Works table.old.round table.new.round) }
-    ensures ends { IfErr result (Ends M.stands M.is_stopped BusyFor core.new (W.told wire.new)) }
+    ensures more { OnOk result (table.old.round.calls < table.new.round.calls) }
+    ensures wakes { table.new.round.wakes ≡ table.old.round.wakes }
+    ensures ends { IfErr result (Ends M.stands M.is_stopped table.new.round.wakes BusyFor core.new (W.told wire.new)) }
     ensures rose { IfErr result (λ end. end ≡ ServeEnd.ListenFault → W.port_faults wire.old < W.port_faults wire.new) }
     ensures advances { Advances W.told W.rule W.port_faults W.faults wire.old wire.new }
 {
@@ -113,8 +114,8 @@ fn settle<M: Machine, W: Wire>(
     ensures going { OnOk result (M.is_stopped core.new ≡ false) }
     ensures drained { OnOk result (DrainedFor (M.reads core.new) (M.sends core.new) (W.told wire.new)) }
     ensures acted { OnOk result (M.asks core.new ≡ false) }
-    ensures wakes { OnOk result (table.new.round.wakes ≡ table.old.round.wakes) }
-    ensures ends { IfErr result (Ends M.stands M.is_stopped BusyFor core.new (W.told wire.new)) }
+    ensures wakes { table.new.round.wakes ≡ table.old.round.wakes }
+    ensures ends { IfErr result (Ends M.stands M.is_stopped table.new.round.wakes BusyFor core.new (W.told wire.new)) }
     ensures rose { IfErr result (λ end. end ≡ ServeEnd.ListenFault → W.port_faults wire.old < W.port_faults wire.new) }
     ensures advances { Advances W.told W.rule W.port_faults W.faults wire.old wire.new }
 {
@@ -142,8 +143,8 @@ fn catch_up<M: Machine, W: Wire>(
     ensures going { OnOk result (M.is_stopped core.new ≡ false) }
     ensures drained { OnOk result (DrainedFor (M.reads core.new) (M.sends core.new) (W.told wire.new)) }
     ensures acted { OnOk result (M.asks core.new ≡ false) }
-    ensures wakes { OnOk result (table.new.round.wakes ≡ table.old.round.wakes) }
-    ensures ends { IfErr result (Ends M.stands M.is_stopped BusyFor core.new (W.told wire.new)) }
+    ensures wakes { table.new.round.wakes ≡ table.old.round.wakes }
+    ensures ends { IfErr result (Ends M.stands M.is_stopped table.new.round.wakes BusyFor core.new (W.told wire.new)) }
     ensures rose { IfErr result (λ end. end ≡ ServeEnd.ListenFault → W.port_faults wire.old < W.port_faults wire.new) }
     ensures advances { Advances W.told W.rule W.port_faults W.faults wire.old wire.new }
 {
@@ -171,7 +172,8 @@ fn serve_wake<M: Machine, W: Wire>(
     ensures drained { OnOk result (DrainedFor (M.reads core.new) (M.sends core.new) (W.told wire.new)) }
     ensures acted { OnOk result (M.asks core.new ≡ false) }
     ensures wakes { OnOk result (table.new.round.wakes ≡ table.old.round.wakes + 1) }
-    ensures ends { IfErr result (Ends M.stands M.is_stopped BusyFor core.new (W.told wire.new)) }
+    ensures woke { table.new.round.wakes ≤ table.old.round.wakes + 1 }
+    ensures ends { IfErr result (Ends M.stands M.is_stopped table.new.round.wakes BusyFor core.new (W.told wire.new)) }
     ensures rose { IfErr result (λ end. end ≡ ServeEnd.ListenFault → W.port_faults wire.old < W.port_faults wire.new) }
     ensures advances { Advances W.told W.rule W.port_faults W.faults wire.old wire.new }
 {
@@ -191,7 +193,7 @@ fn serve_turns<M: Machine, W: Wire>(
     requires most { length buffer.old ≤ 65536 }
     requires wakes { table.old.round.wakes ≡ 0 }
     requires serves { Serves M.stands M.reads M.sends M.changed core.old table.old (W.told wire.old) }
-    ensures ends { Ends M.stands M.is_stopped (SpentFor turns (M.reads core.new) (M.sends core.new)) core.new (W.told wire.new) result }
+    ensures ends { Ends M.stands M.is_stopped turns (SpentFor turns (M.reads core.new) (M.sends core.new)) core.new (W.told wire.new) result }
     ensures rose { result ≡ ServeEnd.ListenFault → W.port_faults wire.old < W.port_faults wire.new }
     ensures advances { Advances W.told W.rule W.port_faults W.faults wire.old wire.new }
 {
@@ -214,9 +216,10 @@ fn start<M: Machine, W: Wire>(core: &M, wire: &mut W, table: &mut Table) -> Resu
     requires serves { Serves M.stands M.reads M.sends M.changed core.now table.old (W.told wire.old) }
     ensures serves { OnOk result (Serves M.stands M.reads M.sends M.changed core.now table.new (W.told wire.new)) }
     ensures round { OnOk result (table.new.round ≡ record table.old.round { calls = 2 }) }
+    ensures wakes { table.new.round.wakes ≡ table.old.round.wakes }
     ensures listening { OnOk result (ListeningFor (M.address_of core.now Port.Traffic) (M.address_of core.now Port.Admin) (W.told wire.new)) }
     ensures listens { OnErr result (ListensFirst (M.address_of core.now Port.Traffic) (M.address_of core.now Port.Admin) (W.told wire.new)) }
-    ensures ends { IfErr result (Ends M.stands M.is_stopped BusyFor core.now (W.told wire.new)) }
+    ensures ends { IfErr result (Ends M.stands M.is_stopped table.new.round.wakes BusyFor core.now (W.told wire.new)) }
     ensures rose { IfErr result (λ end. end ≡ ServeEnd.ListenFault → W.port_faults wire.old < W.port_faults wire.new) }
     ensures advances { Advances W.told W.rule W.port_faults W.faults wire.old wire.new }
 {
@@ -239,7 +242,7 @@ fn prepare<M: Machine, W: Wire>(
     ensures size { IfOk result (λ made. length made.1.items ≡ 65536) }
     ensures listening { OnOk result (ListeningFor (M.address_of core.now Port.Traffic) (M.address_of core.now Port.Admin) (W.told wire.new)) }
     ensures listens { OnErr result (ListensFirst (M.address_of core.now Port.Traffic) (M.address_of core.now Port.Admin) (W.told wire.new)) }
-    ensures ends { IfErr result (Ends M.stands M.is_stopped BusyFor core.now (W.told wire.new)) }
+    ensures ends { IfErr result (Ends M.stands M.is_stopped 0 BusyFor core.now (W.told wire.new)) }
     ensures rose { IfErr result (λ end. end ≡ ServeEnd.ListenFault → W.port_faults wire.old < W.port_faults wire.new) }
     ensures advances { Advances W.told W.rule W.port_faults W.faults wire.old wire.new }
 {
@@ -283,6 +286,7 @@ pub fn serve<M: Machine, W: Wire>(alloc: Global, core: &mut M, wire: &mut W, tur
     ensures rose { result ≡ ServeEnd.ListenFault → W.port_faults wire.old < W.port_faults wire.new }
     ensures failed { result ≡ ServeEnd.ListenFault → EndsWith IsPortFault (W.told wire.new) }
     ensures spent { result ≡ ServeEnd.TurnsSpent → SpentFor turns (M.reads core.new) (M.sends core.new) (W.told wire.new) }
+    ensures wakes { result ≢ ServeEnd.OutOfMemory → WokeFor turns (W.told wire.new) }
     ensures listens { ListensFirst (M.address_of core.old Port.Traffic) (M.address_of core.old Port.Admin) (W.told wire.new) }
     ensures rule { KeepsRule W.rule wire.old wire.new }
     ensures port_faults { W.port_faults wire.old ≤ W.port_faults wire.new }

@@ -6,7 +6,7 @@ use Rattle.ready_loop.proofs.Watching as watching
 use Rattle.ready_loop.specs.Serving.{IsPortFault}
 use Rattle.std.specs.Option.{option_map}
 use Rattle.ready_loop.specs.Links.{dry_mark}
-use Rattle.ready_loop.proofs.Ending.{ends_with}
+use Rattle.ready_loop.proofs.Ending.{ends_with, woke_on}
 use Rattle.ready_loop.proofs.calls.accept_once.Goals as goal
 
 pub returns-in_ok-opened-in-Link-clause-serves : goal.returns-in_ok-opened-in-Link-clause-serves
@@ -27,5 +27,6 @@ pub returns-in-Failed-clause-ends : goal.returns-in-Failed-clause-ends
 returns-in-Failed-clause-ends g c = record {
   standing = stays _ _ _ _ g.met.M.Machine.quiet _ _ _ _ c.requires.serves.standing c.in-Failed.ensures.told (λ log. tt) tt;
   halted = c.requires.going;
+  woke = woke_on _ _ _ _ c.requires.serves.tracks c.in-Failed.ensures.told refl refl;
   so = ends_with IsPortFault _ _ _ c.in-Failed.ensures.told tt;
 }

@@ -3,7 +3,7 @@ use Rattle.ready_loop.proofs.Steps.{waits}
 use Rattle.ready_loop.proofs.Counting.{unnamed}
 use Rattle.ready_loop.proofs.Watching as watching
 use Rattle.ready_loop.specs.Serving.{IsPortFault, IsOver}
-use Rattle.ready_loop.proofs.Ending.{ends_with}
+use Rattle.ready_loop.proofs.Ending.{ends_with, woke_on}
 use Rattle.ready_loop.proofs.calls.wait_once.Goals as goal
 
 pub returns-in_ok-take-in-Woke-clause-serves : goal.returns-in_ok-take-in-Woke-clause-serves
@@ -17,6 +17,7 @@ pub returns-in-Over-clause-ends : goal.returns-in-Over-clause-ends
 returns-in-Over-clause-ends g c = record {
   standing = waits _ _ _ _ g.met.M.Machine.quiet _ _ _ _ _ c.requires.serves.standing c.in-Over.ensures.told c.requires.drained c.requires.acted (λ log due. due) (g.met.M.Machine.quiet _ _ tt);
   halted = c.requires.going;
+  woke = woke_on _ _ _ _ c.requires.serves.tracks c.in-Over.ensures.told refl refl;
   so = ends_with IsOver _ _ _ c.in-Over.ensures.told tt;
 }
 
@@ -24,5 +25,6 @@ pub returns-in-Failed-clause-ends : goal.returns-in-Failed-clause-ends
 returns-in-Failed-clause-ends g c = record {
   standing = waits _ _ _ _ g.met.M.Machine.quiet _ _ _ _ _ c.requires.serves.standing c.in-Failed.ensures.told c.requires.drained c.requires.acted (λ log due. due) (g.met.M.Machine.quiet _ _ tt);
   halted = c.requires.going;
+  woke = woke_on _ _ _ _ c.requires.serves.tracks c.in-Failed.ensures.told refl refl;
   so = ends_with IsPortFault _ _ _ c.in-Failed.ensures.told tt;
 }
