@@ -1,5 +1,5 @@
 -- What a table that is true of the log says of its links.
-use Rattle.std.proofs.Common.{◌≡◌, Bool, true, false, [], Option, Some, None, refl, sym, ◌∙◌, ap, subst}
+use Rattle.std.proofs.Common.{◌≡◌, Bool, true, false, Option, Some, None, refl, sym, ◌∙◌, ap}
 use Rattle.std.specs.Option.{option_map}
 use Rattle.mx_base.specs.declared.names.LinkId.{LinkId}
 use Rattle.mx_base.specs.declared.names.Port.{Port}
@@ -54,13 +54,4 @@ drained reads sends changed table told held done calm = record {
         written = λ link opened some. let known = known_open table log link tracks opened in
             sym (ap (λ (d : Dry). d.write) known.2) ∙ (done.settled link known.0 known.1 (calm link)).written some;
       };
-}
-
--- before the first call
-pub tracks_none : (table : Table) (told : Option Log) → CountsOf table.round [] → ((link : LinkId) → mark_of table.links link ≡ None) → ((log : Log) → told ≡ Some log → log ≡ []) → TracksFor table told
-tracks_none table told counts none fresh = record {
-  holds = λ log is. subst (Tracks table) (sym (fresh log is)) (record {
-    round = counts;
-    links = λ link. ap (option_map dry_mark) (none link);
-  });
 }

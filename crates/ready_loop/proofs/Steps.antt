@@ -2,7 +2,7 @@
 use Rattle.std.proofs.Common.{◌≡◌, ℕ, ◌+◌, ◌<◌, ◌≤◌, Bool, false, refl, subst, sym, ap, ◌∙◌, [], ◌∷◌, ◌++◌, length, take, Option, Some, None, append_assoc, append-nil, length-append, arith}
 use Rattle.mx_base.specs.declared.names.LinkId.{LinkId}
 use Rattle.mx_wire.specs.Log.{Log, IsMark, AreMarks}
-use Rattle.mx_wire.specs.Tells.{MayFollow, Tells, OpenFor}
+use Rattle.mx_wire.specs.Tells.{MayFollow, Tells}
 use Rattle.mx_wire.specs.declared.entry.Entry.{Entry}
 use Rattle.mx_wire.specs.declared.entry.Entry.TheVariants as entry
 use Rattle.ready_loop.specs.declared.machines.Piece.{Piece}
@@ -100,7 +100,3 @@ closes stands reads sends asks still old new told now (Some sent) link held clos
       subst (λ (l : Log). stands new l) (ap (λ (l : Log). l ++ close.2.marks ++ entry.Closed link ∷ []) (sym write.2.is) ∙ sym close.2.is)
       (closing.offered (write.0 ++ write.2.marks) offer.0 close.2.marks offer.1 close.2.only_marks write.2.lawful (subst (λ (l : Log). MayFollow (l ++ close.2.marks) (entry.Closed link)) write.2.is close.2.lawful) before);
 }
-
--- a link that is to close is open
-pub open_to_close : {M : Type 0} (stands : M → Log → Type 0) (due : M → Log → Entry → Type 0) (old new : M) (told : Option Log) (lent : Option Sent) (link : LinkId) → StandsFor stands old told → Closes stands due old new lent link → OpenFor told link
-open_to_close stands due old new told lent link held closing = record { holds = λ log is. closing.opened log (held.holds log is) }
