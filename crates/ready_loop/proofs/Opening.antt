@@ -1,5 +1,5 @@
 -- What a table that is true of the log says of its links.
-use Rattle.std.proofs.Common.{◌≡◌, Bool, true, false, [], Option, Some, None, refl, sym, ◌∙◌, ap, subst}
+use Rattle.std.proofs.Common.{◌≡◌, Bool, true, false, Option, Some, None, refl, sym, ◌∙◌, ap}
 use Rattle.std.specs.Option.{option_map}
 use Rattle.mx_base.specs.declared.names.LinkId.{LinkId}
 use Rattle.mx_base.specs.declared.names.Port.{Port}
@@ -54,20 +54,4 @@ drained reads sends changed table told held done calm = record {
         written = λ link opened some. let known = known_open table log link tracks opened in
             sym (ap (λ (d : Dry). d.write) known.2) ∙ (done.settled link known.0 known.1 (calm link)).written some;
       };
-}
-
--- a loop without links is drained
-pub drained_empty : (reads : LinkId → Bool) (sends : LinkId → Option Sent) (table : Table) (told : Option Log) → TracksFor table told → ((link : LinkId) → mark_of table.links link ≡ None) → table.round.traffic ≡ true → table.round.admin ≡ true → table.round.named ≡ true → DrainedFor reads sends told
-drained_empty reads sends table told held none traffic admin named = drained reads sends (λ link. false) table told held (record {
-  asked = record { traffic = traffic; admin = admin; named = named };
-  settled = λ link mark is calm. (let no : ◌≡◌ {A = Option Mark} None (Some mark) = sym (none link) ∙ is in cc);
-}) (λ link. refl)
-
--- before the first call
-pub tracks_none : (table : Table) (told : Option Log) → CountsOf table.round [] → ((link : LinkId) → mark_of table.links link ≡ None) → ((log : Log) → told ≡ Some log → log ≡ []) → TracksFor table told
-tracks_none table told counts none fresh = record {
-  holds = λ log is. subst (Tracks table) (sym (fresh log is)) (record {
-    round = counts;
-    links = λ link. ap (option_map dry_mark) (none link);
-  });
 }

@@ -152,17 +152,6 @@ renamed reads sends changed until is_stopped core next old new link same takes m
       ];
     }
 
--- no further link was named
-pub calmed : {M : Type 0} (reads : M → LinkId → Bool) (sends : M → LinkId → Option Sent) (changed : M → LinkId → Bool) (until : M → ℕ) (is_stopped : M → Bool) (core next : M) (links : Links)
-    → SaysSame reads sends until is_stopped core next → ((link : LinkId) → changed core link ≡ false)
-    → Watches (reads core) (sends core) (changed core) links → Watches (reads next) (sends next) (changed next) links
-calmed reads sends changed until is_stopped core next links same calm was = record {
-  listed = was.listed;
-  minded = λ l m is queued now.
-      let settled = was.minded l m is queued (calm l) in
-      record { read = λ wanted. settled.read (sym (same.read l) ∙ wanted); written = λ some. settled.written (subst IsSome (same.written l) some) };
-}
-
 -- with the queue empty, each link that isn't changed is settled
 pub emptied : (reads : LinkId → Bool) (sends : LinkId → Option Sent) (changed : LinkId → Bool) (links : Links) → Watches reads sends changed links → links.queue.items ≡ [] → (link : LinkId) (mark : Mark) → mark_of links link ≡ Some mark → changed link ≡ false → IsSettled (reads link) (sends link) mark
 emptied reads sends changed links was none link mark is calm = elim (bool_cases mark.queued) [

@@ -66,12 +66,16 @@ pub record IsDrained (reads : LinkId → Bool) (sends : LinkId → Option Sent) 
   pub read : (link : LinkId) → is_open link log ≡ true → reads link ≡ true → read_dry link log ≡ true
   pub written : (link : LinkId) → is_open link log ≡ true → IsSome (sends link) → write_dry link log ≡ true
 
--- the loop waits only where it is drained
-abbrev pub IsDue : {M : Type 0} → (M → LinkId → Bool) → (M → LinkId → Option Sent) → M → Log → Entry → Type 0
-IsDue reads sends machine log (Woke until_ms now_ms) = IsDrained (reads machine) (sends machine) log
-IsDue reads sends machine log WaitFailed = IsDrained (reads machine) (sends machine) log
-IsDue reads sends machine log Over = IsDrained (reads machine) (sends machine) log
-IsDue reads sends machine log _ = Unit {0}
+-- the loop waits only where it is drained, and the machine asks for no act
+pub record MayWait (reads : LinkId → Bool) (sends : LinkId → Option Sent) (asks : Bool) (log : Log) : Type 0 where
+  pub drained : IsDrained reads sends log
+  pub acted : asks ≡ false
+
+abbrev pub IsDue : {M : Type 0} → (M → LinkId → Bool) → (M → LinkId → Option Sent) → (M → Bool) → M → Log → Entry → Type 0
+IsDue reads sends asks machine log (Woke until_ms now_ms) = MayWait (reads machine) (sends machine) (asks machine) log
+IsDue reads sends asks machine log WaitFailed = MayWait (reads machine) (sends machine) (asks machine) log
+IsDue reads sends asks machine log Over = MayWait (reads machine) (sends machine) (asks machine) log
+IsDue reads sends asks machine log _ = Unit {0}
 
 pub record DrainedFor (reads : LinkId → Bool) (sends : LinkId → Option Sent) (told : Option Log) : Type 0 where
   pub holds : (log : Log) → told ≡ Some log → IsDrained reads sends log

@@ -1,5 +1,5 @@
 -- What a serving loop keeps, and how it ends.
-use Rattle.std.specs.Prelude.{◌≡◌, ◌⊎◌, ℕ, ◌+◌, ◌<◌, ◌≤◌, Bool, true, false, [], ◌∷◌, ◌++◌, filter, drop, Option, Some, None, IsSome}
+use Rattle.std.specs.Prelude.{◌≡◌, ◌⊎◌, ℕ, ◌+◌, ◌≤◌, Bool, true, false, [], ◌∷◌, ◌++◌, filter, drop, Option, Some, None, IsSome}
 use Rattle.mx_base.specs.declared.names.LinkId.{LinkId}
 use Rattle.mx_base.specs.declared.names.Port.TheVariants as port
 use Rattle.mx_base.specs.declared.names.Address.{Address}
@@ -42,11 +42,6 @@ pub record Advances {W : Type 0} (told : W → Option Log) (rule : W → Log →
   pub grew : (log : Log) → told new ≡ Some log → (before : Log) × (told old ≡ Some before) × ((more : Log) × (log ≡ before ++ more))
   pub ports_failed : port_faults old ≤ port_faults new
   pub links_failed : faults old ≤ faults new
-
--- at least one call of the wire was made and counted, and no wait woke
-pub record Works (old new : Round) : Type 0 where
-  pub more : old.calls < new.calls
-  pub wakes : new.wakes ≡ old.wakes
 
 -- the call of which the entry is the answer, where a wake may owe it
 abbrev pub call_of : Entry → Option Call
@@ -141,7 +136,7 @@ IsPortFault entry.WaitFailed = Unit {0}
 IsPortFault (entry.AcceptFailed at) = Unit {0}
 IsPortFault _ = ⊥
 
--- one wake made as many calls of the wire as it may
+-- as many calls of the wire were made since the last wake as one may make
 abbrev pub IsBusy : Log → Type 0
 IsBusy log = 4294967296 ≤ calls_since_wake log
 
@@ -156,18 +151,23 @@ pub record IsOut (turns : ℕ) (reads : LinkId → Bool) (sends : LinkId → Opt
 pub record SpentFor (turns : ℕ) (reads : LinkId → Bool) (sends : LinkId → Option Sent) (told : Option Log) : Type 0 where
   pub holds : (log : Log) → told ≡ Some log → IsOut turns reads sends log ⊎ IsBusy log
 
+-- so many waits woke at most
+pub record WokeFor (most : ℕ) (told : Option Log) : Type 0 where
+  pub holds : (log : Log) → told ≡ Some log → wakes_of log ≤ most
+
 -- how the loop ends, and what stands then
-pub record EndsSo {M : Type 0} (stands : M → Log → Type 0) (core : M) (told : Option Log) (is should : Bool) (last : Option Log → Type 0) : Type 0 where
+pub record EndsSo {M : Type 0} (stands : M → Log → Type 0) (wakes : ℕ) (core : M) (told : Option Log) (is should : Bool) (last : Option Log → Type 0) : Type 0 where
   pub standing : StandsFor stands core told
   pub halted : is ≡ should
+  pub woke : WokeFor wakes told
   pub so : last told
 
-abbrev pub Ends : {M : Type 0} → (M → Log → Type 0) → (M → Bool) → (Option Log → Type 0) → M → Option Log → ServeEnd → Type 0
-Ends stands is_stopped spent core told Stopped = EndsSo stands core told (is_stopped core) true (λ t. Unit {0})
-Ends stands is_stopped spent core told Over = EndsSo stands core told (is_stopped core) false (EndsWith IsOver)
-Ends stands is_stopped spent core told ListenFault = EndsSo stands core told (is_stopped core) false (EndsWith IsPortFault)
-Ends stands is_stopped spent core told TurnsSpent = EndsSo stands core told (is_stopped core) false spent
-Ends stands is_stopped spent core told OutOfMemory = Unit {0}
+abbrev pub Ends : {M : Type 0} → (M → Log → Type 0) → (M → Bool) → ℕ → (Option Log → Type 0) → M → Option Log → ServeEnd → Type 0
+Ends stands is_stopped wakes spent core told Stopped = EndsSo stands wakes core told (is_stopped core) true (λ t. Unit {0})
+Ends stands is_stopped wakes spent core told Over = EndsSo stands wakes core told (is_stopped core) false (EndsWith IsOver)
+Ends stands is_stopped wakes spent core told ListenFault = EndsSo stands wakes core told (is_stopped core) false (EndsWith IsPortFault)
+Ends stands is_stopped wakes spent core told TurnsSpent = EndsSo stands wakes core told (is_stopped core) false spent
+Ends stands is_stopped wakes spent core told OutOfMemory = Unit {0}
 
 -- the calls of a log, without the marks
 abbrev pub is_call : Entry → Bool

@@ -2,7 +2,7 @@
 ghost use Rattle.std.specs.Prelude.{◌≡◌, ◌<◌, ◌≤◌, OnOk, IfErr, IfOk, Some, None, true, false, if◌then◌else◌};
 ghost use Rattle.mx_wire.specs.Tells.{OpenFor};
 ghost use Rattle.ready_loop.specs.Machine.{Target};
-ghost use Rattle.ready_loop.specs.Serving.{Serves, Ends, BusyFor, Advances, Works, TracksFor, IsOffered, Parts, offered_round};
+ghost use Rattle.ready_loop.specs.Serving.{Serves, Ends, BusyFor, Advances, TracksFor, IsOffered, Parts, offered_round};
 ghost use Rattle.ready_loop.specs.Links.{Marks};
 
 use crate::table::Table;
@@ -10,7 +10,7 @@ use crate::{Act, Event, Machine, ServeEnd};
 use mx_base::{Address, LinkId, OutOfMemory, ServerId};
 use mx_wire::{Opened, Wire};
 
-/// How many calls of the wire one wake makes at most. A close and the write that is offered before it are one step,
+/// How many calls of the wire one wake makes at most, and the loop before the first. A close and the write that is offered before it are one step,
 /// so that they may be one call more.
 pub const CALLS_PER_WAKE: u64 = 4_294_967_296;
 
@@ -25,7 +25,8 @@ fn open_link<M: Machine, W: Wire>(
     requires awaited { M.awaits core.old ≡ Some (record { server = server; address = address }) }
     requires serves { Serves M.stands M.reads M.sends M.changed core.old table.old (W.told wire.old) }
     ensures serves { OnOk result (Serves M.stands M.reads M.sends M.changed core.new table.new (W.told wire.new)) }
-    ensures works { OnOk result (Works table.old.round table.new.round) }
+    ensures more { OnOk result (table.old.round.calls < table.new.round.calls) }
+    ensures wakes { table.new.round.wakes ≡ table.old.round.wakes }
     ensures advances { Advances W.told W.rule W.port_faults W.faults wire.old wire.new }
 {
     table.round.calls += 1;
@@ -67,7 +68,8 @@ fn close_link<M: Machine, W: Wire>(core: &M, wire: &mut W, table: &mut Table, li
     ensures tracks { TracksFor table.new (W.told wire.new) }
     ensures marks { Marks table.old.links table.new.links link None }
     ensures queue { table.new.links.queue.items ≡ table.old.links.queue.items }
-    ensures works { Works table.old.round table.new.round }
+    ensures more { table.old.round.calls < table.new.round.calls }
+    ensures wakes { table.new.round.wakes ≡ table.old.round.wakes }
     ensures advances { Advances W.told W.rule W.port_faults W.faults wire.old wire.new }
 {
     offer(core, wire, table, link);
@@ -85,9 +87,10 @@ fn act_once<M: Machine, W: Wire>(
     requires room { table.old.round.calls < 4294967296 }
     requires serves { Serves M.stands M.reads M.sends M.changed core.old table.old (W.told wire.old) }
     ensures serves { OnOk result (Serves M.stands M.reads M.sends M.changed core.new table.new (W.told wire.new)) }
-    ensures works { IfOk result (λ went. went ≡ true → Works table.old.round table.new.round) }
+    ensures more { IfOk result (λ went. went ≡ true → table.old.round.calls < table.new.round.calls) }
     ensures none { IfOk result (λ went. went ≡ false → table.new.round ≡ table.old.round) }
     ensures acted { IfOk result (λ went. went ≡ false → M.asks core.new ≡ false) }
+    ensures wakes { table.new.round.wakes ≡ table.old.round.wakes }
     ensures advances { Advances W.told W.rule W.port_faults W.faults wire.old wire.new }
 {
     match core.next_act() {
@@ -114,8 +117,8 @@ pub fn do_acts<M: Machine, W: Wire>(
     ensures serves { OnOk result (Serves M.stands M.reads M.sends M.changed core.new table.new (W.told wire.new)) }
     ensures acted { OnOk result (M.asks core.new ≡ false) }
     ensures more { OnOk result (table.old.round.calls ≤ table.new.round.calls) }
-    ensures wakes { OnOk result (table.new.round.wakes ≡ table.old.round.wakes) }
-    ensures ends { IfErr result (Ends M.stands M.is_stopped BusyFor core.new (W.told wire.new)) }
+    ensures wakes { table.new.round.wakes ≡ table.old.round.wakes }
+    ensures ends { IfErr result (Ends M.stands M.is_stopped table.new.round.wakes BusyFor core.new (W.told wire.new)) }
     ensures rose { IfErr result (λ end. end ≡ ServeEnd.ListenFault → ⊥) }
     ensures advances { Advances W.told W.rule W.port_faults W.faults wire.old wire.new }
 {

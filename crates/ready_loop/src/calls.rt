@@ -4,7 +4,7 @@ ghost use Rattle.mx_wire.specs.Tells.{Tells};
 ghost use Rattle.mx_wire.specs.declared.entry.Entry.TheVariants as entry;
 ghost use Rattle.ready_loop.specs.Drained.{DrainedFor};
 ghost use Rattle.ready_loop.specs.Links.{is_read_dry, is_write_dry};
-ghost use Rattle.ready_loop.specs.Serving.{Serves, Ends, BusyFor, Advances, Makes, Works};
+ghost use Rattle.ready_loop.specs.Serving.{Serves, Ends, BusyFor, Advances, Makes};
 
 use crate::table::{Call, Table};
 use crate::{Event, Machine, ServeEnd};
@@ -25,8 +25,8 @@ pub fn listen_once<M: Machine, W: Wire>(
     ensures told { OnOk result (Tells (W.told wire.old) (entry.Listening port (M.address_of core.now port)) (W.told wire.new)) }
     ensures failed { OnErr result (Tells (W.told wire.old) (entry.ListenFailed port) (W.told wire.new)) }
     ensures round { OnOk result (table.new.round ≡ record table.old.round { calls = table.old.round.calls + 1 }) }
-    ensures links { OnOk result (table.new.links ≡ table.old.links) }
-    ensures ends { IfErr result (Ends M.stands M.is_stopped BusyFor core.now (W.told wire.new)) }
+    ensures wakes { table.new.round.wakes ≡ table.old.round.wakes }
+    ensures ends { IfErr result (Ends M.stands M.is_stopped table.new.round.wakes BusyFor core.now (W.told wire.new)) }
     ensures rose { IfErr result (λ end. end ≡ ServeEnd.ListenFault → W.port_faults wire.old < W.port_faults wire.new) }
     ensures advances { Advances W.told W.rule W.port_faults W.faults wire.old wire.new }
 {
@@ -43,6 +43,7 @@ pub fn wait_once<M: Machine, W: Wire>(
     wire: &mut W,
     table: &mut Table,
 ) -> Result<(), ServeEnd>
+    requires acted { M.asks core.old ≡ false }
     requires room { table.old.round.wakes < 18446744073709551615 }
     requires going { M.is_stopped core.old ≡ false }
     requires serves { Serves M.stands M.reads M.sends M.changed core.old table.old (W.told wire.old) }
@@ -50,7 +51,8 @@ pub fn wait_once<M: Machine, W: Wire>(
     ensures serves { OnOk result (Serves M.stands M.reads M.sends M.changed core.new table.new (W.told wire.new)) }
     ensures calls { OnOk result (table.new.round.calls ≡ 0) }
     ensures wakes { OnOk result (table.new.round.wakes ≡ table.old.round.wakes + 1) }
-    ensures ends { IfErr result (Ends M.stands M.is_stopped BusyFor core.new (W.told wire.new)) }
+    ensures slept { OnErr result (table.new.round.wakes ≡ table.old.round.wakes) }
+    ensures ends { IfErr result (Ends M.stands M.is_stopped table.new.round.wakes BusyFor core.new (W.told wire.new)) }
     ensures rose { IfErr result (λ end. end ≡ ServeEnd.ListenFault → W.port_faults wire.old < W.port_faults wire.new) }
     ensures advances { Advances W.told W.rule W.port_faults W.faults wire.old wire.new }
 {
@@ -78,8 +80,9 @@ pub fn accept_once<M: Machine, W: Wire>(
     requires serves { Serves M.stands M.reads M.sends M.changed core.old table.old (W.told wire.old) }
     ensures serves { OnOk result (Serves M.stands M.reads M.sends M.changed core.new table.new (W.told wire.new)) }
     ensures made { Makes (Call.Accept port) (W.told wire.old) (W.told wire.new) }
-    ensures works { OnOk result (Works table.old.round table.new.round) }
-    ensures ends { IfErr result (Ends M.stands M.is_stopped BusyFor core.new (W.told wire.new)) }
+    ensures more { OnOk result (table.old.round.calls < table.new.round.calls) }
+    ensures wakes { table.new.round.wakes ≡ table.old.round.wakes }
+    ensures ends { IfErr result (Ends M.stands M.is_stopped table.new.round.wakes BusyFor core.new (W.told wire.new)) }
     ensures rose { IfErr result (λ end. end ≡ ServeEnd.ListenFault → W.port_faults wire.old < W.port_faults wire.new) }
     ensures advances { Advances W.told W.rule W.port_faults W.faults wire.old wire.new }
 {
@@ -117,7 +120,8 @@ pub fn name_once<M: Machine, W: Wire>(
     requires serves { Serves M.stands M.reads M.sends M.changed core.now table.old (W.told wire.old) }
     ensures serves { OnOk result (Serves M.stands M.reads M.sends M.changed core.now table.new (W.told wire.new)) }
     ensures made { Makes (Call.Name) (W.told wire.old) (W.told wire.new) }
-    ensures works { OnOk result (Works table.old.round table.new.round) }
+    ensures more { OnOk result (table.old.round.calls < table.new.round.calls) }
+    ensures wakes { table.new.round.wakes ≡ table.old.round.wakes }
     ensures ends { IfErr result (λ end. end ≡ ServeEnd.OutOfMemory) }
     ensures advances { Advances W.told W.rule W.port_faults W.faults wire.old wire.new }
 {
@@ -150,7 +154,8 @@ pub fn read_once<M: Machine, W: Wire>(
     requires serves { Serves M.stands M.reads M.sends M.changed core.old table.old (W.told wire.old) }
     ensures serves { OnOk result (Serves M.stands M.reads M.sends M.changed core.new table.new (W.told wire.new)) }
     ensures made { Makes (Call.Read link) (W.told wire.old) (W.told wire.new) }
-    ensures works { OnOk result (Works table.old.round table.new.round) }
+    ensures more { OnOk result (table.old.round.calls < table.new.round.calls) }
+    ensures wakes { table.new.round.wakes ≡ table.old.round.wakes }
     ensures ends { IfErr result (λ end. end ≡ ServeEnd.OutOfMemory) }
     ensures advances { Advances W.told W.rule W.port_faults W.faults wire.old wire.new }
 {
@@ -189,7 +194,8 @@ pub fn write_once<M: Machine, W: Wire>(
     requires serves { Serves M.stands M.reads M.sends M.changed core.old table.old (W.told wire.old) }
     ensures serves { OnOk result (Serves M.stands M.reads M.sends M.changed core.new table.new (W.told wire.new)) }
     ensures made { Makes (Call.Write link) (W.told wire.old) (W.told wire.new) }
-    ensures works { OnOk result (Works table.old.round table.new.round) }
+    ensures more { OnOk result (table.old.round.calls < table.new.round.calls) }
+    ensures wakes { table.new.round.wakes ≡ table.old.round.wakes }
     ensures ends { IfErr result (λ end. end ≡ ServeEnd.OutOfMemory) }
     ensures advances { Advances W.told W.rule W.port_faults W.faults wire.old wire.new }
 {

@@ -10,7 +10,8 @@ pub enum ServeEnd {
     Over,
     /// A port or a wait failed.
     ListenFault,
-    /// The waits that were allowed are used up, or one wake made as many calls of the wire as it may.
+    /// The waits that were allowed are used up, or as many calls of the wire were made since the last wake as one may
+    /// make.
     TurnsSpent,
     /// Memory was refused.
     OutOfMemory,

@@ -84,7 +84,7 @@ pub trait Machine {
     /// How many of those it has yet to name, at most.
     ghost unnamed: { Self → ℕ };
 
-    /// Whether it has an act to ask for.
+    /// Whether it has an act to ask for. The loop does all of them before it waits.
     ghost asks: { Self → Bool } = { λ _. false };
 
     ghost address_of: { Self → Port → Address };
@@ -94,14 +94,14 @@ pub trait Machine {
     /// Tells of an event. `bytes` are those read for a `Got`, and else none.
     fn take(&mut self, event: Event, bytes: &mut [u8]) -> Result<(), OutOfMemory>
         requires { IsHeard (awaits self.old) event }
-        ensures carries { OnOk result ((e : Entry) → IsToldOf (until self.old) (awaits self.old) event bytes.old e → CarriesOver stands (IsDue reads sends) self.old self.new e) }
+        ensures carries { OnOk result ((e : Entry) → IsToldOf (until self.old) (awaits self.old) event bytes.old e → CarriesOver stands (IsDue reads sends asks) self.old self.new e) }
         ensures changes { OnOk result (ChangesOnly changed reads sends self.old self.new) };
 
     /// The next act to do, oldest first. The bytes that are left for a link are offered to one write before it
     /// closes, and what that write answers is no event.
     fn next_act(&mut self) -> Option<Act>
         ensures awaits { IfSome result (IsAwaited (awaits self.new)) }
-        ensures act { Acts stands (IsDue reads sends) sends self.old self.new result }
+        ensures act { Acts stands (IsDue reads sends asks) sends self.old self.new result }
         ensures changes { ChangesOnly changed reads sends self.old self.new }
         ensures none { IfNone result (asks self.new ≡ false) };
 
@@ -122,7 +122,7 @@ pub trait Machine {
     /// So many of the bytes that `outgoing` lends were written.
     fn taken(&mut self, link: LinkId, n: usize)
         requires { MayTake (sends self.old link) n }
-        ensures carries { (sent : Sent) → sends self.old link ≡ Some sent → CarriesOver stands (IsDue reads sends) self.old self.new (entry.Wrote link sent.tag (take n sent.bytes)) }
+        ensures carries { (sent : Sent) → sends self.old link ≡ Some sent → CarriesOver stands (IsDue reads sends asks) self.old self.new (entry.Wrote link sent.tag (take n sent.bytes)) }
         ensures changes { ChangesOnly changed reads sends self.old self.new };
 
     /// Whether the link is to be read.
@@ -146,5 +146,5 @@ pub trait Machine {
         ensures { result ≡ most self.now };
 
     /// A machine stands still where it is told of nothing.
-    ghost quiet: { (machine : Self) (e : Entry) → IsQuiet e → CarriesOver stands (IsDue reads sends) machine machine e };
+    ghost quiet: { (machine : Self) (e : Entry) → IsQuiet e → CarriesOver stands (IsDue reads sends asks) machine machine e };
 }

@@ -7,7 +7,7 @@ ghost use Rattle.ready_loop.specs.Drained.{DrainedFor};
 ghost use Rattle.ready_loop.specs.Links.{mark_of};
 ghost use Rattle.ready_loop.specs.Machine.{StandsFor};
 ghost use Rattle.ready_loop.specs.Round.{CountsOf};
-ghost use Rattle.ready_loop.specs.Serving.{Serves, Ends, BusyFor, EndsWith, IsOver, IsPortFault, SpentFor, ListensFirst, ListeningFor, Advances, Works, Makes, IsOwed};
+ghost use Rattle.ready_loop.specs.Serving.{Serves, Ends, BusyFor, EndsWith, IsOver, IsPortFault, SpentFor, WokeFor, ListensFirst, ListeningFor, Advances, Makes, IsOwed};
 
 use crate::acts::{CALLS_PER_WAKE, do_acts, spent};
 use crate::calls::{accept_once, listen_once, name_once, read_once, wait_once, write_once};
@@ -53,8 +53,8 @@ fn follow<M: Machine, W: Wire>(
     ensures going { OnOk result (M.is_stopped core.new ≡ false) }
     ensures acted { OnOk result (M.asks core.new ≡ false) }
     ensures more { OnOk result (table.old.round.calls ≤ table.new.round.calls) }
-    ensures wakes { OnOk result (table.new.round.wakes ≡ table.old.round.wakes) }
-    ensures ends { IfErr result (Ends M.stands M.is_stopped BusyFor core.new (W.told wire.new)) }
+    ensures wakes { table.new.round.wakes ≡ table.old.round.wakes }
+    ensures ends { IfErr result (Ends M.stands M.is_stopped table.new.round.wakes BusyFor core.new (W.told wire.new)) }
     ensures rose { IfErr result (λ end. end ≡ ServeEnd.ListenFault → ⊥) }
     ensures advances { Advances W.told W.rule W.port_faults W.faults wire.old wire.new }
 {
@@ -82,8 +82,9 @@ fn make_call<M: Machine, W: Wire>(
     requires serves { Serves M.stands M.reads M.sends M.changed core.old table.old (W.told wire.old) }
     ensures serves { OnOk result (Serves M.stands M.reads M.sends M.changed core.new table.new (W.told wire.new)) }
     ensures made { Makes call (W.told wire.old) (W.told wire.new) }
-    ensures works { OnOk result (Works table.old.round table.new.round) }
-    ensures ends { IfErr result (Ends M.stands M.is_stopped BusyFor core.new (W.told wire.new)) }
+    ensures more { OnOk result (table.old.round.calls < table.new.round.calls) }
+    ensures wakes { table.new.round.wakes ≡ table.old.round.wakes }
+    ensures ends { IfErr result (Ends M.stands M.is_stopped table.new.round.wakes BusyFor core.new (W.told wire.new)) }
     ensures rose { IfErr result (λ end. end ≡ ServeEnd.ListenFault → W.port_faults wire.old < W.port_faults wire.new) }
     ensures advances { Advances W.told W.rule W.port_faults W.faults wire.old wire.new }
 {
@@ -113,8 +114,8 @@ fn settle<M: Machine, W: Wire>(
     ensures going { OnOk result (M.is_stopped core.new ≡ false) }
     ensures drained { OnOk result (DrainedFor (M.reads core.new) (M.sends core.new) (W.told wire.new)) }
     ensures acted { OnOk result (M.asks core.new ≡ false) }
-    ensures wakes { OnOk result (table.new.round.wakes ≡ table.old.round.wakes) }
-    ensures ends { IfErr result (Ends M.stands M.is_stopped BusyFor core.new (W.told wire.new)) }
+    ensures wakes { table.new.round.wakes ≡ table.old.round.wakes }
+    ensures ends { IfErr result (Ends M.stands M.is_stopped table.new.round.wakes BusyFor core.new (W.told wire.new)) }
     ensures rose { IfErr result (λ end. end ≡ ServeEnd.ListenFault → W.port_faults wire.old < W.port_faults wire.new) }
     ensures advances { Advances W.told W.rule W.port_faults W.faults wire.old wire.new }
 {
@@ -128,6 +129,30 @@ fn settle<M: Machine, W: Wire>(
     Err(spent(core))
 }
 
+// Does what the machine asks for, and makes the calls that are then owed.
+fn catch_up<M: Machine, W: Wire>(
+    core: &mut M,
+    wire: &mut W,
+    table: &mut Table,
+    buffer: &mut [u8],
+) -> Result<(), ServeEnd>
+    requires some { 0 < length buffer.old }
+    requires most { length buffer.old ≤ 65536 }
+    requires serves { Serves M.stands M.reads M.sends M.changed core.old table.old (W.told wire.old) }
+    ensures serves { OnOk result (Serves M.stands M.reads M.sends M.changed core.new table.new (W.told wire.new)) }
+    ensures going { OnOk result (M.is_stopped core.new ≡ false) }
+    ensures drained { OnOk result (DrainedFor (M.reads core.new) (M.sends core.new) (W.told wire.new)) }
+    ensures acted { OnOk result (M.asks core.new ≡ false) }
+    ensures wakes { table.new.round.wakes ≡ table.old.round.wakes }
+    ensures ends { IfErr result (Ends M.stands M.is_stopped table.new.round.wakes BusyFor core.new (W.told wire.new)) }
+    ensures rose { IfErr result (λ end. end ≡ ServeEnd.ListenFault → W.port_faults wire.old < W.port_faults wire.new) }
+    ensures advances { Advances W.told W.rule W.port_faults W.faults wire.old wire.new }
+{
+    follow(core, wire, table)?;
+    settle(core, wire, table, buffer)?;
+    Ok(())
+}
+
 // Waits, and serves what the wake brings.
 fn serve_wake<M: Machine, W: Wire>(
     core: &mut M,
@@ -138,20 +163,22 @@ fn serve_wake<M: Machine, W: Wire>(
     requires some { 0 < length buffer.old }
     requires most { length buffer.old ≤ 65536 }
     requires room { table.old.round.wakes < 18446744073709551615 }
+    requires acted { M.asks core.old ≡ false }
     requires going { M.is_stopped core.old ≡ false }
     requires serves { Serves M.stands M.reads M.sends M.changed core.old table.old (W.told wire.old) }
     requires drained { DrainedFor (M.reads core.old) (M.sends core.old) (W.told wire.old) }
     ensures serves { OnOk result (Serves M.stands M.reads M.sends M.changed core.new table.new (W.told wire.new)) }
     ensures going { OnOk result (M.is_stopped core.new ≡ false) }
     ensures drained { OnOk result (DrainedFor (M.reads core.new) (M.sends core.new) (W.told wire.new)) }
+    ensures acted { OnOk result (M.asks core.new ≡ false) }
     ensures wakes { OnOk result (table.new.round.wakes ≡ table.old.round.wakes + 1) }
-    ensures ends { IfErr result (Ends M.stands M.is_stopped BusyFor core.new (W.told wire.new)) }
+    ensures woke { table.new.round.wakes ≤ table.old.round.wakes + 1 }
+    ensures ends { IfErr result (Ends M.stands M.is_stopped table.new.round.wakes BusyFor core.new (W.told wire.new)) }
     ensures rose { IfErr result (λ end. end ≡ ServeEnd.ListenFault → W.port_faults wire.old < W.port_faults wire.new) }
     ensures advances { Advances W.told W.rule W.port_faults W.faults wire.old wire.new }
 {
     wait_once(core, wire, table)?;
-    follow(core, wire, table)?;
-    settle(core, wire, table, buffer)?;
+    catch_up(core, wire, table, buffer)?;
     Ok(())
 }
 
@@ -165,13 +192,14 @@ fn serve_turns<M: Machine, W: Wire>(
     requires some { 0 < length buffer.old }
     requires most { length buffer.old ≤ 65536 }
     requires wakes { table.old.round.wakes ≡ 0 }
-    requires going { M.is_stopped core.old ≡ false }
     requires serves { Serves M.stands M.reads M.sends M.changed core.old table.old (W.told wire.old) }
-    requires drained { DrainedFor (M.reads core.old) (M.sends core.old) (W.told wire.old) }
-    ensures ends { Ends M.stands M.is_stopped (SpentFor turns (M.reads core.new) (M.sends core.new)) core.new (W.told wire.new) result }
+    ensures ends { Ends M.stands M.is_stopped turns (SpentFor turns (M.reads core.new) (M.sends core.new)) core.new (W.told wire.new) result }
     ensures rose { result ≡ ServeEnd.ListenFault → W.port_faults wire.old < W.port_faults wire.new }
     ensures advances { Advances W.told W.rule W.port_faults W.faults wire.old wire.new }
 {
+    if let Err(end) = catch_up(core, wire, table, buffer) {
+        return end;
+    }
     while table.round.wakes < turns {
         if let Err(end) = serve_wake(core, wire, table, buffer) {
             return end;
@@ -187,11 +215,11 @@ fn start<M: Machine, W: Wire>(core: &M, wire: &mut W, table: &mut Table) -> Resu
     requires going { M.is_stopped core.now ≡ false }
     requires serves { Serves M.stands M.reads M.sends M.changed core.now table.old (W.told wire.old) }
     ensures serves { OnOk result (Serves M.stands M.reads M.sends M.changed core.now table.new (W.told wire.new)) }
-    ensures links { OnOk result (table.new.links ≡ table.old.links) }
     ensures round { OnOk result (table.new.round ≡ record table.old.round { calls = 2 }) }
+    ensures wakes { table.new.round.wakes ≡ table.old.round.wakes }
     ensures listening { OnOk result (ListeningFor (M.address_of core.now Port.Traffic) (M.address_of core.now Port.Admin) (W.told wire.new)) }
     ensures listens { OnErr result (ListensFirst (M.address_of core.now Port.Traffic) (M.address_of core.now Port.Admin) (W.told wire.new)) }
-    ensures ends { IfErr result (Ends M.stands M.is_stopped BusyFor core.now (W.told wire.new)) }
+    ensures ends { IfErr result (Ends M.stands M.is_stopped table.new.round.wakes BusyFor core.now (W.told wire.new)) }
     ensures rose { IfErr result (λ end. end ≡ ServeEnd.ListenFault → W.port_faults wire.old < W.port_faults wire.new) }
     ensures advances { Advances W.told W.rule W.port_faults W.faults wire.old wire.new }
 {
@@ -212,10 +240,9 @@ fn prepare<M: Machine, W: Wire>(
     ensures serves { IfOk result (λ made. Serves M.stands M.reads M.sends M.changed core.now made.0 (W.told wire.new)) }
     ensures wakes { IfOk result (λ made. made.0.round.wakes ≡ 0) }
     ensures size { IfOk result (λ made. length made.1.items ≡ 65536) }
-    ensures drained { OnOk result (DrainedFor (M.reads core.now) (M.sends core.now) (W.told wire.new)) }
     ensures listening { OnOk result (ListeningFor (M.address_of core.now Port.Traffic) (M.address_of core.now Port.Admin) (W.told wire.new)) }
     ensures listens { OnErr result (ListensFirst (M.address_of core.now Port.Traffic) (M.address_of core.now Port.Admin) (W.told wire.new)) }
-    ensures ends { IfErr result (Ends M.stands M.is_stopped BusyFor core.now (W.told wire.new)) }
+    ensures ends { IfErr result (Ends M.stands M.is_stopped 0 BusyFor core.now (W.told wire.new)) }
     ensures rose { IfErr result (λ end. end ≡ ServeEnd.ListenFault → W.port_faults wire.old < W.port_faults wire.new) }
     ensures advances { Advances W.told W.rule W.port_faults W.faults wire.old wire.new }
 {
@@ -240,14 +267,14 @@ fn make_room(alloc: Global, most: u32) -> Result<(Table, Vec<u8>), OutOfMemory>
 }
 
 /// Serves a machine over a wire, for `turns` waits at most. Room for `most_links` links is taken first; then the
-/// loop listens at both addresses, traffic first, and then waits. Each wake is told to the machine; then clients are
-/// accepted, traffic first, ready links are named, and the links are served in the order named: each is read
-/// while the machine wants it and then written while it has something, until the wire is not ready. After each
-/// call the machine's acts are done in order.
+/// loop listens at both addresses, traffic first, does what the machine asks for, and then waits. Each wake is told
+/// to the machine; then clients are accepted, traffic first, ready links are named, and the links are served in the
+/// order named: each is read while the machine wants it and then written while it has something, until the wire is
+/// not ready. After each call the machine's acts are done in order, so that it asks for none at a wait.
 ///
 /// Stopped comes where the machine stopped, Over where a wait answered Over, ListenFault where a port or a wait
-/// failed, TurnsSpent where a further wait is due after `turns` of them, or one wake made 4,294,967,296 calls of the
-/// wire, and OutOfMemory where memory was refused, of which the machine then isn't told.
+/// failed, TurnsSpent where a further wait is due after `turns` of them, or 4,294,967,296 calls of the wire were made
+/// since the last wake, and OutOfMemory where memory was refused, of which the machine then isn't told.
 pub fn serve<M: Machine, W: Wire>(alloc: Global, core: &mut M, wire: &mut W, turns: u64) -> ServeEnd
     requires fresh { (log : Log) → W.told wire.old ≡ Some log → log ≡ [] }
     requires stands { StandsFor M.stands core.old (W.told wire.old) }
@@ -259,6 +286,7 @@ pub fn serve<M: Machine, W: Wire>(alloc: Global, core: &mut M, wire: &mut W, tur
     ensures rose { result ≡ ServeEnd.ListenFault → W.port_faults wire.old < W.port_faults wire.new }
     ensures failed { result ≡ ServeEnd.ListenFault → EndsWith IsPortFault (W.told wire.new) }
     ensures spent { result ≡ ServeEnd.TurnsSpent → SpentFor turns (M.reads core.new) (M.sends core.new) (W.told wire.new) }
+    ensures wakes { result ≢ ServeEnd.OutOfMemory → WokeFor turns (W.told wire.new) }
     ensures listens { ListensFirst (M.address_of core.old Port.Traffic) (M.address_of core.old Port.Admin) (W.told wire.new) }
     ensures rule { KeepsRule W.rule wire.old wire.new }
     ensures port_faults { W.port_faults wire.old ≤ W.port_faults wire.new }

@@ -28,7 +28,8 @@ use Rattle.session_core.specs.Stands.IsCarried.{Unsent, Begun}
 use Rattle.session_core.specs.Still.{client-known, new-apart, replies-stay, at-stays}
 use Rattle.session_core.specs.Quiet.{CarriesNothing, reads-no_reply, unsent-more, served-more}
 use Rattle.session_core.specs.Count.{counted, counted-one}
-use Rattle.session_core.specs.Cores.{first_client, ComesFirst, Comes, OpensFor, OpensNeedless, has_work, is_working}
+use Rattle.session_core.specs.Cores.{first_client, ComesFirst, Comes, OpensFor, OpensNeedless}
+use Rattle.session_core.specs.Acts.{has_work, is_working}
 use Rattle.session_core.specs.Tracking.{tracks-with, has-with, held-with}
 use Rattle.session_core.specs.Steps.{reading}
 

@@ -11,6 +11,7 @@ use Rattle.session_core.specs.declared.server.Heard.{Heard}
 use Rattle.session_core.specs.declared.server.Heard.TheVariants.{Quiet, Reply}
 use Rattle.session_core.specs.declared.router.Core.{Core}
 use Rattle.session_core.specs.Stands.{server_links, is_client, is_server}
+use Rattle.session_core.specs.Acts.{has_work}
 use Rattle.session_core.specs.Count.{counted}
 use Rattle.session_core.specs.Hearing.{Hears}
 use Rattle.session_core.specs.Steps.{reading, Pumps}
@@ -77,15 +78,6 @@ is_begun _ = false
 abbrev pub has_begun : Option Client → Bool
 has_begun None = false
 has_begun (Some client) = is_begun client.phase
-
--- a command waits for a link to the server
-abbrev pub is_working : Phase → Bool
-is_working (Working command) = true
-is_working _ = false
-
-abbrev pub has_work : Option Client → Bool
-has_work None = false
-has_work (Some client) = is_working client.phase
 
 -- the answer to the command in work
 abbrev pub answered_in : Client → List ℕ → Client

@@ -5,6 +5,7 @@ pub mod Headline
 pub mod Growth
 pub mod Past
 pub mod Held
+pub mod Acts
 pub mod Stands
 pub mod Still
 pub mod Quiet

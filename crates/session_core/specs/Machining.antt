@@ -1,5 +1,5 @@
 -- The core as a machine.
-use Rattle.std.specs.Prelude.{is_none, ◌≡◌, ◌⊎◌, ℕ, ◌+◌, ◌<◌, Bool, true, false, ◌&&◌, ◌||◌, if◌then◌else◌, List, [], ◌∷◌, ◌++◌, length, Option, Some, None, refl}
+use Rattle.std.specs.Prelude.{◌≡◌, ◌⊎◌, ℕ, ◌+◌, ◌<◌, Bool, true, false, ◌&&◌, ◌||◌, if◌then◌else◌, List, [], ◌∷◌, ◌++◌, length, Option, Some, None, refl}
 use Rattle.std.proofs.Common.{sym, ◌∙◌, ap, subst, inl, inr, arith, length-append}
 use Rattle.mx_base.specs.declared.names.LinkId.{LinkId}
 use Rattle.mx_base.specs.declared.names.ServerId.{ServerId}
@@ -22,7 +22,7 @@ use Rattle.session_core.specs.Held.{held-stays}
 use Rattle.session_core.specs.Stands.{held_links, MayHaveClient, Tracks, IsFew, Stands, is_client, is_server, due_in}
 use Rattle.session_core.specs.Still.{few-more, stands-more}
 use Rattle.session_core.specs.Quiet.{CarriesNothing, ReadsNoReply, IsStill, servers-same, has_client-unread, has_none-passes, tracks-still, stands-still}
-use Rattle.session_core.specs.Cores.{KeepsLinks, Comes, OpensFor, OpensNeedless, Leaves, has_begun, has_work, LosesBy, Loses, TakesBy, TakesBytes}
+use Rattle.session_core.specs.Cores.{KeepsLinks, Comes, OpensFor, OpensNeedless, Leaves, has_begun, LosesBy, Loses, TakesBy, TakesBytes}
 use Rattle.session_core.specs.Tracking.{tracks-kept, tracks-left, PassesClient, tracks-strayed}
 use Rattle.session_core.specs.Saying.{got-nothing, tracks-said}
 use Rattle.session_core.specs.Replied.{tracks-replied}
@@ -43,22 +43,6 @@ one_if b = if b then 1 else 0
 
 abbrev pub unnamed : Core → ℕ
 unnamed core = one_if core.client_changed + one_if core.server_changed
-
--- whether an act is to be asked for
-abbrev pub is_leaving : Phase → Bool
-is_leaving Leaving = true
-is_leaving _ = false
-
-abbrev pub client_leaves : Option Client → Bool
-client_leaves None = false
-client_leaves (Some client) = is_leaving client.phase
-
-abbrev pub is_any : List LinkId → Bool
-is_any [] = false
-is_any (link ∷ links) = true
-
-abbrev pub asks : Core → Bool
-asks core = is_any core.refused.items || client_leaves core.client || (has_work core.client && is_none core.server)
 
 pub stands-kept : (old new : Core) (log : Log) → KeepsLinks old new → Stands old log → Stands new log
 stands-kept old new log keeps held = record { few = held.few; tracks = tracks-kept old new log keeps held.tracks; always = held.always; lawful = held.lawful }

@@ -21,6 +21,7 @@ use Rattle.session_core.specs.Sending.{sending, command_sent, server_message}
 use Rattle.session_core.specs.Headline.{client_link, replies_to, IsPrefix, IsServed, IsLawful}
 use Rattle.session_core.specs.Held.{AreHeld}
 use Rattle.session_core.specs.Past.{client_message, Answers}
+use Rattle.session_core.specs.Acts.{asks}
 
 -- The links that are open.
 
@@ -208,4 +209,4 @@ abbrev pub reads : Core → LinkId → Bool
 reads core link = if is_client core.client link then client_reads core.client else is_server core.server link
 
 abbrev pub due_in : Core → Log → Entry → Type 0
-due_in = IsDue reads sends
+due_in = IsDue reads sends asks

@@ -7,13 +7,14 @@ ghost use Rattle.ready_loop.specs.Machine.{CarriesOver, IsToldOf, Closes, Keeps,
 ghost use Rattle.session_core.specs.Stands.{Stands, sends, reads, due_in, client_sends, server_sends, command_left};
 ghost use Rattle.session_core.specs.Quiet.{quiet};
 ghost use Rattle.session_core.specs.Cores.{written_in, sent_in};
-ghost use Rattle.session_core.specs.Machining.{the_address, the_target, changed, unnamed, asks, Parts};
+ghost use Rattle.session_core.specs.Machining.{the_address, the_target, changed, unnamed, Parts};
+ghost use Rattle.session_core.specs.Acts.{asks};
 
 use crate::client::Client;
+use crate::phase::Phase;
 use crate::router::{
     Core, client_comes, has_work, is_client, is_server, link_opens, lose, open_fails, take_bytes,
 };
-use crate::phase::Phase;
 use mx_base::{Address, LinkId, OutOfMemory, Port, ServerId, Tag};
 use ready_loop::{Act, Event, Machine, Piece};
 

@@ -1,6 +1,7 @@
 // The core.
 ghost use Rattle.std.specs.Prelude.{◌≡◌, ◌⊎◌, ◌&&◌, [], None, is_none, OnOk, IfOk};
-ghost use Rattle.session_core.specs.Cores.{Releases, Settles, GoesOn, Leaves, has_left, fed_in, is_idle, has_begun, has_work, ComesFirst, ComesRefused, Comes, is_traffic, OpensFor, OpensNeedless, ClientSays, Strays, answered_in, is_sent, AnswersBy, ReplyComes, Loses, TakesBytes};
+ghost use Rattle.session_core.specs.Cores.{Releases, Settles, GoesOn, Leaves, has_left, fed_in, is_idle, has_begun, ComesFirst, ComesRefused, Comes, is_traffic, OpensFor, OpensNeedless, ClientSays, Strays, answered_in, is_sent, AnswersBy, ReplyComes, Loses, TakesBytes};
+ghost use Rattle.session_core.specs.Acts.{has_work};
 ghost use Rattle.session_core.specs.Stands.{Stands, is_client, is_server};
 
 use crate::client::{Client, feed, new_client, pump};

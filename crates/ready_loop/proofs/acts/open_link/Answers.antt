@@ -9,14 +9,14 @@ use Rattle.ready_loop.proofs.acts.open_link.Goals as goal
 
 pub returns-in_ok-opened-in-Link-clause-serves : goal.returns-in_ok-opened-in-Link-clause-serves
 returns-in_ok-opened-in-Link-clause-serves g c = record {
-  standing = goes_on _ _ _ g.met.M.Machine.quiet _ _ _ _ _ c.requires.serves.standing c.in-Link.ensures.told (λ log. tt) (c.in_ok-take-in-Link.ensures.carries _ (c.args.address, c.requires.awaited, refl));
+  standing = goes_on _ _ _ _ g.met.M.Machine.quiet _ _ _ _ _ c.requires.serves.standing c.in-Link.ensures.told (λ log. tt) (c.in_ok-take-in-Link.ensures.carries _ (c.args.address, c.requires.awaited, refl));
   tracks = named _ _ _ _ _ _ refl refl (ap (option_map dry_mark) c.in_ok-opened-in-Link.ensures.marks.same) (marking.others _ _ _ _ c.in_ok-opened-in-Link.ensures.marks) c.requires.serves.tracks c.in-Link.ensures.told;
   watches = watching.opened _ _ _ _ _ _ c.in_ok-opened-in-Link.ensures.marks c.in_ok-opened-in-Link.ensures.queue (watching.changes _ _ _ _ _ _ c.in_ok-take-in-Link.ensures.changes c.requires.serves.watches);
 }
 
 pub returns-in_ok-take-in-Failed-clause-serves : goal.returns-in_ok-take-in-Failed-clause-serves
 returns-in_ok-take-in-Failed-clause-serves g c = record {
-  standing = goes_on _ _ _ g.met.M.Machine.quiet _ _ _ _ _ c.requires.serves.standing c.in-Failed.ensures.told (λ log. tt) (c.in_ok-take-in-Failed.ensures.carries _ (c.args.address, c.requires.awaited, refl));
+  standing = goes_on _ _ _ _ g.met.M.Machine.quiet _ _ _ _ _ c.requires.serves.standing c.in-Failed.ensures.told (λ log. tt) (c.in_ok-take-in-Failed.ensures.carries _ (c.args.address, c.requires.awaited, refl));
   tracks = unnamed _ _ _ _ _ refl refl (λ l. refl) c.requires.serves.tracks c.in-Failed.ensures.told;
   watches = watching.changes _ _ _ _ _ _ c.in_ok-take-in-Failed.ensures.changes c.requires.serves.watches;
 }

@@ -7,14 +7,14 @@ use Rattle.ready_loop.proofs.calls.name_once.Goals as goal
 
 pub returns-in_ok-named-in-Some-clause-serves : goal.returns-in_ok-named-in-Some-clause-serves
 returns-in_ok-named-in-Some-clause-serves g c = record {
-  standing = stays _ _ _ g.met.M.Machine.quiet _ _ _ _ c.requires.serves.standing c.in-Some.ensures.told (λ log. tt) tt;
+  standing = stays _ _ _ _ g.met.M.Machine.quiet _ _ _ _ c.requires.serves.standing c.in-Some.ensures.told (λ log. tt) tt;
   tracks = named _ _ _ _ _ _ refl refl (marking.named _ _ _ c.in_ok-named-in-Some.ensures.marks) (marking.others _ _ _ _ c.in_ok-named-in-Some.ensures.marks) c.requires.serves.tracks c.in-Some.ensures.told;
   watches = watching.joined _ _ _ _ (λ m. refl) _ _ _ c.in_ok-named-in-Some.ensures.marks c.in_ok-named-in-Some.ensures.queue c.requires.serves.watches;
 }
 
 pub returns-in-None-clause-serves : goal.returns-in-None-clause-serves
 returns-in-None-clause-serves g c = record {
-  standing = stays _ _ _ g.met.M.Machine.quiet _ _ _ _ c.requires.serves.standing c.in-None.ensures.told (λ log. tt) tt;
+  standing = stays _ _ _ _ g.met.M.Machine.quiet _ _ _ _ c.requires.serves.standing c.in-None.ensures.told (λ log. tt) tt;
   tracks = unnamed _ _ _ _ _ refl refl (λ l. refl) c.requires.serves.tracks c.in-None.ensures.told;
   watches = c.requires.serves.watches;
 }

@@ -3,26 +3,28 @@ use Rattle.ready_loop.proofs.Steps.{waits}
 use Rattle.ready_loop.proofs.Counting.{unnamed}
 use Rattle.ready_loop.proofs.Watching as watching
 use Rattle.ready_loop.specs.Serving.{IsPortFault, IsOver}
-use Rattle.ready_loop.proofs.Ending.{ends_with}
+use Rattle.ready_loop.proofs.Ending.{ends_with, woke_on}
 use Rattle.ready_loop.proofs.calls.wait_once.Goals as goal
 
 pub returns-in_ok-take-in-Woke-clause-serves : goal.returns-in_ok-take-in-Woke-clause-serves
 returns-in_ok-take-in-Woke-clause-serves g c = record {
-  standing = waits _ _ _ g.met.M.Machine.quiet _ _ _ _ _ c.requires.serves.standing c.in-Woke.ensures.told c.requires.drained (λ log drained. drained) (c.in_ok-take-in-Woke.ensures.carries _ (cc));
+  standing = waits _ _ _ _ g.met.M.Machine.quiet _ _ _ _ _ c.requires.serves.standing c.in-Woke.ensures.told c.requires.drained c.requires.acted (λ log due. due) (c.in_ok-take-in-Woke.ensures.carries _ (cc));
   tracks = unnamed _ _ _ _ _ refl c.woke.ensures (λ l. refl) c.requires.serves.tracks c.in-Woke.ensures.told;
   watches = watching.changes _ _ _ _ _ _ c.in_ok-take-in-Woke.ensures.changes c.requires.serves.watches;
 }
 
 pub returns-in-Over-clause-ends : goal.returns-in-Over-clause-ends
 returns-in-Over-clause-ends g c = record {
-  standing = waits _ _ _ g.met.M.Machine.quiet _ _ _ _ _ c.requires.serves.standing c.in-Over.ensures.told c.requires.drained (λ log drained. drained) (g.met.M.Machine.quiet _ _ tt);
+  standing = waits _ _ _ _ g.met.M.Machine.quiet _ _ _ _ _ c.requires.serves.standing c.in-Over.ensures.told c.requires.drained c.requires.acted (λ log due. due) (g.met.M.Machine.quiet _ _ tt);
   halted = c.requires.going;
+  woke = woke_on _ _ _ _ c.requires.serves.tracks c.in-Over.ensures.told refl refl;
   so = ends_with IsOver _ _ _ c.in-Over.ensures.told tt;
 }
 
 pub returns-in-Failed-clause-ends : goal.returns-in-Failed-clause-ends
 returns-in-Failed-clause-ends g c = record {
-  standing = waits _ _ _ g.met.M.Machine.quiet _ _ _ _ _ c.requires.serves.standing c.in-Failed.ensures.told c.requires.drained (λ log drained. drained) (g.met.M.Machine.quiet _ _ tt);
+  standing = waits _ _ _ _ g.met.M.Machine.quiet _ _ _ _ _ c.requires.serves.standing c.in-Failed.ensures.told c.requires.drained c.requires.acted (λ log due. due) (g.met.M.Machine.quiet _ _ tt);
   halted = c.requires.going;
+  woke = woke_on _ _ _ _ c.requires.serves.tracks c.in-Failed.ensures.told refl refl;
   so = ends_with IsPortFault _ _ _ c.in-Failed.ensures.told tt;
 }

@@ -14,21 +14,21 @@ taken-requires g c = may_take c.in-Some.piece _ _ c.in-Some.ensures c.in-Took.en
 
 pub returns-in-Took-clause-serves : goal.returns-in-Took-clause-serves
 returns-in-Took-clause-serves g c = record {
-  standing = written _ _ _ g.met.M.Machine.quiet _ _ _ _ _ c.in-Some.piece _ _ c.requires.serves.standing c.in-Some.ensures c.in-Took.ensures.told c.taken.ensures.carries;
+  standing = written _ _ _ _ g.met.M.Machine.quiet _ _ _ _ _ c.in-Some.piece _ _ c.requires.serves.standing c.in-Some.ensures c.in-Took.ensures.told c.taken.ensures.carries;
   tracks = named _ _ _ _ _ _ refl refl (marking.wrote c.args.table.now.links c.args.link c.requires.wet) (λ other apart. refl) c.requires.serves.tracks c.in-Took.ensures.told;
   watches = watching.changes _ _ _ _ _ _ c.taken.ensures.changes c.requires.serves.watches;
 }
 
 pub returns-in-NotReady-clause-serves : goal.returns-in-NotReady-clause-serves
 returns-in-NotReady-clause-serves g c = record {
-  standing = stays _ _ _ g.met.M.Machine.quiet _ _ _ _ c.requires.serves.standing c.in-NotReady.ensures.told (λ log. tt) tt;
+  standing = stays _ _ _ _ g.met.M.Machine.quiet _ _ _ _ c.requires.serves.standing c.in-NotReady.ensures.told (λ log. tt) tt;
   tracks = named _ _ _ _ _ _ refl refl (marking.write_nothing _ _ _ c.write_dry.ensures.marks) (marking.others _ _ _ _ c.write_dry.ensures.marks) c.requires.serves.tracks c.in-NotReady.ensures.told;
   watches = watching.dried _ _ _ _ (λ m. refl) (λ m is. is) (λ m is. refl) _ _ _ c.write_dry.ensures.marks c.write_dry.ensures.queue c.requires.serves.watches;
 }
 
 pub returns-in_ok-take-in-Failed-clause-serves : goal.returns-in_ok-take-in-Failed-clause-serves
 returns-in_ok-take-in-Failed-clause-serves g c = record {
-  standing = goes_on _ _ _ g.met.M.Machine.quiet _ _ _ _ _ c.requires.serves.standing c.in-Failed.ensures.told (λ log. tt) (c.in_ok-take-in-Failed.ensures.carries _ (inr refl));
+  standing = goes_on _ _ _ _ g.met.M.Machine.quiet _ _ _ _ _ c.requires.serves.standing c.in-Failed.ensures.told (λ log. tt) (c.in_ok-take-in-Failed.ensures.carries _ (inr refl));
   tracks = named _ _ _ _ _ _ refl refl refl (λ other apart. refl) c.requires.serves.tracks c.in-Failed.ensures.told;
   watches = watching.changes _ _ _ _ _ _ c.in_ok-take-in-Failed.ensures.changes c.requires.serves.watches;
 }
