@@ -10,10 +10,10 @@ ghost use Rattle.session_core.specs.Cores.{written_in, sent_in};
 ghost use Rattle.session_core.specs.Machining.{the_address, the_target, changed, unnamed, asks, Parts};
 
 use crate::client::Client;
+use crate::phase::Phase;
 use crate::router::{
     Core, client_comes, has_work, is_client, is_server, link_opens, lose, open_fails, take_bytes,
 };
-use crate::phase::Phase;
 use mx_base::{Address, LinkId, OutOfMemory, Port, ServerId, Tag};
 use ready_loop::{Act, Event, Machine, Piece};
 
