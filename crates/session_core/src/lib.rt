@@ -10,5 +10,7 @@ mod phase;
 mod refusal;
 mod router;
 mod server;
+#[cfg(test)]
+mod tests;
 
 pub use router::Core;
