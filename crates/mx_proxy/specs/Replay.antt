@@ -49,9 +49,11 @@ pub record HasPlayed (entries : List RecordEntry) (tape : Played) : Type 0 where
   pub keeps : (log : Log) → IsPlay tape.recording log → IsPlay entries log
   pub serves : (log : Log) → tape.told ≡ Some log → ServesToEnd log
 
--- a play in which one wake took more calls than it may, or more waits woke than the loop allows
+-- a play of which the same holds, in which one wake took more calls than it may, or more waits woke than the loop allows
 pub record IsSpent (entries : List RecordEntry) (log : Log) : Type 0 where
   pub play : IsPlay entries log
+  pub served : AtEachMoment IsServed log
+  pub lawful : AllLawful IsLawful log
   pub spent : (wakes_of log ≡ 2 * length entries + 16) ⊎ (4294967296 ≤ calls_since_wake log)
 
 abbrev pub ReadStops : Stop → List ℕ → Held → (before now : ℕ) → Type 0
