@@ -33,10 +33,12 @@ pub returns-in-Some-clause-err : goal.returns-in-Some-clause-err
 returns-in-Some-clause-err c =
     let log : Log = c.in-Some.field-0.now in
     let is = sym c.in-Some.ensures.told in
-    let stands = (c.serve.ensures.stands (λ ran_out. let h : ended.TurnsSpent ≡ ended.OutOfMemory = sym c.in-TurnsSpent.is ∙ ran_out in cc)).holds log is in
-    (log, record {
-      play = subst (λ lines. IsPlay lines log) (ap (λ tape. tape.recording) c.new-tape.ensures) (c.serve.ensures.rule.kept log (c.in-Some.ensures.plays log is));
-      served = stands.always;
-      lawful = stands.lawful;
-      spent = subst (λ n. (wakes_of log ≡ 2 * n + 16) ⊎ (4294967296 ≤ calls_since_wake log)) (c.len.ensures ∙ c.args.entries.ok.0) (spends _ _ _ log ((c.serve.ensures.spent c.in-TurnsSpent.is).holds log is));
-    })
+    let stands = (c.serve.ensures.stands (λ ran_out. let h : ended.TurnsSpent ≡ ended.OutOfMemory = sym c.in-TurnsSpent.is ∙ ran_out in cc)).holds log is in (
+      log,
+      record {
+        play = subst (λ lines. IsPlay lines log) (ap (λ tape. tape.recording) c.new-tape.ensures) (c.serve.ensures.rule.kept log (c.in-Some.ensures.plays log is));
+        served = stands.always;
+        lawful = stands.lawful;
+        spent = subst (λ n. (wakes_of log ≡ 2 * n + 16) ⊎ (4294967296 ≤ calls_since_wake log)) (c.len.ensures ∙ c.args.entries.ok.0) (spends _ _ _ log ((c.serve.ensures.spent c.in-TurnsSpent.is).holds log is));
+      },
+    )
