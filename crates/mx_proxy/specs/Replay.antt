@@ -1,5 +1,5 @@
 -- What a replay puts, and why it stops short.
-use Rattle.std.specs.Prelude.{◌≡◌, ◌⊎◌, ℕ, ◌+◌, ◌*◌, ◌<◌, ◌≤◌, List, [], ◌∷◌, ◌++◌, length, Option, Some, None, Ok, Err}
+use Rattle.std.specs.Prelude.{◌≡◌, ℕ, ◌<◌, ◌≤◌, List, [], ◌∷◌, ◌++◌, Option, Some, None, Ok, Err}
 use Rattle.mx_wire.specs.Log.{Log}
 use Rattle.mx_wire.specs.Moments.{AtEachMoment, AllLawful}
 use Rattle.mx_wire.specs.Outside.{HasUnder, Takes, TakesFront}
@@ -10,7 +10,7 @@ use Rattle.recording.specs.Recording.{recording_of}
 use Rattle.recording.specs.Transcript.{transcript_of}
 use Rattle.mem_wire.specs.Play.{IsPlay}
 use Rattle.mem_wire.specs.Told.{Played}
-use Rattle.ready_loop.specs.Round.{wakes_of, calls_since_wake}
+use Rattle.ready_loop.specs.Round.{calls_since_wake}
 use Rattle.session_core.specs.Headline.{IsServed, IsLawful}
 use Rattle.mx_proxy.specs.declared.stop.Stop.{Stop}
 use Rattle.mx_proxy.specs.declared.stop.Stop.TheVariants as stop
@@ -49,12 +49,12 @@ pub record HasPlayed (entries : List RecordEntry) (tape : Played) : Type 0 where
   pub keeps : (log : Log) → IsPlay tape.recording log → IsPlay entries log
   pub serves : (log : Log) → tape.told ≡ Some log → ServesToEnd log
 
--- a play of which the same holds, in which one wake took more calls than it may, or more waits woke than the loop allows
+-- a play of which the same holds, in which one wake took as many calls as it may
 pub record IsSpent (entries : List RecordEntry) (log : Log) : Type 0 where
   pub play : IsPlay entries log
   pub served : AtEachMoment IsServed log
   pub lawful : AllLawful IsLawful log
-  pub spent : (wakes_of log ≡ 2 * length entries + 16) ⊎ (4294967296 ≤ calls_since_wake log)
+  pub spent : 4294967296 ≤ calls_since_wake log
 
 abbrev pub ReadStops : Stop → List ℕ → Held → (before now : ℕ) → Type 0
 ReadStops stop.ReadFault name held before now = before < now

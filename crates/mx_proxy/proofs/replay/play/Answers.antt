@@ -7,6 +7,7 @@ use Rattle.ready_loop.specs.declared.ends.ServeEnd.TheVariants as ended
 use Rattle.mem_wire.specs.Play.{IsPlay}
 use Rattle.ready_loop.specs.Round.{calls_since_wake, wakes_of}
 use Rattle.ready_loop.specs.Serving.{IsOver, IsOut, IsBusy}
+use Rattle.mx_proxy.proofs.Turns.{spent-busy}
 use Rattle.mx_proxy.proofs.replay.play.Goals as goal
 
 ends : (log : Log) → ((before : Log) × ((e : Entry) × IsOver e × (log ≡ before ++ e ∷ []))) → (before : Log) × (log ≡ before ++ entry.Over ∷ [])
@@ -33,12 +34,14 @@ pub returns-in-Some-clause-err : goal.returns-in-Some-clause-err
 returns-in-Some-clause-err c =
     let log : Log = c.in-Some.field-0.now in
     let is = sym c.in-Some.ensures.told in
-    let stands = (c.serve.ensures.stands (λ ran_out. let h : ended.TurnsSpent ≡ ended.OutOfMemory = sym c.in-TurnsSpent.is ∙ ran_out in cc)).holds log is in (
+    let stands = (c.serve.ensures.stands (λ ran_out. let h : ended.TurnsSpent ≡ ended.OutOfMemory = sym c.in-TurnsSpent.is ∙ ran_out in cc)).holds log is in
+    let play : IsPlay c.args.entries.items log = subst (λ lines. IsPlay lines log) (ap (λ tape. tape.recording) c.new-tape.ensures) (c.serve.ensures.rule.kept log (c.in-Some.ensures.plays log is)) in
+    let spent = spends _ _ _ log ((c.serve.ensures.spent c.in-TurnsSpent.is).holds log is) in (
       log,
       record {
-        play = subst (λ lines. IsPlay lines log) (ap (λ tape. tape.recording) c.new-tape.ensures) (c.serve.ensures.rule.kept log (c.in-Some.ensures.plays log is));
+        play = play;
         served = stands.always;
         lawful = stands.lawful;
-        spent = subst (λ n. (wakes_of log ≡ 2 * n + 16) ⊎ (4294967296 ≤ calls_since_wake log)) (c.len.ensures ∙ c.args.entries.ok.0) (spends _ _ _ log ((c.serve.ensures.spent c.in-TurnsSpent.is).holds log is));
+        spent = spent-busy c.args.entries.items log play (subst (λ n. (wakes_of log ≡ 2 * n + 16) ⊎ (4294967296 ≤ calls_since_wake log)) (c.len.ensures ∙ c.args.entries.ok.0) spent);
       },
     )
