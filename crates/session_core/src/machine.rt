@@ -132,6 +132,7 @@ fn command_taken(client: &mut Client, n: usize)
     ensures { client.new ≡ record client.old { phase = sent_in client.old.phase n } }
 {
     if let Phase::Working(command) = &mut client.phase {
+        // A length is known to fit, and so is the sum, which is at most this one.
         let _length = command.bytes.as_slice().len();
         command.sent += n;
     }
