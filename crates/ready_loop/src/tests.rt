@@ -1,19 +1,22 @@
 // A client that sends much at once.
-ghost use Rattle.std.specs.Prelude.{None, replicate, true, false};
+ghost use Rattle.std.specs.Prelude.{None, Some, [], ◌∷◌, replicate, true, false};
+ghost use Rattle.mx_base.specs.declared.tag.Tag.TheVariants as tag;
 
 use crate::{Act, Event, Machine, Piece, ServeEnd, serve};
 use mx_base::{Address, LinkId, OutOfMemory, Port, ServerId, Tag};
 use mx_wire::{Accepted, Got, Listened, Opened, Took, Wire, Woke};
 use std::test::Fail;
 
-// Reads each link, and asks for nothing.
+const GREETING: &[u8] = &[7];
+
+// Reads each link, has a greeting for it, and asks for nothing.
 #[derive(Drop)]
 struct Reader;
 
 impl Machine for Reader {
     ghost stands = { λ _ _. Unit {0} };
 
-    ghost sends = { λ _ _. None };
+    ghost sends = { λ _ _. Some (record { tag = tag.Reply; bytes = 7 ∷ [] }) };
 
     ghost reads = { λ _ _. true };
 
@@ -44,7 +47,10 @@ impl Machine for Reader {
     }
 
     fn outgoing(&self, _: LinkId) -> Option<Piece<'_>> {
-        None
+        Some(Piece {
+            tag: Tag::Reply,
+            bytes: GREETING,
+        })
     }
 
     fn taken(&mut self, _: LinkId, _: usize) {}
@@ -75,7 +81,7 @@ impl Machine for Reader {
     ghost quiet = { λ machine e q. record { carried = λ log may due held. tt } };
 }
 
-// One client, with so many bytes, at one wake. The sizes of the reads are kept.
+// One client, with so many bytes, at one wake. The sizes of the reads are kept, and whether a write was offered.
 #[derive(Drop)]
 struct Flood {
     left: usize,
@@ -83,6 +89,7 @@ struct Flood {
     woke: bool,
     sizes: [usize; 4],
     reads: usize,
+    offered: bool,
 }
 
 impl Wire for Flood {
@@ -142,6 +149,7 @@ impl Wire for Flood {
     }
 
     fn write(&mut self, _: LinkId, _: Tag, _: &[u8]) -> Took {
+        self.offered = true;
         Took::NotReady
     }
 
@@ -156,9 +164,11 @@ fn reads_a_link_until_nothing_is_there(rt: HostRuntime) -> Result<(), Fail> {
         woke: false,
         sizes: [7; 4],
         reads: 0,
+        offered: false,
     };
     let end = serve(rt.alloc(), &mut Reader, &mut wire, 5);
     assert_eq!(rt; end, ServeEnd::Over);
     assert_eq!(rt; wire.sizes, [65_536, 4_464, 0, 7]);
+    assert!(rt; wire.offered);
     Ok(())
 }
