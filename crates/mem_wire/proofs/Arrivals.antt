@@ -32,7 +32,8 @@ use Rattle.mem_wire.specs.Naming.{named_by, named_at, NoneIn, NoneAt, lines_betw
 use Rattle.mem_wire.specs.Stands.{Numbered, CutsAt, Fits, Stands, Passed, Entered, client, server}
 use Rattle.mem_wire.specs.Follows.{Follows, IsTape, Continues, HaveSalts}
 use Rattle.mem_wire.proofs.Links.{all_below-append}
-use Rattle.mem_wire.proofs.Scenes.{alike-marks, accepted-more, opened-more, just-more}
+use Rattle.mem_wire.proofs.Scenes.{alike-marks, opened-more, just-more}
+use Rattle.mem_wire.specs.CameLaws.{accepted-more}
 use Rattle.mem_wire.proofs.Sound.{sound-late, no-late, get-last}
 use Rattle.mem_wire.proofs.CutLaws.{moment-is, cut-next, last-lines, cut-released}
 use Rattle.mem_wire.proofs.Standing.{client-is, stands-alike}

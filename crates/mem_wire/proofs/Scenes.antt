@@ -17,27 +17,8 @@ use Rattle.mem_wire.proofs.Quiet.{is_open-idle}
 one_or_none : Bool → Entry → Log
 one_or_none b e = if b then e ∷ [] else []
 
-pub wakes-more : (log : Log) (e : Entry) → wakes (log ++ e ∷ []) ≡ wakes log + length (if is_woke e then e ∷ [] else [])
-wakes-more log e = ap length (filter-append is_woke log (e ∷ [])) ∙ length-append (filter is_woke log) (filter is_woke (e ∷ []))
-
-pub accepted-more : (port : Port) (log : Log) (e : Entry) → accepted_at port (log ++ e ∷ []) ≡ accepted_at port log + length (if is_accepted_at port e then e ∷ [] else [])
-accepted-more port log e = ap length (filter-append (is_accepted_at port) log (e ∷ [])) ∙ length-append (filter (is_accepted_at port) log) (filter (is_accepted_at port) (e ∷ []))
-
 pub opened-more : (log : Log) (e : Entry) → opened_links (log ++ e ∷ []) ≡ opened_links log ++ cons_option (opened_link e) []
 opened-more log e = filter_map-append opened_link log (e ∷ [])
-
-known-from : (recording : List RecordEntry) (before log : Log) (e : Entry) → known_after recording before (log ++ e ∷ []) ≡ known_after recording before log ++ known_by recording (before ++ log) e
-known-from recording before [] e = append-nil (known_by recording before e) ∙ ap (λ (l : Log). known_by recording l e) (sym (append-nil before))
-known-from recording before (x ∷ log) e =
-    ap (λ later. known_by recording before x ++ later) (known-from recording (before ++ x ∷ []) log e)
-    ∙ sym (append_assoc (known_by recording before x) (known_after recording (before ++ x ∷ []) log) (known_by recording ((before ++ x ∷ []) ++ log) e))
-    ∙ ap (λ (l : Log). (known_by recording before x ++ known_after recording (before ++ x ∷ []) log) ++ known_by recording l e) (append_assoc before (x ∷ []) log)
-
-pub known-more : (recording : List RecordEntry) (log : Log) (e : Entry) → known recording (log ++ e ∷ []) ≡ known recording log ++ known_by recording log e
-known-more recording log e = known-from recording [] log e
-
-pub named-more : (log : Log) (e : Entry) → named_since (log ++ e ∷ []) ≡ named_step (named_since log) e
-named-more log e = fold-append named_step [] log (e ∷ [])
 
 pub marks-more : (log : Log) (e : Entry) → last_marks (log ++ e ∷ []) ≡ (if is_mark e then last_marks log ++ e ∷ [] else [])
 marks-more log e = fold-append (λ marks e. if is_mark e then marks ++ e ∷ [] else []) [] log (e ∷ [])

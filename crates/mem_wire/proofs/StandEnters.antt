@@ -21,7 +21,7 @@ use Rattle.mem_wire.specs.Steps.{numbered, next_link, clients_of, accepted_of, E
 use Rattle.mem_wire.specs.Naming.{is_named}
 use Rattle.mem_wire.specs.Below.{link_below, all_below, links_below}
 use Rattle.mem_wire.specs.Stands.{CutsAt, Numbered, read_by, is_in, Fits, Stands, Entered}
-use Rattle.mem_wire.proofs.Scenes.{wakes-more, known-more, named-more}
+use Rattle.mem_wire.specs.CameLaws.{wakes-more, known-more, named-more}
 use Rattle.mem_wire.proofs.StandSteps.{but-entry, each-track, fits-but, new-links}
 use Rattle.mem_wire.proofs.Links.{below-fresh, and-left, and-right, links_below-append}
 

@@ -22,7 +22,7 @@ use Rattle.mem_wire.specs.Tracks.{track_at, place, ChangesTrack}
 use Rattle.mem_wire.specs.Steps.{clients_of, accepted_of}
 use Rattle.mem_wire.specs.Naming.{is_named}
 use Rattle.mem_wire.specs.Stands.{read_by, is_in, Fits, Stands, Entered, client, server}
-use Rattle.mem_wire.proofs.Scenes.{named-more}
+use Rattle.mem_wire.specs.CameLaws.{named-more}
 
 -- what was entered stays entered
 pub entered-like : (old new : Stage) (at : ℕ) → ((port : Port) → clients_of port new ≡ clients_of port old) → ((port : Port) → accepted_of port new ≡ accepted_of port old) → new.opened.items ≡ old.opened.items → Entered old at → Entered new at

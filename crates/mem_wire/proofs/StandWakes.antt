@@ -22,7 +22,8 @@ use Rattle.mem_wire.specs.Tracks.{track_at, place, given}
 use Rattle.mem_wire.specs.Steps.{clients_of, accepted_of, Wakes}
 use Rattle.mem_wire.specs.Naming.{is_named}
 use Rattle.mem_wire.specs.Stands.{CutsAt, Numbered, read_by, is_in, Fits, Stands, Entered, client, server}
-use Rattle.mem_wire.proofs.Scenes.{wakes-more, accepted-more, opened-more, known-more, named-more}
+use Rattle.mem_wire.proofs.Scenes.{opened-more}
+use Rattle.mem_wire.specs.CameLaws.{wakes-more, accepted-more, known-more, named-more}
 use Rattle.mem_wire.proofs.Quiet.{is_open-idle}
 use Rattle.mem_wire.proofs.LineLaws.{bytes_for-append, marks_for-append, released-links}
 use Rattle.mem_wire.proofs.CutLaws.{cut-next}

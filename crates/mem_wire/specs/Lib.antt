@@ -1,6 +1,8 @@
 pub mod Lines
 pub mod Came
 pub mod Play
+pub mod CameLaws
+pub mod Plays
 pub mod Adds
 pub mod Tracks
 pub mod Cuts

@@ -1,6 +1,9 @@
 -- What a replay puts, and why it stops short.
-use Rattle.std.specs.Prelude.{◌≡◌, ℕ, ◌<◌, ◌≤◌, List, [], ◌∷◌, ◌++◌, Option, Some, None, Ok, Err}
-use Rattle.mx_wire.specs.Log.{Log}
+use Rattle.std.specs.Prelude.{◌≡◌, ℕ, ◌<◌, ◌≤◌, false, List, [], ◌∷◌, ◌++◌, length, Option, Some, None, Ok, Err}
+use Rattle.mx_base.specs.declared.names.LinkId.{LinkId}
+use Rattle.mx_base.specs.declared.names.Port.{Port}
+use Rattle.mx_wire.specs.Log.{Log, read_of}
+use Rattle.mx_wire.specs.Tells.{IsOpen}
 use Rattle.mx_wire.specs.Moments.{AtEachMoment, AllLawful}
 use Rattle.mx_wire.specs.Outside.{HasUnder, Takes, TakesFront}
 use Rattle.mx_wire.specs.declared.entry.Entry.TheVariants.{Over}
@@ -8,10 +11,14 @@ use Rattle.recording.specs.declared.entry.RecordEntry.{RecordEntry}
 use Rattle.recording.specs.declared.fault.RecordFault.{RecordFault}
 use Rattle.recording.specs.Recording.{recording_of}
 use Rattle.recording.specs.Transcript.{transcript_of}
+use Rattle.mem_wire.specs.Lines.{moments, clients_at, bytes_for}
+use Rattle.mem_wire.specs.Came.{wakes, accepted_at, Known, known, with_link}
 use Rattle.mem_wire.specs.Play.{IsPlay}
 use Rattle.mem_wire.specs.Told.{Played}
+use Rattle.ready_loop.specs.Drained.{write_dry}
 use Rattle.ready_loop.specs.Round.{calls_since_wake}
 use Rattle.session_core.specs.Headline.{IsServed, IsLawful}
+use Rattle.session_core.specs.Rest.{RestsAt}
 use Rattle.mx_proxy.specs.declared.stop.Stop.{Stop}
 use Rattle.mx_proxy.specs.declared.stop.Stop.TheVariants as stop
 use Rattle.mx_proxy.specs.Words.{recording_name}
@@ -33,16 +40,27 @@ pub record IsFaulty (name : List ℕ) (held : Held) (fault : RecordFault) : Type
   pub said : recording_of bytes ≡ Err fault
 
 -- At each moment of the log what was written to each client is a beginning of the answers to its messages, and each byte
--- was written as it may be. The log goes on until the wire has nothing more.
+-- was written as it may be. Each wait came at rest, and so did the last, after which the wire has nothing more.
 pub record ServesToEnd (log : Log) : Type 0 where
   pub served : AtEachMoment IsServed log
   pub lawful : AllLawful IsLawful log
-  pub over : (before : Log) × (log ≡ before ++ Over ∷ [])
+  pub rests : AllLawful RestsAt log
+  pub before : Log
+  pub over : log ≡ before ++ Over ∷ []
 
--- the wire answered as the recording says
+-- Each moment of the recording came, each of its clients was accepted, and of each link that is open all its bytes were read. No write
+-- found a link that takes no more.
+pub record IsPlayedOut (entries : List RecordEntry) (log : Log) : Type 0 where
+  pub woke : wakes log ≡ length (moments entries)
+  pub accepted : (port : Port) → accepted_at port log ≡ length (clients_at port entries)
+  pub read : (link : LinkId) (k : Known) → with_link link (known entries log) ≡ Some k → IsOpen link log → read_of link log ≡ bytes_for k.name entries
+  pub taken : (link : LinkId) → write_dry link log ≡ false
+
+-- the wire answered as the recording says, until it was played out
 pub record ReplaysTo (entries : List RecordEntry) (log : Log) : Type 0 where
   pub play : IsPlay entries log
   pub serves : ServesToEnd log
+  pub ends : IsPlayedOut entries serves.before
 
 -- what a tape tells that has played these entries
 pub record HasPlayed (entries : List RecordEntry) (tape : Played) : Type 0 where
@@ -54,6 +72,7 @@ pub record IsSpent (entries : List RecordEntry) (log : Log) : Type 0 where
   pub play : IsPlay entries log
   pub served : AtEachMoment IsServed log
   pub lawful : AllLawful IsLawful log
+  pub rests : AllLawful RestsAt log
   pub spent : 4294967296 ≤ calls_since_wake log
 
 abbrev pub ReadStops : Stop → List ℕ → Held → (before now : ℕ) → Type 0

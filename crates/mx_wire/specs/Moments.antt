@@ -37,3 +37,21 @@ lawful-from Rule before (x ∷ log) e all now = (all.0, lawful-from Rule (before
 
 pub lawful-more : (Rule : Log → Entry → Type 0) (log : Log) (e : Entry) → AllLawful Rule log → Rule log e → AllLawful Rule (log ++ e ∷ [])
 lawful-more Rule log e all now = lawful-from Rule [] log e all now
+
+lawful-parts : (Rule : Log → Entry → Type 0) (before log : Log) (e : Entry) → LawfulAfter Rule before (log ++ e ∷ []) → LawfulAfter Rule before log × Rule (before ++ log) e
+lawful-parts Rule before [] e all = (tt, subst (λ (l : Log). Rule l e) (sym (append-nil before)) all.0)
+lawful-parts Rule before (x ∷ log) e all =
+    let parts = lawful-parts Rule (before ++ x ∷ []) log e all.1 in
+    ((all.0, parts.0), subst (λ (l : Log). Rule l e) (append_assoc before (x ∷ []) log) parts.1)
+
+-- the entries before the last kept the rule, and so did the last
+pub lawful-last : (Rule : Log → Entry → Type 0) (log : Log) (e : Entry) → AllLawful Rule (log ++ e ∷ []) → AllLawful Rule log × Rule log e
+lawful-last Rule log e all = lawful-parts Rule [] log e all
+
+after-each : (Rule : Log → Entry → Type 0) (P : Log → Type 0) (before log : Log) → ((l : Log) (e : Entry) → Rule l e → P l → P (l ++ e ∷ [])) → P before → LawfulAfter Rule before log → P (before ++ log)
+after-each Rule P before [] more start all = subst P (sym (append-nil before)) start
+after-each Rule P before (e ∷ log) more start all = subst P (append_assoc before (e ∷ []) log) (after-each Rule P (before ++ e ∷ []) log more (more before e all.0 start) all.1)
+
+-- what each entry that keeps the rule leaves so is so of the log
+pub lawful-each : (Rule : Log → Entry → Type 0) (P : Log → Type 0) (log : Log) → ((l : Log) (e : Entry) → Rule l e → P l → P (l ++ e ∷ [])) → P [] → AllLawful Rule log → P log
+lawful-each Rule P log more start all = after-each Rule P [] log more start all

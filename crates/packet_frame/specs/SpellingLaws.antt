@@ -97,3 +97,11 @@ unfolding first_message spelling
 first_message-spelled limit first bytes message rest are whole =
     let found = within-spelled (length bytes) limit 0 first bytes message rest are whole in
     (found.begins, found.spelled)
+
+-- a spelling isn't empty
+pub spelling-some : (first : ℕ) (payload : List ℕ) → 0 < length (spelling first payload)
+unfolding spelling
+spelling-some first payload = of (length payload / longest) first payload where
+  of : (full id : ℕ) (bytes : List ℕ) → 0 < length (packets full id bytes)
+  of zero id bytes = search arith
+  of (suc full) id bytes = search arith

@@ -44,28 +44,19 @@ counts-more old new log e is was = record {
   wakes = ap (λ (r : Round). r.wakes) is ∙ ap (λ (n : ℕ). wake_step n e) was.wakes ∙ sym (wakes-more log e);
 }
 
--- entries by which a link opens
-abbrev pub IsOpening : Entry → Type 0
-IsOpening (entry.Accepted at link salt) = Unit {0}
-IsOpening (entry.Opened server address link) = Unit {0}
-IsOpening _ = ⊥
-
-abbrev pub IsWet : Bool → Bool → Type 0
-IsWet read write = (read ≡ false) × (write ≡ false)
-
 changed : (opened : Bool) (change : Dry → Dry) (dry : Dry) → cond opened (Some (change dry)) None ≡ option_map change (cond opened (Some dry) None)
 changed true change dry = refl
 changed false change dry = refl
 
-dry-steps : (opened read write : Bool) (e : Entry) → (IsOpening e → IsWet read write) → dry_at (open_step opened e) (read_step read e) (write_step write e) ≡ dry_step (dry_at opened read write) e
-dry-steps opened read write (entry.Accepted at link salt) fresh = let new = fresh tt in let r = new.0 in let w = new.1 in cc
-dry-steps opened read write (entry.Opened server address link) fresh = let new = fresh tt in let r = new.0 in let w = new.1 in cc
-dry-steps opened read write (entry.Named link) fresh = changed opened (λ dry. wet) (record { read = read; write = write })
-dry-steps opened read write (entry.Got link bytes) fresh = changed opened (λ dry. record dry { read = false }) (record { read = read; write = write })
-dry-steps opened read write (entry.ReadNothing link) fresh = changed opened (λ dry. record dry { read = true }) (record { read = read; write = write })
-dry-steps opened read write (entry.Wrote link tag bytes) fresh = changed opened (λ dry. record dry { write = false }) (record { read = read; write = write })
-dry-steps opened read write (entry.WriteNothing link) fresh = changed opened (λ dry. record dry { write = true }) (record { read = read; write = write })
-dry-steps opened read write _ fresh = refl
+dry-steps : (opened read write : Bool) (e : Entry) → dry_at (open_step opened e) (read_step read e) (write_step write e) ≡ dry_step (dry_at opened read write) e
+dry-steps opened read write (entry.Accepted at link salt) = refl
+dry-steps opened read write (entry.Opened server address link) = refl
+dry-steps opened read write (entry.Named link) = changed opened (λ dry. wet) (record { read = read; write = write })
+dry-steps opened read write (entry.Got link bytes) = changed opened (λ dry. record dry { read = false }) (record { read = read; write = write })
+dry-steps opened read write (entry.ReadNothing link) = changed opened (λ dry. record dry { read = true }) (record { read = read; write = write })
+dry-steps opened read write (entry.Wrote link tag bytes) = changed opened (λ dry. record dry { write = false }) (record { read = read; write = write })
+dry-steps opened read write (entry.WriteNothing link) = changed opened (λ dry. record dry { write = true }) (record { read = read; write = write })
+dry-steps opened read write _ = refl
 
 dry_at-equal : (o o' r r' w w' : Bool) → o ≡ o' → r ≡ r' → w ≡ w' → dry_at o r w ≡ dry_at o' r' w'
 dry_at-equal o o' r r' w w' opened read write = cc
@@ -74,34 +65,22 @@ dry_at-equal o o' r r' w w' opened read write = cc
 pub dry-other : (link : LinkId) (log : Log) (e : Entry) → is_link link (link_of e) ≡ false → dry_in link (log ++ e ∷ []) ≡ dry_in link log
 dry-other link log e other = dry_at-equal _ _ _ _ _ _ (step-other open_step false link log e other) (step-other read_step false link log e other) (step-other write_step false link log e other)
 
--- an entry by which a link opens names a link that is new
-new-wet : (link : LinkId) (log : Log) (e : Entry) → link_of e ≡ Some link → MayFollow log e → IsOpening e → IsWet (read_dry link log) (write_dry link log)
-new-wet link log (entry.Accepted at other salt) names may opening =
-    let same : other ≡ link = cc in
-    let new : of_link link log ≡ [] = subst (λ (l : LinkId). of_link l log ≡ []) same may.fits.fresh in
-    (ap (fold read_step false) new, ap (fold write_step false) new)
-new-wet link log (entry.Opened server address other) names may opening =
-    let same : other ≡ link = cc in
-    let new : of_link link log ≡ [] = subst (λ (l : LinkId). of_link l log ≡ []) same may.fits in
-    (ap (fold read_step false) new, ap (fold write_step false) new)
-new-wet link log _ names may opening = absurd opening
-
-pub dry-same : (link : LinkId) (log : Log) (e : Entry) → link_of e ≡ Some link → MayFollow log e → dry_in link (log ++ e ∷ []) ≡ dry_step (dry_in link log) e
-dry-same link log e names may =
+pub dry-same : (link : LinkId) (log : Log) (e : Entry) → link_of e ≡ Some link → dry_in link (log ++ e ∷ []) ≡ dry_step (dry_in link log) e
+dry-same link log e names =
     let here : is_link link (link_of e) ≡ true = rw names (same_number link.0) in
     dry_at-equal _ _ _ _ _ _ (step-same open_step false link log e here) (step-same read_step false link log e here) (step-same write_step false link log e here)
-    ∙ dry-steps (is_open link log) (read_dry link log) (write_dry link log) e (new-wet link log e names may)
+    ∙ dry-steps (is_open link log) (read_dry link log) (write_dry link log) e
 
 -- what is said of a link holds of a link with the same number
 pub at_number : (P : LinkId → Type 0) (a b : LinkId) → nat_eq a.0 b.0 ≡ true → P a → P b
 at_number P a b same held = subst (λ (n : ℕ). P (record { 0 = n })) (eqb-true a.0 b.0 same) held
 
 -- the table's links, with one more entry that names a link, or that names none
-pub links-named : (old new : Links) (log : Log) (e : Entry) (link : LinkId) → link_of e ≡ Some link → MayFollow log e → dry_of new link ≡ dry_step (dry_of old link) e
+pub links-named : (old new : Links) (log : Log) (e : Entry) (link : LinkId) → link_of e ≡ Some link → dry_of new link ≡ dry_step (dry_of old link) e
     → ((other : LinkId) → nat_eq link.0 other.0 ≡ false → dry_of new other ≡ dry_of old other) → ((l : LinkId) → dry_of old l ≡ dry_in l log) → (l : LinkId) → dry_of new l ≡ dry_in l (log ++ e ∷ [])
-links-named old new log e link names may same others was l = elim (bool_cases (nat_eq link.0 l.0)) [
+links-named old new log e link names same others was l = elim (bool_cases (nat_eq link.0 l.0)) [
   | inl here ↦ at_number (λ (l' : LinkId). dry_of new l' ≡ dry_in l' (log ++ e ∷ [])) link l here
-      (same ∙ ap (λ (d : Option Dry). dry_step d e) (was link) ∙ sym (dry-same link log e names may))
+      (same ∙ ap (λ (d : Option Dry). dry_step d e) (was link) ∙ sym (dry-same link log e names))
   | inr apart ↦ (
       let not_it : is_link l (link_of e) ≡ false = rw names (nat_eq-sym link.0 l.0 apart) in
       others l apart ∙ was l ∙ sym (dry-other l log e not_it))
@@ -183,7 +162,7 @@ pub named : (old new : Table) (told now : Option Log) (e : Entry) (link : LinkId
     → ((other : LinkId) → nat_eq link.0 other.0 ≡ false → dry_of new.links other ≡ dry_of old.links other) → TracksFor old told → Tells told e now → TracksFor new now
 named old new told now e link names round same others held tells = tracks_on old new told now e held tells (λ log may was. record {
   round = counts-more old.round new.round log e round was.round;
-  links = links-named old.links new.links log e link names may same others was.links;
+  links = links-named old.links new.links log e link names same others was.links;
 })
 
 -- the same log, and a table that says the same
@@ -243,7 +222,7 @@ parted old new told now (Some sent) link middle parts first last gone others hel
         round = subst (λ (r : Round). CountsOf r log) steps counted;
         links = λ l. elim (bool_cases (nat_eq link.0 l.0)) [
           | inl here ↦ at_number (λ (l' : LinkId). dry_of new.links l' ≡ dry_in l' log) link l here
-              (gone ∙ sym (dry-same link (close.0 ++ close.2.marks) (entry.Closed link) refl close.2.lawful) ∙ ap (dry_in link) (sym close.2.is))
+              (gone ∙ sym (dry-same link (close.0 ++ close.2.marks) (entry.Closed link) refl) ∙ ap (dry_in link) (sym close.2.is))
           | inr apart ↦ (others l apart ∙ tracks.links l ∙ sym (other-call link l write.0 close.0 offer.0 names apart write.2) ∙ sym (other-call link l close.0 log (entry.Closed link) refl apart close.2))
         ];
       };

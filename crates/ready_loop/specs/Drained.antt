@@ -5,11 +5,13 @@ use Rattle.mx_base.specs.declared.names.Port.{Port}
 use Rattle.mx_base.specs.declared.names.Port.TheVariants.{Traffic, Admin}
 use Rattle.mx_wire.specs.Log.{Log, of_link, is_open}
 use Rattle.mx_wire.specs.declared.entry.Entry.{Entry}
-use Rattle.mx_wire.specs.declared.entry.Entry.TheVariants.{Woke, WaitFailed, Over, Named, NoneNamed, Accepted, AcceptNothing, Got, ReadNothing, Wrote, WriteNothing}
+use Rattle.mx_wire.specs.declared.entry.Entry.TheVariants.{Woke, WaitFailed, Over, Named, NoneNamed, Accepted, AcceptNothing, Opened, Got, ReadNothing, Wrote, WriteNothing}
 use Rattle.ready_loop.specs.Sent.{Sent}
 
--- a link is dry for reads where the last read since it was last named found nothing
+-- a link is dry for reads where the last read since it came, and since it was last named, found nothing
 abbrev pub read_step : Bool → Entry → Bool
+read_step dry (Accepted port link salt) = false
+read_step dry (Opened server address link) = false
 read_step dry (Named link) = false
 read_step dry (Got link bytes) = false
 read_step dry (ReadNothing link) = true
@@ -17,6 +19,8 @@ read_step dry _ = dry
 
 -- and dry for writes where the last write since then found no room
 abbrev pub write_step : Bool → Entry → Bool
+write_step dry (Accepted port link salt) = false
+write_step dry (Opened server address link) = false
 write_step dry (Named link) = false
 write_step dry (Wrote link tag bytes) = false
 write_step dry (WriteNothing link) = true

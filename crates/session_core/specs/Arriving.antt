@@ -9,7 +9,7 @@ use Rattle.packet_frame.specs.Laws.{split-count}
 use Rattle.packet_frame.specs.OnePacket.{first_message-whole}
 use Rattle.session_core.specs.declared.asked.Asked.TheVariants.{Query, Unknown, Malformed}
 use Rattle.session_core.specs.declared.client.Client.{Client}
-use Rattle.session_core.specs.Errors.{unknown_command, malformed_command}
+use Rattle.session_core.specs.Errors.{unknown_command, malformed_command, packet_out_of_order, packet_too_large}
 use Rattle.session_core.specs.Answers.{most_payload, is_query, answer_to, fault_answer}
 use Rattle.session_core.specs.Asked.{asked_of}
 use Rattle.session_core.specs.Count.{counted, counted-one}
@@ -17,6 +17,8 @@ use Rattle.session_core.specs.Past.{client_message, Answers, Past, past-fed, pas
 use Rattle.session_core.specs.Past.IsLast.{None_yet, Refused}
 use Rattle.session_core.specs.Stands.{IsReading, IsIdle}
 use Rattle.session_core.specs.Steps.{Starts, Refuses, Ends, Feeds, IsPumped}
+use Rattle.packet_frame.specs.declared.fault.FrameFault.TheVariants.{OutOfOrder, TooLarge}
+use Rattle.packet_frame.specs.SpellingLaws.{spelling-some}
 
 -- more bytes of an idle client
 pub idle-fed : (old new : Client) (bytes : List ℕ) (reply : ℕ → Option (List ℕ)) (read written : List ℕ) → Feeds old bytes new → IsIdle old reply read written → IsIdle new reply (read ++ bytes) written
@@ -120,6 +122,10 @@ idle-started old new message rest reply read written few starts found query was 
       },
     )
 
+fault_answer-some : (fault : FrameFault) → 0 < length (fault_answer (Some fault))
+fault_answer-some (OutOfOrder expected found) = spelling-some (next_id found) (packet_out_of_order expected found)
+fault_answer-some (TooLarge size) = spelling-some (next_id 0) (packet_too_large size most_payload)
+
 pub idle-ended : (old new : Client) (fault : FrameFault) (reply : ℕ → Option (List ℕ)) (read written : List ℕ) → Ends fault old new → client_message old.framer.kept ≡ Faulty fault
     → IsIdle old reply read written → IsPumped new.phase old.arrived new reply read written
 idle-ended old new fault reply read written ends found was = subst (λ (c : Client). IsPumped c.phase old.arrived c reply read written) (sym ends) (
@@ -127,7 +133,8 @@ idle-ended old new fault reply read written ends found was = subst (λ (c : Clie
   record {
     done = was.done;
     waiting = old.framer.kept;
-    last = fault_answer (Some fault);
+    fault = fault;
+    faulty = found;
     so_far = record {
       past = was.so_far.past;
       before = was.so_far.before;
@@ -135,5 +142,6 @@ idle-ended old new fault reply read written ends found was = subst (λ (c : Clie
       is_last = Refused fault found;
       is = sym (append_assoc written old.outgoing (fault_answer (Some fault))) ∙ ap (λ xs. xs ++ fault_answer (Some fault)) (was.so_far.is ∙ append-nil was.so_far.before);
     };
+    some = omega (arith, fault_answer-some fault, length-append old.outgoing (fault_answer (Some fault)));
   },
 )

@@ -122,7 +122,7 @@ pub tracks-commanded : (old new : Core) (client : Client) (command : Command) (s
 tracks-commanded old new client command server n log commands writes fits may =
     tracks-with new later (log ++ e ∷ []) writes.client_is (writes.accepted ∙ was.accepted ∙ sym (ap length (accepted_links-same log e refl)))
     (subst (λ (links : List LinkId). AreHeld links (log ++ e ∷ [])) (sym (ap (λ xs. (xs ++ server_links new.server) ++ client.link ∷ []) writes.refused ∙ ap (λ s. (old.refused.items ++ server_links s) ++ client.link ∷ []) writes.server))
-    (held-stays ((old.refused.items ++ server_links old.server) ++ client.link ∷ []) log e refl held))
+    (held-stays ((old.refused.items ++ server_links old.server) ++ client.link ∷ []) log e refl refl held))
     (subst (λ (s : Option Server). IsServers s (log ++ e ∷ [])) (sym writes.server) (servers-same old.server log e refl was.servers))
     (subst (λ (s : Option Server). HasClient later s (log ++ e ∷ [])) (sym (writes.server ∙ commands.on)) (record {
       number = client_link-more client.number.0 log e client.link has.number;

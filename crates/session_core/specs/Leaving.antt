@@ -24,7 +24,8 @@ use Rattle.session_core.specs.Stands.{server_links, while_held, AreAnswers, WasA
 use Rattle.session_core.specs.Still.{replies-stay, are_answers-stay, few-still, served-one}
 use Rattle.session_core.specs.Quiet.{CarriesNothing, IsStill, unsent-more, is-quiet}
 use Rattle.session_core.specs.Tracking.{tracks-with, has-with, held-with}
-use Rattle.session_core.specs.Parting.{mark-still}
+use Rattle.session_core.specs.Parting.{mark-still, mark-rests}
+use Rattle.session_core.specs.Rest.{RestsAt}
 
 -- The client's link is about to close: what was written to it is a beginning of its answers.
 pub record IsParting (core : Core) (client : Client) (log : Log) : Type 0 where
@@ -37,6 +38,7 @@ pub record IsParting (core : Core) (client : Client) (log : Log) : Type 0 where
   pub few : IsFew log
   pub always : AtEachMoment IsServed log
   pub lawful : AllLawful IsLawful log
+  pub rests : AllLawful RestsAt log
 
 pub record LeavesAs (old : Core) (client : Client) (new : Core) : Type 0 where
   pub is : old.client ≡ Some client
@@ -72,6 +74,7 @@ parts old new client log leaves held =
       few = held.few;
       always = held.always;
       lawful = held.lawful;
+      rests = held.rests;
     }
 
 -- what is written of its bytes is a beginning
@@ -94,7 +97,7 @@ parts-written old new client n log leaves held =
     }) in
     record {
       accepted = held.tracks.accepted ∙ sym (ap length (accepted_links-same log e refl));
-      held = held-stays (old.refused.items ++ client.link ∷ []) log e refl (leaving-held old new client log leaves held);
+      held = held-stays (old.refused.items ++ client.link ∷ []) log e refl refl (leaving-held old new client log leaves held);
       number = number;
       others = others;
       state = state;
@@ -102,11 +105,12 @@ parts-written old new client n log leaves held =
       few = few-still log e refl held.few;
       always = moment-more IsServed log e held.always (served-one (record client { phase = Gone }) (log ++ e ∷ []) number others state);
       lawful = lawful-more IsLawful log e held.lawful (client.number.0, has.number);
+      rests = lawful-more RestsAt log e held.rests tt;
     }
 
 -- entries that change nothing of it
-parts-still : (core : Core) (client : Client) (log : Log) (e : Entry) → IsStill e → IsParting core client log → IsParting core client (log ++ e ∷ [])
-parts-still core client log e still was =
+parts-still : (core : Core) (client : Client) (log : Log) (e : Entry) → IsStill e → RestsAt log e → IsParting core client log → IsParting core client (log ++ e ∷ [])
+parts-still core client log e still rest was =
     let read : read_of client.link (log ++ e ∷ []) ≡ read_of client.link log = bytes-idle got_bytes client.link log e still.no_read in
     let written : written_of client.link (log ++ e ∷ []) ≡ written_of client.link log = bytes-idle wrote_bytes client.link log e still.no_write in
     let number : client_link client.number.0 (log ++ e ∷ []) ≡ Some client.link = client_link-more client.number.0 log e client.link was.number in
@@ -120,7 +124,7 @@ parts-still core client log e still was =
     }) in
     record {
       accepted = was.accepted ∙ sym (ap length (accepted_links-same log e still.no_client));
-      held = held-stays (core.refused.items ++ client.link ∷ []) log e still.keeps was.held;
+      held = held-stays (core.refused.items ++ client.link ∷ []) log e still.keeps still.opens_none was.held;
       number = number;
       others = others;
       state = state;
@@ -128,11 +132,12 @@ parts-still core client log e still was =
       few = few-still log e still.no_read was.few;
       always = moment-more IsServed log e was.always (served-one (record client { phase = Gone }) (log ++ e ∷ []) number others state);
       lawful = lawful-more IsLawful log e was.lawful (still.law log);
+      rests = lawful-more RestsAt log e was.rests rest;
     }
 
 parts-marks : (core : Core) (client : Client) (log marks : Log) → AreMarks marks → IsParting core client log → IsParting core client (log ++ marks)
 parts-marks core client log [] all was = subst (λ (l : Log). IsParting core client l) (sym (append-nil log)) was
-parts-marks core client log (e ∷ marks) all was = subst (λ (l : Log). IsParting core client l) (append_assoc log (e ∷ []) marks) (parts-marks core client (log ++ e ∷ []) marks all.1 (parts-still core client log e (mark-still e all.0) was))
+parts-marks core client log (e ∷ marks) all was = subst (λ (l : Log). IsParting core client l) (append_assoc log (e ∷ []) marks) (parts-marks core client (log ++ e ∷ []) marks all.1 (parts-still core client log e (mark-still e all.0) (mark-rests log e all.0) was))
 
 -- and the link is closed
 parted : (old new : Core) (client : Client) (log : Log) → LeavesAs old client new → old.server ≡ None → IsParting old client log → Stands new (log ++ entry.Closed client.link ∷ [])
@@ -168,6 +173,7 @@ parted old new client log leaves none was =
           }));
       always = moment-more IsServed log e was.always (served-one gone (log ++ e ∷ []) number others state);
       lawful = lawful-more IsLawful log e was.lawful tt;
+      rests = lawful-more RestsAt log e was.rests tt;
     }
 
 -- what is offered to it is a beginning of its bytes
@@ -192,9 +198,9 @@ farewell-parts old new client log (entry.Wrote to tag bytes) leaves farewell hel
     subst (λ (l : LinkId). IsParting old client (log ++ entry.Wrote l tag bytes ∷ [])) (sym farewell.0)
     (subst (λ (t : Tag). IsParting old client (log ++ entry.Wrote client.link t bytes ∷ [])) (sym tag_is)
     (subst (λ (xs : List ℕ). IsParting old client (log ++ entry.Wrote client.link Reply xs ∷ [])) (sym bytes_are) (parts-written old new client part.front.0 log leaves held)))
-farewell-parts old new client log (entry.WriteNothing to) leaves farewell held = parts-still old client log (entry.WriteNothing to) (is-quiet (entry.WriteNothing to) tt) (parts old new client log leaves held)
+farewell-parts old new client log (entry.WriteNothing to) leaves farewell held = parts-still old client log (entry.WriteNothing to) (is-quiet (entry.WriteNothing to) tt) tt (parts old new client log leaves held)
 farewell-parts old new client log (entry.WriteFailed to) leaves farewell held =
-    parts-still old client log (entry.WriteFailed to) (record { no_client = refl; no_read = refl; no_write = refl; nothing = record { no_carrier = λ n i. refl; no_bytes = λ n i. refl }; keeps = refl; opens_none = refl; law = λ l. tt }) (parts old new client log leaves held)
+    parts-still old client log (entry.WriteFailed to) (record { no_client = refl; no_read = refl; no_write = refl; nothing = record { no_carrier = λ n i. refl; no_bytes = λ n i. refl }; keeps = refl; opens_none = refl; law = λ l. tt }) tt (parts old new client log leaves held)
 farewell-parts old new client log _ leaves farewell held = absurd farewell
 
 pub closes-client : (old new : Core) (client : Client) → LeavesAs old client new → Closes Stands due_in old new (sends new client.link) client.link

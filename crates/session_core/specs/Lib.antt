@@ -6,8 +6,10 @@ pub mod Growth
 pub mod Past
 pub mod Held
 pub mod Acts
+pub mod Rest
 pub mod Stands
 pub mod Still
+pub mod Resting
 pub mod Quiet
 pub mod Count
 pub mod Asked

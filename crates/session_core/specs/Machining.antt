@@ -27,6 +27,7 @@ use Rattle.session_core.specs.Tracking.{tracks-kept, tracks-left, PassesClient, 
 use Rattle.session_core.specs.Saying.{got-nothing, tracks-said}
 use Rattle.session_core.specs.Replied.{tracks-replied}
 use Rattle.session_core.specs.Coming.{tracks-came, tracks-opened}
+use Rattle.session_core.specs.Resting.{rests-due}
 
 -- every server stands at this address, and every port is listened on at it
 abbrev pub the_address : Address
@@ -45,11 +46,11 @@ abbrev pub unnamed : Core → ℕ
 unnamed core = one_if core.client_changed + one_if core.server_changed
 
 pub stands-kept : (old new : Core) (log : Log) → KeepsLinks old new → Stands old log → Stands new log
-stands-kept old new log keeps held = record { few = held.few; tracks = tracks-kept old new log keeps held.tracks; always = held.always; lawful = held.lawful }
+stands-kept old new log keeps held = record { few = held.few; tracks = tracks-kept old new log keeps held.tracks; always = held.always; lawful = held.lawful; rests = held.rests }
 
 -- one event carries what is tracked over its entry
 pub carries : (old new : Core) (e : Entry) → ((log : Log) → IsLawful log e) → ((log : Log) → MayFollow log e → IsFew (log ++ e ∷ []) → Tracks old log → Tracks new (log ++ e ∷ [])) → CarriesOver Stands due_in old new e
-carries old new e law tracks = record { carried = λ log may is_due held. stands-more old new log e (few-more log e may held.few) held (law log) (tracks log may (few-more log e may held.few) held.tracks) }
+carries old new e law tracks = record { carried = λ log may is_due held. stands-more old new log e (few-more log e may held.few) held (law log) (rests-due old log e is_due held.tracks) (tracks log may (few-more log e may held.few) held.tracks) }
 
 pub carries-kept : (old mid new : Core) (e : Entry) → KeepsLinks mid new → CarriesOver Stands due_in old mid e → CarriesOver Stands due_in old new e
 carries-kept old mid new e keeps over = record { carried = λ log may is_due held. stands-kept mid new (log ++ e ∷ []) keeps (over.carried log may is_due held) }
@@ -134,7 +135,7 @@ elsewhere-may (Some client) server log link bytes no_client no_server has =
 tracks-elsewhere : (core : Core) (log : Log) (link : LinkId) (bytes : List ℕ) → is_client core.client link ≡ false → is_server core.server link ≡ false → Tracks core log → Tracks core (log ++ entry.Got link bytes ∷ [])
 tracks-elsewhere core log link bytes no_client no_server was = record {
   accepted = was.accepted ∙ sym (ap length (accepted_links-same log (entry.Got link bytes) refl));
-  held = held-stays (held_links core) log (entry.Got link bytes) refl was.held;
+  held = held-stays (held_links core) log (entry.Got link bytes) refl refl was.held;
   servers = servers-same core.server log (entry.Got link bytes) refl was.servers;
   client = elsewhere-may core.client core.server log link bytes no_client no_server was.client;
 }

@@ -19,6 +19,7 @@ use Rattle.session_core.specs.Held.{AllApart, AreHeld, held-at, open-apart, held
 use Rattle.session_core.specs.Stands.{server_links, while_held, client_links, IsShut, MayHaveClient, IsServers, Tracks, Stands, is_client, is_server, sends, due_in}
 use Rattle.session_core.specs.Still.{few-still, stands-more}
 use Rattle.session_core.specs.Quiet.{IsStill, servers-same, may_have-passes, is-quiet, still-on}
+use Rattle.session_core.specs.Rest.{RestsAt}
 
 -- Entries that the core isn't told of.
 
@@ -27,9 +28,14 @@ mark-still (entry.Exec link) mark = is-quiet (entry.Exec link) tt
 mark-still (entry.Drop link) mark = is-quiet (entry.Drop link) tt
 mark-still _ mark = absurd mark
 
+pub mark-rests : (log : Log) (e : Entry) → IsMark e → RestsAt log e
+mark-rests log (entry.Exec link) mark = tt
+mark-rests log (entry.Drop link) mark = tt
+mark-rests log _ mark = absurd mark
+
 marks-on : (core : Core) (log marks : Log) → AreMarks marks → Stands core log → Stands core (log ++ marks)
 marks-on core log [] all held = subst (λ (l : Log). Stands core l) (sym (append-nil log)) held
-marks-on core log (e ∷ marks) all held = subst (λ (l : Log). Stands core l) (append_assoc log (e ∷ []) marks) (marks-on core (log ++ e ∷ []) marks all.1 (still-on core log e (mark-still e all.0) held))
+marks-on core log (e ∷ marks) all held = subst (λ (l : Log). Stands core l) (append_assoc log (e ∷ []) marks) (marks-on core (log ++ e ∷ []) marks all.1 (still-on core log e (mark-still e all.0) (mark-rests log e all.0) held))
 
 -- A link that is to be closed closes.
 
@@ -93,13 +99,13 @@ dropped-sends old new link log drops was =
     (ap (λ s. is_server s link) drops.server ∙ not-server old.server link (apart-front link (server_links old.server) (client_links old.client) apart))
 
 dropped-on : (old new : Core) (link : LinkId) (log : Log) → Drops old new link → Stands old log → Stands new (log ++ entry.Closed link ∷ [])
-dropped-on old new link log drops held = stands-more old new log (entry.Closed link) (few-still log (entry.Closed link) refl held.few) held tt (tracks-dropped old new link log drops held.tracks)
+dropped-on old new link log drops held = stands-more old new log (entry.Closed link) (few-still log (entry.Closed link) refl held.few) held tt tt (tracks-dropped old new link log drops held.tracks)
 
 -- a farewell is none where nothing is to be written
 farewell-on : (old : Core) (lent : Option Sent) (link : LinkId) (log : Log) (e : Entry) → lent ≡ None → IsFarewell lent link e → Stands old log → Stands old (log ++ e ∷ [])
 farewell-on old lent link log (entry.Wrote to tag bytes) none farewell held = absurd (let no_way : ◌≡◌ {A = Option Sent} None (Some farewell.1.sent) = sym none ∙ farewell.1.is in cc)
-farewell-on old lent link log (entry.WriteNothing to) none farewell held = still-on old log (entry.WriteNothing to) (is-quiet (entry.WriteNothing to) tt) held
-farewell-on old lent link log (entry.WriteFailed to) none farewell held = still-on old log (entry.WriteFailed to) (record { no_client = refl; no_read = refl; no_write = refl; nothing = record { no_carrier = λ n i. refl; no_bytes = λ n i. refl }; keeps = refl; opens_none = refl; law = λ l. tt }) held
+farewell-on old lent link log (entry.WriteNothing to) none farewell held = still-on old log (entry.WriteNothing to) (is-quiet (entry.WriteNothing to) tt) tt held
+farewell-on old lent link log (entry.WriteFailed to) none farewell held = still-on old log (entry.WriteFailed to) (record { no_client = refl; no_read = refl; no_write = refl; nothing = record { no_carrier = λ n i. refl; no_bytes = λ n i. refl }; keeps = refl; opens_none = refl; law = λ l. tt }) tt held
 farewell-on old lent link log _ none farewell held = absurd farewell
 
 pub closes-refused : (old new : Core) (link : LinkId) → Drops old new link → Closes Stands due_in old new (sends new link) link

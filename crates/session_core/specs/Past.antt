@@ -1,13 +1,13 @@
 -- How far the messages of a client are answered.
-use Rattle.std.specs.Prelude.{◌≡◌, ℕ, ◌+◌, Bool, true, false, nat_eq, List, [], ◌∷◌, ◌++◌, cond, length, slice_get, take, Option, Some, refl}
+use Rattle.std.specs.Prelude.{◌≡◌, ℕ, ◌+◌, Bool, true, false, nat_eq, List, [], ◌∷◌, ◌++◌, cond, length, slice_get, take, Option, Some, None, refl}
 use Rattle.std.proofs.Common.{sym, ◌∙◌, ap, subst, append-nil, append_assoc, arith}
 use Rattle.std.proofs.Math.Seq.{take-append_seam}
 use Rattle.packet_frame.specs.declared.fault.FrameFault.{FrameFault}
 use Rattle.packet_frame.specs.Packets.{Framed, Found, Split, with_front, next_id, first_message, spelling}
-use Rattle.packet_frame.specs.Packets.Found.{Whole, Faulty}
-use Rattle.packet_frame.specs.Laws.{split-whole, split-faulty, first_message-whole-more, first_message-faulty-more}
+use Rattle.packet_frame.specs.Packets.Found.{Nothing, Whole, Faulty}
+use Rattle.packet_frame.specs.Laws.{split-nothing, split-whole, split-faulty, first_message-whole-more, first_message-faulty-more}
 use Rattle.session_core.specs.Errors.{unknown_command}
-use Rattle.session_core.specs.Answers.{most_payload, client_messages, answer_to, fault_answer, answers, answers_to, AllAnswered}
+use Rattle.session_core.specs.Answers.{most_payload, client_messages, answer_to, fault_answer, answered, answers, answers_to, AllAnswered}
 use Rattle.session_core.specs.Growth.{slice_get-at}
 use Rattle.session_core.specs.Headline.{IsPrefix}
 
@@ -106,19 +106,43 @@ pub record Answers (reply : ℕ → Option (List ℕ)) (read : List ℕ) (done :
   pub is_last : IsLast waiting last
   pub is : bytes ≡ before ++ last
 
+-- what is due, behind the answers so far
+pub answers-all : (reply : ℕ → Option (List ℕ)) (read : List ℕ) (done : List Framed) (waiting bytes last : List ℕ) → (so_far : Answers reply read done waiting bytes last)
+    → answers_to reply (client_messages read) ≡ so_far.before ++ answers reply (1 + length done) (client_messages waiting).messages (fault_answer (client_messages waiting).fault)
+answers-all reply read done waiting bytes last so_far =
+    ap (answers_to reply) (past-now read done waiting so_far.past)
+    ∙ answers-behind reply 1 (1 + length done) done (client_messages waiting).messages so_far.before (fault_answer (client_messages waiting).fault) refl so_far.answered
+
+-- where no message is whole behind the answered ones, they are what is due
+pub answers-nothing : (reply : ℕ → Option (List ℕ)) (read : List ℕ) (done : List Framed) (waiting bytes : List ℕ) → Answers reply read done waiting bytes [] → client_message waiting ≡ Nothing
+    → (bytes ≡ answers_to reply (client_messages read)) × ((client_messages read).messages ≡ done)
+answers-nothing reply read done waiting bytes so_far nothing =
+    let none = split-nothing most_payload 0 waiting nothing in
+    (so_far.is ∙ sym (answers-all reply read done waiting bytes [] so_far ∙ ap (λ (s : Split). so_far.before ++ answers reply (1 + length done) s.messages (fault_answer s.fault)) none),
+    ap (λ (s : Split). s.messages) (past-now read done waiting so_far.past) ∙ ap (λ (s : Split). done ++ s.messages) none ∙ append-nil done)
+
+-- and where the next message has no answer yet
+pub answers-next : (reply : ℕ → Option (List ℕ)) (read : List ℕ) (done : List Framed) (waiting bytes : List ℕ) (message : Framed) (rest : List ℕ) → Answers reply read done waiting bytes [] → client_message waiting ≡ Whole message rest
+    → answer_to (reply (1 + length done)) message.payload ≡ None → bytes ≡ answers_to reply (client_messages read)
+answers-next reply read done waiting bytes message rest so_far whole none =
+    so_far.is ∙ sym (answers-all reply read done waiting bytes [] so_far
+    ∙ ap (λ (s : Split). so_far.before ++ answers reply (1 + length done) s.messages (fault_answer s.fault)) (split-whole most_payload 0 waiting message rest whole)
+    ∙ ap (λ (o : Option (List ℕ)). so_far.before ++ answered (next_id message.last) o (answers reply (1 + length done + 1) (client_messages rest).messages (fault_answer (client_messages rest).fault))) none)
+
+-- and behind the answer to bytes that are no message
+pub answers-faulty : (reply : ℕ → Option (List ℕ)) (read : List ℕ) (done : List Framed) (waiting bytes : List ℕ) (fault : FrameFault) → Answers reply read done waiting bytes (fault_answer (Some fault)) → client_message waiting ≡ Faulty fault
+    → (bytes ≡ answers_to reply (client_messages read)) × ((client_messages read).messages ≡ done)
+answers-faulty reply read done waiting bytes fault so_far faulty =
+    let ends = split-faulty most_payload 0 waiting fault faulty in
+    (so_far.is ∙ sym (answers-all reply read done waiting bytes (fault_answer (Some fault)) so_far ∙ ap (λ (s : Split). so_far.before ++ answers reply (1 + length done) s.messages (fault_answer s.fault)) ends),
+    ap (λ (s : Split). s.messages) (past-now read done waiting so_far.past) ∙ ap (λ (s : Split). done ++ s.messages) ends ∙ append-nil done)
+
 -- so they are a beginning of what is due
 pub answers-due : (reply : ℕ → Option (List ℕ)) (read : List ℕ) (done : List Framed) (waiting bytes last : List ℕ) → Answers reply read done waiting bytes last → IsPrefix bytes (answers_to reply (client_messages read))
-answers-due reply read done waiting bytes last so_far =
-    due last so_far.is_last (
-    ap (answers_to reply) (past-now read done waiting so_far.past)
-    ∙ answers-behind reply 1 (1 + length done) done (client_messages waiting).messages so_far.before (fault_answer (client_messages waiting).fault) refl so_far.answered) so_far.is where
-      due : (end : List ℕ) → IsLast waiting end → answers_to reply (client_messages read) ≡ so_far.before ++ answers reply (1 + length done) (client_messages waiting).messages (fault_answer (client_messages waiting).fault)
-          → bytes ≡ so_far.before ++ end → IsPrefix bytes (answers_to reply (client_messages read))
-      due end None_yet all is = record {
-        rest = answers reply (1 + length done) (client_messages waiting).messages (fault_answer (client_messages waiting).fault);
-        is = ap (λ xs. xs ++ answers reply (1 + length done) (client_messages waiting).messages (fault_answer (client_messages waiting).fault)) (is ∙ append-nil so_far.before) ∙ sym all;
-      }
-      due end (Refused fault faulty) all is = record {
-        rest = [];
-        is = append-nil bytes ∙ is ∙ sym (all ∙ ap (λ (s : Split). so_far.before ++ answers reply (1 + length done) s.messages (fault_answer s.fault)) (split-faulty most_payload 0 waiting fault faulty));
-      }
+answers-due reply read done waiting bytes last so_far = due last so_far.is_last so_far where
+  due : (end : List ℕ) → IsLast waiting end → Answers reply read done waiting bytes end → IsPrefix bytes (answers_to reply (client_messages read))
+  due end None_yet behind = record {
+    rest = answers reply (1 + length done) (client_messages waiting).messages (fault_answer (client_messages waiting).fault);
+    is = ap (λ xs. xs ++ answers reply (1 + length done) (client_messages waiting).messages (fault_answer (client_messages waiting).fault)) (behind.is ∙ append-nil behind.before) ∙ sym (answers-all reply read done waiting bytes [] behind);
+  }
+  due end (Refused fault faulty) behind = record { rest = []; is = append-nil bytes ∙ (answers-faulty reply read done waiting bytes fault behind faulty).0 }

@@ -20,6 +20,8 @@ use Rattle.session_core.specs.Held.{held-stays}
 use Rattle.session_core.specs.Stands.{IsCarried, IsServedBy, IsShut, HasClient, HasNone, MayHaveClient, IsServers, Tracks, Stands, held_links, due_in}
 use Rattle.session_core.specs.Stands.IsCarried.{Unsent, Begun}
 use Rattle.session_core.specs.Still.{replies-stay, at-stays, few-still, stands-more}
+use Rattle.session_core.specs.Rest.{RestsAt}
+use Rattle.session_core.specs.Resting.{rests-due}
 
 -- the entry carries no bytes of a command
 pub record CarriesNothing (e : Entry) : Type 0 where
@@ -115,16 +117,16 @@ servers-same (Some server) log e none is = λ n link has. is n link (sym (client
 pub tracks-still : (core : Core) (log : Log) (e : Entry) → IsStill e → Tracks core log → Tracks core (log ++ e ∷ [])
 tracks-still core log e still was = record {
   accepted = was.accepted ∙ sym (ap length (accepted_links-same log e still.no_client));
-  held = held-stays (held_links core) log e still.keeps was.held;
+  held = held-stays (held_links core) log e still.keeps still.opens_none was.held;
   servers = servers-same core.server log e still.no_client was.servers;
   client = may_have-passes core.client core.server log e still.no_client still.no_read still.no_write still.nothing still.opens_none was.client;
 }
 
-pub still-on : (core : Core) (log : Log) (e : Entry) → IsStill e → Stands core log → Stands core (log ++ e ∷ [])
-still-on core log e still held = stands-more core core log e (few-still log e still.no_read held.few) held (still.law log) (tracks-still core log e still held.tracks)
+pub still-on : (core : Core) (log : Log) (e : Entry) → IsStill e → RestsAt log e → Stands core log → Stands core (log ++ e ∷ [])
+still-on core log e still rest held = stands-more core core log e (few-still log e still.no_read held.few) held (still.law log) rest (tracks-still core log e still held.tracks)
 
 pub stands-still : (core : Core) (e : Entry) → IsStill e → CarriesOver Stands due_in core core e
-stands-still core e still = record { carried = λ log may is_due held. still-on core log e still held }
+stands-still core e still = record { carried = λ log may is_due held. still-on core log e still (rests-due core log e is_due held.tracks) held }
 
 -- the core stands still where it is told of nothing
 pub is-quiet : (e : Entry) → IsQuiet e → IsStill e

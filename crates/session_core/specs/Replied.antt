@@ -59,7 +59,7 @@ tracks-quiet old new client command server mid since log bytes awaits nothing is
     (subst (λ (links : List LinkId). AreHeld links (log ++ e ∷ [])) (sym (
     ap (λ xs. (xs ++ server_links new.server) ++ while_held client.link client.phase) keeps.refused ∙ ap (λ s. (old.refused.items ++ server_links s) ++ while_held client.link client.phase) keeps.server
     ∙ ap (λ (l : LinkId). (old.refused.items ++ l ∷ []) ++ while_held client.link client.phase) mid_link ∙ ap (λ s. (old.refused.items ++ server_links s) ++ while_held client.link client.phase) (sym awaits.on)))
-    (held-stays ((old.refused.items ++ server_links old.server) ++ while_held client.link client.phase) log e refl (held-with old client log awaits.is was)))
+    (held-stays ((old.refused.items ++ server_links old.server) ++ while_held client.link client.phase) log e refl refl (held-with old client log awaits.is was)))
     (subst (λ (s : Option Server). IsServers s (log ++ e ∷ [])) (sym keeps.server) (servers-same (Some mid) log e refl (server-same mid server log mid_link servers)))
     (subst (λ (s : Option Server). HasClient client s (log ++ e ∷ [])) (sym keeps.server) (record {
       number = client_link-more client.number.0 log e client.link has.number;
@@ -120,7 +120,7 @@ tracks-answered old new client command server mid since log bytes payload is_fre
       has = has-with old client log awaits.is awaits.tracks
 
       before : AreHeld ((old.refused.items ++ mid.link ∷ []) ++ client.link ∷ []) (log ++ e ∷ [])
-      before = held-stays ((old.refused.items ++ mid.link ∷ []) ++ client.link ∷ []) log e refl
+      before = held-stays ((old.refused.items ++ mid.link ∷ []) ++ client.link ∷ []) log e refl refl
           (subst (λ (l : LinkId). AreHeld ((old.refused.items ++ l ∷ []) ++ client.link ∷ []) log) (sym mid_link)
           (subst (λ (p : Phase). AreHeld ((old.refused.items ++ server.link ∷ []) ++ while_held client.link p) log) awaits.working
           (subst (λ (s : Option Server). AreHeld ((old.refused.items ++ server_links s) ++ while_held client.link client.phase) log) awaits.on (held-with old client log awaits.is awaits.tracks))))

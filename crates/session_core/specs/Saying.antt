@@ -8,20 +8,20 @@ use Rattle.mx_wire.specs.Growth.{same_number, bytes-same, bytes-other, bytes-idl
 use Rattle.mx_wire.specs.declared.entry.Entry.{Entry}
 use Rattle.mx_wire.specs.declared.entry.Entry.TheVariants as entry
 use Rattle.packet_frame.specs.FramerState.{FramerState}
-use Rattle.packet_frame.specs.Laws.{first_message-whole-more}
+use Rattle.packet_frame.specs.Laws.{first_message-whole-more, first_message-faulty-more}
 use Rattle.session_core.specs.declared.phase.Command.{Command}
 use Rattle.session_core.specs.declared.phase.Phase.{Phase}
 use Rattle.session_core.specs.declared.phase.Phase.TheVariants.{Idle, Working, Ending, Leaving, Gone}
 use Rattle.session_core.specs.declared.client.Client.{Client}
 use Rattle.session_core.specs.declared.server.Server.{Server}
 use Rattle.session_core.specs.declared.router.Core.{Core}
-use Rattle.session_core.specs.Answers.{most_payload}
+use Rattle.session_core.specs.Answers.{most_payload, fault_answer}
 use Rattle.session_core.specs.Headline.{client_link, replies_to}
 use Rattle.session_core.specs.Growth.{client_link-more, client_link-same, accepted_links-same}
 use Rattle.session_core.specs.Held.{AreHeld, held-stays, held-apart-from, apart-at}
 use Rattle.session_core.specs.Past.{past-fed, is_last-fed, Stay}
-use Rattle.session_core.specs.Stands.{server_links, while_held, IsIdle, IsWorking, AreAnswers, IsAt, IsServedBy, IsOther, HasClient, IsServers, Tracks, is_client}
-use Rattle.session_core.specs.Still.{replies-stay, idle-stays, working-stays, are_answers-stay}
+use Rattle.session_core.specs.Stands.{server_links, while_held, IsIdle, IsWorking, AreAnswers, IsAt, IsServedBy, IsOther, HasClient, IsServers, Tracks, is_client, IsEnding}
+use Rattle.session_core.specs.Still.{replies-stay, idle-stays, working-stays, are_answers-stay, ending-stays}
 use Rattle.session_core.specs.Quiet.{CarriesNothing, ReadsNoReply, unsent-more, served-more, shut-more, servers-same}
 use Rattle.session_core.specs.Arriving.{idle-fed}
 use Rattle.session_core.specs.Cores.{KeepsLinks, GoesOn, fed_in, is_idle, SaysIn, ClientSays}
@@ -56,6 +56,22 @@ working-fed client command bytes reply read written was = record {
   query = was.query;
   spelled = was.spelled;
   within = was.within;
+}
+
+ending-fed : (client : Client) (reply : ℕ → Option (List ℕ)) (read written more : List ℕ) → IsEnding client reply read written → IsEnding client reply (read ++ more) written
+ending-fed client reply read written more was = record {
+  done = was.done;
+  waiting = was.waiting ++ more;
+  fault = was.fault;
+  faulty = first_message-faulty-more most_payload 0 was.waiting more was.fault was.faulty;
+  so_far = record {
+    past = past-fed read was.done was.waiting more was.so_far.past;
+    before = was.so_far.before;
+    answered = was.so_far.answered;
+    is_last = is_last-fed was.waiting more (fault_answer (Some was.fault)) was.so_far.is_last;
+    is = was.so_far.is;
+  };
+  some = was.some;
 }
 
 are_answers-fed : (reply : ℕ → Option (List ℕ)) (read bytes more : List ℕ) → AreAnswers reply read bytes → AreAnswers reply (read ++ more) bytes
@@ -121,7 +137,7 @@ unfolding kept_in
 state-said Idle client bytes old new read written busy stay was = cc
 state-said (Working command) client bytes old new read written busy stay was =
     working-stays (record client { framer = record client.framer { kept = client.framer.kept ++ bytes } }) command old new (read ++ bytes) written stay (working-fed client command bytes old read written was)
-state-said Ending client bytes old new read written busy stay was = are_answers-stay old new (read ++ bytes) (written ++ client.outgoing) stay (are_answers-fed old read (written ++ client.outgoing) bytes was)
+state-said Ending client bytes old new read written busy stay was = ending-stays client old new (read ++ bytes) written stay (ending-fed client old read written bytes was)
 state-said Leaving client bytes old new read written busy stay was = are_answers-stay old new (read ++ bytes) (written ++ client.outgoing) stay (are_answers-fed old read (written ++ client.outgoing) bytes was)
 state-said Gone client bytes old new read written busy stay was = record { bytes = was.bytes; front = was.front; answers = are_answers-stay old new (read ++ bytes) was.bytes stay (are_answers-fed old read was.bytes bytes was.answers) }
 
@@ -160,7 +176,7 @@ said-busy old new client log bytes is busy was keeps =
     let now : new.client ≡ Some fed = keeps.client ∙ ap (λ (k : Client). Some k) same in
     tracks-with new fed (log ++ e ∷ []) now (keeps.accepted ∙ was.accepted ∙ sym (ap length (accepted_links-same log e refl)))
     (subst (λ (links : List LinkId). AreHeld links (log ++ e ∷ [])) (sym (ap (λ xs. (xs ++ server_links new.server) ++ while_held client.link client.phase) keeps.refused ∙ ap (λ s. (old.refused.items ++ server_links s) ++ while_held client.link client.phase) keeps.server))
-    (held-stays ((old.refused.items ++ server_links old.server) ++ while_held client.link client.phase) log e refl (held-with old client log is was)))
+    (held-stays ((old.refused.items ++ server_links old.server) ++ while_held client.link client.phase) log e refl refl (held-with old client log is was)))
     (subst (λ (s : Option Server). IsServers s (log ++ e ∷ [])) (sym keeps.server) (servers-same old.server log e refl was.servers))
     (subst (λ (s : Option Server). HasClient fed s (log ++ e ∷ [])) (sym keeps.server)
     (said-client client (kept_in client.phase client.framer bytes) old.server log bytes has (says-no_reply old client log bytes is was client.phase refl)
@@ -182,7 +198,7 @@ said-idle old new client log bytes is idle few was goes =
       is = refl;
       idle = idle;
       accepted = was.accepted ∙ sym (ap length (accepted_links-same log e refl));
-      held = held-stays ((old.refused.items ++ server_links old.server) ++ client.link ∷ []) log e refl
+      held = held-stays ((old.refused.items ++ server_links old.server) ++ client.link ∷ []) log e refl refl
           (subst (λ (p : Phase). AreHeld ((old.refused.items ++ server_links old.server) ++ while_held client.link p) log) idle (held-with old client log is was));
       servers = servers-same old.server log e refl was.servers;
       number = client_link-more client.number.0 log e client.link has.number;

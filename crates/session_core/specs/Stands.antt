@@ -7,7 +7,8 @@ use Rattle.mx_wire.specs.declared.entry.Entry.{Entry}
 use Rattle.mx_wire.specs.Moments.{AtEachMoment, AllLawful}
 use Rattle.packet_frame.specs.FramerState.{FramerState}
 use Rattle.packet_frame.specs.Packets.{Framed, spelling}
-use Rattle.packet_frame.specs.Packets.Found.{Nothing, Whole}
+use Rattle.packet_frame.specs.declared.fault.FrameFault.{FrameFault}
+use Rattle.packet_frame.specs.Packets.Found.{Nothing, Whole, Faulty}
 use Rattle.ready_loop.specs.Sent.{Sent}
 use Rattle.ready_loop.specs.Drained.{IsDue}
 use Rattle.session_core.specs.declared.phase.Command.{Command}
@@ -16,12 +17,13 @@ use Rattle.session_core.specs.declared.phase.Phase.TheVariants.{Idle, Working, E
 use Rattle.session_core.specs.declared.client.Client.{Client}
 use Rattle.session_core.specs.declared.server.Server.{Server}
 use Rattle.session_core.specs.declared.router.Core.{Core}
-use Rattle.session_core.specs.Answers.{most_payload, is_query}
+use Rattle.session_core.specs.Answers.{most_payload, is_query, fault_answer}
 use Rattle.session_core.specs.Sending.{sending, command_sent, server_message}
 use Rattle.session_core.specs.Headline.{client_link, replies_to, IsPrefix, IsServed, IsLawful}
 use Rattle.session_core.specs.Held.{AreHeld}
 use Rattle.session_core.specs.Past.{client_message, Answers}
 use Rattle.session_core.specs.Acts.{asks}
+use Rattle.session_core.specs.Rest.{RestsAt}
 
 -- The links that are open.
 
@@ -68,6 +70,15 @@ pub record IsWorking (client : Client) (command : Command) (reply : ℕ → Opti
   pub spelled : command.bytes ≡ spelling message.first message.payload
   pub within : command.sent ≤ length command.bytes
 
+-- the bytes behind the messages are none, which is the last answer, and some of it is to be written
+pub record IsEnding (client : Client) (reply : ℕ → Option (List ℕ)) (read written : List ℕ) : Type 0 where
+  pub done : List Framed
+  pub waiting : List ℕ
+  pub fault : FrameFault
+  pub faulty : client_message waiting ≡ Faulty fault
+  pub so_far : Answers reply read done waiting (written ++ client.outgoing) (fault_answer (Some fault))
+  pub some : 0 < length client.outgoing
+
 -- these are answers so far, and maybe the last
 pub record AreAnswers (reply : ℕ → Option (List ℕ)) (read bytes : List ℕ) : Type 0 where
   pub done : List Framed
@@ -83,7 +94,7 @@ pub record WasAnswered (reply : ℕ → Option (List ℕ)) (read written : List 
 abbrev pub IsAt : Phase → Client → (ℕ → Option (List ℕ)) → (read written : List ℕ) → Type 0
 IsAt Idle client reply read written = IsIdle client reply read written × (client_message client.framer.kept ≡ Nothing)
 IsAt (Working command) client reply read written = IsWorking client command reply read written
-IsAt Ending client reply read written = AreAnswers reply read (written ++ client.outgoing)
+IsAt Ending client reply read written = IsEnding client reply read written
 IsAt Leaving client reply read written = AreAnswers reply read (written ++ client.outgoing)
 IsAt Gone client reply read written = WasAnswered reply read written
 
@@ -163,6 +174,7 @@ pub record Stands (core : Core) (log : Log) : Type 0 where
   pub tracks : Tracks core log
   pub always : AtEachMoment IsServed log
   pub lawful : AllLawful IsLawful log
+  pub rests : AllLawful RestsAt log
 
 -- What is to be written and read.
 

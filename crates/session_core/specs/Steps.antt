@@ -16,7 +16,7 @@ use Rattle.session_core.specs.Answers.{most_payload, fault_answer}
 use Rattle.session_core.specs.Asked.{asked_of}
 use Rattle.session_core.specs.Count.{counted}
 use Rattle.session_core.specs.Past.{client_message}
-use Rattle.session_core.specs.Stands.{IsIdle, IsWorking, AreAnswers}
+use Rattle.session_core.specs.Stands.{IsIdle, IsWorking, AreAnswers, IsEnding}
 
 -- a framer that has found nothing
 abbrev pub reading : List ℕ → FramerState
@@ -77,7 +77,7 @@ Steps old new more = StepsBy (look 0 old.framer) old new more
 abbrev pub IsPumped : Phase → (before : ℕ) → Client → (ℕ → Option (List ℕ)) → (read written : List ℕ) → Type 0
 IsPumped Idle before client reply read written = (before ≤ client.arrived) × IsIdle client reply read written × (client_message client.framer.kept ≡ Nothing)
 IsPumped (Working command) before client reply read written = (before < client.arrived) × (command.sent ≡ 0) × IsWorking client command reply read written
-IsPumped Ending before client reply read written = (before ≤ client.arrived) × AreAnswers reply read (written ++ client.outgoing)
+IsPumped Ending before client reply read written = (before ≤ client.arrived) × IsEnding client reply read written
 IsPumped Leaving before client reply read written = ⊥
 IsPumped Gone before client reply read written = ⊥
 

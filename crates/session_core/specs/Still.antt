@@ -16,11 +16,12 @@ use Rattle.session_core.specs.declared.phase.Phase.TheVariants.{Idle, Working, E
 use Rattle.session_core.specs.declared.client.Client.{Client}
 use Rattle.session_core.specs.declared.server.Server.{Server}
 use Rattle.session_core.specs.declared.router.Core.{Core}
-use Rattle.session_core.specs.Answers.{answers_to, client_messages}
+use Rattle.session_core.specs.Answers.{answers_to, client_messages, fault_answer}
 use Rattle.session_core.specs.Headline.{client_link, replies_to, due, IsPrefix, IsServed, IsLawful}
 use Rattle.session_core.specs.Growth.{reply_to-stays}
 use Rattle.session_core.specs.Past.{Answers, Stay, all_answered-stays, answers-due}
-use Rattle.session_core.specs.Stands.{IsIdle, IsWorking, AreAnswers, IsAt, IsOther, MayHaveClient, Tracks, IsFew, Stands}
+use Rattle.session_core.specs.Stands.{IsIdle, IsWorking, AreAnswers, IsAt, IsOther, MayHaveClient, Tracks, IsFew, Stands, IsEnding}
+use Rattle.session_core.specs.Rest.{RestsAt}
 
 -- A client that came is named by the log.
 
@@ -98,10 +99,20 @@ are_answers-stay old new read bytes stay was = record {
   so_far = answers-stay old new read was.done was.waiting bytes was.last stay was.so_far;
 }
 
+pub ending-stays : (client : Client) (old new : ℕ → Option (List ℕ)) (read written : List ℕ) → Stay old new → IsEnding client old read written → IsEnding client new read written
+ending-stays client old new read written stay was = record {
+  done = was.done;
+  waiting = was.waiting;
+  fault = was.fault;
+  faulty = was.faulty;
+  so_far = answers-stay old new read was.done was.waiting (written ++ client.outgoing) (fault_answer (Some was.fault)) stay was.so_far;
+  some = was.some;
+}
+
 pub at-stays : (phase : Phase) (client : Client) (old new : ℕ → Option (List ℕ)) (read written : List ℕ) → Stay old new → IsAt phase client old read written → IsAt phase client new read written
 at-stays Idle client old new read written stay was = (idle-stays client old new read written stay was.0, was.1)
 at-stays (Working command) client old new read written stay was = working-stays client command old new read written stay was
-at-stays Ending client old new read written stay was = are_answers-stay old new read (written ++ client.outgoing) stay was
+at-stays Ending client old new read written stay was = ending-stays client old new read written stay was
 at-stays Leaving client old new read written stay was = are_answers-stay old new read (written ++ client.outgoing) stay was
 at-stays Gone client old new read written stay was = record { bytes = was.bytes; front = was.front; answers = are_answers-stay old new read was.bytes stay was.answers }
 
@@ -115,7 +126,7 @@ prefix-trans a b c ab bc = record { rest = ab.rest ++ bc.rest; is = sym (Rattle.
 pub at-due : (phase : Phase) (client : Client) (reply : ℕ → Option (List ℕ)) (read written : List ℕ) → IsAt phase client reply read written → IsPrefix written (answers_to reply (client_messages read))
 at-due Idle client reply read written was = prefix-of written (answers_to reply (client_messages read)) client.outgoing (answers-due reply read was.0.done client.framer.kept (written ++ client.outgoing) [] was.0.so_far)
 at-due (Working command) client reply read written was = prefix-of written (answers_to reply (client_messages read)) client.outgoing (answers-due reply read was.done was.waiting (written ++ client.outgoing) [] was.so_far)
-at-due Ending client reply read written was = prefix-of written (answers_to reply (client_messages read)) client.outgoing (answers-due reply read was.done was.waiting (written ++ client.outgoing) was.last was.so_far)
+at-due Ending client reply read written was = prefix-of written (answers_to reply (client_messages read)) client.outgoing (answers-due reply read was.done was.waiting (written ++ client.outgoing) (fault_answer (Some was.fault)) was.so_far)
 at-due Leaving client reply read written was = prefix-of written (answers_to reply (client_messages read)) client.outgoing (answers-due reply read was.done was.waiting (written ++ client.outgoing) was.last was.so_far)
 at-due Gone client reply read written was = prefix-trans written was.bytes (answers_to reply (client_messages read)) was.front (answers-due reply read was.answers.done was.answers.waiting was.bytes was.answers.last was.answers.so_far)
 
@@ -167,10 +178,11 @@ few-still log e no_read few = record {
 pub few-counted : (log : Log) (e : Entry) (link : LinkId) → MayFollow log e → IsFew log → length (read_of link (log ++ e ∷ [])) < 18446744073709551615
 few-counted log e link may few = let more = few-more log e may few in omega (arith, more.read link, may.bounded, length-append log (e ∷ []))
 
-pub stands-more : (old new : Core) (log : Log) (e : Entry) → IsFew (log ++ e ∷ []) → Stands old log → IsLawful log e → Tracks new (log ++ e ∷ []) → Stands new (log ++ e ∷ [])
-stands-more old new log e few held law tracks = record {
+pub stands-more : (old new : Core) (log : Log) (e : Entry) → IsFew (log ++ e ∷ []) → Stands old log → IsLawful log e → RestsAt log e → Tracks new (log ++ e ∷ []) → Stands new (log ++ e ∷ [])
+stands-more old new log e few held law rest tracks = record {
   few = few;
   tracks = tracks;
   always = moment-more IsServed log e held.always (served-by new.client new.server (log ++ e ∷ []) tracks.client);
   lawful = lawful-more IsLawful log e held.lawful law;
+  rests = lawful-more RestsAt log e held.rests rest;
 }

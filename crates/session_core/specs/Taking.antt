@@ -41,7 +41,7 @@ lent-command client command sent is = by (nat_lt command.sent (length command.by
 wrote-client : (old new : Core) (client : Client) (n : ℕ) → old.client ≡ Some client → WritesClient old new client n → CarriesOver Stands due_in old new (entry.Wrote client.link Reply (take n client.outgoing))
 wrote-client old new client n is writes = record {
   carried = λ log may is_due held.
-      stands-more old new log (entry.Wrote client.link Reply (take n client.outgoing)) (few-more log (entry.Wrote client.link Reply (take n client.outgoing)) may held.few) held (client.number.0, (has-with old client log is held.tracks).number)
+      stands-more old new log (entry.Wrote client.link Reply (take n client.outgoing)) (few-more log (entry.Wrote client.link Reply (take n client.outgoing)) may held.few) held (client.number.0, (has-with old client log is held.tracks).number) tt
       (tracks-written old new client n log is writes may held.tracks);
 }
 
@@ -61,7 +61,7 @@ wrote-command old new client command server n is on working fits writes = record
   carried = λ log may is_due held.
       let e : Entry = entry.Wrote server.link (For client.number client.arrived) (take n (drop command.sent command.bytes)) in
       let commands : Commands old client command server log = record { is = is; on = on; working = working; tracks = held.tracks } in
-      stands-more old new log e (few-more log e may held.few) held (may-send old client command server n log commands) (tracks-commanded old new client command server n log commands writes fits may);
+      stands-more old new log e (few-more log e may held.few) held (may-send old client command server n log commands) tt (tracks-commanded old new client command server n log commands writes fits may);
 }
 
 -- what a write of the command changes, in each phase

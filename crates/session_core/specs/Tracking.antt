@@ -19,6 +19,7 @@ use Rattle.session_core.specs.Stands.IsCarried.{Unsent, Begun}
 use Rattle.session_core.specs.Still.{replies-stay, at-stays}
 use Rattle.session_core.specs.Quiet.{CarriesNothing, unsent-more, sent-more, shut-more}
 use Rattle.session_core.specs.Cores.{Releases, KeepsLinks, SettlesIn, Settles, left_at, has_left, Leaves, is_begun, has_begun, Strays}
+use Rattle.session_core.specs.Answers.{fault_answer}
 
 -- the same links and client
 pub held-same : (old new : Core) → new.refused.items ≡ old.refused.items → new.server ≡ old.server → new.client ≡ old.client → held_links new ≡ held_links old
@@ -66,7 +67,7 @@ left-held link Gone = refl
 left-state : (phase : Phase) (client : Client) (reply : ℕ → Option (List ℕ)) (read written : List ℕ) → IsAt phase client reply read written → IsAt (left_at phase) client reply read written
 left-state Idle client reply read written was = record { done = was.0.done; waiting = client.framer.kept; last = []; so_far = was.0.so_far }
 left-state (Working command) client reply read written was = record { done = was.done; waiting = was.waiting; last = []; so_far = was.so_far }
-left-state Ending client reply read written was = was
+left-state Ending client reply read written was = record { done = was.done; waiting = was.waiting; last = fault_answer (Some was.fault); so_far = was.so_far }
 left-state Leaving client reply read written was = was
 left-state Gone client reply read written was = was
 
@@ -202,7 +203,7 @@ pub tracks-freed : (old new : Core) (log : Log) (e : Entry) → PassesClient old
 tracks-freed old new log e passes idle releases was = record {
   accepted = releases.accepted ∙ was.accepted ∙ sym (ap length (accepted_links-same log e passes.no_client));
   held = subst (λ (links : List LinkId). AreHeld links (log ++ e ∷ [])) (sym (ap (λ k. (new.refused.items ++ server_links new.server) ++ client_links k) releases.client ∙ held-released old new (client_links old.client) releases.refused releases.server))
-      (held-stays (held_links old) log e passes.keeps was.held);
+      (held-stays (held_links old) log e passes.keeps passes.opens_none was.held);
   servers = subst (λ (s : Option Server). IsServers s (log ++ e ∷ [])) (sym releases.server) tt;
   client = subst (λ (k : Option Client). MayHaveClient k new.server (log ++ e ∷ [])) (sym releases.client) (subst (λ (s : Option Server). MayHaveClient old.client s (log ++ e ∷ [])) (sym releases.server) (freed-may old old.client log e passes refl idle was.client));
 }

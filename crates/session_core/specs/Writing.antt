@@ -1,6 +1,6 @@
 -- What the core tracks once bytes are written.
 use Rattle.std.specs.Prelude.{◌≡◌, ℕ, true, false, List, [], ◌∷◌, ◌++◌, length, take, drop, Option, Some, refl}
-use Rattle.std.proofs.Common.{sym, ◌∙◌, ap, subst, append_assoc, take-append-drop}
+use Rattle.std.proofs.Common.{sym, ◌∙◌, ap, subst, append_assoc, take-append-drop, arith}
 use Rattle.mx_base.specs.declared.names.LinkId.{LinkId}
 use Rattle.mx_base.specs.declared.tag.Tag.TheVariants.{Reply}
 use Rattle.mx_wire.specs.Log.{Log, got_bytes, wrote_bytes, read_of, written_of}
@@ -16,11 +16,13 @@ use Rattle.session_core.specs.declared.router.Core.{Core}
 use Rattle.session_core.specs.Headline.{replies_to}
 use Rattle.session_core.specs.Growth.{client_link-more, client_link-same, accepted_links-same}
 use Rattle.session_core.specs.Held.{AreHeld, held-stays}
-use Rattle.session_core.specs.Stands.{server_links, while_held, AreAnswers, IsAt, IsServedBy, IsShut, HasClient, IsServers, Tracks}
+use Rattle.session_core.specs.Stands.{server_links, while_held, AreAnswers, IsAt, IsServedBy, IsShut, HasClient, IsServers, Tracks, IsEnding}
 use Rattle.session_core.specs.Still.{replies-stay, at-stays}
 use Rattle.session_core.specs.Quiet.{CarriesNothing, reads-no_reply, unsent-more, served-more, servers-same}
 use Rattle.session_core.specs.Cores.{closing_at, written_in}
 use Rattle.session_core.specs.Tracking.{tracks-with, has-with, held-with}
+use Rattle.session_core.specs.Answers.{fault_answer}
+use Rattle.session_core.specs.Past.{Answers}
 
 -- Bytes are written to the client.
 
@@ -54,10 +56,13 @@ written-state (Working command) client n reply read written still_here was = rec
   spelled = was.spelled;
   within = was.within;
 }
-written-state Ending client n reply read written still_here was = by (drop n client.outgoing) (subst (AreAnswers reply read) (sym (split-written written client.outgoing n)) was) where
-  by : (left : List ℕ) → AreAnswers reply read ((written ++ take n client.outgoing) ++ drop n client.outgoing) → IsAt (closing_at Ending left) (written_in client n) reply read (written ++ take n client.outgoing)
-  by [] is = is
-  by (b ∷ left) is = is
+written-state Ending client n reply read written still_here was = by (drop n client.outgoing) refl where
+  so_far : Answers reply read was.done was.waiting ((written ++ take n client.outgoing) ++ drop n client.outgoing) (fault_answer (Some was.fault))
+  so_far = subst (λ (xs : List ℕ). Answers reply read was.done was.waiting xs (fault_answer (Some was.fault))) (sym (split-written written client.outgoing n)) was.so_far
+
+  by : (left : List ℕ) → drop n client.outgoing ≡ left → IsAt (closing_at Ending left) (written_in client n) reply read (written ++ take n client.outgoing)
+  by [] is = record { done = was.done; waiting = was.waiting; last = fault_answer (Some was.fault); so_far = so_far }
+  by (b ∷ left) is = record { done = was.done; waiting = was.waiting; fault = was.fault; faulty = was.faulty; so_far = so_far; some = rw is (search arith) }
 written-state Leaving client n reply read written still_here was = subst (AreAnswers reply read) (sym (split-written written client.outgoing n)) was
 written-state Gone client n reply read written still_here was = absurd (still_here refl)
 
@@ -107,7 +112,7 @@ tracks-written old new client n log is writes may was =
     ap (λ xs. (xs ++ server_links new.server) ++ while_held client.link (closing_at client.phase (drop n client.outgoing))) writes.refused
     ∙ ap (λ s. (old.refused.items ++ server_links s) ++ while_held client.link (closing_at client.phase (drop n client.outgoing))) writes.server
     ∙ ap (λ links. (old.refused.items ++ server_links old.server) ++ links) (written-held client.link client.phase (drop n client.outgoing))))
-    (held-stays ((old.refused.items ++ server_links old.server) ++ while_held client.link client.phase) log e refl (held-with old client log is was)))
+    (held-stays ((old.refused.items ++ server_links old.server) ++ while_held client.link client.phase) log e refl refl (held-with old client log is was)))
     (subst (λ (s : Option Server). IsServers s (log ++ e ∷ [])) (sym writes.server) (servers-same old.server log e refl was.servers))
     (subst (λ (s : Option Server). HasClient (written_in client n) s (log ++ e ∷ [])) (sym writes.server) (record {
       number = client_link-more client.number.0 log e client.link has.number;

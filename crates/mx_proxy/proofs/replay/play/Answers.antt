@@ -26,7 +26,9 @@ returns-in-Over-clause-ok c = record {
       record {
         served = stands.always;
         lawful = stands.lawful;
-        over = ends log ((c.serve.ensures.over c.in-Over.is).last log is);
+        rests = stands.rests;
+        before = (ends log ((c.serve.ensures.over c.in-Over.is).last log is)).0;
+        over = (ends log ((c.serve.ensures.over c.in-Over.is).last log is)).1;
       };
 }
 
@@ -42,6 +44,7 @@ returns-in-Some-clause-err c =
         play = play;
         served = stands.always;
         lawful = stands.lawful;
+        rests = stands.rests;
         spent = spent-busy c.args.entries.items log play (subst (λ n. (wakes_of log ≡ 2 * n + 16) ⊎ (4294967296 ≤ calls_since_wake log)) (c.len.ensures ∙ c.args.entries.ok.0) spent);
       },
     )
