@@ -1,5 +1,6 @@
 -- Fields of a packet: numbers of so many bytes, and length-encoded numbers.
 use Rattle.std.specs.Prelude.{ℕ, ◌+◌, ◌*◌, ◌<◌, nat_lt, nat_eq, List, [], ◌∷◌, length, take, drop, slice_index_or, Option, Some, None, if◌then◌else◌}
+use Rattle.std.specs.Int.{bytes_low_first}
 use Rattle.mx_base.specs.declared.fields.Field.{Field}
 use Rattle.mx_base.specs.declared.fields.Field.TheVariants.{Value, Null, Short, Bad}
 
@@ -35,3 +36,15 @@ lenenc_by at bytes (Some first) =
 -- the length-encoded number at a place
 abbrev pub lenenc_at : (at : ℕ) → List ℕ → Field
 lenenc_at at bytes = lenenc_by at bytes (number_at 1 at bytes)
+
+-- the bytes of a number, so many of them, the least significant first
+abbrev pub number_bytes : (size n : ℕ) → List ℕ
+number_bytes size n = bytes_low_first 0 size n
+
+-- the shortest spelling of a length-encoded number
+abbrev pub lenenc : ℕ → List ℕ
+lenenc n =
+    if nat_lt n 251 then n ∷ []
+    else if nat_lt n 65536 then 252 ∷ number_bytes 2 n
+    else if nat_lt n 16777216 then 253 ∷ number_bytes 3 n
+    else 254 ∷ number_bytes 8 n

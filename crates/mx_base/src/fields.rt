@@ -1,6 +1,8 @@
 // Numbers in a packet.
-ghost use Rattle.std.specs.Prelude.{◌≡◌};
-ghost use Rattle.mx_base.specs.Fields.{number_at, lenenc_at};
+ghost use Rattle.std.specs.Prelude.{◌≡◌, ◌++◌, OnOk, OnErr};
+ghost use Rattle.mx_base.specs.Fields.{number_at, lenenc_at, lenenc};
+
+use crate::OutOfMemory;
 
 /// What stands where a length-encoded number is due (client/server protocol, "Protocol::LengthEncodedInteger").
 #[derive(Clone, Copy, Debug, PartialEq, Eq)]
@@ -97,9 +99,27 @@ pub fn get_lenenc(bytes: &[u8], at: usize) -> Field
     }
 }
 
+/// Appends the shortest spelling of a length-encoded number (client/server protocol,
+/// "Protocol::LengthEncodedInteger"), of 1, 3, 4 or 9 bytes. OutOfMemory leaves `out` as it was.
+pub fn put_lenenc(out: &mut Vec<u8>, n: u64) -> Result<(), OutOfMemory>
+    ensures ok { OnOk result (out.new.items ≡ out.old.items ++ lenenc n) }
+    ensures err { OnErr result (out.new.items ≡ out.old.items) }
+{
+    let [a, b, c, d, e, f, g, h] = n.to_le_bytes();
+    match n {
+        0..=250 => out.push(a)?,
+        251..=0xFFFF => out.extend_from_slice(&[0xFC, a, b])?,
+        0x1_0000..=0xFF_FFFF => out.extend_from_slice(&[0xFD, a, b, c])?,
+        _ => out.extend_from_slice(&[0xFE, a, b, c, d, e, f, g, h])?,
+    }
+    Ok(())
+}
+
 #[cfg(test)]
 mod tests {
     use super::*;
+    use crate::numbers_again;
+    use std::test::Fail;
 
     #[test]
     fn reads_numbers(rt: HostRuntime) {
@@ -141,5 +161,26 @@ mod tests {
         for (bytes, want) in cases {
             assert_eq!(rt; get_lenenc(bytes, 0), want, "{bytes:?}");
         }
+    }
+
+    #[test]
+    fn writes_length_encoded_numbers(rt: HostRuntime) -> Result<(), Fail> {
+        let cases: [(u64, &[u8]); 7] = [
+            (0, b"\x00"),
+            (250, b"\xFA"),
+            (251, b"\xFC\xFB\x00"),
+            (65_535, b"\xFC\xFF\xFF"),
+            (65_536, b"\xFD\x00\x00\x01"),
+            (16_777_216, b"\xFE\x00\x00\x00\x01\x00\x00\x00\x00"),
+            (u64::MAX, b"\xFE\xFF\xFF\xFF\xFF\xFF\xFF\xFF\xFF"),
+        ];
+        for (n, want) in cases {
+            let mut out = vec![in rt.alloc(); 7]?;
+            put_lenenc(&mut out, n)?;
+            assert_eq!(rt; &out[..1], [7].as_slice());
+            assert_eq!(rt; &out[1..], want, "{n}");
+        }
+        numbers_again();
+        Ok(())
     }
 }
