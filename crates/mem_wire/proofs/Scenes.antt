@@ -13,6 +13,7 @@ use Rattle.recording.specs.declared.entry.RecordEntry.{RecordEntry}
 use Rattle.mem_wire.specs.Came.{is_woke, wakes, is_accepted_at, accepted_at, known, known_after, known_by}
 use Rattle.mem_wire.specs.Play.{named_step, named_since, is_mark, is_opened, last_marks, just_opened}
 use Rattle.mem_wire.proofs.Quiet.{is_open-idle}
+use Rattle.mem_wire.specs.CameLaws.{wakes-more, accepted-more, known-more, named-more}
 
 one_or_none : Bool → Entry → Log
 one_or_none b e = if b then e ∷ [] else []

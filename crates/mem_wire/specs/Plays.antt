@@ -43,16 +43,17 @@ releases-line l lines longer releases = record { more = releases.more; is = ap (
 
 pub released-more : (n : ℕ) (recording : List RecordEntry) → Releases (released n recording) (released (n + 1) recording)
 released-more n [] = record { more = []; is = refl }
-released-more n (l ∷ later) = of (is_at l) n where
-  of : (at : Bool) (m : ℕ) → Releases (if at && (m == 0) then [] else l ∷ released (if at then m - 1 else m) later) (if at && (m + 1 == 0) then [] else l ∷ released (if at then m + 1 - 1 else m + 1) later)
-  of false m = releases-line l (released m later) (released (m + 1) later) (released-more m later)
-  of true zero = record { more = l ∷ released 0 later; is = refl }
-  of true (suc m) =
+released-more n (l ∷ later) = of (is_at l) n (λ k. released-more k later) where
+  of : (at : Bool) (m : ℕ) → ((k : ℕ) → Releases (released k later) (released (k + 1) later))
+      → Releases (if at && (m == 0) then [] else l ∷ released (if at then m - 1 else m) later) (if at && (m + 1 == 0) then [] else l ∷ released (if at then m + 1 - 1 else m + 1) later)
+  of false m each = releases-line l (released m later) (released (m + 1) later) (each m)
+  of true zero each = record { more = l ∷ released 0 later; is = refl }
+  of true (suc m) each =
       let less : suc m - 1 ≡ m = omega arith in
       let same : suc m + 1 - 1 ≡ m + 1 = omega arith in
       let some : (suc m == 0) ≡ false = grind arith in
       let more : (suc m + 1 == 0) ≡ false = grind arith in
-      rw (some, more, less, same) (releases-line l (released m later) (released (m + 1) later) (released-more m later))
+      rw (some, more, less, same) (releases-line l (released m later) (released (m + 1) later) (each m))
 
 -- as many wakes as there are moments release all
 pub released-all : (n : ℕ) (recording : List RecordEntry) → length (moments recording) ≤ n → released n recording ≡ recording

@@ -1,12 +1,11 @@
 -- A play that is over has given all of its recording, where the loop was at rest.
-use Rattle.std.specs.Prelude.{◌≡◌, ◌⊎◌, ℕ, ◌+◌, ◌≤◌, ◌&&◌, ◌||◌, not, Bool, true, false, nat_eq, if◌then◌else◌, List, [], ◌∷◌, ◌++◌, length, drop, fold, slice_get, Option, Some, None, refl}
+use Rattle.std.specs.Prelude.{◌≡◌, ◌⊎◌, ℕ, zero, suc, ◌+◌, ◌≤◌, ◌&&◌, ◌||◌, not, Bool, true, false, nat_eq, if◌then◌else◌, List, [], ◌∷◌, ◌++◌, length, drop, fold, slice_get, Option, Some, None, refl}
 use Rattle.std.specs.List.{find, list_any}
 use Rattle.std.specs.Option.{option_or}
 use Rattle.std.proofs.Common.{sym, ◌∙◌, ap, subst, append-nil, inl, inr, arith}
 use Rattle.std.proofs.lemmas.Bool.{eqb-true}
 use Rattle.std.proofs.lemmas.List.Folds.{find-append, list_any-append}
 use Rattle.std.proofs.lemmas.List.Sums.{fold-append}
-use Rattle.std.proofs.lemmas.Option.{slice_get_cases}
 use Rattle.std.proofs.Math.Seq.{drop-append_seam}
 use Rattle.mx_base.specs.declared.names.LinkId.{LinkId}
 use Rattle.mx_base.specs.declared.names.Port.{Port}
@@ -142,8 +141,8 @@ or-none None b none = none
 or-none (Some x) b none = cc
 
 empty-unread : (opened named : Bool) (bytes : List ℕ) → opened ≡ true → named ≡ false → (opened && (not (is_empty bytes) && not named)) ≡ false → bytes ≡ []
-empty-unread opened named [] is_opened unnamed no = refl
-empty-unread opened named (b ∷ bytes) is_opened unnamed no = cc
+empty-unread opened named [] is_opened unnamed unready = refl
+empty-unread opened named (b ∷ bytes) is_opened unnamed unready = cc
 
 named-all : (recording : List RecordEntry) (log : Log) (link : LinkId) (k : Known) → next_named recording log ≡ None → with_link link (known recording log) ≡ Some k → IsOpen link log → IsUnnamed link log → unread_of recording log k ≡ []
 named-all recording log link k none found opened unnamed =
@@ -254,14 +253,17 @@ play-settled recording log playable play = lawful-each (IsAnswerOf recording) (I
 
 -- At the end.
 
+none-past : (clients : List Waiting) (i : ℕ) → slice_get clients i ≡ None → length clients ≤ i
+none-past [] i none = search arith
+none-past (client ∷ clients) zero none = cc
+none-past (client ∷ clients) (suc i) none = let past = none-past clients i none in omega arith
+
 all-accepted : (recording : List RecordEntry) (log : Log) (at_port : Port) → HasTaken recording log → released (wakes log) recording ≡ recording → next_client recording log at_port ≡ None → accepted_at at_port log ≡ length (clients_at at_port recording)
 all-accepted recording log at_port taken all none =
     let most : accepted_at at_port log ≤ length (clients_at at_port recording) = subst (λ (lines : List RecordEntry). accepted_at at_port log ≤ length (clients_at at_port lines)) all (taken.accepted at_port) in
     let past : slice_get (clients_at at_port recording) (accepted_at at_port log) ≡ None = subst (λ (lines : List RecordEntry). slice_get (clients_at at_port lines) (accepted_at at_port log) ≡ None) all none in
-    elim ((slice_get_cases (clients_at at_port recording) (accepted_at at_port log)).1) [
-      | inl (y, below, found, got) ↦ (let no : Some y ≡ None = sym got ∙ past in absurd (cc))
-      | inr (least, got) ↦ omega arith
-    ]
+    let least = none-past (clients_at at_port recording) (accepted_at at_port log) past in
+    omega arith
 
 all-read : (recording : List RecordEntry) (log : Log) (link : LinkId) (k : Known) → HasTaken recording log → released (wakes log) recording ≡ recording → with_link link (known recording log) ≡ Some k → unread_of recording log k ≡ [] → read_of link log ≡ bytes_for k.name recording
 all-read recording log link k taken all found nothing =

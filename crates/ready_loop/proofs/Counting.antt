@@ -142,17 +142,17 @@ marks-tracked table log (e ∷ marks) all was = subst (Tracks table) (append_ass
 }))
 
 -- a call of the wire, and what the table then has
-pub tracks_on : (old new : Table) (told now : Option Log) (e : Entry) → TracksFor old told → Tells told e now → ((log : Log) → MayFollow log e → Tracks old log → Tracks new (log ++ e ∷ [])) → TracksFor new now
+pub tracks_on : (old new : Table) (told now : Option Log) (e : Entry) → TracksFor old told → Tells told e now → ((log : Log) → Tracks old log → Tracks new (log ++ e ∷ [])) → TracksFor new now
 tracks_on old new told now e held tells more = record {
   holds = λ log is.
       let call = tells.appended log is in
       let marks = call.2.marks in
-      subst (Tracks new) (sym call.2.is) (more (call.0 ++ marks) call.2.lawful (marks-tracked old call.0 marks call.2.only_marks (held.holds call.0 call.1)));
+      subst (Tracks new) (sym call.2.is) (more (call.0 ++ marks) (marks-tracked old call.0 marks call.2.only_marks (held.holds call.0 call.1)));
 }
 
 -- an entry of no link
 pub unnamed : (old new : Table) (told now : Option Log) (e : Entry) → link_of e ≡ None → new.round ≡ round_step old.round e → ((l : LinkId) → dry_of new.links l ≡ dry_of old.links l) → TracksFor old told → Tells told e now → TracksFor new now
-unnamed old new told now e names round links held tells = tracks_on old new told now e held tells (λ log may was. record {
+unnamed old new told now e names round links held tells = tracks_on old new told now e held tells (λ log was. record {
   round = counts-more old.round new.round log e round was.round;
   links = links-unnamed old.links new.links log e names links was.links;
 })
@@ -160,7 +160,7 @@ unnamed old new told now e names round links held tells = tracks_on old new told
 -- an entry of one link
 pub named : (old new : Table) (told now : Option Log) (e : Entry) (link : LinkId) → link_of e ≡ Some link → new.round ≡ round_step old.round e → dry_of new.links link ≡ dry_step (dry_of old.links link) e
     → ((other : LinkId) → nat_eq link.0 other.0 ≡ false → dry_of new.links other ≡ dry_of old.links other) → TracksFor old told → Tells told e now → TracksFor new now
-named old new told now e link names round same others held tells = tracks_on old new told now e held tells (λ log may was. record {
+named old new told now e link names round same others held tells = tracks_on old new told now e held tells (λ log was. record {
   round = counts-more old.round new.round log e round was.round;
   links = links-named old.links new.links log e link names same others was.links;
 })

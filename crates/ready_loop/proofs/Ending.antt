@@ -1,12 +1,17 @@
 -- How a loop ends.
-use Rattle.std.proofs.Common.{◌≡◌, ◌++◌, Option, None, arith, refl, sym, ◌∙◌}
+use Rattle.std.proofs.Common.{◌≡◌, ◌++◌, ℕ, Bool, Option, None, Result, Ok, Err, arith, refl, sym, ◌∙◌, inl, inr}
 use Rattle.mx_wire.specs.Log.{Log, link_of}
 use Rattle.mx_wire.specs.Tells.{Tells}
 use Rattle.mx_wire.specs.declared.entry.Entry.{Entry}
 use Rattle.ready_loop.specs.Round.{wake_step, wakes_of, round_step}
 use Rattle.ready_loop.proofs.Counting.{unnamed}
-use Rattle.ready_loop.specs.Serving.{TracksFor, WokeFor, EndsWith}
+use Rattle.ready_loop.specs.Machine.{StandsFor}
+use Rattle.ready_loop.specs.Serving.{TracksFor, WokeFor, EndsWith, IsUnwritten, StoodFor, Ends}
 use Rattle.ready_loop.specs.declared.table.Table.{Table}
+use Rattle.ready_loop.specs.declared.ends.ServeEnd.{ServeEnd}
+use Rattle.ready_loop.specs.declared.ends.ServeEnd.TheVariants as ended
+use Rattle.std.specs.Result.{IsErrAnd, OnErr, IfErr}
+use Rattle.std.proofs.lemmas.Result.{err_from_is_err_and}
 
 -- the entry of a call is the last one
 pub ends_with : (P : Entry → Type 0) (old new : Option Log) (e : Entry) → Tells old e new → P e → EndsWith P new
@@ -20,3 +25,23 @@ woke_on table told now e held tells names same = record {
       let counted : wakes_of log ≡ table.round.wakes = sym (after.holds log is).round.wakes ∙ same in
       omega arith;
 }
+
+-- Memory was refused by the answer of a call, or after it.
+
+pub stood_before : {M : Type 0} (stands : M → Log → Type 0) (machine : M) (old new : Option Log) (e : Entry) → IsUnwritten e → StandsFor stands machine old → Tells old e new → StoodFor stands new
+stood_before stands machine old new e unwritten held tells = record {
+  holds = λ log is.
+      let call = tells.appended log is in
+      record { machine = machine; before = call.0; stood = held.holds call.0 call.1; but = inr (e, unwritten, call.2) };
+}
+
+pub stood_now : {M : Type 0} (stands : M → Log → Type 0) (machine : M) (told : Option Log) → StandsFor stands machine told → StoodFor stands told
+stood_now stands machine told held = record { holds = λ log is. record { machine = machine; before = log; stood = held.holds log is; but = inl refl } }
+
+pub on_err : {A E : Type 0} (r : Result A E) (P : Type 0) → P → OnErr r P
+on_err (Ok done) P holds = tt
+on_err (Err given) P holds = holds
+
+-- so ends a loop whose memory was refused
+pub broke : {M A : Type 0} (stands : M → Log → Type 0) (is_stopped : M → Bool) (wakes : ℕ) (spent : Option Log → Type 0) (core : M) (told : Option Log) (r : Result A ServeEnd) → IsErrAnd r (λ end. end ≡ ended.OutOfMemory) → StoodFor stands told → IfErr r (Ends stands is_stopped wakes spent core told)
+broke stands is_stopped wakes spent core told r is stood = let given = err_from_is_err_and r is in rw (given.1, given.2) stood

@@ -5,7 +5,7 @@ use Rattle.mx_base.specs.declared.names.Port.TheVariants as port
 use Rattle.mx_base.specs.declared.names.Address.{Address}
 use Rattle.mx_wire.specs.Log.{Log}
 use Rattle.mx_wire.specs.Moments.{AllLawful}
-use Rattle.mx_wire.specs.Tells.{Tells, KeepsRule}
+use Rattle.mx_wire.specs.Tells.{Appends, Tells, KeepsRule}
 use Rattle.mx_wire.specs.declared.entry.Entry.{Entry}
 use Rattle.mx_wire.specs.declared.entry.Entry.TheVariants as entry
 use Rattle.ready_loop.specs.Sent.{Sent}
@@ -155,6 +155,21 @@ pub record SpentFor (turns : ℕ) (reads : LinkId → Bool) (sends : LinkId → 
 pub record WokeFor (most : ℕ) (told : Option Log) : Type 0 where
   pub holds : (log : Log) → told ≡ Some log → wakes_of log ≤ most
 
+-- no byte was written by the call
+abbrev pub IsUnwritten : Entry → Type 0
+IsUnwritten (entry.Wrote link tag bytes) = ⊥
+IsUnwritten _ = Unit {0}
+
+-- A machine stood for the log, but for the call by whose answer memory was refused.
+pub record Stood {M : Type 0} (stands : M → Log → Type 0) (log : Log) : Type 0 where
+  pub machine : M
+  pub before : Log
+  pub stood : stands machine before
+  pub but : (log ≡ before) ⊎ ((e : Entry) × IsUnwritten e × Appends before e log)
+
+pub record StoodFor {M : Type 0} (stands : M → Log → Type 0) (told : Option Log) : Type 0 where
+  pub holds : (log : Log) → told ≡ Some log → Stood stands log
+
 -- how the loop ends, and what stands then
 pub record EndsSo {M : Type 0} (stands : M → Log → Type 0) (wakes : ℕ) (core : M) (told : Option Log) (is should : Bool) (last : Option Log → Type 0) : Type 0 where
   pub standing : StandsFor stands core told
@@ -167,7 +182,7 @@ Ends stands is_stopped wakes spent core told Stopped = EndsSo stands wakes core 
 Ends stands is_stopped wakes spent core told Over = EndsSo stands wakes core told (is_stopped core) false (EndsWith IsOver)
 Ends stands is_stopped wakes spent core told ListenFault = EndsSo stands wakes core told (is_stopped core) false (EndsWith IsPortFault)
 Ends stands is_stopped wakes spent core told TurnsSpent = EndsSo stands wakes core told (is_stopped core) false spent
-Ends stands is_stopped wakes spent core told OutOfMemory = Unit {0}
+Ends stands is_stopped wakes spent core told OutOfMemory = StoodFor stands told
 
 -- the calls of a log, without the marks
 abbrev pub is_call : Entry → Bool

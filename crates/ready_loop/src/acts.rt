@@ -1,8 +1,8 @@
 // What a machine asks for is done, in order.
-ghost use Rattle.std.specs.Prelude.{◌≡◌, ◌<◌, ◌≤◌, OnOk, IfErr, IfOk, Some, None, true, false, if◌then◌else◌};
+ghost use Rattle.std.specs.Prelude.{◌≡◌, ◌<◌, ◌≤◌, OnOk, OnErr, IfErr, IfOk, Some, None, true, false, if◌then◌else◌};
 ghost use Rattle.mx_wire.specs.Tells.{OpenFor};
 ghost use Rattle.ready_loop.specs.Machine.{Target};
-ghost use Rattle.ready_loop.specs.Serving.{Serves, Ends, BusyFor, Advances, TracksFor, IsOffered, Parts, offered_round};
+ghost use Rattle.ready_loop.specs.Serving.{Serves, Ends, BusyFor, StoodFor, Advances, TracksFor, IsOffered, Parts, offered_round};
 ghost use Rattle.ready_loop.specs.Links.{Marks};
 
 use crate::table::Table;
@@ -27,6 +27,7 @@ fn open_link<M: Machine, W: Wire>(
     ensures serves { OnOk result (Serves M.stands M.reads M.sends M.changed core.new table.new (W.told wire.new)) }
     ensures more { OnOk result (table.old.round.calls < table.new.round.calls) }
     ensures wakes { table.new.round.wakes ≡ table.old.round.wakes }
+    ensures broke { OnErr result (StoodFor M.stands (W.told wire.new)) }
     ensures advances { Advances W.told W.rule W.port_faults W.faults wire.old wire.new }
 {
     table.round.calls += 1;
@@ -91,6 +92,7 @@ fn act_once<M: Machine, W: Wire>(
     ensures none { IfOk result (λ went. went ≡ false → table.new.round ≡ table.old.round) }
     ensures acted { IfOk result (λ went. went ≡ false → M.asks core.new ≡ false) }
     ensures wakes { table.new.round.wakes ≡ table.old.round.wakes }
+    ensures broke { OnErr result (StoodFor M.stands (W.told wire.new)) }
     ensures advances { Advances W.told W.rule W.port_faults W.faults wire.old wire.new }
 {
     match core.next_act() {

@@ -4,7 +4,7 @@ ghost use Rattle.mx_wire.specs.Tells.{Tells};
 ghost use Rattle.mx_wire.specs.declared.entry.Entry.TheVariants as entry;
 ghost use Rattle.ready_loop.specs.Drained.{DrainedFor};
 ghost use Rattle.ready_loop.specs.Links.{is_read_dry, is_write_dry};
-ghost use Rattle.ready_loop.specs.Serving.{Serves, Ends, BusyFor, Advances, Makes};
+ghost use Rattle.ready_loop.specs.Serving.{Serves, Ends, BusyFor, StoodFor, Advances, Makes};
 
 use crate::table::{Call, Table};
 use crate::{Event, Machine, ServeEnd};
@@ -123,6 +123,7 @@ pub fn name_once<M: Machine, W: Wire>(
     ensures more { OnOk result (table.old.round.calls < table.new.round.calls) }
     ensures wakes { table.new.round.wakes ≡ table.old.round.wakes }
     ensures ends { IfErr result (λ end. end ≡ ServeEnd.OutOfMemory) }
+    ensures broke { OnErr result (StoodFor M.stands (W.told wire.new)) }
     ensures advances { Advances W.told W.rule W.port_faults W.faults wire.old wire.new }
 {
     table.round.calls += 1;
@@ -157,6 +158,7 @@ pub fn read_once<M: Machine, W: Wire>(
     ensures more { OnOk result (table.old.round.calls < table.new.round.calls) }
     ensures wakes { table.new.round.wakes ≡ table.old.round.wakes }
     ensures ends { IfErr result (λ end. end ≡ ServeEnd.OutOfMemory) }
+    ensures broke { OnErr result (StoodFor M.stands (W.told wire.new)) }
     ensures advances { Advances W.told W.rule W.port_faults W.faults wire.old wire.new }
 {
     table.round.calls += 1;
@@ -197,6 +199,7 @@ pub fn write_once<M: Machine, W: Wire>(
     ensures more { OnOk result (table.old.round.calls < table.new.round.calls) }
     ensures wakes { table.new.round.wakes ≡ table.old.round.wakes }
     ensures ends { IfErr result (λ end. end ≡ ServeEnd.OutOfMemory) }
+    ensures broke { OnErr result (StoodFor M.stands (W.told wire.new)) }
     ensures advances { Advances W.told W.rule W.port_faults W.faults wire.old wire.new }
 {
     let Some(piece) = core.outgoing(link) else {

@@ -7,7 +7,7 @@ ghost use Rattle.ready_loop.specs.Drained.{DrainedFor};
 ghost use Rattle.ready_loop.specs.Links.{mark_of};
 ghost use Rattle.ready_loop.specs.Machine.{StandsFor};
 ghost use Rattle.ready_loop.specs.Round.{CountsOf};
-ghost use Rattle.ready_loop.specs.Serving.{Serves, Ends, BusyFor, EndsWith, IsOver, IsPortFault, SpentFor, WokeFor, ListensFirst, ListeningFor, Advances, Makes, IsOwed};
+ghost use Rattle.ready_loop.specs.Serving.{Serves, Ends, BusyFor, StoodFor, EndsWith, IsOver, IsPortFault, SpentFor, WokeFor, ListensFirst, ListeningFor, Advances, Makes, IsOwed};
 
 use crate::acts::{CALLS_PER_WAKE, do_acts, spent};
 use crate::calls::{accept_once, listen_once, name_once, read_once, wait_once, write_once};
@@ -34,6 +34,7 @@ fn queue_changed<M: Machine, W: Wire>(
     ensures stopped { M.is_stopped core.new ≡ M.is_stopped core.old }
     ensures acted { M.asks core.new ≡ M.asks core.old }
     ensures round { table.new.round ≡ table.old.round }
+    ensures broke { OnErr result (StoodFor M.stands (W.told wire.now)) }
 {
     while let Some(link) = core.next_changed() {
         table.links.enqueue(link)?;
@@ -274,12 +275,14 @@ fn make_room(alloc: Global, most: u32) -> Result<(Table, Vec<u8>), OutOfMemory>
 ///
 /// Stopped comes where the machine stopped, Over where a wait answered Over, ListenFault where a port or a wait
 /// failed, TurnsSpent where a further wait is due after `turns` of them, or 4,294,967,296 calls of the wire were made
-/// since the last wake, and OutOfMemory where memory was refused, of which the machine then isn't told.
+/// since the last wake, and OutOfMemory where memory was refused: by then a machine stood for the log, but for the
+/// last call's answer.
 pub fn serve<M: Machine, W: Wire>(alloc: Global, core: &mut M, wire: &mut W, turns: u64) -> ServeEnd
     requires fresh { (log : Log) → W.told wire.old ≡ Some log → log ≡ [] }
     requires stands { StandsFor M.stands core.old (W.told wire.old) }
     requires going { M.is_stopped core.old ≡ false }
     ensures stands { result ≢ ServeEnd.OutOfMemory → StandsFor M.stands core.new (W.told wire.new) }
+    ensures broke { result ≡ ServeEnd.OutOfMemory → StoodFor M.stands (W.told wire.new) }
     ensures stopped { result ≡ ServeEnd.Stopped → M.is_stopped core.new ≡ true }
     ensures going { result ≢ ServeEnd.Stopped → result ≢ ServeEnd.OutOfMemory → M.is_stopped core.new ≡ false }
     ensures over { result ≡ ServeEnd.Over → EndsWith IsOver (W.told wire.new) }

@@ -1,3 +1,4 @@
+use Rattle.ready_loop.proofs.Ending.{stood_before, on_err}
 use Rattle.std.proofs.Common.{refl, ap}
 use Rattle.ready_loop.proofs.Steps.{goes_on}
 use Rattle.ready_loop.proofs.Counting.{unnamed, named}
@@ -20,3 +21,12 @@ returns-in_ok-take-in-Failed-clause-serves g c = record {
   tracks = unnamed _ _ _ _ _ refl refl (λ l. refl) c.requires.serves.tracks c.in-Failed.ensures.told;
   watches = watching.changes _ _ _ _ _ _ c.in_ok-take-in-Failed.ensures.changes c.requires.serves.watches;
 }
+
+pub returns-in_err-take-in-Link-clause-broke : goal.returns-in_err-take-in-Link-clause-broke
+returns-in_err-take-in-Link-clause-broke g c = on_err _ _ (stood_before _ _ _ _ _ tt c.requires.serves.standing c.in-Link.ensures.told)
+
+pub returns-in_err-opened-in-Link-clause-broke : goal.returns-in_err-opened-in-Link-clause-broke
+returns-in_err-opened-in-Link-clause-broke g c = on_err _ _ (stood_before _ _ _ _ _ tt c.requires.serves.standing c.in-Link.ensures.told)
+
+pub returns-in_err-take-in-Failed-clause-broke : goal.returns-in_err-take-in-Failed-clause-broke
+returns-in_err-take-in-Failed-clause-broke g c = on_err _ _ (stood_before _ _ _ _ _ tt c.requires.serves.standing c.in-Failed.ensures.told)

@@ -3,10 +3,10 @@ use Rattle.ready_loop.proofs.Steps.{goes_on, stays}
 use Rattle.ready_loop.proofs.Counting.{unnamed, named}
 use Rattle.ready_loop.proofs.Marking as marking
 use Rattle.ready_loop.proofs.Watching as watching
-use Rattle.ready_loop.specs.Serving.{IsPortFault}
+use Rattle.ready_loop.specs.Serving.{IsPortFault, BusyFor}
 use Rattle.std.specs.Option.{option_map}
 use Rattle.ready_loop.specs.Links.{dry_mark}
-use Rattle.ready_loop.proofs.Ending.{ends_with, woke_on}
+use Rattle.ready_loop.proofs.Ending.{ends_with, woke_on, stood_before, broke}
 use Rattle.ready_loop.proofs.calls.accept_once.Goals as goal
 
 pub returns-in_ok-opened-in-Link-clause-serves : goal.returns-in_ok-opened-in-Link-clause-serves
@@ -30,3 +30,9 @@ returns-in-Failed-clause-ends g c = record {
   woke = woke_on _ _ _ _ c.requires.serves.tracks c.in-Failed.ensures.told refl refl;
   so = ends_with IsPortFault _ _ _ c.in-Failed.ensures.told tt;
 }
+
+pub returns-in_err-take-in-Link-clause-ends : goal.returns-in_err-take-in-Link-clause-ends
+returns-in_err-take-in-Link-clause-ends g c = broke _ g.M.Machine.is_stopped _ BusyFor _ _ c.from_residual.result c.from_residual.ensures.1 (stood_before _ _ _ _ _ tt c.requires.serves.standing c.in-Link.ensures.told)
+
+pub returns-in_err-opened-in-Link-clause-ends : goal.returns-in_err-opened-in-Link-clause-ends
+returns-in_err-opened-in-Link-clause-ends g c = broke _ g.M.Machine.is_stopped _ BusyFor _ _ _ c.from_residual-in_err-opened-in-Link.ensures.1 (stood_before _ _ _ _ _ tt c.requires.serves.standing c.in-Link.ensures.told)

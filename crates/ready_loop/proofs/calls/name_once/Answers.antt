@@ -1,3 +1,4 @@
+use Rattle.ready_loop.proofs.Ending.{stood_before, on_err}
 use Rattle.std.proofs.Common.{refl}
 use Rattle.ready_loop.proofs.Steps.{stays}
 use Rattle.ready_loop.proofs.Counting.{unnamed, named}
@@ -18,3 +19,6 @@ returns-in-None-clause-serves g c = record {
   tracks = unnamed _ _ _ _ _ refl refl (λ l. refl) c.requires.serves.tracks c.in-None.ensures.told;
   watches = c.requires.serves.watches;
 }
+
+pub returns-in_err-named-in-Some-clause-broke : goal.returns-in_err-named-in-Some-clause-broke
+returns-in_err-named-in-Some-clause-broke g c = on_err c.from_residual.result _ (stood_before _ _ _ _ _ tt c.requires.serves.standing c.in-Some.ensures.told)

@@ -1,3 +1,4 @@
+use Rattle.ready_loop.proofs.Ending.{stood_before, on_err}
 use Rattle.std.proofs.Common.{refl, inl}
 use Rattle.ready_loop.proofs.Steps.{goes_on, stays}
 use Rattle.ready_loop.proofs.Counting.{named}
@@ -36,3 +37,12 @@ returns-in_ok-take-in-Failed-clause-serves g c = record {
   tracks = named _ _ _ _ _ _ refl refl refl (λ other apart. refl) c.requires.serves.tracks c.in-Failed.ensures.told;
   watches = watching.changes _ _ _ _ _ _ c.in_ok-take-in-Failed.ensures.changes c.requires.serves.watches;
 }
+
+pub returns-in_err-take-in-Got-clause-broke : goal.returns-in_err-take-in-Got-clause-broke
+returns-in_err-take-in-Got-clause-broke g c = on_err _ _ (stood_before _ _ _ _ _ tt c.requires.serves.standing c.in-Got.ensures.told)
+
+pub returns-in_err-take-in-End-clause-broke : goal.returns-in_err-take-in-End-clause-broke
+returns-in_err-take-in-End-clause-broke g c = on_err _ _ (stood_before _ _ _ _ _ tt c.requires.serves.standing c.in-End.ensures.told)
+
+pub returns-in_err-take-in-Failed-clause-broke : goal.returns-in_err-take-in-Failed-clause-broke
+returns-in_err-take-in-Failed-clause-broke g c = on_err _ _ (stood_before _ _ _ _ _ tt c.requires.serves.standing c.in-Failed.ensures.told)

@@ -2,8 +2,8 @@ use Rattle.std.proofs.Common.{refl}
 use Rattle.ready_loop.proofs.Steps.{waits}
 use Rattle.ready_loop.proofs.Counting.{unnamed}
 use Rattle.ready_loop.proofs.Watching as watching
-use Rattle.ready_loop.specs.Serving.{IsPortFault, IsOver}
-use Rattle.ready_loop.proofs.Ending.{ends_with, woke_on}
+use Rattle.ready_loop.specs.Serving.{IsPortFault, IsOver, BusyFor}
+use Rattle.ready_loop.proofs.Ending.{ends_with, woke_on, stood_before, broke}
 use Rattle.ready_loop.proofs.calls.wait_once.Goals as goal
 
 pub returns-in_ok-take-in-Woke-clause-serves : goal.returns-in_ok-take-in-Woke-clause-serves
@@ -28,3 +28,6 @@ returns-in-Failed-clause-ends g c = record {
   woke = woke_on _ _ _ _ c.requires.serves.tracks c.in-Failed.ensures.told refl refl;
   so = ends_with IsPortFault _ _ _ c.in-Failed.ensures.told tt;
 }
+
+pub returns-in_err-take-in-Woke-clause-ends : goal.returns-in_err-take-in-Woke-clause-ends
+returns-in_err-take-in-Woke-clause-ends g c = broke _ g.M.Machine.is_stopped _ BusyFor _ _ c.from_residual.result c.from_residual.ensures.1 (stood_before _ _ _ _ _ tt c.requires.serves.standing c.in-Woke.ensures.told)

@@ -1,3 +1,4 @@
+use Rattle.ready_loop.proofs.Ending.{stood_before, on_err}
 use Rattle.std.proofs.Common.{refl, inr}
 use Rattle.ready_loop.proofs.Steps.{goes_on, stays, written, may_take}
 use Rattle.ready_loop.proofs.Counting.{named}
@@ -32,3 +33,6 @@ returns-in_ok-take-in-Failed-clause-serves g c = record {
   tracks = named _ _ _ _ _ _ refl refl refl (λ other apart. refl) c.requires.serves.tracks c.in-Failed.ensures.told;
   watches = watching.changes _ _ _ _ _ _ c.in_ok-take-in-Failed.ensures.changes c.requires.serves.watches;
 }
+
+pub returns-in_err-take-in-Failed-clause-broke : goal.returns-in_err-take-in-Failed-clause-broke
+returns-in_err-take-in-Failed-clause-broke g c = on_err _ _ (stood_before _ _ _ _ _ tt c.requires.serves.standing c.in-Failed.ensures.told)

@@ -1,3 +1,4 @@
+use Rattle.ready_loop.proofs.Ending.{stood_now, on_err}
 use Rattle.std.proofs.Common.{refl, ◌∙◌}
 use Rattle.ready_loop.proofs.Steps.{keeps}
 use Rattle.ready_loop.proofs.Counting.{retold}
@@ -16,3 +17,6 @@ loop-link-preserved g c = record {
   acted = c.in-Some.ensures.asks ∙ c.loop-link.invariant.acted;
   round = c.loop-link.invariant.round;
 }
+
+pub returns-in_err-enqueue-clause-broke : goal.returns-in_err-enqueue-clause-broke
+returns-in_err-enqueue-clause-broke g c = on_err _ _ (stood_now _ _ _ (keeps _ _ _ _ c.loop-link.invariant.serves.standing c.in-Some.ensures.keeps))
