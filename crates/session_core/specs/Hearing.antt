@@ -1,5 +1,5 @@
 -- What is heard on a server's link.
-use Rattle.std.specs.Prelude.{◌≡◌, ℕ, Bool, true, false, if◌then◌else◌, List, [], ◌++◌, Option, Some, None}
+use Rattle.std.specs.Prelude.{◌≡◌, ℕ, Bool, true, false, ◌&&◌, nat_eq, if◌then◌else◌, List, [], ◌++◌, length, Option, Some, None}
 use Rattle.mx_base.specs.declared.names.LinkId.{LinkId}
 use Rattle.packet_frame.specs.FramerState.{FramerState, look}
 use Rattle.packet_frame.specs.Packets.{Framed, Found, spelling}
@@ -21,7 +21,7 @@ fed framer bytes = record framer { kept = framer.kept ++ bytes }
 pub record HearsMessage (message : Framed) (framer : FramerState) (link : LinkId) (new : Server) (is_free : Bool) (told now : List ℕ) : Type 0 where
   pub answer : now ≡ told ++ spelling 1 (if is_reply message.payload then message.payload else bad_server_bytes 0)
   pub after : new ≡ record { link = link; framer = past_message message framer }
-  pub free : is_free ≡ true → new.framer.kept ≡ []
+  pub free : is_free ≡ (is_reply message.payload && nat_eq (length new.framer.kept) 0)
 
 abbrev pub HearsBy : Found → FramerState → LinkId → Server → Heard → (told now : List ℕ) → Type 0
 HearsBy Nothing framer link new heard told now = (heard ≡ Quiet) × (now ≡ told) × (new ≡ record { link = link; framer = record framer { found = None } })

@@ -1,6 +1,6 @@
 -- What the core tracks once a reply is read, or more of one.
-use Rattle.std.specs.Prelude.{◌≡◌, ℕ, ◌<◌, Bool, true, false, nat_eq, not, ◌&&◌, if◌then◌else◌, List, [], ◌∷◌, ◌++◌, length, Option, Some, None, refl}
-use Rattle.std.proofs.Common.{sym, ◌∙◌, ap, subst}
+use Rattle.std.specs.Prelude.{◌≡◌, ℕ, ◌<◌, Bool, true, false, nat_eq, not, ◌&&◌, if◌then◌else◌, List, [], ◌∷◌, ◌++◌, length, Option, Some, None, refl, suc}
+use Rattle.std.proofs.Common.{sym, ◌∙◌, ap, subst, arith}
 use Rattle.mx_base.specs.declared.names.LinkId.{LinkId}
 use Rattle.mx_wire.specs.Log.{Log, wrote_bytes, read_of, written_of}
 use Rattle.mx_wire.specs.Growth.{bytes-idle}
@@ -32,6 +32,7 @@ use Rattle.session_core.specs.Tracking.{tracks-with, has-with, held-with, held-r
 use Rattle.session_core.specs.Ready.{tracks-ready}
 use Rattle.session_core.specs.Saying.{same_link, got-nothing, others-got}
 use Rattle.session_core.specs.Replying.{Awaits, awaited, idle-again, sends-more, found-in, replied, read-reply, unread}
+use Rattle.std.proofs.lemmas.Bool.{eqb-true}
 
 server-same : (mid server : Server) (log : Log) → mid.link ≡ server.link → IsServers (Some server) log → IsServers (Some mid) log
 server-same mid server log same is = λ n link has. subst (λ (l : LinkId). nat_eq l.0 link.0 ≡ false) (sym same) (is n link has)
@@ -84,10 +85,14 @@ and-last true b both = both
 and-last false b both = cc
 
 -- the server's link behind a reply that nothing follows
+none-kept : (kept : List ℕ) → nat_eq (length kept) 0 ≡ true → kept ≡ []
+none-kept [] empty = refl
+none-kept (b ∷ kept) empty = absurd (let none : suc (length kept) ≡ 0 = eqb-true (suc (length kept)) 0 empty in omega arith)
+
 heard-free : (message : Framed) (framer : FramerState) (link : LinkId) (mid : Server) (is_free : Bool) (packet : List ℕ) → IsReading framer → HearsMessage message framer link mid is_free [] packet → is_free ≡ true → IsFree mid
 heard-free message framer link mid is_free packet reading hears free = record {
   framer = subst (λ (s : Server). IsReading s.framer) (sym hears.after) (record { limited = reading.limited; unfound = refl; faultless = reading.faultless });
-  kept = hears.free free;
+  kept = none-kept mid.framer.kept (and-last (is_reply message.payload) (nat_eq (length mid.framer.kept) 0) (sym hears.free ∙ free));
 }
 
 -- the command is answered, and the messages behind it may arrive
