@@ -1,7 +1,7 @@
 -- What one more entry changes of what a play looks at, and what it leaves.
-use Rattle.std.proofs.Common.{◌≡◌, ◌+◌, Bool, true, false, List, [], ◌∷◌, ◌++◌, length, filter, if◌then◌else◌, None, refl, sym, ◌∙◌, ap, subst, append-nil, append_assoc, add-zero, length-append}
+use Rattle.std.proofs.Common.{◌≡◌, ◌+◌, Bool, true, false, List, [], ◌∷◌, ◌++◌, length, if◌then◌else◌, None, refl, sym, ◌∙◌, ap, subst, append-nil, append_assoc, add-zero}
 use Rattle.std.specs.List.{cons_option}
-use Rattle.std.proofs.lemmas.List.Elements.{filter-append, filter_map-append}
+use Rattle.std.proofs.lemmas.List.Elements.{filter_map-append}
 use Rattle.std.proofs.lemmas.List.Sums.{fold-append}
 use Rattle.mx_base.specs.declared.names.LinkId.{LinkId}
 use Rattle.mx_base.specs.declared.names.Port.{Port}
@@ -10,7 +10,7 @@ use Rattle.mx_wire.specs.Growth.{bytes-idle}
 use Rattle.mx_wire.specs.declared.entry.Entry.{Entry}
 use Rattle.mx_wire.specs.declared.entry.Entry.TheVariants as entry
 use Rattle.recording.specs.declared.entry.RecordEntry.{RecordEntry}
-use Rattle.mem_wire.specs.Came.{is_woke, wakes, is_accepted_at, accepted_at, known, known_after, known_by}
+use Rattle.mem_wire.specs.Came.{is_woke, wakes, is_accepted_at, accepted_at, known, known_by}
 use Rattle.mem_wire.specs.Play.{named_step, named_since, is_mark, is_opened, last_marks, just_opened}
 use Rattle.mem_wire.proofs.Quiet.{is_open-idle}
 use Rattle.mem_wire.specs.CameLaws.{wakes-more, accepted-more, known-more, named-more}

@@ -1,6 +1,5 @@
 -- What a play has taken of its recording.
 use Rattle.std.specs.Prelude.{◌≡◌, ◌⊎◌, ℕ, zero, suc, ◌+◌, ◌-◌, ◌<◌, ◌≤◌, ◌==◌, ◌&&◌, Bool, true, false, nat_eq, if◌then◌else◌, List, [], ◌∷◌, ◌++◌, length, drop, slice_get, Option, Some, None, refl}
-use Rattle.std.specs.List.{find, cons_option, flat_map, filter_map}
 use Rattle.std.specs.Option.{option_or}
 use Rattle.std.proofs.Common.{sym, ◌∙◌, ap, subst, append-nil, append_assoc, inl, inr, arith, length-append}
 use Rattle.std.proofs.lemmas.List.Folds.{find-append}
@@ -17,11 +16,9 @@ use Rattle.mx_wire.specs.Moments.{lawful-each}
 use Rattle.mx_wire.specs.Growth.{bool_cases, bytes-same, bytes-other, bytes-idle}
 use Rattle.mx_wire.specs.declared.entry.Entry.{Entry}
 use Rattle.mx_wire.specs.declared.entry.Entry.TheVariants as entry
-use Rattle.recording.specs.declared.entry.RecordLink.{RecordLink}
 use Rattle.recording.specs.declared.entry.RecordEntry.{RecordEntry}
 use Rattle.recording.specs.declared.entry.RecordEntry.TheVariants as line
-use Rattle.mem_wire.specs.declared.waiting.Waiting.{Waiting}
-use Rattle.mem_wire.specs.Lines.{is_at, moment_at, moments, released, is_port, waiting_at, clients_at, bytes_at, bytes_for}
+use Rattle.mem_wire.specs.Lines.{is_at, moments, released, is_port, waiting_at, clients_at, bytes_at, bytes_for}
 use Rattle.mem_wire.specs.Came.{is_woke, wakes, is_accepted_at, accepted_at, next_client, Known, known_by, known, with_link, unread_of, unread}
 use Rattle.mem_wire.specs.CameLaws.{wakes-more, accepted-more, known-more}
 use Rattle.mem_wire.specs.Play.{Reads, Brings, IsAnswerOf, IsPlay}

@@ -1,5 +1,5 @@
 -- A play that is over has given all of its recording, where the loop was at rest.
-use Rattle.std.specs.Prelude.{◌≡◌, ◌⊎◌, ℕ, zero, suc, ◌+◌, ◌≤◌, ◌&&◌, ◌||◌, not, Bool, true, false, nat_eq, if◌then◌else◌, List, [], ◌∷◌, ◌++◌, length, drop, fold, slice_get, Option, Some, None, refl}
+use Rattle.std.specs.Prelude.{◌≡◌, ◌⊎◌, ℕ, zero, suc, ◌+◌, ◌≤◌, ◌&&◌, not, Bool, true, false, nat_eq, if◌then◌else◌, List, [], ◌∷◌, ◌++◌, length, drop, slice_get, Option, Some, None, refl}
 use Rattle.std.specs.List.{find, list_any}
 use Rattle.std.specs.Option.{option_or}
 use Rattle.std.proofs.Common.{sym, ◌∙◌, ap, subst, append-nil, inl, inr, arith}
@@ -23,7 +23,7 @@ use Rattle.mem_wire.specs.declared.waiting.Waiting.{Waiting}
 use Rattle.mem_wire.specs.Lines.{moments, released, clients_at, bytes_for}
 use Rattle.mem_wire.specs.Came.{is_woke, wakes, is_accepted_at, accepted_at, next_client, Known, as_client, known_by, known, with_link, unread_of, unread}
 use Rattle.mem_wire.specs.CameLaws.{wakes-more, accepted-more, named-more}
-use Rattle.mem_wire.specs.Play.{named_step, named_since, is_empty, is_to_name, next_named, naming_order, IsAnswerOf, IsPlay}
+use Rattle.mem_wire.specs.Play.{named_step, named_since, is_empty, is_to_name, next_named, IsAnswerOf, IsPlay}
 use Rattle.mem_wire.specs.Plays.{HasTaken, play-taken, released-all, with-link, known-before}
 use Rattle.ready_loop.specs.Drained.{accept_step, name_step, read_step, write_step, all_accepted, all_named, read_dry, write_dry}
 use Rattle.session_core.specs.Rest.{IsAtRest, RestsAt}

@@ -8,7 +8,7 @@ use Rattle.mx_base.specs.declared.names.LinkId.{LinkId}
 use Rattle.mx_base.specs.declared.names.Port.{Port}
 use Rattle.mx_base.specs.declared.names.Port.TheVariants as port
 use Rattle.mx_wire.specs.Log.{Log, IsMark, AreMarks, link_of, is_link, of_link, open_step, is_open}
-use Rattle.mx_wire.specs.Tells.{MayFollow, Appends, Tells}
+use Rattle.mx_wire.specs.Tells.{Appends, Tells}
 use Rattle.mx_wire.specs.Growth.{bool_cases, same_number, nat_eq-sym, step-same, step-other}
 use Rattle.mx_wire.specs.declared.entry.Entry.{Entry}
 use Rattle.mx_wire.specs.declared.entry.Entry.TheVariants as entry

@@ -28,6 +28,10 @@ abbrev pub is_any : List LinkId → Bool
 is_any [] = false
 is_any (link ∷ links) = true
 
+-- the command in work waits for a link to the server
+abbrev pub wants_link : Core → Bool
+wants_link core = has_work core.client && is_none core.server
+
 -- a refused link or the client's is to be closed, or a link to the server opened
 abbrev pub asks : Core → Bool
-asks core = is_any core.refused.items || client_leaves core.client || (has_work core.client && is_none core.server)
+asks core = is_any core.refused.items || client_leaves core.client || wants_link core

@@ -28,7 +28,7 @@ use Rattle.session_core.specs.Stands.IsCarried.{Unsent, Begun}
 use Rattle.session_core.specs.Still.{client-known, new-apart, replies-stay, at-stays}
 use Rattle.session_core.specs.Quiet.{CarriesNothing, reads-no_reply, unsent-more, served-more}
 use Rattle.session_core.specs.Count.{counted, counted-one}
-use Rattle.session_core.specs.Cores.{first_client, ComesFirst, Comes, OpensFor, OpensNeedless}
+use Rattle.session_core.specs.Cores.{first_client, ComesFirst, Comes, OpensFor, OpensLink}
 use Rattle.session_core.specs.Acts.{has_work, is_working}
 use Rattle.session_core.specs.Tracking.{tracks-with, has-with, held-with}
 use Rattle.session_core.specs.Steps.{reading}
@@ -250,9 +250,8 @@ tracks-opened-for old new log id address link may opens was = by old.client refl
         shut = on.shut;
       }))
 
-pub tracks-opened : (old new : Core) (log : Log) (id : ServerId) (address : Address) (link : LinkId) → MayFollow log (entry.Opened id address link) → (OpensFor old link new) ⊎ (OpensNeedless old link new) → Tracks old log → Tracks new (log ++ entry.Opened id address link ∷ [])
-tracks-opened old new log id address link may opens was = elim opens [
-  | inl used ↦ tracks-opened-for old new log id address link may used was
-  | inr needless ↦ tracks-needless old new log link (entry.Opened id address link) (server-comes log id address link may.fits) refl refl needless.client needless.server needless.refused
-      (needless.accepted ∙ was.accepted ∙ sym (ap length (accepted_links-same log (entry.Opened id address link) refl))) was
-]
+pub tracks-opened : (wanted : Bool) (old new : Core) (log : Log) (id : ServerId) (address : Address) (link : LinkId) → MayFollow log (entry.Opened id address link) → OpensLink wanted old link new → Tracks old log → Tracks new (log ++ entry.Opened id address link ∷ [])
+tracks-opened true old new log id address link may used was = tracks-opened-for old new log id address link may used was
+tracks-opened false old new log id address link may needless was =
+    tracks-needless old new log link (entry.Opened id address link) (server-comes log id address link may.fits) refl refl needless.client needless.server needless.refused
+    (needless.accepted ∙ was.accepted ∙ sym (ap length (accepted_links-same log (entry.Opened id address link) refl))) was

@@ -143,6 +143,15 @@ pub record OpensNeedless (old : Core) (link : LinkId) (new : Core) : Type 0 wher
   pub server : new.server ≡ old.server
   pub refused : new.refused.items ≡ old.refused.items ++ link ∷ []
 
+abbrev pub OpensLink : Bool → Core → LinkId → Core → Type 0
+OpensLink true old link new = OpensFor old link new
+OpensLink false old link new = OpensNeedless old link new
+
+-- no link to the server could be opened: the client whose command waits for it is to be closed
+abbrev pub FailsToOpen : Bool → Core → Core → Type 0
+FailsToOpen true old new = Leaves old new
+FailsToOpen false old new = new ≡ old
+
 -- The command in work is answered.
 
 -- the server's link stays, or is to be closed

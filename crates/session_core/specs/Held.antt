@@ -61,9 +61,9 @@ all-stay (link ∷ links) log e keeps opened = (open-stays link log e keeps open
 was-open : (link : LinkId) (log : Log) (e : Entry) → (open_step false e ≡ false) → IsOpen link (log ++ e ∷ []) → IsOpen link log
 was-open link log e opens_none opened = elim (bool_cases (is_link link (link_of e))) [
   | inl here ↦ (elim (bool_cases (is_open link log)) [
-      | inl was ↦ was
-      | inr shut ↦ (let no : false ≡ true = sym opens_none ∙ sym (ap (λ b. open_step b e) shut) ∙ sym (step-same open_step false link log e here) ∙ opened in absurd (cc))
-    ])
+    | inl was ↦ was
+    | inr shut ↦ (let no : false ≡ true = sym opens_none ∙ sym (ap (λ b. open_step b e) shut) ∙ sym (step-same open_step false link log e here) ∙ opened in absurd (cc))
+  ])
   | inr other ↦ sym (step-other open_step false link log e other) ∙ opened
 ]
 

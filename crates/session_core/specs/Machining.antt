@@ -1,6 +1,6 @@
 -- The core as a machine.
-use Rattle.std.specs.Prelude.{◌≡◌, ◌⊎◌, ℕ, ◌+◌, ◌<◌, Bool, true, false, ◌&&◌, ◌||◌, if◌then◌else◌, List, [], ◌∷◌, ◌++◌, length, Option, Some, None, refl}
-use Rattle.std.proofs.Common.{sym, ◌∙◌, ap, subst, inl, inr, arith, length-append}
+use Rattle.std.specs.Prelude.{◌≡◌, ℕ, ◌+◌, ◌<◌, Bool, true, false, ◌&&◌, ◌||◌, if◌then◌else◌, List, [], ◌∷◌, ◌++◌, length, Option, Some, None, refl}
+use Rattle.std.proofs.Common.{sym, ◌∙◌, ap, subst, arith, length-append}
 use Rattle.mx_base.specs.declared.names.LinkId.{LinkId}
 use Rattle.mx_base.specs.declared.names.ServerId.{ServerId}
 use Rattle.mx_base.specs.declared.names.Address.{Address}
@@ -22,7 +22,7 @@ use Rattle.session_core.specs.Held.{held-stays}
 use Rattle.session_core.specs.Stands.{held_links, MayHaveClient, Tracks, IsFew, Stands, is_client, is_server, due_in}
 use Rattle.session_core.specs.Still.{few-more, stands-more}
 use Rattle.session_core.specs.Quiet.{CarriesNothing, ReadsNoReply, IsStill, servers-same, has_client-unread, has_none-passes, tracks-still, stands-still}
-use Rattle.session_core.specs.Cores.{KeepsLinks, Comes, OpensFor, OpensNeedless, Leaves, has_begun, LosesBy, Loses, TakesBy, TakesBytes}
+use Rattle.session_core.specs.Cores.{KeepsLinks, Comes, OpensLink, Leaves, FailsToOpen, has_begun, LosesBy, Loses, TakesBy, TakesBytes}
 use Rattle.session_core.specs.Tracking.{tracks-kept, tracks-left, PassesClient, tracks-strayed}
 use Rattle.session_core.specs.Saying.{got-nothing, tracks-said}
 use Rattle.session_core.specs.Replied.{tracks-replied}
@@ -83,17 +83,15 @@ pub comes-carries : (old new : Core) (port : Port) (link : LinkId) (salt : List 
 comes-carries old new port link salt first comes = carries old new (entry.Accepted port link salt) (λ log. tt) (λ log may few was. tracks-came old new log port link salt first may comes was)
 
 -- a link to the server is open
-pub opened-carries : (old new : Core) (server : ServerId) (address : Address) (link : LinkId) → (OpensFor old link new) ⊎ (OpensNeedless old link new) → CarriesOver Stands due_in old new (entry.Opened server address link)
-opened-carries old new server address link opens = carries old new (entry.Opened server address link) (λ log. tt) (λ log may few was. tracks-opened old new log server address link may opens was)
+pub opened-carries : (wanted : Bool) (old new : Core) (server : ServerId) (address : Address) (link : LinkId) → OpensLink wanted old link new → CarriesOver Stands due_in old new (entry.Opened server address link)
+opened-carries wanted old new server address link opens = carries old new (entry.Opened server address link) (λ log. tt) (λ log may few was. tracks-opened wanted old new log server address link may opens was)
 
 left-carries : (old new : Core) (e : Entry) → IsStill e → Leaves old new → CarriesOver Stands due_in old new e
 left-carries old new e still leaves = carries old new e still.law (λ log may few was. tracks-left old new (log ++ e ∷ []) leaves (tracks-still old log e still was))
 
-pub open_failed-carries : (old new : Core) (server : ServerId) (address : Address) → (Leaves old new) ⊎ (new ≡ old) → CarriesOver Stands due_in old new (entry.OpenFailed server address)
-open_failed-carries old new server address fails = elim fails [
-  | inl leaves ↦ left-carries old new (entry.OpenFailed server address) (open_failed-still server address) leaves
-  | inr same ↦ carries-still old new (entry.OpenFailed server address) (open_failed-still server address) same
-]
+pub open_failed-carries : (wanted : Bool) (old new : Core) (server : ServerId) (address : Address) → FailsToOpen wanted old new → CarriesOver Stands due_in old new (entry.OpenFailed server address)
+open_failed-carries true old new server address leaves = left-carries old new (entry.OpenFailed server address) (open_failed-still server address) leaves
+open_failed-carries false old new server address same = carries-still old new (entry.OpenFailed server address) (open_failed-still server address) same
 
 still-passes : (core : Core) (log : Log) (e : Entry) → IsStill e → PassesClient core log e
 still-passes core log e still = record { no_client = still.no_client; no_write = still.no_write; nothing = still.nothing; keeps = still.keeps; opens_none = still.opens_none; unread = λ client is. bytes-idle got_bytes client.link log e still.no_read }

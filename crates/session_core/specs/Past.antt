@@ -117,9 +117,10 @@ answers-all reply read done waiting bytes last so_far =
 pub answers-nothing : (reply : ℕ → Option (List ℕ)) (read : List ℕ) (done : List Framed) (waiting bytes : List ℕ) → Answers reply read done waiting bytes [] → client_message waiting ≡ Nothing
     → (bytes ≡ answers_to reply (client_messages read)) × ((client_messages read).messages ≡ done)
 answers-nothing reply read done waiting bytes so_far nothing =
-    let none = split-nothing most_payload 0 waiting nothing in
-    (so_far.is ∙ sym (answers-all reply read done waiting bytes [] so_far ∙ ap (λ (s : Split). so_far.before ++ answers reply (1 + length done) s.messages (fault_answer s.fault)) none),
-    ap (λ (s : Split). s.messages) (past-now read done waiting so_far.past) ∙ ap (λ (s : Split). done ++ s.messages) none ∙ append-nil done)
+    let none = split-nothing most_payload 0 waiting nothing in (
+      so_far.is ∙ sym (answers-all reply read done waiting bytes [] so_far ∙ ap (λ (s : Split). so_far.before ++ answers reply (1 + length done) s.messages (fault_answer s.fault)) none),
+      ap (λ (s : Split). s.messages) (past-now read done waiting so_far.past) ∙ ap (λ (s : Split). done ++ s.messages) none ∙ append-nil done,
+    )
 
 -- and where the next message has no answer yet
 pub answers-next : (reply : ℕ → Option (List ℕ)) (read : List ℕ) (done : List Framed) (waiting bytes : List ℕ) (message : Framed) (rest : List ℕ) → Answers reply read done waiting bytes [] → client_message waiting ≡ Whole message rest
@@ -133,9 +134,10 @@ answers-next reply read done waiting bytes message rest so_far whole none =
 pub answers-faulty : (reply : ℕ → Option (List ℕ)) (read : List ℕ) (done : List Framed) (waiting bytes : List ℕ) (fault : FrameFault) → Answers reply read done waiting bytes (fault_answer (Some fault)) → client_message waiting ≡ Faulty fault
     → (bytes ≡ answers_to reply (client_messages read)) × ((client_messages read).messages ≡ done)
 answers-faulty reply read done waiting bytes fault so_far faulty =
-    let ends = split-faulty most_payload 0 waiting fault faulty in
-    (so_far.is ∙ sym (answers-all reply read done waiting bytes (fault_answer (Some fault)) so_far ∙ ap (λ (s : Split). so_far.before ++ answers reply (1 + length done) s.messages (fault_answer s.fault)) ends),
-    ap (λ (s : Split). s.messages) (past-now read done waiting so_far.past) ∙ ap (λ (s : Split). done ++ s.messages) ends ∙ append-nil done)
+    let ends = split-faulty most_payload 0 waiting fault faulty in (
+      so_far.is ∙ sym (answers-all reply read done waiting bytes (fault_answer (Some fault)) so_far ∙ ap (λ (s : Split). so_far.before ++ answers reply (1 + length done) s.messages (fault_answer s.fault)) ends),
+      ap (λ (s : Split). s.messages) (past-now read done waiting so_far.past) ∙ ap (λ (s : Split). done ++ s.messages) ends ∙ append-nil done,
+    )
 
 -- so they are a beginning of what is due
 pub answers-due : (reply : ℕ → Option (List ℕ)) (read : List ℕ) (done : List Framed) (waiting bytes last : List ℕ) → Answers reply read done waiting bytes last → IsPrefix bytes (answers_to reply (client_messages read))

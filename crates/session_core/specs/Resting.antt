@@ -1,19 +1,17 @@
 -- Where the loop may wait, the core has left nothing to do.
-use Rattle.std.specs.Prelude.{◌≡◌, ◌⊎◌, ℕ, suc, ◌+◌, ◌<◌, ◌≤◌, Bool, true, false, ◌||◌, nat_eq, nat_lt, List, [], ◌∷◌, ◌++◌, length, take, Option, Some, None, IsSome, refl}
+use Rattle.std.specs.Prelude.{◌≡◌, ◌⊎◌, ℕ, suc, ◌+◌, ◌<◌, ◌≤◌, Bool, true, false, ◌||◌, nat_eq, nat_lt, List, [], ◌∷◌, ◌++◌, length, Option, Some, None, IsSome, refl}
 use Rattle.std.proofs.Common.{sym, ◌∙◌, ap, subst, append-nil, append_assoc, inl, inr, arith}
 use Rattle.std.proofs.lemmas.Bool.{eqb-true}
 use Rattle.std.proofs.lemmas.List.{take_all}
 use Rattle.mx_base.specs.declared.names.LinkId.{LinkId}
-use Rattle.mx_base.specs.declared.tag.Tag.TheVariants.{For}
 use Rattle.mx_wire.specs.Log.{Log, read_of, written_of}
 use Rattle.mx_wire.specs.Tells.{IsOpen}
 use Rattle.mx_wire.specs.Growth.{bool_cases, same_number, nat_eq-sym}
 use Rattle.mx_wire.specs.declared.entry.Entry.{Entry}
 use Rattle.mx_wire.specs.declared.entry.Entry.TheVariants as entry
 use Rattle.packet_frame.specs.Packets.{Framed, spelling}
-use Rattle.packet_frame.specs.Packets.Found.{Nothing, Whole}
+use Rattle.packet_frame.specs.Packets.Found.{Nothing}
 use Rattle.packet_frame.specs.SpellingLaws.{spelling-some}
-use Rattle.ready_loop.specs.Sent.{Sent}
 use Rattle.ready_loop.specs.Drained.{read_dry, write_dry, IsDrained, MayWait}
 use Rattle.session_core.specs.declared.phase.Command.{Command}
 use Rattle.session_core.specs.declared.phase.Phase.{Phase}
@@ -27,7 +25,7 @@ use Rattle.session_core.specs.Headline.{client_link, replies_to, due}
 use Rattle.session_core.specs.Past.{past-next, answers-nothing, answers-next, answers-faulty}
 use Rattle.session_core.specs.Held.{is_among, held-at}
 use Rattle.session_core.specs.Acts.{has_work, client_leaves, is_any, asks}
-use Rattle.session_core.specs.Rest.{IsSentOn, WaitsForReply, AreAnswered, IsAnswered, IsAtRest, RestsAt}
+use Rattle.session_core.specs.Rest.{IsSentOn, WaitsForReply, IsAnswered, IsAtRest, RestsAt}
 use Rattle.session_core.specs.Rest.AreAnswered.{All, UpTo}
 use Rattle.session_core.specs.Stands.{server_links, while_held, client_links, held_links, IsIdle, IsWorking, IsEnding, IsAt, IsCarried, IsOnItsWay, IsServedBy, HasClient, MayHaveClient, IsServers, Tracks, command_left, is_client, is_server, client_sends, server_sends, sends, reads, due_in}
 use Rattle.session_core.specs.Stands.IsCarried.{Unsent, Begun}
@@ -79,9 +77,9 @@ held-by core log link tracks none opened = by core.refused.items core.server cor
 -- a link on which bytes are left takes no more
 client-dry : (core : Core) (client : Client) (log : Log) → core.client ≡ Some client → IsDrained (reads core) (sends core) log → IsOpen client.link log → 0 < length client.outgoing → write_dry client.link log ≡ true
 client-dry core client log is drained opened some = drained.written client.link opened (subst (λ (k : Option Client). IsSome (sends (record core { client = k }) client.link)) (sym is) (
-  let here : nat_eq client.link.0 client.link.0 ≡ true = same_number client.link.0 in
-  let more : nat_lt 0 (length client.outgoing) ≡ true = search arith in
-  rw (here, more) refl))
+    let here : nat_eq client.link.0 client.link.0 ≡ true = same_number client.link.0 in
+    let more : nat_lt 0 (length client.outgoing) ≡ true = search arith in
+    rw (here, more) refl))
 
 written-or : (core : Core) (client : Client) (log : Log) (bytes : List ℕ) → core.client ≡ Some client → IsDrained (reads core) (sends core) log → IsOpen client.link log → written_of client.link log ++ client.outgoing ≡ bytes
     → (written_of client.link log ≡ bytes) ⊎ (write_dry client.link log ≡ true)
@@ -234,8 +232,8 @@ read-open core log link tracks none drained opened = by (held-by core log link t
   by : IsHeldBy core link → (read_dry link log ≡ true) ⊎ (write_dry link log ≡ true)
   by (AsServer server on same) = inl (drained.read link opened (subst (λ (l : LinkId). reads core l ≡ true) (sym same) (reads-server core server core.client refl on (server-no-client core server log core.client refl on tracks))))
   by (AsClient client is same) = subst (λ (l : LinkId). (read_dry l log ≡ true) ⊎ (write_dry l log ≡ true)) (sym same) (
-    let has : HasClient client core.server log = subst (λ (k : Option Client). MayHaveClient k core.server log) is tracks.client in
-    read-client client.phase core client log is refl none drained (subst (λ (l : LinkId). IsOpen l log) same opened) has has.state)
+      let has : HasClient client core.server log = subst (λ (k : Option Client). MayHaveClient k core.server log) is tracks.client in
+      read-client client.phase core client log is refl none drained (subst (λ (l : LinkId). IsOpen l log) same opened) has has.state)
 
 -- The loop waits at rest.
 

@@ -16,7 +16,7 @@ use Rattle.session_core.specs.Answers.{most_payload, fault_answer}
 use Rattle.session_core.specs.Asked.{asked_of}
 use Rattle.session_core.specs.Count.{counted}
 use Rattle.session_core.specs.Past.{client_message}
-use Rattle.session_core.specs.Stands.{IsIdle, IsWorking, AreAnswers, IsEnding}
+use Rattle.session_core.specs.Stands.{IsIdle, IsWorking, IsEnding}
 
 -- a framer that has found nothing
 abbrev pub reading : List ℕ → FramerState

@@ -16,7 +16,7 @@ use Rattle.session_core.specs.declared.router.Core.{Core}
 use Rattle.session_core.specs.Headline.{replies_to}
 use Rattle.session_core.specs.Growth.{client_link-more, client_link-same, accepted_links-same}
 use Rattle.session_core.specs.Held.{AreHeld, held-stays}
-use Rattle.session_core.specs.Stands.{server_links, while_held, AreAnswers, IsAt, IsServedBy, IsShut, HasClient, IsServers, Tracks, IsEnding}
+use Rattle.session_core.specs.Stands.{server_links, while_held, AreAnswers, IsAt, IsServedBy, IsShut, HasClient, IsServers, Tracks}
 use Rattle.session_core.specs.Still.{replies-stay, at-stays}
 use Rattle.session_core.specs.Quiet.{CarriesNothing, reads-no_reply, unsent-more, served-more, servers-same}
 use Rattle.session_core.specs.Cores.{closing_at, written_in}

@@ -1,7 +1,7 @@
 // The core.
-ghost use Rattle.std.specs.Prelude.{◌≡◌, ◌⊎◌, ◌&&◌, [], None, is_none, OnOk, IfOk};
-ghost use Rattle.session_core.specs.Cores.{Releases, Settles, GoesOn, Leaves, has_left, fed_in, is_idle, has_begun, ComesFirst, ComesRefused, Comes, is_traffic, OpensFor, OpensNeedless, ClientSays, Strays, answered_in, is_sent, AnswersBy, ReplyComes, Loses, TakesBytes};
-ghost use Rattle.session_core.specs.Acts.{has_work};
+ghost use Rattle.std.specs.Prelude.{◌≡◌, ◌&&◌, [], None, is_none, OnOk, IfOk};
+ghost use Rattle.session_core.specs.Cores.{Releases, Settles, GoesOn, Leaves, has_left, fed_in, is_idle, has_begun, ComesFirst, ComesRefused, Comes, is_traffic, OpensLink, FailsToOpen, ClientSays, Strays, answered_in, is_sent, AnswersBy, ReplyComes, Loses, TakesBytes};
+ghost use Rattle.session_core.specs.Acts.{has_work, wants_link};
 ghost use Rattle.session_core.specs.Stands.{Stands, is_client, is_server};
 
 use crate::client::{Client, feed, new_client, pump};
@@ -197,7 +197,7 @@ pub fn client_comes(core: &mut Core, port: Port, link: LinkId) -> Result<(), Out
 
 // A link to the server is open.
 pub fn link_opens(core: &mut Core, link: LinkId) -> Result<(), OutOfMemory>
-    ensures { OnOk result ((OpensFor core.old link core.new) ⊎ (OpensNeedless core.old link core.new)) }
+    ensures { OnOk result (OpensLink (wants_link core.old) core.old link core.new) }
 {
     if has_work(&core.client) && core.server.is_none() {
         core.server = Some(new_server(core.alloc, link));
@@ -210,7 +210,7 @@ pub fn link_opens(core: &mut Core, link: LinkId) -> Result<(), OutOfMemory>
 
 // No link to the server could be opened: the client whose command waits for it is to be closed.
 pub fn open_fails(core: &mut Core) -> Result<(), OutOfMemory>
-    ensures { OnOk result ((Leaves core.old core.new) ⊎ (core.new ≡ core.old)) }
+    ensures { OnOk result (FailsToOpen (wants_link core.old) core.old core.new) }
 {
     if has_work(&core.client) && core.server.is_none() {
         leave(core)?;

@@ -11,12 +11,12 @@ returns-in_ok-client_comes-in-Accepted c = λ e is. subst (λ (x : Entry). Carri
 pub returns-in_ok-link_opens-in-Opened : goal.returns-in_ok-link_opens-in-Opened
 returns-in_ok-link_opens-in-Opened c = λ e is.
     let told = rw c.in-Opened.is at is in
-    subst (λ (x : Entry). CarriesOver Stands due_in c.args.core.now c.link_opens.new.core x) (sym told.2) (opened-carries _ _ _ _ _ c.in_ok-link_opens-in-Opened.ensures)
+    subst (λ (x : Entry). CarriesOver Stands due_in c.args.core.now c.link_opens.new.core x) (sym told.2) (opened-carries _ _ _ _ _ _ c.in_ok-link_opens-in-Opened.ensures)
 
 pub returns-in_ok-open_fails-in-OpenFailed : goal.returns-in_ok-open_fails-in-OpenFailed
 returns-in_ok-open_fails-in-OpenFailed c = λ e is.
     let told = rw c.in-OpenFailed.is at is in
-    subst (λ (x : Entry). CarriesOver Stands due_in c.args.core.now c.open_fails.new.core x) (sym told.2) (open_failed-carries _ _ _ _ c.in_ok-open_fails-in-OpenFailed.ensures)
+    subst (λ (x : Entry). CarriesOver Stands due_in c.args.core.now c.open_fails.new.core x) (sym told.2) (open_failed-carries _ _ _ _ _ c.in_ok-open_fails-in-OpenFailed.ensures)
 
 pub returns-in_ok-take_bytes-in-Got : goal.returns-in_ok-take_bytes-in-Got
 returns-in_ok-take_bytes-in-Got c = λ e is. subst (λ (x : Entry). CarriesOver Stands due_in c.args.core.now c.take_bytes.new.core x) (sym (rw c.in-Got.is at is)) (got-carries _ _ _ _ c.in_ok-take_bytes-in-Got.ensures)
