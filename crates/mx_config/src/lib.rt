@@ -1,0 +1,9 @@
+//! The configuration file: a TOML document of the tables `proxy`, `users` and `servers`.
+#![tactic(auto)]
+
+mod address;
+mod fault;
+mod value;
+
+
+pub use fault::{ConfigFault, ConfigRefusal};
