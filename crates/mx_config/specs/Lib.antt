@@ -1,3 +1,4 @@
 pub mod Address
 pub mod Faults
+pub mod Rows
 pub mod Values

@@ -3,6 +3,7 @@
 
 mod address;
 mod fault;
+mod row;
 mod value;
 
 
