@@ -1,4 +1,5 @@
 pub mod Address
 pub mod Faults
 pub mod Rows
+pub mod Tables
 pub mod Values

@@ -2,9 +2,13 @@
 #![tactic(auto)]
 
 mod address;
+mod config;
 mod fault;
+mod proxy;
 mod row;
+mod rows;
 mod value;
 
-
+pub use config::{Config, ProxyRow, UserRow};
 pub use fault::{ConfigFault, ConfigRefusal};
+pub use rows::Rows;
