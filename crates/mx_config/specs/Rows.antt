@@ -1,11 +1,11 @@
 -- The keys of a row.
-use Rattle.std.specs.Prelude.{ℕ, ◌==◌, Bool, if◌then◌else◌, List, Option, Some, None, Result, Ok, Err, bytes_eq}
+use Rattle.std.specs.Prelude.{ℕ, ◌==◌, Bool, if◌then◌else◌, List, [], Option, Some, None, Result, Ok, Err, bytes_eq}
 use Rattle.std.specs.List.{list_any}
 use Rattle.std.specs.Ordering.{nat_cmp, match_ordering}
 use Rattle.std.specs.Cmp.Lexicographic.{slice_cmp}
-use Rattle.toml.specs.Data.{Data, Members, no_members, member, get_member}
+use Rattle.toml.specs.Data.{Data, Members, Items, no_members, member, get_member, as_table, as_array}
 use Rattle.mx_config.specs.declared.fault.Kind.{Kind}
-use Rattle.mx_config.specs.declared.fault.Kind.TheVariants.{UnknownKey, MissingKey}
+use Rattle.mx_config.specs.declared.fault.Kind.TheVariants.{UnknownKey, MissingKey, WrongType}
 use Rattle.mx_config.specs.declared.fault.Place.{Place}
 use Rattle.mx_config.specs.Faults.{Said, fault_at}
 use Rattle.mx_config.specs.Values.{Valued}
@@ -44,3 +44,11 @@ value_or None value None = Err MissingKey
 -- a key of a row: its value, or its default where it isn't there; a key without a default has to be there
 unfoldable pub key_of : {X : Type 0} → Place → (key : List ℕ) → (default : Option X) → (value : Data → Valued X) → Members → Said X
 key_of place key default value ms = placed place key (value_or default value (get_member key ms))
+
+abbrev pub or_wrong : {X : Type 0} → Place → Option X → Said X
+or_wrong place None = Err (fault_at place WrongType [])
+or_wrong place (Some x) = Ok x
+
+-- the members of a table
+unfoldable pub table_at : Place → Data → Said Members
+table_at place d = or_wrong place (as_table d)

@@ -4,9 +4,10 @@ ghost use Rattle.std.specs.BTreeMap.{keys, IsOrdered};
 ghost use Rattle.std.specs.List.{find};
 ghost use Rattle.std.specs.Option.{option_copied, ForSome};
 ghost use Rattle.std.specs.String.{string_cmp};
-ghost use Rattle.toml.specs.View.{table_view};
+ghost use Rattle.toml.specs.View.{view, table_view};
 ghost use Rattle.mx_config.specs.Faults.{Gives};
-ghost use Rattle.mx_config.specs.Rows.{key_of, known_only, least_unknown, is_known};
+ghost use Rattle.mx_config.specs.Lent.{GivesTable};
+ghost use Rattle.mx_config.specs.Rows.{key_of, known_only, least_unknown, is_known, table_at};
 ghost use Rattle.mx_config.specs.Values.{number, text, address_value, host_value, status_value};
 
 use crate::ConfigRefusal;
@@ -15,7 +16,7 @@ use crate::value::{TextForm, member, read_address_value, read_host_value, read_n
 use hostgroups::ServerStatus;
 use mx_base::{Address, Bytes};
 use std::alloc::Global;
-use toml::Table;
+use toml::{Table, Value};
 
 /// A row that is read: its keys with their values, and where it stands.
 #[derive(Clone, Copy)]
@@ -148,4 +149,15 @@ fn is_listed(known: &[&str], key: &str) -> bool
     ensures { result ≡ is_known (map (λ k. k.now) known.now) key.now }
 {
     known.contains(&key)
+}
+
+/// The table that a row is.
+#[tactic(auto, unfolding(crate::specs::Rows::table_at))]
+pub(crate) fn row_table(alloc: Global, place: Place, value: &Value) -> Result<&Table, ConfigRefusal>
+    ensures { GivesTable result (table_at place (view value.now)) }
+{
+    match value.as_table() {
+        Some(members) => Ok(members),
+        None => Err(refusal(alloc, place, Kind::WrongType, "")),
+    }
 }
