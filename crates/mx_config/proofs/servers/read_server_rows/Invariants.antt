@@ -1,0 +1,6 @@
+use Rattle.mx_config.specs.Tables.{server_row}
+use Rattle.mx_config.proofs.RowSteps.{Reads}
+use Rattle.mx_config.proofs.servers.read_server_rows.Given as goal
+
+abbrev pub invariant-loop-value : goal.invariant-loop-value
+invariant-loop-value l = Reads server_row l.items l.value-index l.servers

@@ -1,0 +1,16 @@
+use Rattle.std.proofs.lemmas.Result.{err_from_is_err_and}
+use Rattle.mx_config.specs.Tables.{user_row}
+use Rattle.mx_config.proofs.RowSteps.{goes_on, is_refused, is_read}
+use Rattle.mx_config.proofs.users.read_user_rows.Goals as goal
+
+pub returns-in_err-row : goal.returns-in_err-row
+returns-in_err-row c =
+    let p = err_from_is_err_and c.from_residual.result c.from_residual.ensures.1 in
+    rw (p.1, p.2) (is_refused user_row _ _ _ _ _ c.loop-value.invariant c.loop-value-test.true c.value-item.is c.in_err-row.ensures)
+
+pub loop-value-preserved : goal.loop-value-preserved
+loop-value-preserved c =
+    rw c.in_ok-push.ensures (goes_on user_row _ _ _ _ _ c.loop-value.invariant c.loop-value-test.true c.value-item.is c.in_ok-row.ensures)
+
+pub returns : goal.returns
+returns c = rw c.into_rows.ensures (is_read user_row _ _ _ c.loop-value.invariant c.loop-value-test.false)

@@ -1,0 +1,6 @@
+use Rattle.mx_config.specs.Tables.{user_row}
+use Rattle.mx_config.proofs.RowSteps.{Reads}
+use Rattle.mx_config.proofs.users.read_user_rows.Given as goal
+
+abbrev pub invariant-loop-value : goal.invariant-loop-value
+invariant-loop-value l = Reads user_row l.items l.value-index l.users

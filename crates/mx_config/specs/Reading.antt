@@ -1,0 +1,66 @@
+-- What a configuration file says.
+use Rattle.std.specs.Prelude.{ℕ, zero, suc, ◌&&◌, nat_le, if◌then◌else◌, List, [], ◌∷◌, codes, Option, Some, None, Result, Ok, Err}
+use Rattle.std.specs.Str.{is_utf8}
+use Rattle.toml.specs.Data.{Data, Items, no_items, item, Members, no_members, get_member, as_array}
+use Rattle.toml.specs.Parse.{parse_document}
+use Rattle.hostgroups.specs.declared.row.ServerRow.{ServerRow}
+use Rattle.mx_config.specs.declared.config.Config.{Config}
+use Rattle.mx_config.specs.declared.config.ProxyRow.{ProxyRow}
+use Rattle.mx_config.specs.declared.config.UserRow.{UserRow}
+use Rattle.mx_config.specs.declared.fault.Kind.TheVariants.{NotToml, MissingKey, WrongType, OutOfRange}
+use Rattle.mx_config.specs.declared.fault.Place.{Place}
+use Rattle.mx_config.specs.declared.fault.TableName.TheVariants.{File, Proxy, Users, Servers}
+use Rattle.mx_config.specs.Faults.{Said, ◌>>=◌, at_row, fault_at}
+use Rattle.mx_config.specs.Rows.{known_only, table_at}
+use Rattle.mx_config.specs.Tables.{proxy_row, user_row, server_row, rows_from}
+
+abbrev pub count : Items → ℕ
+count no_items = zero
+count (item d ds) = suc (count ds)
+
+abbrev pub few_rows : Place → (least : ℕ) → Option Items → Said Items
+few_rows place least None = Err (fault_at place WrongType [])
+few_rows place least (Some ds) = if nat_le least (count ds) && nat_le (count ds) 1024 then Ok ds else Err (fault_at place OutOfRange [])
+
+-- the rows of a table that has at least so many, and at most 1,024
+unfoldable pub rows_at : Place → (least : ℕ) → Data → Said Items
+rows_at place least d = few_rows place least (as_array d)
+
+-- a missing table `proxy` is an empty one
+abbrev pub proxy_of : Option Data → Said ProxyRow
+proxy_of None = proxy_row no_members
+proxy_of (Some d) = table_at (at_row Proxy 0) d >>= proxy_row
+
+-- there is at least one user
+abbrev pub users_of : Option Data → Said (List UserRow)
+users_of None = Err (fault_at (at_row Users 0) MissingKey (codes "users"))
+users_of (Some d) = rows_at (at_row Users 0) 1 d >>= rows_from user_row []
+
+-- there may be no server
+abbrev pub servers_of : Option Data → Said (List ServerRow)
+servers_of None = Ok []
+servers_of (Some d) = rows_at (at_row Servers 0) 0 d >>= rows_from server_row []
+
+abbrev pub table_names : List (List ℕ)
+table_names = codes "proxy" ∷ codes "users" ∷ codes "servers" ∷ []
+
+-- the configuration of a document, or its first fault: unknown tables come first, then the tables in order
+unfoldable pub config_of : Members → Said Config
+config_of file = do
+  only ← known_only (at_row File 0) table_names file
+  proxy ← proxy_of (get_member (codes "proxy") file)
+  users ← users_of (get_member (codes "users") file)
+  servers ← servers_of (get_member (codes "servers") file)
+  Ok (record { proxy = proxy; users = users; servers = servers })
+
+abbrev pub config_in : Option Members → Said Config
+config_in None = Err (fault_at (at_row File 0) NotToml [])
+config_in (Some file) = config_of file
+
+-- the document of a file, whose bytes have to be UTF-8
+abbrev pub document_of : List ℕ → Option Members
+document_of bytes = if is_utf8 bytes then parse_document bytes else None
+
+-- what a file says, or its first fault
+abbrev pub reading_of : List ℕ → Said Config
+reading_of bytes = config_in (document_of bytes)

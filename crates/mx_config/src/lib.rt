@@ -1,0 +1,18 @@
+//! The configuration file: a TOML document of the tables `proxy`, `users` and `servers`.
+#![tactic(auto)]
+
+mod address;
+mod config;
+mod fault;
+mod proxy;
+mod read;
+mod row;
+mod rows;
+mod servers;
+mod users;
+mod value;
+
+pub use config::{Config, ProxyRow, UserRow};
+pub use fault::{ConfigFault, ConfigRefusal};
+pub use read::read_config;
+pub use rows::Rows;

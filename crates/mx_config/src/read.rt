@@ -1,0 +1,129 @@
+// Reading a configuration.
+ghost use Rattle.std.specs.Prelude.{◌≡◌, ◌≤◌, ◌&&◌, nat_le, IfOk, length, codes};
+ghost use Rattle.std.specs.Bool.{OnTrue};
+ghost use Rattle.toml.specs.Data.{get_member};
+ghost use Rattle.toml.specs.View.{view, table_view, items_view};
+ghost use Rattle.mx_config.specs.Faults.{Gives, at_row};
+ghost use Rattle.mx_config.specs.Lent.{GivesRows};
+ghost use Rattle.mx_config.specs.Reading.{config_of, proxy_of, users_of, servers_of, rows_at, reading_of};
+
+use crate::fault::{Kind, Place, TableName, refusal};
+use crate::proxy::read_proxy_row;
+use crate::row::{Row, row_table};
+use crate::servers::read_server_rows;
+use crate::users::read_user_rows;
+use crate::value::member;
+use crate::{Config, ConfigRefusal, ProxyRow, Rows, UserRow};
+use hostgroups::ServerRow;
+use std::alloc::Global;
+use toml::{Table, Value};
+
+/// The rows that the table `users` or `servers` may have.
+const MAX_ROWS: usize = 1024;
+
+/// The configuration that a file says.
+pub fn read_config(alloc: Global, bytes: &[u8]) -> Result<Config, ConfigRefusal>
+    ensures { Gives result (reading_of bytes.now) }
+{
+    match toml::table_from_slice(alloc, bytes) {
+        Ok(file) => read_file(alloc, &file),
+        Err(fault) => {
+            if fault.is_memory() {
+                return Err(ConfigRefusal::OutOfMemory);
+            }
+            Err(refusal(alloc, whole(TableName::File), Kind::NotToml, ""))
+        }
+    }
+}
+
+// A table as a whole.
+fn whole(table: TableName) -> Place
+    ensures { result ≡ at_row table 0 }
+{
+    Place { table, row: 0 }
+}
+
+#[tactic(auto, unfolding(crate::specs::Reading::config_of))]
+fn read_file(alloc: Global, file: &Table) -> Result<Config, ConfigRefusal>
+    ensures { Gives result (config_of (table_view file.now)) }
+{
+    let row = Row {
+        alloc,
+        place: whole(TableName::File),
+        members: file,
+    };
+    row.only(&["proxy", "users", "servers"])?;
+    let proxy = read_proxy(alloc, file)?;
+    let users = read_users(alloc, file)?;
+    let servers = read_servers(alloc, file)?;
+    Ok(Config {
+        proxy,
+        users,
+        servers,
+    })
+}
+
+fn read_proxy(alloc: Global, file: &Table) -> Result<ProxyRow, ConfigRefusal>
+    ensures { Gives result (proxy_of (get_member (codes "proxy") (table_view file.now))) }
+{
+    match member(file, "proxy") {
+        Some(value) => {
+            let members = row_table(alloc, whole(TableName::Proxy), value)?;
+            read_proxy_row(alloc, members)
+        }
+        None => {
+            let empty = Table::new(alloc);
+            read_proxy_row(alloc, &empty)
+        }
+    }
+}
+
+fn read_users(alloc: Global, file: &Table) -> Result<Rows<UserRow>, ConfigRefusal>
+    ensures { Gives result (users_of (get_member (codes "users") (table_view file.now))) }
+{
+    match member(file, "users") {
+        Some(value) => {
+            let items = table_rows(alloc, whole(TableName::Users), 1, value)?;
+            read_user_rows(alloc, items)
+        }
+        None => Err(refusal(alloc, whole(TableName::Users), Kind::MissingKey, "users")),
+    }
+}
+
+fn read_servers(alloc: Global, file: &Table) -> Result<Rows<ServerRow>, ConfigRefusal>
+    ensures { Gives result (servers_of (get_member (codes "servers") (table_view file.now))) }
+{
+    match member(file, "servers") {
+        Some(value) => {
+            let items = table_rows(alloc, whole(TableName::Servers), 0, value)?;
+            read_server_rows(alloc, items)
+        }
+        None => Ok(Rows::from_vec(Vec::new(alloc))),
+    }
+}
+
+// The rows of a table that has at least so many, and at most 1,024.
+#[tactic(auto, unfolding(crate::specs::Reading::rows_at))]
+fn table_rows(alloc: Global, place: Place, least: usize, value: &Value) -> Result<&[Value], ConfigRefusal>
+    ensures rows { GivesRows result (rows_at place least (view value.now)) }
+    ensures few { IfOk result (λ rows. length rows.now ≤ 1024) }
+{
+    match value.as_array() {
+        Some(rows) => {
+            let rows = rows.as_slice();
+            if is_few(least, rows) {
+                Ok(rows)
+            } else {
+                Err(refusal(alloc, place, Kind::OutOfRange, ""))
+            }
+        }
+        None => Err(refusal(alloc, place, Kind::WrongType, "")),
+    }
+}
+
+fn is_few(least: usize, rows: &[Value]) -> bool
+    ensures test { result ≡ (nat_le least (length rows.now) && nat_le (length rows.now) 1024) }
+    ensures few { OnTrue result (length rows.now ≤ 1024) }
+{
+    least <= rows.len() && rows.len() <= MAX_ROWS
+}

@@ -1,0 +1,170 @@
+// The table `servers`.
+ghost use Rattle.std.specs.Prelude.{◌≡◌, ◌≤◌, ◌<◌, ◌+◌, ◌++◌, ◌∷◌, [], None, length, map, IfOk, OnOk};
+ghost use Rattle.toml.specs.View.{view, items_view};
+ghost use Rattle.hostgroups.specs.Rows.{has_server, name_of, number_of, connections_of};
+ghost use Rattle.mx_config.specs.Faults.{Gives};
+ghost use Rattle.mx_config.specs.Standing.{Stands};
+ghost use Rattle.mx_config.specs.Tables.{server_row, rows_from, counted, new_server};
+
+use crate::fault::{Kind, Place, TableName, refusal};
+use crate::row::{Row, row_table};
+use crate::{ConfigRefusal, Rows};
+use hostgroups::{ServerName, ServerNumbers, ServerRow, ServerStatus};
+use mx_base::{Address, Hostgroup, OutOfMemory};
+use std::alloc::Global;
+use std::marker::Model;
+use toml::Value;
+
+/// The connections that the rows may allow in all.
+const MAX_CONNECTIONS: u64 = 10_000;
+
+/// The rows of servers so far, which contracts see as a list.
+#[derive(Drop)]
+pub(crate) struct ServerTable {
+    rows: Vec<ServerRow>,
+    numbers: ServerNumbers,
+    connections: u64,
+}
+
+impl Model for ServerTable {
+    ghost use Rattle.std.specs.Prelude.{List};
+    ghost use Rattle.hostgroups.specs.declared.row.ServerRow.{ServerRow};
+
+    ghost Value = { List ServerRow };
+
+    ghost view = { λ t. t.rows.items };
+
+    ghost use Rattle.mx_config.specs.Names.{AreServers};
+
+    ghost invariant = { AreServers };
+}
+
+impl ServerTable {
+    fn new(alloc: Global) -> Self
+        ensures { result ≡ [] }
+    {
+        ServerTable {
+            rows: Vec::new(alloc),
+            numbers: ServerNumbers::new(alloc),
+            connections: 0,
+        }
+    }
+
+    fn len(&self) -> usize
+        ensures { result ≡ length self.now }
+    {
+        self.rows.len()
+    }
+
+    fn has(&self, name: ServerName) -> bool
+        ensures { result ≡ has_server self.now name }
+    {
+        let _rows = &self.rows;
+        self.numbers.number(name).is_some()
+    }
+
+    fn connections(&self) -> u64
+        ensures sum { result ≡ connections_of self.now }
+        ensures few { result ≤ 10000 }
+    {
+        self.connections
+    }
+
+    fn push(&mut self, row: ServerRow) -> Result<(), OutOfMemory>
+        requires new { number_of (map name_of self.old) (name_of row) ≡ None }
+        requires room { length self.old < 1024 }
+        requires few { connections_of self.old + row.max_connections ≤ 10000 }
+        ensures { OnOk result (self.new ≡ self.old ++ row ∷ []) }
+    {
+        self.rows.reserve(1)?;
+        self.numbers.add(row.name())?;
+        self.connections += u64::from(row.max_connections);
+        self.rows.push(row)?;
+        Ok(())
+    }
+
+    fn into_rows(self) -> Rows<ServerRow>
+        ensures { result ≡ self }
+    {
+        Rows::from_vec(self.rows)
+    }
+}
+
+/// The rows of servers.
+pub(crate) fn read_server_rows(alloc: Global, items: &[Value]) -> Result<Rows<ServerRow>, ConfigRefusal>
+    requires { length items.now ≤ 1024 }
+    ensures { Gives result (rows_from server_row [] (items_view items.now)) }
+{
+    let mut servers = ServerTable::new(alloc);
+    for value in items {
+        let row = read_server_row(alloc, &servers, value)?;
+        servers.push(row)?;
+    }
+    Ok(servers.into_rows())
+}
+
+// The row of servers behind the rows so far.
+fn read_server_row(alloc: Global, before: &ServerTable, value: &Value) -> Result<ServerRow, ConfigRefusal>
+    requires { length before.now < 1024 }
+    ensures row { Gives result (server_row before.now (view value.now)) }
+    ensures stands { IfOk result (Stands before.now) }
+{
+    let place = Place {
+        table: TableName::Servers,
+        row: before.len() as u32 + 1,
+    };
+    let members = row_table(alloc, place, value)?;
+    let row = Row {
+        alloc,
+        place,
+        members,
+    };
+    row.only(&["hostgroup", "host", "port", "weight", "max_connections", "status"])?;
+    let hostgroup = row.number("hostgroup", None, 0, 65_535)?;
+    let ip = row.host("host", None)?;
+    let port = row.number("port", None, 0, 65_535)?;
+    let weight = row.number("weight", Some(1), 1, 1000)?;
+    let max_connections = row.number("max_connections", Some(100), 1, 10_000)?;
+    few_connections(alloc, place, before, max_connections)?;
+    let status = row.status("status", Some(ServerStatus::Online))?;
+    let server = ServerRow {
+        hostgroup: Hostgroup(hostgroup as u16),
+        address: Address {
+            ip,
+            port: port as u16,
+        },
+        weight: weight as u16,
+        max_connections: max_connections as u16,
+        status,
+    };
+    new_server(alloc, place, before, server)?;
+    Ok(server)
+}
+
+// Refuses a row that passes the connections that all rows may allow.
+fn few_connections(
+    alloc: Global,
+    place: Place,
+    before: &ServerTable,
+    max_connections: u64,
+) -> Result<(), ConfigRefusal>
+    requires { max_connections ≤ 10000 }
+    ensures counted { Gives result (counted place before.now max_connections) }
+    ensures few { OnOk result (connections_of before.now + max_connections ≤ 10000) }
+{
+    if before.connections() + max_connections > MAX_CONNECTIONS {
+        return Err(refusal(alloc, place, Kind::OutOfRange, "max_connections"));
+    }
+    Ok(())
+}
+
+// Refuses a server that stands in a row before.
+fn new_server(alloc: Global, place: Place, before: &ServerTable, server: ServerRow) -> Result<(), ConfigRefusal>
+    ensures unlike { Gives result (new_server place before.now (name_of server)) }
+    ensures new { OnOk result (number_of (map name_of before.now) (name_of server) ≡ None) }
+{
+    if before.has(server.name()) {
+        return Err(refusal(alloc, place, Kind::DuplicateServer, "hostgroup"));
+    }
+    Ok(())
+}
