@@ -1,5 +1,5 @@
 -- The unknown keys of a table, whose keys ascend.
-use Rattle.std.proofs.Common.{◌≡◌, ℕ, Bool, true, false, not, ◌||◌, List, [], ◌∷◌, map, String, Global, Ordering, Less, Option, Some, None, option_map, string_bytes, bytes_eq, Bor, refl, ap, ◌∙◌, inl, inr}
+use Rattle.std.proofs.Common.{◌≡◌, ℕ, Bool, not, ◌||◌, List, [], ◌∷◌, map, String, Global, Less, Some, option_map, string_bytes, bytes_eq, Bor, refl, ap, inl, inr}
 use Rattle.std.proofs.lemmas.Bool.{cases_Bool}
 use Rattle.std.specs.List.{list_any, find, AllByRecursion}
 use Rattle.std.specs.List.Sorted.{IsStrictlySortedBy}

@@ -6,7 +6,7 @@ use Rattle.toml.specs.View.{view, items_view}
 use Rattle.toml.specs.declared.value.Value.{Value}
 use Rattle.toml.proofs.Views.{items_view-drop}
 use Rattle.mx_config.specs.declared.fault.ConfigRefusal.{ConfigRefusal}
-use Rattle.mx_config.specs.Faults.{Said, ◌>>=◌, fault_of, Refuses}
+use Rattle.mx_config.specs.Faults.{Said, fault_of, Refuses}
 use Rattle.mx_config.specs.Tables.{rows_from}
 use Rattle.mx_config.proofs.Steps.{refused_before}
 

@@ -1,6 +1,5 @@
 -- Steps of which each may be refused.
-use Rattle.std.proofs.Common.{◌≡◌, Option, Some, None, Result, Ok, Err}
-use Rattle.mx_config.specs.declared.fault.ConfigFault.{ConfigFault}
+use Rattle.std.proofs.Common.{Ok, Err}
 use Rattle.mx_config.specs.declared.fault.ConfigRefusal.{ConfigRefusal}
 use Rattle.mx_config.specs.declared.fault.ConfigRefusal.TheVariants.{Fault, OutOfMemory}
 use Rattle.mx_config.specs.Faults.{Said, ◌>>=◌, fault_of, Refuses}

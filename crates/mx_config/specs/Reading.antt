@@ -1,5 +1,5 @@
 -- What a configuration file says.
-use Rattle.std.specs.Prelude.{ℕ, zero, suc, ◌&&◌, nat_le, if◌then◌else◌, List, [], ◌∷◌, codes, Option, Some, None, Result, Ok, Err}
+use Rattle.std.specs.Prelude.{ℕ, zero, suc, ◌&&◌, nat_le, if◌then◌else◌, List, [], ◌∷◌, codes, Option, Some, None, Ok, Err}
 use Rattle.std.specs.Str.{is_utf8}
 use Rattle.toml.specs.Data.{Data, Items, no_items, item, Members, no_members, get_member, as_array}
 use Rattle.toml.specs.Parse.{parse_document}

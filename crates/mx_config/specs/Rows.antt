@@ -1,10 +1,9 @@
 -- The keys of a row.
-use Rattle.std.specs.Prelude.{ℕ, ◌==◌, Bool, if◌then◌else◌, List, [], Option, Some, None, Result, Ok, Err, bytes_eq}
+use Rattle.std.specs.Prelude.{ℕ, Bool, if◌then◌else◌, List, [], Option, Some, None, Ok, Err, bytes_eq}
 use Rattle.std.specs.List.{list_any}
 use Rattle.std.specs.Ordering.{nat_cmp, match_ordering}
 use Rattle.std.specs.Cmp.Lexicographic.{slice_cmp}
-use Rattle.toml.specs.Data.{Data, Members, Items, no_members, member, get_member, as_table, as_array}
-use Rattle.mx_config.specs.declared.fault.Kind.{Kind}
+use Rattle.toml.specs.Data.{Data, Members, no_members, member, get_member, as_table}
 use Rattle.mx_config.specs.declared.fault.Kind.TheVariants.{UnknownKey, MissingKey, WrongType}
 use Rattle.mx_config.specs.declared.fault.Place.{Place}
 use Rattle.mx_config.specs.Faults.{Said, fault_at}

@@ -1,17 +1,16 @@
 -- The tables of a configuration: their keys in order, with the default and the form of each.
-use Rattle.std.specs.Prelude.{ℕ, ◌+◌, ◌^◌, ◌&&◌, nat_le, nat_lt, if◌then◌else◌, List, [], ◌∷◌, ◌++◌, length, codes, bytes_eq, Bool, Option, Some, None, Result, Ok, Err}
+use Rattle.std.specs.Prelude.{ℕ, ◌+◌, nat_lt, if◌then◌else◌, List, [], ◌∷◌, ◌++◌, length, codes, bytes_eq, Bool, Some, None, Ok, Err}
 use Rattle.std.specs.List.{list_any}
-use Rattle.toml.specs.Data.{Data, Items, no_items, item, Members, no_members, get_member, as_array, as_table}
+use Rattle.toml.specs.Data.{Data, Items, no_items, item, Members}
 use Rattle.mx_base.specs.declared.names.Address.{Address}
 use Rattle.mx_base.specs.declared.names.Hostgroup.{Hostgroup}
-use Rattle.hostgroups.specs.Rows.{has_server, name_of, connections_of}
+use Rattle.hostgroups.specs.Rows.{has_server, connections_of}
 use Rattle.hostgroups.specs.declared.row.ServerName.{ServerName}
 use Rattle.hostgroups.specs.declared.row.ServerRow.{ServerRow}
 use Rattle.hostgroups.specs.declared.row.ServerStatus.TheVariants.{Online}
-use Rattle.mx_config.specs.declared.fault.Kind.TheVariants.{MissingKey, WrongType, OutOfRange, DuplicateUser, DuplicateServer}
+use Rattle.mx_config.specs.declared.fault.Kind.TheVariants.{OutOfRange, DuplicateUser, DuplicateServer}
 use Rattle.mx_config.specs.declared.fault.Place.{Place}
-use Rattle.mx_config.specs.declared.fault.TableName.{TableName}
-use Rattle.mx_config.specs.declared.fault.TableName.TheVariants.{File, Proxy, Users, Servers}
+use Rattle.mx_config.specs.declared.fault.TableName.TheVariants.{Proxy, Users, Servers}
 use Rattle.mx_config.specs.declared.value.TextForm.TheVariants.{Any, NotEmpty, Short}
 use Rattle.mx_config.specs.declared.config.ProxyRow.{ProxyRow}
 use Rattle.mx_config.specs.declared.config.UserRow.{UserRow}

@@ -9,6 +9,8 @@ mod read;
 mod row;
 mod rows;
 mod servers;
+#[cfg(test)]
+mod tests;
 mod users;
 mod value;
 

@@ -45,7 +45,12 @@ pub(crate) fn read_proxy_row(alloc: Global, members: &Table) -> Result<ProxyRow,
     let default_schema = row.text("default_schema", Some("information_schema"), TextForm::Any)?;
     let max_clients = row.number("max_clients", Some(1000), 1, 4000)? as u32;
     let max_packet = row.number("max_packet", Some(67_108_864), 1024, 268_435_456)?;
-    let buffer_budget = row.number("buffer_budget", Some(1_073_741_824), 1_048_576, 2_147_483_648)?;
+    let buffer_budget = row.number(
+        "buffer_budget",
+        Some(1_073_741_824),
+        1_048_576,
+        2_147_483_648,
+    )?;
     let wait_ms = row.number("wait_ms", Some(10_000), 1, 3_600_000)?;
     let idle_ms = row.number("idle_ms", Some(600_000), 1, 86_400_000)?;
     Ok(ProxyRow {

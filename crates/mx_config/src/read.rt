@@ -104,7 +104,12 @@ fn read_servers(alloc: Global, file: &Table) -> Result<Rows<ServerRow>, ConfigRe
 
 // The rows of a table that has at least so many, and at most 1,024.
 #[tactic(auto, unfolding(crate::specs::Reading::rows_at))]
-fn table_rows(alloc: Global, place: Place, least: usize, value: &Value) -> Result<&[Value], ConfigRefusal>
+fn table_rows(
+    alloc: Global,
+    place: Place,
+    least: usize,
+    value: &Value,
+) -> Result<&[Value], ConfigRefusal>
     ensures rows { GivesRows result (rows_at place least (view value.now)) }
     ensures few { IfOk result (λ rows. length rows.now ≤ 1024) }
 {

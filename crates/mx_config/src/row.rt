@@ -12,7 +12,10 @@ ghost use Rattle.mx_config.specs.Values.{number, text, address_value, host_value
 
 use crate::ConfigRefusal;
 use crate::fault::{Kind, Place, refusal};
-use crate::value::{TextForm, member, read_address_value, read_host_value, read_number, read_status_value, read_text};
+use crate::value::{
+    TextForm, member, read_address_value, read_host_value, read_number, read_status_value,
+    read_text,
+};
 use hostgroups::ServerStatus;
 use mx_base::{Address, Bytes};
 use std::alloc::Global;
@@ -40,7 +43,13 @@ impl Row<'_> {
 
     /// The number of a key, in a range.
     #[tactic(auto, unfolding(crate::specs::Rows::key_of))]
-    pub(crate) fn number(&self, key: &str, default: Option<u64>, least: u64, most: u64) -> Result<u64, ConfigRefusal>
+    pub(crate) fn number(
+        &self,
+        key: &str,
+        default: Option<u64>,
+        least: u64,
+        most: u64,
+    ) -> Result<u64, ConfigRefusal>
         requires { ForSome default (λ n. (least ≤ n) × (n ≤ most)) }
         ensures value { Gives result (key_of self.now.place key.now default (number least most) (table_view self.now.members.now)) }
         ensures range { IfOk result (λ n. (least ≤ n) × (n ≤ most)) }
@@ -59,7 +68,12 @@ impl Row<'_> {
 
     /// The text of a key, of a form.
     #[tactic(auto, unfolding(crate::specs::Rows::key_of))]
-    pub(crate) fn text(&self, key: &str, default: Option<&str>, form: TextForm) -> Result<Bytes, ConfigRefusal>
+    pub(crate) fn text(
+        &self,
+        key: &str,
+        default: Option<&str>,
+        form: TextForm,
+    ) -> Result<Bytes, ConfigRefusal>
         ensures { Gives result (key_of self.now.place key.now (option_copied default.entry) (text form) (table_view self.now.members.now)) }
     {
         let text = match member(self.members, key) {
@@ -77,7 +91,11 @@ impl Row<'_> {
 
     /// The address and port of a key, `a.b.c.d:port`.
     #[tactic(auto, unfolding(crate::specs::Rows::key_of))]
-    pub(crate) fn address(&self, key: &str, default: Option<Address>) -> Result<Address, ConfigRefusal>
+    pub(crate) fn address(
+        &self,
+        key: &str,
+        default: Option<Address>,
+    ) -> Result<Address, ConfigRefusal>
         ensures { Gives result (key_of self.now.place key.now default address_value (table_view self.now.members.now)) }
     {
         match member(self.members, key) {
@@ -111,7 +129,11 @@ impl Row<'_> {
 
     /// The status of a key, as an operator may give it.
     #[tactic(auto, unfolding(crate::specs::Rows::key_of))]
-    pub(crate) fn status(&self, key: &str, default: Option<ServerStatus>) -> Result<ServerStatus, ConfigRefusal>
+    pub(crate) fn status(
+        &self,
+        key: &str,
+        default: Option<ServerStatus>,
+    ) -> Result<ServerStatus, ConfigRefusal>
         ensures { Gives result (key_of self.now.place key.now default status_value (table_view self.now.members.now)) }
     {
         match member(self.members, key) {

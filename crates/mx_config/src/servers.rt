@@ -91,7 +91,10 @@ impl ServerTable {
 }
 
 /// The rows of servers.
-pub(crate) fn read_server_rows(alloc: Global, items: &[Value]) -> Result<Rows<ServerRow>, ConfigRefusal>
+pub(crate) fn read_server_rows(
+    alloc: Global,
+    items: &[Value],
+) -> Result<Rows<ServerRow>, ConfigRefusal>
     requires { length items.now ≤ 1024 }
     ensures { Gives result (rows_from server_row [] (items_view items.now)) }
 {
@@ -104,7 +107,11 @@ pub(crate) fn read_server_rows(alloc: Global, items: &[Value]) -> Result<Rows<Se
 }
 
 // The row of servers behind the rows so far.
-fn read_server_row(alloc: Global, before: &ServerTable, value: &Value) -> Result<ServerRow, ConfigRefusal>
+fn read_server_row(
+    alloc: Global,
+    before: &ServerTable,
+    value: &Value,
+) -> Result<ServerRow, ConfigRefusal>
     requires { length before.now < 1024 }
     ensures row { Gives result (server_row before.now (view value.now)) }
     ensures stands { IfOk result (Stands before.now) }
@@ -119,7 +126,14 @@ fn read_server_row(alloc: Global, before: &ServerTable, value: &Value) -> Result
         place,
         members,
     };
-    row.only(&["hostgroup", "host", "port", "weight", "max_connections", "status"])?;
+    row.only(&[
+        "hostgroup",
+        "host",
+        "port",
+        "weight",
+        "max_connections",
+        "status",
+    ])?;
     let hostgroup = row.number("hostgroup", None, 0, 65_535)?;
     let ip = row.host("host", None)?;
     let port = row.number("port", None, 0, 65_535)?;
@@ -159,7 +173,12 @@ fn few_connections(
 }
 
 // Refuses a server that stands in a row before.
-fn new_server(alloc: Global, place: Place, before: &ServerTable, server: ServerRow) -> Result<(), ConfigRefusal>
+fn new_server(
+    alloc: Global,
+    place: Place,
+    before: &ServerTable,
+    server: ServerRow,
+) -> Result<(), ConfigRefusal>
     ensures unlike { Gives result (new_server place before.now (name_of server)) }
     ensures new { OnOk result (number_of (map name_of before.now) (name_of server) ≡ None) }
 {

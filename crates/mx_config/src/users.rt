@@ -115,7 +115,12 @@ fn read_user_row(alloc: Global, before: &UserTable, value: &Value) -> Result<Use
 }
 
 // Refuses a name that a row before has.
-fn new_user(alloc: Global, place: Place, before: &UserTable, name: &Bytes) -> Result<(), ConfigRefusal>
+fn new_user(
+    alloc: Global,
+    place: Place,
+    before: &UserTable,
+    name: &Bytes,
+) -> Result<(), ConfigRefusal>
     ensures { Gives result (new_user place before.now name.now) }
 {
     if before.has(name) {
