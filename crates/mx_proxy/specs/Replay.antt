@@ -18,14 +18,30 @@ use Rattle.mem_wire.specs.Told.{Played}
 use Rattle.ready_loop.specs.Drained.{write_dry}
 use Rattle.ready_loop.specs.Round.{calls_since_wake}
 use Rattle.session_core.specs.Headline.{IsServed, IsLawful}
+use Rattle.mx_config.specs.declared.config.Config.{Config}
+use Rattle.mx_config.specs.declared.fault.ConfigFault.{ConfigFault}
+use Rattle.mx_config.specs.Reading.{reading_of}
 use Rattle.session_core.specs.Rest.{RestsAt}
 use Rattle.mx_proxy.specs.declared.stop.Stop.{Stop}
 use Rattle.mx_proxy.specs.declared.stop.Stop.TheVariants as stop
-use Rattle.mx_proxy.specs.Words.{recording_name}
+use Rattle.mx_proxy.specs.Words.{Named, replay_words}
 
 -- names with their bytes, where they are told
 abbrev pub Held : Type 0
 Held = Option (List (List ℕ × List ℕ))
+
+-- the bytes under the name say a configuration
+pub record IsConfigured (name : List ℕ) (held : Held) : Type 0 where
+  pub bytes : List ℕ
+  pub under : HasUnder name bytes held
+  pub config : Config
+  pub said : reading_of bytes ≡ Ok config
+
+-- they say none, and this is their first fault
+pub record IsMisconfigured (name : List ℕ) (held : Held) (fault : ConfigFault) : Type 0 where
+  pub bytes : List ℕ
+  pub under : HasUnder name bytes held
+  pub said : reading_of bytes ≡ Err fault
 
 -- the bytes under the name say these entries
 pub record IsUnder (name : List ℕ) (held : Held) (entries : List RecordEntry) : Type 0 where
@@ -75,6 +91,12 @@ pub record IsSpent (entries : List RecordEntry) (log : Log) : Type 0 where
   pub rests : AllLawful RestsAt log
   pub spent : 4294967296 ≤ calls_since_wake log
 
+abbrev pub ConfigStops : Stop → List ℕ → Held → (before now : ℕ) → Type 0
+ConfigStops stop.ReadFault name held before now = before < now
+ConfigStops (stop.BadConfig fault) name held before now = IsMisconfigured name held fault
+ConfigStops stop.OutOfMemory name held before now = Unit {0}
+ConfigStops _ name held before now = ⊥
+
 abbrev pub ReadStops : Stop → List ℕ → Held → (before now : ℕ) → Type 0
 ReadStops stop.ReadFault name held before now = before < now
 ReadStops (stop.BadRecording fault) name held before now = IsFaulty name held fault
@@ -111,12 +133,13 @@ PutStops stop.OutOfMemory tape old before new now = PutsNothing old before new n
 PutStops stop.SinkFault tape old before new now = PutsFront tape old before new now
 PutStops _ tape old before new now = ⊥
 
--- The recording under the name that the words give is replayed to this log.
+-- The words name a configuration and a recording, and the recording is replayed to this log.
 pub record IsReplay (words : List (List ℕ)) (held : Held) (log : Log) : Type 0 where
-  pub name : List ℕ
-  pub named : recording_name words ≡ Some name
+  pub names : Named
+  pub named : replay_words words ≡ Some names
+  pub configured : IsConfigured names.config held
   pub entries : List RecordEntry
-  pub under : IsUnder name held entries
+  pub under : IsUnder names.recording held entries
   pub replays : ReplaysTo entries log
 
 -- and the transcript of that log is put
@@ -131,29 +154,38 @@ pub record ReplayedInPart (words : List (List ℕ)) (held : Held) (old : Option 
   pub put : TakesFront old (transcript_of log) new
   pub rose : before < now
 
+-- the configuration is refused, whatever the recording
+pub record IsUnconfigured (words : List (List ℕ)) (held : Held) (fault : ConfigFault) : Type 0 where
+  pub names : Named
+  pub named : replay_words words ≡ Some names
+  pub wrong : IsMisconfigured names.config held fault
+
 pub record IsRefused (words : List (List ℕ)) (held : Held) (fault : RecordFault) : Type 0 where
-  pub name : List ℕ
-  pub named : recording_name words ≡ Some name
-  pub faulty : IsFaulty name held fault
+  pub names : Named
+  pub named : replay_words words ≡ Some names
+  pub configured : IsConfigured names.config held
+  pub faulty : IsFaulty names.recording held fault
 
 pub record RanOut (words : List (List ℕ)) (held : Held) : Type 0 where
-  pub name : List ℕ
-  pub named : recording_name words ≡ Some name
+  pub names : Named
+  pub named : replay_words words ≡ Some names
+  pub configured : IsConfigured names.config held
   pub entries : List RecordEntry
-  pub under : IsUnder name held entries
+  pub under : IsUnder names.recording held entries
   pub log : Log
   pub spent : IsSpent entries log
 
 pub record IsUnread (words : List (List ℕ)) (before now : ℕ) : Type 0 where
-  pub name : List ℕ
-  pub named : recording_name words ≡ Some name
+  pub names : Named
+  pub named : replay_words words ≡ Some names
   pub rose : before < now
 
 -- Why a replay stops short: of a sink that failed a front of the transcript is put, and else nothing.
 abbrev pub Stops : Stop → List (List ℕ) → Held → (read_before read_now : ℕ) → Option (List ℕ) → ℕ → Option (List ℕ) → ℕ → Type 0
-Stops stop.Usage words held read_before read_now old before new now = (recording_name words ≡ None) × PutsNothing old before new now
+Stops stop.Usage words held read_before read_now old before new now = (replay_words words ≡ None) × PutsNothing old before new now
 Stops stop.ReadFault words held read_before read_now old before new now = IsUnread words read_before read_now × PutsNothing old before new now
 Stops stop.SinkFault words held read_before read_now old before new now = ReplayedInPart words held old before new now
-Stops stop.OutOfMemory words held read_before read_now old before new now = ((name : List ℕ) × (recording_name words ≡ Some name)) × PutsNothing old before new now
+Stops stop.OutOfMemory words held read_before read_now old before new now = ((names : Named) × (replay_words words ≡ Some names)) × PutsNothing old before new now
+Stops (stop.BadConfig fault) words held read_before read_now old before new now = IsUnconfigured words held fault × PutsNothing old before new now
 Stops (stop.BadRecording fault) words held read_before read_now old before new now = IsRefused words held fault × PutsNothing old before new now
 Stops stop.TurnsSpent words held read_before read_now old before new now = RanOut words held × PutsNothing old before new now

@@ -1,17 +1,37 @@
-// A recording is read, played and printed.
-ghost use Rattle.std.specs.Prelude.{OnOk, IfOk, IfErr};
+// A configuration is judged, and a recording is read, played and printed.
+ghost use Rattle.std.specs.Prelude.{◌≡◌, ◌≤◌, OnOk, IfOk, IfErr};
 ghost use Rattle.recording.specs.Playable.{IsPlayable};
 ghost use Rattle.mx_proxy.specs.Words.{texts};
-ghost use Rattle.mx_proxy.specs.Replay.{IsUnder, HasPlayed, ReadStops, PlayStops, PutStops, Puts, Replayed, Stops};
+ghost use Rattle.mx_proxy.specs.Replay.{IsConfigured, ConfigStops, IsUnder, HasPlayed, ReadStops, PlayStops, PutStops, Puts, Replayed, Stops};
 
 use crate::stop::Stop;
-use crate::words::recording_name;
+use crate::words::replay_words;
 use mem_wire::Tape;
+use mx_config::{Config, ConfigRefusal, read_config};
 use mx_wire::{FileFault, Files, Sink};
 use ready_loop::{ServeEnd, serve};
 use recording::{RecordEntry, RecordRefusal, read_recording, transcript};
 use session_core::Core;
 use std::alloc::Global;
+
+// The configuration under the name.
+fn configure<F: Files>(alloc: Global, name: &str, files: &mut F) -> Result<Config, Stop>
+    ensures ok { OnOk result (IsConfigured name.now (F.held files.old)) }
+    ensures err { IfErr result (λ stop. ConfigStops stop name.now (F.held files.old) (F.faults files.old) (F.faults files.new)) }
+    ensures held { F.held files.new ≡ F.held files.old }
+    ensures faults { F.faults files.old ≤ F.faults files.new }
+{
+    let bytes = match files.read(name) {
+        Ok(bytes) => bytes,
+        Err(FileFault::Failed) => return Err(Stop::ReadFault),
+        Err(FileFault::OutOfMemory) => return Err(Stop::OutOfMemory),
+    };
+    match read_config(alloc, &bytes) {
+        Ok(config) => Ok(config),
+        Err(ConfigRefusal::Fault(fault)) => Err(Stop::BadConfig(fault)),
+        Err(ConfigRefusal::OutOfMemory) => Err(Stop::OutOfMemory),
+    }
+}
 
 // The entries of the recording under the name.
 fn read<F: Files>(alloc: Global, name: &str, files: &mut F) -> Result<Vec<RecordEntry>, Stop>
@@ -68,7 +88,7 @@ fn put<O: Sink>(alloc: Global, tape: &Tape, out: &mut O) -> Result<(), Stop>
     }
 }
 
-/// Does what the words ask for: replays a recording and puts the transcript of its log.
+/// Does what the words ask for: judges a configuration, replays a recording, and puts the transcript of its log.
 pub fn replay<F: Files, O: Sink>(
     alloc: Global,
     words: &[String],
@@ -78,10 +98,11 @@ pub fn replay<F: Files, O: Sink>(
     ensures ok { OnOk result (Replayed (texts words.now) (F.held files.old) (O.taken out.old) (O.taken out.new)) }
     ensures err { IfErr result (λ stop. Stops stop (texts words.now) (F.held files.old) (F.faults files.old) (F.faults files.new) (O.taken out.old) (O.faults out.old) (O.taken out.new) (O.faults out.new)) }
 {
-    let Some(name) = recording_name(words) else {
+    let Some(names) = replay_words(words) else {
         return Err(Stop::Usage);
     };
-    let entries = read(alloc, name, files)?;
+    let _config = configure(alloc, names.config, files)?;
+    let entries = read(alloc, names.recording, files)?;
     let tape = play(alloc, entries)?;
     put(alloc, &tape, out)
 }

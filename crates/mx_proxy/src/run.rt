@@ -1,10 +1,12 @@
 // The call that `main` makes.
-ghost use Rattle.std.specs.Prelude.{◌≡◌, ◌↔◌, None, codes};
-ghost use Rattle.mx_proxy.specs.Words.{texts, recording_name};
-ghost use Rattle.mx_proxy.specs.Run.{Says, Told, Outcome};
+ghost use Rattle.std.specs.Prelude.{◌≡◌, ◌↔◌, None, IfOk};
+ghost use Rattle.mx_proxy.specs.Words.{texts, replay_words};
+ghost use Rattle.mx_proxy.specs.Run.{Says, Told, Outcome, table_name, config_line};
 
 use crate::replay::replay;
 use crate::stop::Stop;
+use mx_base::OutOfMemory;
+use mx_config::ConfigFault;
 use mx_wire::{Files, Sink, Wire};
 use recording::RecordFault;
 use std::alloc::Global;
@@ -14,16 +16,54 @@ use std::thread::Threads;
 #[derive(Clone, Copy, Debug, PartialEq, Eq)]
 pub struct Status(pub u8);
 
-const USAGE: &str =
-    "usage: mx_proxy serve <config> or replay <config> <recording> or load <start> <clients> <statements> or audit <config> <lines> <workers>\n";
+const USAGE: &[u8] =
+    b"usage: mx_proxy serve <config> or replay <config> <recording> or load <start> <clients> <statements> or audit <config> <lines> <workers>\n";
 
 // Puts a line. A sink that fails leaves the status.
-fn say<O: Sink>(out: &mut O, line: &str, status: u8) -> Status
+fn say<O: Sink>(out: &mut O, line: &[u8], status: u8) -> Status
     ensures status { result.0 ≡ status }
     ensures says { Says line.now (O.taken out.old) (O.faults out.old) (O.taken out.new) (O.faults out.new) }
 {
-    let _ = out.put(line.as_bytes());
+    let _ = out.put(line);
     Status(status)
+}
+
+// The name of a table of the configuration.
+fn table_name(table: u8) -> &'static str
+    ensures { result.now ≡ table_name table }
+{
+    match table {
+        1 => "proxy",
+        2 => "users",
+        3 => "servers",
+        _ => "file",
+    }
+}
+
+// The line of a configuration's fault.
+#[tactic(auto, unfolding(crate::specs::Run::config_line))]
+fn config_line(alloc: Global, fault: &ConfigFault) -> Result<Vec<u8>, OutOfMemory>
+    ensures { IfOk result (λ line. line.items ≡ config_line fault.now) }
+{
+    let kind = fault.kind;
+    let table = table_name(fault.table);
+    let row = fault.row;
+    let front = format!(in alloc; "config: {kind} {table} {row} ")?;
+    let mut line = Vec::new(alloc);
+    line.extend_from_slice(front.as_bytes())?;
+    line.extend_from_slice(fault.key.as_slice())?;
+    line.push(b'\n')?;
+    Ok(line)
+}
+
+// Puts the line of a configuration's fault.
+fn say_config<O: Sink>(alloc: Global, out: &mut O, fault: ConfigFault) -> Status
+    ensures { Told (Stop.BadConfig fault) (O.taken out.old) (O.faults out.old) (O.taken out.new) (O.faults out.new) result.0 }
+{
+    match config_line(alloc, &fault) {
+        Ok(line) => say(out, &line, 1),
+        Err(_) => say(out, b"out of memory\n", 5),
+    }
 }
 
 // Puts the line of a recording's fault.
@@ -33,8 +73,8 @@ fn say_fault<O: Sink>(alloc: Global, out: &mut O, fault: RecordFault) -> Status
     let line = fault.line;
     let kind = fault.kind;
     match format!(in alloc; "recording: line {line} kind {kind}\n") {
-        Ok(text) => say(out, text.as_str(), 7),
-        Err(_) => say(out, "out of memory\n", 5),
+        Ok(text) => say(out, text.as_bytes(), 7),
+        Err(_) => say(out, b"out of memory\n", 5),
     }
 }
 
@@ -44,20 +84,22 @@ fn tell<O: Sink>(alloc: Global, out: &mut O, stop: Stop) -> Status
 {
     match stop {
         Stop::Usage => say(out, USAGE, 2),
-        Stop::ReadFault => say(out, "read fault\n", 3),
+        Stop::ReadFault => say(out, b"read fault\n", 3),
         Stop::SinkFault => Status(4),
-        Stop::OutOfMemory => say(out, "out of memory\n", 5),
+        Stop::OutOfMemory => say(out, b"out of memory\n", 5),
+        Stop::BadConfig(fault) => say_config(alloc, out, fault),
         Stop::BadRecording(fault) => say_fault(alloc, out, fault),
-        Stop::TurnsSpent => say(out, "turns spent\n", 8),
+        Stop::TurnsSpent => say(out, b"turns spent\n", 8),
     }
 }
 
-/// Does what the words after the program's name ask for, and puts what that prints. `replay - <recording>` replays a
-/// recording and puts the transcript of its log.
+/// Does what the words after the program's name ask for, and puts what that prints. `replay <config> <recording>` judges
+/// a configuration, then replays a recording, and puts the transcript of its log.
 ///
 /// | Status | Comes | Line |
 /// |---|---|---|
 /// | 0 | the recording was played to its end and its transcript put | none |
+/// | 1 | only where the configuration is refused | `config: <kind> <table name> <row> <key>` |
 /// | 2 | exactly where the words are no command | the usage |
 /// | 3 | only where a read failed | `read fault` |
 /// | 4 | only where the sink failed | none |
@@ -73,7 +115,7 @@ pub fn run<R: Threads + Sync, W: Wire, F: Files, O: Sink>(
     out: &mut O,
 ) -> Status
     ensures outcome { Outcome (texts words.now) (F.held files.old) (F.faults files.old) (F.faults files.new) (O.taken out.old) (O.faults out.old) (O.taken out.new) (O.faults out.new) result.0 }
-    ensures usage { (result.0 ≡ 2) ↔ (recording_name (texts words.now) ≡ None) }
+    ensures usage { (result.0 ≡ 2) ↔ (replay_words (texts words.now) ≡ None) }
 {
     match replay(alloc, words, files, out) {
         Ok(()) => Status(0),

@@ -1,18 +1,21 @@
 // Why a run stops short.
 use mx_base::OutOfMemory;
+use mx_config::ConfigFault;
 use recording::RecordFault;
 
 /// Why a run stops short of putting all that it was asked for.
-#[derive(Clone, Copy, Debug, PartialEq, Eq)]
+#[derive(Debug, Drop)]
 pub enum Stop {
     /// The words are no command.
     Usage,
-    /// The recording can't be read.
+    /// The configuration or the recording can't be read.
     ReadFault,
     /// The sink failed.
     SinkFault,
     /// Memory was refused.
     OutOfMemory,
+    /// The configuration isn't right.
+    BadConfig(ConfigFault),
     /// The recording isn't right.
     BadRecording(RecordFault),
     /// One wake took too many calls.

@@ -18,11 +18,15 @@ const STATISTICS: &str =
 const ANSWERED: &str =
     "at 0\naccept c1 traffic 0102030405060708090a0b0c0d0e0f1011121314\nat 1\nbytes c1 0500000003444f2031\nat 2\nexec s1\nbytes s1 070000010000\nat 3\nbytes s1 0002000000\nbytes c1 0100000009\n";
 
+/// One user, and one server.
+const CONFIG: &str =
+    "[proxy]\nlisten = \"127.0.0.1:6033\"\nadmin_listen = \"127.0.0.1:6032\"\nadmin_user = \"admin\"\nadmin_password = \"\"\n[[users]]\nname = \"u\"\npassword = \"\"\n[[servers]]\nhostgroup = 0\nhost = \"127.0.0.1\"\nport = 3306\n";
+
 const USAGE: &str =
     "usage: mx_proxy serve <config> or replay <config> <recording> or load <start> <clients> <statements> or audit <config> <lines> <workers>\n";
 
-// Runs the words where `r` is the one file, and the first put fails where that is asked for. The status, and what was
-// printed.
+// Runs the words where the files are `c`, a configuration, `n`, one of no bytes, and `r`. The first put fails where
+// that is asked for. The status, and what was printed.
 fn outcome<R: Threads + Sync>(
     rt: &R,
     alloc: Global,
@@ -35,10 +39,12 @@ fn outcome<R: Threads + Sync>(
         texts.push(String::from_str(alloc, word)?)?;
     }
     let mut held = Vec::new(alloc);
-    held.push((
-        Bytes::from_slice(alloc, b"r")?,
-        Bytes::from_slice(alloc, file.as_bytes())?,
-    ))?;
+    for (name, bytes) in [("c", CONFIG), ("n", ""), ("r", file)] {
+        held.push((
+            Bytes::from_slice(alloc, name.as_bytes())?,
+            Bytes::from_slice(alloc, bytes.as_bytes())?,
+        ))?;
+    }
     let mut failing = Vec::new(alloc);
     if is_full {
         failing.push(1)?;
@@ -52,45 +58,68 @@ fn outcome<R: Threads + Sync>(
 
 #[test]
 fn runs(rt: HostRuntime) -> Result<(), Fail> {
-    let rows: [(&[&str], &str, bool, u8, &str); 10] = [
+    let rows: [(&[&str], &str, bool, u8, &str); 15] = [
         (
-            &["replay", "-", "r"],
+            &["replay", "c", "r"],
             ASKED,
             false,
             0,
             "link c1 traffic open\nlink s1 server 1 open\ns1 for c1/1 0500000003444f2031\n",
         ),
         (
-            &["replay", "-", "r"],
+            &["replay", "c", "r"],
             ANSWERED,
             false,
             0,
             "link c1 traffic open\nc1 reply 070000010000000200000018000001ff1704233038533031556e6b6e6f776e20636f6d6d616e64\nlink s1 server 1 open\ns1 for c1/1 0500000003444f2031\n",
         ),
         (
-            &["replay", "-", "r"],
+            &["replay", "c", "r"],
             STATISTICS,
             false,
             0,
             "link c1 traffic open\nc1 reply 18000001ff1704233038533031556e6b6e6f776e20636f6d6d616e64\n",
         ),
-        (&["replay", "-", "r"], "", false, 0, ""),
+        (&["replay", "c", "r"], "", false, 0, ""),
         (
-            &["replay", "-", "r"],
+            &["replay", "c", "r"],
             "at 0",
             false,
             7,
             "recording: line 1 kind 1\n",
         ),
         (
-            &["replay", "-", "r"],
+            &["replay", "c", "r"],
             "at 1\nat 0\n",
             false,
             7,
             "recording: line 2 kind 5\n",
         ),
-        (&["replay", "-", "absent"], ASKED, false, 3, "read fault\n"),
-        (&["replay", "-", "r"], ASKED, true, 4, ""),
+        (&["replay", "c", "absent"], ASKED, false, 3, "read fault\n"),
+        (&["replay", "c", "r"], ASKED, true, 4, ""),
+        (&["replay", "absent", "r"], ASKED, false, 3, "read fault\n"),
+        (
+            &["replay", "n", "r"],
+            ASKED,
+            false,
+            1,
+            "config: 3 proxy 0 listen\n",
+        ),
+        (
+            &["replay", "n", "absent"],
+            ASKED,
+            false,
+            1,
+            "config: 3 proxy 0 listen\n",
+        ),
+        (
+            &["replay", "r", "r"],
+            ASKED,
+            false,
+            1,
+            "config: 1 file 0 \n",
+        ),
+        (&["replay", "r"], ASKED, false, 2, USAGE),
         (&["fly"], ASKED, false, 2, USAGE),
         (&[], ASKED, false, 2, USAGE),
     ];

@@ -1,16 +1,24 @@
 // The words of the command line.
 ghost use Rattle.std.specs.Prelude.{◌≡◌};
 ghost use Rattle.std.specs.Option.{option_map};
-ghost use Rattle.mx_proxy.specs.Words.{texts, recording_name};
+ghost use Rattle.mx_proxy.specs.Words.{texts, replay_words};
 
-/// The name of the recording that the words ask to replay: `replay - <recording>`. The second word will name a configuration.
-pub fn recording_name(words: &[String]) -> Option<&str>
-    ensures { option_map (λ name. name.now) result ≡ recording_name (texts words.now) }
+/// The names of the files that a replay reads.
+#[derive(Clone, Copy)]
+pub struct ReplayNames<'a> {
+    pub config: &'a str,
+    pub recording: &'a str,
+}
+
+/// The replay that the words ask for: `replay <config> <recording>`.
+pub fn replay_words(words: &[String]) -> Option<ReplayNames<'_>>
+    ensures { option_map (λ names. record { config = names.config.now; recording = names.recording.now }) result ≡ replay_words (texts words.now) }
 {
     match words {
-        [command, config, name] if command.as_str() == "replay" && config.as_str() == "-" => Some(
-            name.as_str(),
-        ),
+        [command, config, recording] if command.as_str() == "replay" => Some(ReplayNames {
+            config: config.as_str(),
+            recording: recording.as_str(),
+        }),
         _ => None,
     }
 }

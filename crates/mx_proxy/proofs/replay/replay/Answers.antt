@@ -7,16 +7,17 @@ use Rattle.mem_wire.specs.Told.{Played}
 use Rattle.mx_proxy.specs.declared.stop.Stop.{Stop}
 use Rattle.mx_proxy.specs.declared.stop.Stop.TheVariants as stop
 use Rattle.recording.specs.Playable.{IsPlayable}
-use Rattle.mx_proxy.specs.Words.{recording_name}
-use Rattle.mx_proxy.specs.Replay.{Held, IsUnder, HasPlayed, IsReplay, PutStops, Stops}
+use Rattle.mx_proxy.specs.Words.{Named, replay_words}
+use Rattle.mx_proxy.specs.Replay.{Held, IsConfigured, IsUnder, HasPlayed, IsReplay, PutStops, Stops}
 use Rattle.mx_proxy.proofs.Ending.{played-out}
 use Rattle.mx_proxy.proofs.replay.replay.Goals as goal
 
 -- a tape that has played the recording under the name tells a replay
-replay-of : (words : List (List ℕ)) (held : Held) (name : List ℕ) (entries : List RecordEntry) (tape : Played) (log : Log) → recording_name words ≡ Some name → IsUnder name held entries → IsPlayable entries → HasPlayed entries tape → tape.told ≡ Some log → IsPlay tape.recording log → IsReplay words held log
-replay-of words held name entries tape log named under playable played is play = record {
-  name = name;
+replay-of : (words : List (List ℕ)) (held : Held) (names : Named) (entries : List RecordEntry) (tape : Played) (log : Log) → replay_words words ≡ Some names → IsConfigured names.config held → IsUnder names.recording held entries → IsPlayable entries → HasPlayed entries tape → tape.told ≡ Some log → IsPlay tape.recording log → IsReplay words held log
+replay-of words held names entries tape log named configured under playable played is play = record {
+  names = names;
   named = named;
+  configured = configured;
   entries = entries;
   under = under;
   replays =
@@ -24,15 +25,15 @@ replay-of words held name entries tape log named under playable played is play =
       record { play = played.keeps log play; serves = serves; ends = played-out entries log serves.before playable (played.keeps log play) serves.rests serves.over };
 }
 
-stopped : (given : Stop) (words : List (List ℕ)) (held : Held) (read_before read_now : ℕ) (name : List ℕ) (entries : List RecordEntry) (tape : Played) (old : Option (List ℕ)) (before : ℕ) (new : Option (List ℕ)) (now : ℕ) → recording_name words ≡ Some name → IsUnder name held entries → IsPlayable entries → HasPlayed entries tape → PutStops given tape old before new now → Stops given words held read_before read_now old before new now
-stopped stop.OutOfMemory words held read_before read_now name entries tape old before new now named under playable played stops = ((name, named), stops)
-stopped stop.SinkFault words held read_before read_now name entries tape old before new now named under playable played stops = record {
+stopped : (given : Stop) (words : List (List ℕ)) (held : Held) (read_before read_now : ℕ) (names : Named) (entries : List RecordEntry) (tape : Played) (old : Option (List ℕ)) (before : ℕ) (new : Option (List ℕ)) (now : ℕ) → replay_words words ≡ Some names → IsConfigured names.config held → IsUnder names.recording held entries → IsPlayable entries → HasPlayed entries tape → PutStops given tape old before new now → Stops given words held read_before read_now old before new now
+stopped stop.OutOfMemory words held read_before read_now names entries tape old before new now named configured under playable played stops = ((names, named), stops)
+stopped stop.SinkFault words held read_before read_now names entries tape old before new now named configured under playable played stops = record {
   log = stops.log;
-  replay = replay-of words held name entries tape stops.log named under playable played stops.is stops.play;
+  replay = replay-of words held names entries tape stops.log named configured under playable played stops.is stops.play;
   put = stops.put;
   rose = stops.rose;
 }
-stopped _ words held read_before read_now name entries tape old before new now named under playable played stops = absurd stops
+stopped _ words held read_before read_now names entries tape old before new now named configured under playable played stops = absurd stops
 
 on-ok : {A B : Type 0} (r : Result (Unit {0}) Stop) → (A → B) → OnOk r A → OnOk r B
 on-ok (Ok done) more held = more held
@@ -46,10 +47,10 @@ pub returns-clause-ok : goal.returns-clause-ok
 returns-clause-ok g c =
     on-ok c.put.result (λ puts. record {
       log = puts.log;
-      replay = replay-of _ _ c.in-Some.name.now c.in_ok-entries.entries.items c.in_ok-tape.tape puts.log (sym c.in-Some.ensures) c.in_ok-entries.ensures.under c.in_ok-entries.ensures.playable c.in_ok-tape.ensures.ok puts.is puts.play;
+      replay = replay-of _ _ _ c.in_ok-entries.entries.items c.in_ok-tape.tape puts.log (sym c.in-Some.ensures) c.in_ok-_config.ensures.ok (rw c.in_ok-_config.ensures.held at c.in_ok-entries.ensures.under) c.in_ok-entries.ensures.playable c.in_ok-tape.ensures.ok puts.is puts.play;
       put = puts.put;
     }) c.put.ensures.ok
 
 pub returns-clause-err : goal.returns-clause-err
 returns-clause-err g c =
-    if-err c.put.result (λ given. stopped given _ _ _ _ c.in-Some.name.now c.in_ok-entries.entries.items c.in_ok-tape.tape _ _ _ _ (sym c.in-Some.ensures) c.in_ok-entries.ensures.under c.in_ok-entries.ensures.playable c.in_ok-tape.ensures.ok) c.put.ensures.err
+    if-err c.put.result (λ given. stopped given _ _ _ _ _ c.in_ok-entries.entries.items c.in_ok-tape.tape _ _ _ _ (sym c.in-Some.ensures) c.in_ok-_config.ensures.ok (rw c.in_ok-_config.ensures.held at c.in_ok-entries.ensures.under) c.in_ok-entries.ensures.playable c.in_ok-tape.ensures.ok) c.put.ensures.err

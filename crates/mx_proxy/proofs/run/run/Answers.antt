@@ -6,7 +6,7 @@ use Rattle.mx_proxy.specs.declared.stop.Stop.{Stop}
 use Rattle.mx_proxy.specs.declared.stop.Stop.TheVariants as stop
 use Rattle.mx_proxy.specs.Replay.{Held, Stops, PutsNothing}
 use Rattle.mx_proxy.specs.Run.{Says, Told, Outcome}
-use Rattle.mx_proxy.specs.Run.Outcome.{Done, NoCommand, Unread, Unput, NoMemory, Refused, Spent}
+use Rattle.mx_proxy.specs.Run.Outcome.{Done, Unconfigured, NoCommand, Unread, Unput, NoMemory, Refused, Spent}
 use Rattle.mx_proxy.proofs.run.run.Goals as goal
 
 -- what is said after nothing was put is all that is said
@@ -28,10 +28,14 @@ ends stop.SinkFault words held rb rn old before middle after new now status stop
     }))
 ends stop.OutOfMemory words held rb rn old before middle after new now status stops told =
     subst (λ s. Outcome words held rb rn old before new now s) (sym told.is) (NoMemory stops.0.0 stops.0.1 (says-alone _ old before middle after new now stops.1 told.says))
+ends (stop.BadConfig fault) words held rb rn old before middle after new now status stops (inl told) =
+    subst (λ s. Outcome words held rb rn old before new now s) (sym told.is) (Unconfigured fault stops.0 (says-alone _ old before middle after new now stops.1 told.says))
+ends (stop.BadConfig fault) words held rb rn old before middle after new now status stops (inr told) =
+    subst (λ s. Outcome words held rb rn old before new now s) (sym told.is) (NoMemory stops.0.names stops.0.named (says-alone _ old before middle after new now stops.1 told.says))
 ends (stop.BadRecording fault) words held rb rn old before middle after new now status stops (inl told) =
     subst (λ s. Outcome words held rb rn old before new now s) (sym told.is) (Refused fault stops.0 (says-alone _ old before middle after new now stops.1 told.says))
 ends (stop.BadRecording fault) words held rb rn old before middle after new now status stops (inr told) =
-    subst (λ s. Outcome words held rb rn old before new now s) (sym told.is) (NoMemory stops.0.name stops.0.named (says-alone _ old before middle after new now stops.1 told.says))
+    subst (λ s. Outcome words held rb rn old before new now s) (sym told.is) (NoMemory stops.0.names stops.0.named (says-alone _ old before middle after new now stops.1 told.says))
 ends stop.TurnsSpent words held rb rn old before middle after new now status stops told =
     subst (λ s. Outcome words held rb rn old before new now s) (sym told.is) (Spent stops.0 (says-alone _ old before middle after new now stops.1 told.says))
 

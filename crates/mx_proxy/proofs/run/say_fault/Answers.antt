@@ -7,4 +7,4 @@ says-as : (line other : List ℕ) (old : Option (List ℕ)) (before : ℕ) (new 
 says-as line other old before new now same says = subst (λ l. Says l old before new now) same says
 
 pub returns-in-Ok : goal.returns-in-Ok
-returns-in-Ok g c = inl (record { is = c.say.ensures.status; says = says-as _ _ _ _ _ _ (c.as_str.ensures.value ∙ c.in-Ok.ensures.ok) c.say.ensures.says })
+returns-in-Ok g c = inl (record { is = c.say.ensures.status; says = says-as _ _ _ _ _ _ (c.as_bytes.ensures.value ∙ c.in-Ok.ensures.ok) c.say.ensures.says })
