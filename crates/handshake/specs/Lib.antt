@@ -1,0 +1,3 @@
+pub mod Capability
+pub mod Reading
+pub mod Greeting
