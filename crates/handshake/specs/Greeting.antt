@@ -1,19 +1,41 @@
 -- The greeting of a server.
-use Rattle.std.specs.Prelude.{ℕ, ◌+◌, ◌*◌, nat_eq, List, [], ◌++◌, take, Result, Ok, Err, if◌then◌else◌}
+use Rattle.std.specs.Prelude.{ℕ, ◌+◌, ◌*◌, nat_eq, List, [], ◌∷◌, ◌++◌, take, drop, replicate, Result, Ok, Err, if◌then◌else◌}
+use Rattle.mx_base.specs.Fields.{number_bytes}
 use Rattle.handshake.specs.declared.capability.TheConstants.{PLUGIN_AUTH}
 use Rattle.handshake.specs.declared.fault.HandFault.{HandFault}
 use Rattle.handshake.specs.declared.fault.HandFault.TheVariants.{NotVersion10}
 use Rattle.handshake.specs.declared.greeting.Greeting.{Greeting}
 use Rattle.handshake.specs.Capability.{has, needed_of_greeting}
 use Rattle.handshake.specs.Reading.{Rest, start, ◌>>=◌, demand, number_field, bytes_field, text_field, last_text}
-
--- the login method, where one is named
-abbrev pub plugin_of_greeting : (capabilities : ℕ) → Rest → List ℕ
-plugin_of_greeting capabilities rest = if has PLUGIN_AUTH capabilities then last_text rest else []
+use Rattle.handshake.specs.Spelling.{nul, under, spelled}
 
 -- protocol version (1), server version, connection id (4), 8 bytes of the scramble, a filler (1), the low two bytes of
 -- the capabilities, collation (1), status flags (2), the high two bytes of the capabilities, length of the scramble (1),
--- a filler (10), 12 bytes of the scramble with a NUL, login method
+-- a filler (10), 12 bytes of the scramble with a NUL, and the login method under PLUGIN_AUTH
+unfoldable pub greeting_fields : Greeting → List (List ℕ)
+greeting_fields g =
+    (10 ∷ [])
+    ∷ g.version ∷ nul
+    ∷ number_bytes 4 g.connection
+    ∷ take 8 g.salt
+    ∷ (0 ∷ [])
+    ∷ take 2 (number_bytes 4 g.capabilities)
+    ∷ (g.collation ∷ [])
+    ∷ number_bytes 2 g.status
+    ∷ drop 2 (number_bytes 4 g.capabilities)
+    ∷ (21 ∷ [])
+    ∷ replicate 10 0
+    ∷ drop 8 g.salt ∷ nul
+    ∷ under PLUGIN_AUTH g.capabilities g.plugin ∷ under PLUGIN_AUTH g.capabilities nul
+    ∷ []
+
+abbrev pub greeting_bytes : Greeting → List ℕ
+greeting_bytes g = spelled (greeting_fields g) []
+
+-- the same fields, read
+abbrev pub plugin_of_greeting : (capabilities : ℕ) → Rest → List ℕ
+plugin_of_greeting capabilities rest = if has PLUGIN_AUTH capabilities then last_text rest else []
+
 unfoldable pub greeting_of : List ℕ → Result Greeting HandFault
 greeting_of payload = do
   protocol ← number_field 1 (start payload)

@@ -1,6 +1,6 @@
 // Capabilities of a client and a server.
-ghost use Rattle.std.specs.Prelude.{◌≡◌, ◌^◌, ◌<◌, ℕ};
-ghost use Rattle.handshake.specs.Capability.{has, needed_of_greeting};
+ghost use Rattle.std.specs.Prelude.{◌≡◌};
+ghost use Rattle.handshake.specs.Capability.{has, needed_of_greeting, needed_of_response};
 
 use crate::HandFault;
 
@@ -32,6 +32,20 @@ pub(crate) fn needed_of_greeting(capabilities: u32) -> Result<(), HandFault>
         return Err(HandFault::NoProtocol41);
     }
     if !has(capabilities, SECURE_CONNECTION) {
+        return Err(HandFault::NoSecureConnection);
+    }
+    Ok(())
+}
+
+/// Whether a client of these capabilities can be spoken to.
+pub(crate) fn needed_of_response(capabilities: u32) -> Result<(), HandFault>
+    ensures { result ≡ needed_of_response capabilities }
+{
+    if !has(capabilities, PROTOCOL_41) {
+        return Err(HandFault::NoProtocol41);
+    }
+    let counted = has(capabilities, PLUGIN_AUTH_LENENC_CLIENT_DATA);
+    if !counted && !has(capabilities, SECURE_CONNECTION) {
         return Err(HandFault::NoSecureConnection);
     }
     Ok(())

@@ -3,7 +3,7 @@ ghost use Rattle.std.specs.Prelude.{◌≡◌};
 ghost use Rattle.handshake.specs.Reading.{nul_at};
 
 use crate::HandFault;
-use mx_base::{get_u8, get_u16, get_u32};
+use mx_base::{Field, get_u8, get_u16, get_u32};
 use std::marker::Model;
 
 /// The bytes of a payload that aren't read yet, and the place where they begin.
@@ -33,7 +33,8 @@ fn nul_at(bytes: &[u8]) -> Option<usize>
 
 impl<'a> Cursor<'a> {
     ghost use Rattle.std.specs.Prelude.{◌≡◌, ◌≤◌, length, Ok, Err, IfOk, MatchResult};
-    ghost use Rattle.handshake.specs.Reading.{Rest, start, after, Takes, number_field, bytes_field, text_field, last_text};
+    ghost use Rattle.handshake.specs.Reading.{Rest, start, after, Takes, number_field, bytes_field, text_field, last_text, counted_field, optional_text};
+    ghost use Rattle.std.specs.Option.{option_copied};
 
     /// Before the first field.
     pub fn new(payload: &'a [u8]) -> Self
@@ -132,5 +133,48 @@ impl<'a> Cursor<'a> {
             Some(end) => &self.rest[..end],
             None => self.rest,
         }
+    }
+
+    /// The bytes that aren't read yet.
+    pub fn rest(&self) -> &'a [u8]
+        ensures { result.now ≡ self.now.bytes }
+    {
+        self.rest
+    }
+
+    /// Bytes behind their number, as it was read at the place of the cursor.
+    #[tactic(auto, unfolding(crate::specs::Reading::counted_field))]
+    pub fn take_counted(&mut self, number: Field) -> Result<&'a [u8], HandFault>
+        ensures { MatchResult result (λ bytes. counted_field number self.old ≡ Ok (bytes.now, self.new)) (λ fault. counted_field number self.old ≡ Err fault) }
+    {
+        let Field::Value { n, next } = number else {
+            return Err(self.short());
+        };
+        let left = self.rest.len();
+        if left < next || ((left - next) as u64) < n {
+            return Err(self.short());
+        }
+        let end = next + n as usize;
+        let bytes = &self.rest[next..end];
+        self.pass(end);
+        Ok(bytes)
+    }
+
+    /// A text that is there or not. The last field may end with the payload.
+    #[tactic(auto, unfolding(crate::specs::Reading::optional_text))]
+    pub fn take_optional_text(
+        &mut self,
+        there: bool,
+        last: bool,
+    ) -> Result<Option<&'a [u8]>, HandFault>
+        ensures { MatchResult result (λ text. optional_text there last self.old ≡ Ok (option_copied text, self.new)) (λ fault. optional_text there last self.old ≡ Err fault) }
+    {
+        if !there {
+            return Ok(None);
+        }
+        if last {
+            return Ok(Some(self.last_text()));
+        }
+        Ok(Some(self.take_text()?))
     }
 }

@@ -1,12 +1,14 @@
 // A server's greeting.
-ghost use Rattle.std.specs.Prelude.{◌≡◌, ◌++◌, length, take};
+ghost use Rattle.std.specs.Prelude.{◌≡◌, ◌++◌, length, take, OnOk, OnErr};
 ghost use Rattle.handshake.specs.Reading.{Gives};
-ghost use Rattle.handshake.specs.Greeting.{greeting_of, plugin_of_greeting};
+ghost use Rattle.handshake.specs.Spelling.{IsText};
+ghost use Rattle.handshake.specs.Greeting.{greeting_of, plugin_of_greeting, greeting_bytes};
 
 use crate::HandFault;
 use crate::capability::{PLUGIN_AUTH, has, needed_of_greeting};
 use crate::cursor::Cursor;
-use mx_base::Bytes;
+use crate::put::{NUL, put_fields, under};
+use mx_base::{Bytes, OutOfMemory};
 use std::alloc::Global;
 
 /// The first payload of a connection, from a server to a client (client/server protocol, "Protocol::HandshakeV10").
@@ -30,6 +32,9 @@ pub struct Greeting {
 
 /// The protocol version of all servers since MySQL 3.21.
 const PROTOCOL_VERSION: u8 = 10;
+
+/// The length of a scramble with the NUL behind it.
+const SCRAMBLE_LENGTH: u8 = 21;
 
 /// Reads a greeting (client/server protocol, "Protocol::HandshakeV10"). The faults are those of the first wrong field:
 /// Short where it runs past the end, NotVersion10 at the first byte, and NoProtocol41 and then NoSecureConnection at
@@ -90,4 +95,45 @@ fn joined(front: &[u8], back: &[u8]) -> [u8; 20]
     salt[..8].copy_from_slice(front);
     salt[8..].copy_from_slice(&back[..12]);
     salt
+}
+
+/// Appends a greeting (client/server protocol, "Protocol::HandshakeV10"): the length of the scramble is 21, fillers are
+/// zero, and the login method is there under PLUGIN_AUTH alone. OutOfMemory leaves `out` as it was.
+#[tactic(auto, unfolding(crate::specs::Greeting::greeting_fields))]
+pub fn write_greeting(out: &mut Vec<u8>, greeting: &Greeting) -> Result<(), OutOfMemory>
+    requires version { IsText greeting.now.version }
+    requires plugin { IsText greeting.now.plugin }
+    ensures ok { OnOk result (out.new.items ≡ out.old.items ++ greeting_bytes greeting.now) }
+    ensures err { OnErr result (out.new.items ≡ out.old.items) }
+{
+    let capabilities = greeting.capabilities;
+    let version = greeting.version.as_slice();
+    let connection = greeting.connection.to_le_bytes();
+    let (front, back) = greeting.salt.split_at(8);
+    let offered = capabilities.to_le_bytes();
+    let (low, high) = offered.split_at(2);
+    let status = greeting.status.to_le_bytes();
+    let plugin = under(PLUGIN_AUTH, capabilities, greeting.plugin.as_slice());
+    let plugin_end = under(PLUGIN_AUTH, capabilities, &NUL);
+    put_fields(
+        out,
+        &[
+            &[PROTOCOL_VERSION],
+            version,
+            &NUL,
+            &connection,
+            front,
+            &[0],
+            low,
+            &[greeting.collation],
+            &status,
+            high,
+            &[SCRAMBLE_LENGTH],
+            &[0; 10],
+            back,
+            &NUL,
+            plugin,
+            plugin_end,
+        ],
+    )
 }

@@ -6,6 +6,9 @@ mod capability;
 mod cursor;
 mod fault;
 mod greeting;
+mod put;
+mod response;
+mod switch;
 
 
 pub use capability::{
@@ -13,5 +16,7 @@ pub use capability::{
     SECURE_CONNECTION,
 };
 pub use fault::HandFault;
-pub use greeting::{Greeting, read_greeting};
+pub use greeting::{Greeting, read_greeting, write_greeting};
+pub use response::{Response, read_response, write_response};
+pub use switch::{Switch, read_switch, write_switch};
 
