@@ -1,5 +1,5 @@
 -- The greeting of a server.
-use Rattle.std.specs.Prelude.{ℕ, ◌+◌, ◌*◌, nat_eq, List, [], ◌∷◌, ◌++◌, take, drop, replicate, Result, Ok, Err, if◌then◌else◌}
+use Rattle.std.specs.Prelude.{ℕ, ◌+◌, ◌*◌, nat_eq, List, [], ◌∷◌, ◌++◌, take, drop, replicate, Result, Ok, if◌then◌else◌}
 use Rattle.mx_base.specs.Fields.{number_bytes}
 use Rattle.handshake.specs.declared.capability.TheConstants.{PLUGIN_AUTH}
 use Rattle.handshake.specs.declared.fault.HandFault.{HandFault}

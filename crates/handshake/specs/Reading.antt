@@ -1,5 +1,5 @@
 -- Fields that are read one after the other, and the first fault.
-use Rattle.std.specs.Prelude.{◌≡◌, ℕ, Bool, not, ◌+◌, ◌==◌, nat_lt, List, [], ◌∷◌, ◌++◌, length, take, drop, position, Option, Some, None, Result, Ok, Err, if◌then◌else◌}
+use Rattle.std.specs.Prelude.{◌≡◌, ℕ, Bool, not, ◌+◌, ◌==◌, nat_lt, List, length, take, drop, position, Option, Some, None, Result, Ok, Err, if◌then◌else◌}
 use Rattle.mx_base.specs.Fields.{number_at}
 use Rattle.mx_base.specs.declared.fields.Field.{Field}
 use Rattle.mx_base.specs.declared.fields.Field.TheVariants as numbers

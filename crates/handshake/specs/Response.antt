@@ -1,12 +1,12 @@
 -- The response of a client.
-use Rattle.std.specs.Prelude.{ℕ, Bool, not, ◌||◌, List, [], ◌∷◌, ◌++◌, length, replicate, unwrap_or, Option, Result, Ok, Err, if◌then◌else◌}
+use Rattle.std.specs.Prelude.{ℕ, Bool, not, ◌||◌, List, [], ◌∷◌, length, replicate, unwrap_or, Result, Ok, if◌then◌else◌}
 use Rattle.mx_base.specs.Fields.{number_at, value_to, lenenc_at, lenenc, number_bytes}
 use Rattle.mx_base.specs.declared.fields.Field.{Field}
 use Rattle.handshake.specs.declared.capability.TheConstants.{CONNECT_WITH_DB, PLUGIN_AUTH, CONNECT_ATTRS, PLUGIN_AUTH_LENENC_CLIENT_DATA}
 use Rattle.handshake.specs.declared.fault.HandFault.{HandFault}
 use Rattle.handshake.specs.declared.response.Response.{Response}
 use Rattle.handshake.specs.Capability.{has, needed_of_response}
-use Rattle.handshake.specs.Reading.{Rest, start, ◌>>=◌, number_field, bytes_field, text_field, counted_field, optional_text}
+use Rattle.handshake.specs.Reading.{start, ◌>>=◌, number_field, bytes_field, text_field, counted_field, optional_text}
 use Rattle.handshake.specs.Spelling.{nul, under, spelled}
 
 -- the length of an answer: length-encoded under PLUGIN_AUTH_LENENC_CLIENT_DATA, else of one byte

@@ -7,12 +7,12 @@ ghost use Rattle.handshake.specs.Greeting.{greeting_of, plugin_of_greeting, gree
 use crate::HandFault;
 use crate::capability::{PLUGIN_AUTH, has, needed_of_greeting};
 use crate::cursor::Cursor;
-use crate::put::{NUL, put_fields, under};
+use crate::put::{NUL, put_fields, text_field, under};
 use mx_base::{Bytes, OutOfMemory};
 use std::alloc::Global;
 
 /// The first payload of a connection, from a server to a client (client/server protocol, "Protocol::HandshakeV10").
-#[derive(Drop, Debug)]
+#[derive(Drop, Debug, PartialEq, Eq)]
 pub struct Greeting {
     /// The server's version, as text.
     pub version: Bytes,
@@ -107,13 +107,17 @@ pub fn write_greeting(out: &mut Vec<u8>, greeting: &Greeting) -> Result<(), OutO
     ensures err { OnErr result (out.new.items ≡ out.old.items) }
 {
     let capabilities = greeting.capabilities;
-    let version = greeting.version.as_slice();
+    let version = text_field(greeting.version.as_slice());
     let connection = greeting.connection.to_le_bytes();
     let (front, back) = greeting.salt.split_at(8);
     let offered = capabilities.to_le_bytes();
     let (low, high) = offered.split_at(2);
     let status = greeting.status.to_le_bytes();
-    let plugin = under(PLUGIN_AUTH, capabilities, greeting.plugin.as_slice());
+    let plugin = under(
+        PLUGIN_AUTH,
+        capabilities,
+        text_field(greeting.plugin.as_slice()),
+    );
     let plugin_end = under(PLUGIN_AUTH, capabilities, &NUL);
     put_fields(
         out,

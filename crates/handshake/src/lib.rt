@@ -6,10 +6,10 @@ mod capability;
 mod cursor;
 mod fault;
 mod greeting;
+mod laws;
 mod put;
 mod response;
 mod switch;
-
 
 pub use capability::{
     CONNECT_ATTRS, CONNECT_WITH_DB, PLUGIN_AUTH, PLUGIN_AUTH_LENENC_CLIENT_DATA, PROTOCOL_41,
@@ -17,6 +17,9 @@ pub use capability::{
 };
 pub use fault::HandFault;
 pub use greeting::{Greeting, read_greeting, write_greeting};
+pub use laws::one_grammar;
 pub use response::{Response, read_response, write_response};
 pub use switch::{Switch, read_switch, write_switch};
 
+#[cfg(test)]
+mod tests;

@@ -1,6 +1,6 @@
 // Fields of a payload that is written.
 ghost use Rattle.std.specs.Prelude.{◌≡◌, ◌++◌, flat_map, OnOk, OnErr};
-ghost use Rattle.handshake.specs.Spelling.{under};
+ghost use Rattle.handshake.specs.Spelling.{under, IsText};
 
 use crate::capability::has;
 use mx_base::OutOfMemory;
@@ -32,4 +32,12 @@ pub(crate) fn under(capability: u32, capabilities: u32, field: &[u8]) -> &[u8]
     } else {
         &[]
     }
+}
+
+/// A text that a NUL can end, as a field.
+pub(crate) fn text_field(text: &[u8]) -> &[u8]
+    requires { IsText text.now }
+    ensures { result.now ≡ text.now }
+{
+    text
 }

@@ -11,12 +11,12 @@ use crate::capability::{
     needed_of_response,
 };
 use crate::cursor::Cursor;
-use crate::put::{NUL, put_fields, under};
+use crate::put::{NUL, put_fields, text_field, under};
 use mx_base::{Bytes, Field, OutOfMemory, get_lenenc, get_u8, put_lenenc};
 use std::alloc::Global;
 
 /// What a client answers to a greeting (client/server protocol, "Protocol::HandshakeResponse41").
-#[derive(Drop, Debug)]
+#[derive(Drop, Debug, PartialEq, Eq)]
 pub struct Response {
     /// The client's capabilities.
     pub capabilities: u32,
@@ -71,7 +71,8 @@ pub fn read_response(alloc: Global, payload: &[u8]) -> Result<Response, HandFaul
 fn answer_length(capabilities: u32, bytes: &[u8]) -> Field
     ensures { result ≡ answer_length capabilities bytes.now }
 {
-    if has(capabilities, PLUGIN_AUTH_LENENC_CLIENT_DATA) {
+    let prefixed = has(capabilities, PLUGIN_AUTH_LENENC_CLIENT_DATA);
+    if prefixed {
         return get_lenenc(bytes, 0);
     }
     match get_u8(bytes, 0) {
@@ -108,7 +109,7 @@ pub fn write_response(out: &mut Vec<u8>, response: &Response) -> Result<(), OutO
     let capabilities = response.capabilities;
     let own = capabilities.to_le_bytes();
     let max_packet = response.max_packet.to_le_bytes();
-    let user = response.user.as_slice();
+    let user = text_field(response.user.as_slice());
     let answer = response.answer.as_slice();
     let length = length_bytes(*out.allocator(), capabilities, answer.len() as u8)?;
     let schema = under(CONNECT_WITH_DB, capabilities, text_of(&response.schema));
@@ -151,10 +152,11 @@ fn length_bytes(alloc: Global, capabilities: u32, n: u8) -> Result<Vec<u8>, OutO
 
 // A text, empty where there is none.
 fn text_of(text: &Option<Bytes>) -> &[u8]
+    requires { ForSome text.now IsText }
     ensures { result.now ≡ unwrap_or text.now [] }
 {
     match text {
-        Some(text) => text.as_slice(),
+        Some(text) => text_field(text.as_slice()),
         None => &[],
     }
 }

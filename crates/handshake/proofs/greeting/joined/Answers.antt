@@ -1,4 +1,4 @@
-use Rattle.std.proofs.Common.{◌≡◌, ◌≤◌, ◌++◌, List, ℕ, [], ◌∷◌, length, drop, arith, ◌∙◌}
+use Rattle.std.proofs.Common.{◌≡◌, ◌≤◌, ◌++◌, List, ℕ, [], ◌∷◌, length, arith, ◌∙◌}
 use Rattle.std.proofs.lemmas.List.{append-nil, take_at, drop_at, drop_all}
 use Rattle.std.specs.Prelude.{refl}
 use borrow.Rule.Slice.PartMut.{put_mid}
