@@ -1,15 +1,15 @@
 -- A field that was written is read again, whatever follows it.
-use Rattle.std.specs.Prelude.{◌≡◌, ◌≢◌, ◌<◌, ◌≤◌, ℕ, ◌+◌, ◌^◌, ◌==◌, false, nat_eq, List, [], ◌∷◌, ◌++◌, length, drop, Some, Ok, refl}
+use Rattle.std.specs.Prelude.{◌≡◌, ◌≢◌, ◌<◌, ◌≤◌, ℕ, ◌+◌, ◌^◌, ◌==◌, false, nat_eq, List, [], ◌∷◌, ◌++◌, length, drop, Some, Ok, refl, None}
 use Rattle.std.specs.List.{position_or_len}
-use Rattle.std.proofs.Common.{◌∙◌, ap, arith, length-append, append_assoc}
+use Rattle.std.proofs.Common.{◌∙◌, ap, arith, length-append, append_assoc, inl, inr}
 use Rattle.std.proofs.lemmas.Bool.{lt-ltb, le-ltb}
 use Rattle.std.proofs.lemmas.Bool.Decides.{nat_tests}
-use Rattle.std.proofs.lemmas.List.{take_at, drop_at}
+use Rattle.std.proofs.lemmas.List.{append-nil, take_at, drop_at}
 use Rattle.std.proofs.lemmas.List.Elements.{All-head, All-tail}
 use Rattle.mx_base.specs.Fields.{little_endian, number_bytes}
 use Rattle.mx_base.specs.FieldLaws.{length-number_bytes, little_endian-number_bytes, number_at-there}
 use Rattle.handshake.specs.Reading.{Rest, number_field, bytes_field, nul_at, text_field, last_text}
-use Rattle.handshake.specs.Spelling.{IsText, spelled}
+use Rattle.handshake.specs.Spelling.{nul, IsText, IsEnding, IsEndingIf, spelled}
 
 abbrev pub rest_of : List ℕ → ℕ → Rest
 rest_of bytes at = record { bytes = bytes; at = at }
@@ -48,10 +48,23 @@ unfolding text_field
 text_field-again text more at is =
     rw (nul_at-again text more is, take_at text (0 ∷ more) (length text) refl, drop_behind text more) refl
 
-pub last_text-again : (text more : List ℕ) (at : ℕ) → IsText text → last_text (rest_of (text ++ 0 ∷ more) at) ≡ text
-unfolding last_text
-last_text-again text more at is = rw (nul_at-again text more is, take_at text (0 ∷ more) (length text) refl) refl
+-- where the payload ends a text, there is no NUL
+no_nul : (text : List ℕ) → IsText text → position_or_len (λ b. b == 0) text ≡ length text
+no_nul [] is = refl
+no_nul (b ∷ text) is = rw (not_nul b (All-head (λ b. b ≢ 0) b text is)) (ap (λ (n : ℕ). 1 + n) (no_nul text (All-tail (λ b. b ≢ 0) b text is)) ∙ omega arith)
 
-pub spelled-append : (fields : List (List ℕ)) (more : List ℕ) → spelled fields [] ++ more ≡ spelled fields more
-spelled-append [] more = refl
-spelled-append (field ∷ fields) more = append_assoc field (spelled fields []) more ∙ ap (λ (bytes : List ℕ). field ++ bytes) (spelled-append fields more)
+nul_at-none : (text : List ℕ) → IsText text → nul_at text ≡ None
+nul_at-none text is = rw (no_nul text is, le-ltb (length text) (length text) (omega arith)) refl
+
+last_text-whole : (text : List ℕ) (at : ℕ) → IsText text → last_text (rest_of text at) ≡ text
+unfolding last_text
+last_text-whole text at is = rw (nul_at-none text is) refl
+
+pub last_text-again : (text ending more : List ℕ) (at : ℕ) → IsText text → IsEnding ending more → last_text (rest_of (text ++ (ending ++ more)) at) ≡ text
+unfolding last_text
+last_text-again text ending more at is (inl by_nul) = rw (by_nul, nul_at-again text more is, take_at text (0 ∷ more) (length text) refl) refl
+last_text-again text ending more at is (inr by_end) = rw (by_end.0, by_end.1, append-nil text) (last_text-whole text at is)
+
+pub spelled-more : (fields : List (List ℕ)) (more others : List ℕ) → spelled fields more ++ others ≡ spelled fields (more ++ others)
+spelled-more [] more others = refl
+spelled-more (field ∷ fields) more others = append_assoc field (spelled fields more) others ∙ ap (λ (bytes : List ℕ). field ++ bytes) (spelled-more fields more others)

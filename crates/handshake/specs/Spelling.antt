@@ -1,5 +1,5 @@
 -- Fields that are written one after the other.
-use Rattle.std.specs.Prelude.{◌≢◌, ℕ, List, [], ◌∷◌, ◌++◌, All, if◌then◌else◌}
+use Rattle.std.specs.Prelude.{◌≡◌, ◌≢◌, ◌⊎◌, ℕ, Bool, true, false, List, [], ◌∷◌, ◌++◌, All, if◌then◌else◌}
 use Rattle.handshake.specs.Capability.{has}
 
 -- what ends a text
@@ -18,3 +18,12 @@ under capability capabilities field = if has capability capabilities then field 
 abbrev pub spelled : (fields : List (List ℕ)) → (more : List ℕ) → List ℕ
 spelled [] more = more
 spelled (field ∷ fields) more = field ++ spelled fields more
+
+-- a NUL ends the last text, or the payload does
+abbrev pub IsEnding : (ending more : List ℕ) → Type 0
+IsEnding ending more = (ending ≡ nul) ⊎ ((ending ≡ []) × (more ≡ []))
+
+-- what ends a text that is the last field or not
+abbrev pub IsEndingIf : (last : Bool) → (ending more : List ℕ) → Type 0
+IsEndingIf true ending more = IsEnding ending more
+IsEndingIf false ending more = ending ≡ nul

@@ -1,7 +1,7 @@
 // Payloads that clients and servers sent, as documented, and others with a fault.
 use crate::{
     Greeting, HandFault, Response, Switch, one_grammar, read_greeting, read_response, read_switch,
-    write_greeting, write_response, write_switch,
+    write_greeting, write_response, write_switch, written_again,
 };
 use mx_base::Bytes;
 use std::alloc::Global;
@@ -60,6 +60,7 @@ fn writes_the_own_greeting(rt: HostRuntime) -> Result<(), Fail> {
     assert_eq!(rt; &out[1..], OWN_GREETING.as_slice());
     assert_eq!(rt; read_greeting(rt.alloc(), &out[1..])?, greeting);
     one_grammar();
+    written_again();
     Ok(())
 }
 
