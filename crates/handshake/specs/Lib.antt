@@ -4,8 +4,3 @@ pub mod Spelling
 pub mod Greeting
 pub mod Response
 pub mod Switch
-pub mod FieldsAgain
-pub mod CountedAgain
-pub mod GreetingAgain
-pub mod ResponseAgain
-pub mod SwitchAgain

@@ -1,5 +1,5 @@
 -- A server's request to switch the login method.
-use Rattle.std.specs.Prelude.{◌≡◌, ℕ, List, [], ◌∷◌, codes, Result, Ok, length, ◌++◌}
+use Rattle.std.specs.Prelude.{◌≡◌, ℕ, List, [], ◌∷◌, codes, Result, Ok, length}
 use Rattle.handshake.specs.declared.fault.HandFault.{HandFault}
 use Rattle.handshake.specs.declared.switch.Switch.{Switch}
 use Rattle.handshake.specs.Reading.{start, ◌>>=◌, bytes_field, text_field}

@@ -107,7 +107,7 @@ pub fn write_response(out: &mut Vec<u8>, response: &Response) -> Result<(), OutO
     ensures err { OnErr result (out.new.items ≡ out.old.items) }
 {
     let capabilities = response.capabilities;
-    let own = capabilities.to_le_bytes();
+    let offered = capabilities.to_le_bytes();
     let max_packet = response.max_packet.to_le_bytes();
     let user = text_field(response.user.as_slice());
     let answer = response.answer.as_slice();
@@ -120,7 +120,7 @@ pub fn write_response(out: &mut Vec<u8>, response: &Response) -> Result<(), OutO
     put_fields(
         out,
         &[
-            &own,
+            &offered,
             &max_packet,
             &[response.collation],
             &[0; 23],

@@ -1,6 +1,6 @@
-use Rattle.handshake.specs.GreetingAgain.{greeting_of-has}
-use Rattle.handshake.specs.ResponseAgain.{response_of-has}
-use Rattle.handshake.specs.SwitchAgain.{switch_of-has}
+use Rattle.handshake.proofs.GreetingAgain.{greeting_of-has}
+use Rattle.handshake.proofs.ResponseAgain.{response_of-has}
+use Rattle.handshake.proofs.SwitchAgain.{switch_of-has}
 use Rattle.handshake.proofs.laws.one_grammar.Goals as goal
 
 pub returns-clause-greeting : goal.returns-clause-greeting

@@ -1,6 +1,6 @@
-use Rattle.handshake.specs.GreetingAgain.{greeting_bytes-has}
-use Rattle.handshake.specs.ResponseAgain.{response_bytes-has}
-use Rattle.handshake.specs.SwitchAgain.{switch_bytes-has}
+use Rattle.handshake.proofs.GreetingAgain.{greeting_bytes-has}
+use Rattle.handshake.proofs.ResponseAgain.{response_bytes-has}
+use Rattle.handshake.proofs.SwitchAgain.{switch_bytes-has}
 use Rattle.handshake.proofs.laws.written_again.Goals as goal
 
 pub returns-clause-greeting : goal.returns-clause-greeting

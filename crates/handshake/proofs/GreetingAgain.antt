@@ -1,5 +1,5 @@
 -- Bytes that have a greeting's fields are read as that greeting.
-use Rattle.std.specs.Prelude.{◌≡◌, ◌<◌, ℕ, ◌+◌, ◌*◌, ◌/◌, ◌%◌, ◌^◌, Bool, true, false, not, cond, nat_eq, bit_and, List, [], ◌∷◌, ◌++◌, length, take, drop, replicate, Ok, refl}
+use Rattle.std.specs.Prelude.{◌≡◌, ◌<◌, ℕ, ◌+◌, ◌*◌, ◌/◌, ◌%◌, Bool, true, false, not, cond, nat_eq, bit_and, List, [], ◌∷◌, ◌++◌, length, take, drop, Ok, refl}
 use Rattle.std.proofs.Common.{sym, ◌∙◌, ap, arith, length-append, append_assoc, length-drop, take-append-drop, inl}
 use Rattle.std.proofs.lemmas.List.{take_at, length-take-le}
 use Rattle.std.proofs.lemmas.Nat.{and_mod, and_le_r}
@@ -8,9 +8,9 @@ use Rattle.handshake.specs.declared.capability.TheConstants.{PROTOCOL_41, SECURE
 use Rattle.handshake.specs.declared.greeting.Greeting.{Greeting}
 use Rattle.handshake.specs.Capability.{has, needed_of_greeting}
 use Rattle.handshake.specs.Reading.{bytes_field, last_text}
-use Rattle.handshake.specs.Spelling.{nul, IsText, IsEnding, spelled}
+use Rattle.handshake.specs.Spelling.{IsText, IsEnding, spelled}
 use Rattle.handshake.specs.Greeting.{GreetingFillers, greeting_fields, greeting_fillers, greeting_bytes, IsGreeting, HasGreeting, greeting_of}
-use Rattle.handshake.specs.FieldsAgain.{rest_of, number_field-is, number_field-again, bytes_field-again, text_field-again, last_text-again, spelled-more}
+use Rattle.handshake.proofs.FieldsAgain.{rest_of, number_field-is, number_field-again, bytes_field-again, text_field-again, last_text-again, spelled-more}
 
 -- a capability of the low two bytes
 has-low : (capability capabilities : ℕ) → capability < 65536 → has capability (capabilities % 65536) ≡ has capability capabilities

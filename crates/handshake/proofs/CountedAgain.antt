@@ -5,7 +5,7 @@ use Rattle.std.proofs.lemmas.Bool.{le-ltb}
 use Rattle.std.proofs.lemmas.List.{take_at, drop_at}
 use Rattle.mx_base.specs.declared.fields.Field.TheVariants.{Value}
 use Rattle.handshake.specs.Reading.{counted_field}
-use Rattle.handshake.specs.FieldsAgain.{rest_of}
+use Rattle.handshake.proofs.FieldsAgain.{rest_of}
 
 pub counted_field-there : (number bytes more : List ℕ) (at : ℕ) → counted_field (Value (length bytes) (length number)) (rest_of (number ++ (bytes ++ more)) at) ≡ Ok (bytes, rest_of more (at + (length number + length bytes)))
 unfolding counted_field

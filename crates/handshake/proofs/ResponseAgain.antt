@@ -1,18 +1,17 @@
 -- Bytes that have a response's fields are read as that response.
-use Rattle.std.specs.Prelude.{◌≡◌, ◌<◌, ◌≤◌, ℕ, ◌+◌, ◌^◌, Bool, true, false, not, cond, ◌||◌, List, [], ◌∷◌, ◌++◌, length, drop, replicate, unwrap_or, Option, Some, None, Ok, refl}
+use Rattle.std.specs.Prelude.{◌≡◌, ◌≤◌, ℕ, ◌+◌, Bool, true, false, not, cond, ◌||◌, List, [], ◌∷◌, ◌++◌, length, drop, unwrap_or, Option, Some, None, Ok, refl}
 use Rattle.std.proofs.Common.{◌∙◌, ap, arith, zero-add, inl}
 use Rattle.mx_base.specs.Fields.{number_at, value_to, lenenc, lenenc_at}
 use Rattle.mx_base.specs.FieldLaws.{number_at-there, lenenc_at-again}
-use Rattle.mx_base.specs.declared.fields.Field.{Field}
 use Rattle.mx_base.specs.declared.fields.Field.TheVariants.{Value}
 use Rattle.handshake.specs.declared.capability.TheConstants.{PROTOCOL_41, SECURE_CONNECTION, CONNECT_WITH_DB, PLUGIN_AUTH, CONNECT_ATTRS, PLUGIN_AUTH_LENENC_CLIENT_DATA}
 use Rattle.handshake.specs.declared.response.Response.{Response}
 use Rattle.handshake.specs.Capability.{has, needed_of_response}
-use Rattle.handshake.specs.Reading.{◌>>=◌, counted_field, optional_text}
-use Rattle.handshake.specs.Spelling.{nul, IsText, IsEndingIf, under, spelled}
-use Rattle.handshake.specs.Response.{length_bytes, ResponseFillers, response_fields, response_fillers, response_bytes, answer_length, is_schema_last, is_plugin_last, IsNamed, IsResponse, HasResponse, response_of}
-use Rattle.handshake.specs.FieldsAgain.{rest_of, number_field-is, number_field-again, bytes_field-again, text_field-again, last_text-again, spelled-more}
-use Rattle.handshake.specs.CountedAgain.{counted_field-there}
+use Rattle.handshake.specs.Reading.{◌>>=◌, optional_text}
+use Rattle.handshake.specs.Spelling.{nul, IsEndingIf, under, spelled}
+use Rattle.handshake.specs.Response.{ResponseFillers, response_fields, response_fillers, response_bytes, is_schema_last, is_plugin_last, IsNamed, IsResponse, HasResponse, response_of}
+use Rattle.handshake.proofs.FieldsAgain.{rest_of, number_field-is, number_field-again, bytes_field-again, text_field-again, last_text-again, spelled-more}
+use Rattle.handshake.proofs.CountedAgain.{counted_field-there}
 
 needed-again : (capabilities : ℕ) → has PROTOCOL_41 capabilities ≡ true → (has PLUGIN_AUTH_LENENC_CLIENT_DATA capabilities || has SECURE_CONNECTION capabilities) ≡ true → needed_of_response capabilities ≡ Ok tt
 needed-again capabilities protocol counted = rw (protocol, counted) refl

@@ -9,7 +9,7 @@ use Rattle.std.proofs.lemmas.List.Elements.{All-head, All-tail}
 use Rattle.mx_base.specs.Fields.{little_endian, number_bytes}
 use Rattle.mx_base.specs.FieldLaws.{length-number_bytes, little_endian-number_bytes, number_at-there}
 use Rattle.handshake.specs.Reading.{Rest, number_field, bytes_field, nul_at, text_field, last_text}
-use Rattle.handshake.specs.Spelling.{nul, IsText, IsEnding, IsEndingIf, spelled}
+use Rattle.handshake.specs.Spelling.{IsText, IsEnding, spelled}
 
 abbrev pub rest_of : List ℕ → ℕ → Rest
 rest_of bytes at = record { bytes = bytes; at = at }

@@ -4,7 +4,7 @@ use Rattle.std.proofs.Common.{◌∙◌, ap}
 use Rattle.handshake.specs.declared.switch.Switch.{Switch}
 use Rattle.handshake.specs.Spelling.{nul, IsText, spelled}
 use Rattle.handshake.specs.Switch.{switch_fields, switch_bytes, HasSwitch, switch_of}
-use Rattle.handshake.specs.FieldsAgain.{bytes_field-again, text_field-again, spelled-more}
+use Rattle.handshake.proofs.FieldsAgain.{bytes_field-again, text_field-again, spelled-more}
 
 fields-again : (bytes : List ℕ) (s : Switch) (has_fields : HasSwitch bytes s) → switch_of (spelled (switch_fields has_fields.end s) has_fields.more) ≡ Ok s
 unfolding switch_of switch_fields
