@@ -12,7 +12,11 @@ abbrev pub is_err : List ℕ → Bool
 is_err payload = nat_le 9 (length payload) && nat_eq (slice_index_or payload 0 0) 255 && nat_eq (slice_index_or payload 3 0) 35
 
 -- an OK: 0x00, affected rows and last insert id, both length-encoded, status flags (2), warnings (2), info to the
--- end; these are its status flags
+-- end; this one tells of no rows, no insert id and no warnings
+abbrev pub ok_payload : (status : ℕ) → (info : List ℕ) → List ℕ
+ok_payload status info = 0 ∷ 0 ∷ 0 ∷ status % 256 ∷ status / 256 ∷ 0 ∷ 0 ∷ info
+
+-- the status flags of an OK
 abbrev pub flags_with : Option ℕ → Option ℕ → Option ℕ
 flags_with None warnings = None
 flags_with (Some flags) None = None

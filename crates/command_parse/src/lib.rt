@@ -1,0 +1,15 @@
+//! The commands of a client.
+#![tactic(auto)]
+
+mod command;
+mod command_byte;
+mod fault;
+mod parsing;
+mod statement;
+#[cfg(test)]
+mod tests;
+
+pub use command::Command;
+pub use fault::CommandFault;
+pub use parsing::parse;
+pub use statement::{Known, statement_of};
