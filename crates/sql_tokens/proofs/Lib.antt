@@ -1,0 +1,4 @@
+pub mod Ends
+pub mod Lengths
+pub mod Scan
+pub mod Sizes

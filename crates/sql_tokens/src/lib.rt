@@ -1,0 +1,19 @@
+//! Tokens of SQL statements, over any bytes.
+#![tactic(auto)]
+
+mod bytes;
+mod comment;
+mod number;
+mod quote;
+mod rule;
+mod token;
+mod tokens;
+mod variable;
+mod word;
+
+pub use token::{Token, TokenKind};
+pub use tokens::Tokens;
+pub use word::{bytes_of, same_word, word_of};
+
+#[cfg(test)]
+mod tests;
