@@ -1,5 +1,5 @@
 -- Ends that are looked for from left to right: where they are found, and that they are within the text.
-use Rattle.std.proofs.Common.{◌≡◌, ◌≤◌, ◌<◌, ℕ, suc, ◌+◌, ◌-◌, ◌^◌, Bool, true, false, ◌&&◌, cond, nat_eq, nat_lt, eqb, ltb, List, [], ◌∷◌, length, get_or, drop, Option, Some, None, IfSome, refl, sym, ◌∙◌, ap, arith, length-drop, add-zero}
+use Rattle.std.proofs.Common.{◌≡◌, ◌≤◌, ◌<◌, ℕ, ◌+◌, ◌^◌, true, false, cond, nat_eq, List, [], ◌∷◌, length, get_or, drop, Option, Some, None, IfSome, refl, sym, ◌∙◌, ap, arith, length-drop}
 use Rattle.std.proofs.lemmas.List.{drop-drop}
 use Rattle.std.proofs.lemmas.Bool.{cond_both, cond-true, cond-false, and_parts, ltb-true, eq-eqb, ne_eqb}
 use Rattle.std.proofs.lemmas.Bool.Decides.{nat_tests}

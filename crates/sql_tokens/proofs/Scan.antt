@@ -1,5 +1,5 @@
 -- The tokens of a text, one after the other.
-use Rattle.std.proofs.Common.{◌≡◌, ◌≤◌, ◌<◌, ℕ, zero, suc, ◌+◌, ◌-◌, Bool, true, false, cond, List, [], ◌∷◌, length, get_or, drop, Some, None, refl, inl, inr, sym, subst, ◌∙◌, ap, arith, length-drop, add-zero, add-one}
+use Rattle.std.proofs.Common.{◌≡◌, ◌≤◌, ◌<◌, ℕ, zero, suc, ◌+◌, ◌-◌, false, List, [], ◌∷◌, length, get_or, drop, Some, None, refl, inl, inr, sym, subst, ◌∙◌, ap, arith, length-drop, add-zero}
 use Rattle.std.specs.List.{prefix_len}
 use Rattle.std.proofs.lemmas.Bool.{cond-true, cond-false, cases_Bool}
 use Rattle.std.proofs.lemmas.List.{drop-drop, get_or-drop, drop_all}

@@ -1,5 +1,5 @@
 -- A token takes at least one byte, and no more than there are.
-use Rattle.std.proofs.Common.{◌≡◌, ◌≤◌, ◌<◌, ℕ, suc, ◌+◌, ◌-◌, Bool, true, false, ◌&&◌, ◌||◌, not, cond, nat_eq, nat_lt, List, [], ◌∷◌, length, get_or, drop, Option, Some, None, inl, inr, refl, sym, ◌∙◌, ap, subst, arith, length-drop}
+use Rattle.std.proofs.Common.{◌≡◌, ◌≤◌, ◌<◌, ℕ, ◌+◌, true, ◌&&◌, ◌||◌, not, cond, nat_eq, nat_lt, List, [], ◌∷◌, length, get_or, drop, Option, Some, None, inl, inr, arith, length-drop}
 use Rattle.std.specs.List.{prefix_len}
 use Rattle.std.proofs.lemmas.Bool.{cond_both, cond-true, and_parts, or_cases, eqb-true, eqb-false, not-true, not_from_false, ne_eqb}
 use Rattle.std.proofs.lemmas.List.Sums.{prefix_len-le-length}
@@ -10,7 +10,7 @@ use Rattle.sql_tokens.specs.Variables.{system_variable_length, variable_name_len
 use Rattle.sql_tokens.specs.Numbers.{number_length}
 use Rattle.sql_tokens.specs.Tokens.{closed, plain_token_at, token_at}
 use Rattle.sql_tokens.specs.declared.token.TokenKind.{TokenKind}
-use Rattle.sql_tokens.specs.declared.token.TokenKind.TheVariants.{Word, Quoted, Name, Number, UserVar, SysVar, Symbol, Comment, Executed, Unclosed}
+use Rattle.sql_tokens.specs.declared.token.TokenKind.TheVariants.{Word, Quoted, Name, Number, UserVar, SysVar, Symbol, Comment, Executed}
 use Rattle.sql_tokens.proofs.Ends.{EndsWithin, has_byte-inside}
 use Rattle.sql_tokens.proofs.Lengths.{quoted_length-within, block_length-within, variable_name_length-le, number_length-le, system_variable_length-le}
 

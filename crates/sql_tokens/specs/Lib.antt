@@ -1,7 +1,9 @@
 pub mod Bytes
 pub mod Comments
+pub mod Marks
 pub mod Numbers
 pub mod Quotes
+pub mod Spans
 pub mod Tokens
 pub mod Variables
 pub mod Words

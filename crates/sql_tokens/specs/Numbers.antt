@@ -1,5 +1,5 @@
 -- Numbers. Each length is 0 where there is none.
-use Rattle.std.specs.Prelude.{ℕ, ◌+◌, Bool, ◌||◌, ◌&&◌, nat_eq, List, drop, if◌then◌else◌}
+use Rattle.std.specs.Prelude.{ℕ, ◌+◌, ◌||◌, ◌&&◌, nat_eq, List, drop, if◌then◌else◌}
 use Rattle.std.specs.Char.{is_ascii_digit, is_ascii_hexdigit}
 use Rattle.std.specs.List.{prefix_len}
 use Rattle.sql_tokens.specs.Bytes.{has_byte, followed_by}

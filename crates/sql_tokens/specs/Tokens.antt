@@ -1,5 +1,5 @@
 -- The tokens of a statement.
-use Rattle.std.specs.Prelude.{◌≡◌, ◌≤◌, ℕ, zero, suc, ◌+◌, ◌-◌, Bool, not, nat_eq, List, [], ◌∷◌, length, drop, Option, Some, None, if◌then◌else◌}
+use Rattle.std.specs.Prelude.{◌≡◌, ◌≤◌, ℕ, zero, suc, ◌+◌, ◌-◌, not, nat_eq, List, [], ◌∷◌, length, drop, Option, Some, None, if◌then◌else◌}
 use Rattle.std.specs.List.{prefix_len}
 use Rattle.sql_tokens.specs.Bytes.{has_byte, is_white, is_word_byte}
 use Rattle.sql_tokens.specs.Comments.{begins_line_comment, line_length, begins_block, block_length}

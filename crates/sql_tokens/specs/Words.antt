@@ -1,5 +1,5 @@
 -- The words that tokens name.
-use Rattle.std.specs.Prelude.{◌≡◌, ℕ, ◌-◌, List, length, take, drop, map, slice_range, Option, Some, None, IsSomeAnd}
+use Rattle.std.specs.Prelude.{◌≡◌, ℕ, ◌-◌, List, length, map, slice_range, Option, Some, None, IsSomeAnd}
 use Rattle.std.specs.Char.{to_ascii_lowercase}
 use Rattle.sql_tokens.specs.declared.token.Token.{Token}
 use Rattle.sql_tokens.specs.declared.token.TokenKind.{TokenKind}
