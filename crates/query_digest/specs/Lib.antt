@@ -1,0 +1,5 @@
+pub mod Digest
+pub mod Hash
+pub mod Parts
+pub mod Table
+pub mod Writing
