@@ -9,15 +9,7 @@ use Rattle.query_digest.specs.Parts.{Spaced, part_by, folded, spelled}
 
 abbrev pub is_comment : TokenKind → Bool
 is_comment Comment = true
-is_comment Word = false
-is_comment Quoted = false
-is_comment Name = false
-is_comment Number = false
-is_comment UserVar = false
-is_comment SysVar = false
-is_comment Symbol = false
-is_comment Executed = false
-is_comment Unclosed = false
+is_comment _ = false
 
 -- first, comments are dropped
 abbrev pub without_comments : List Token → List Token

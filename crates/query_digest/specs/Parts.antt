@@ -24,25 +24,16 @@ abbrev pub part_by : TokenKind → List ℕ → Part
 part_by Quoted bytes = Value
 part_by Number bytes = Value
 part_by Symbol bytes = symbol_part bytes
-part_by Word bytes = Bytes bytes
-part_by Name bytes = Bytes bytes
-part_by UserVar bytes = Bytes bytes
-part_by SysVar bytes = Bytes bytes
-part_by Comment bytes = Bytes bytes
-part_by Executed bytes = Bytes bytes
-part_by Unclosed bytes = Bytes bytes
+part_by _ bytes = Bytes bytes
 
 abbrev pub is_values : Part → Bool
 is_values Value = true
 is_values Values = true
-is_values Comma = false
-is_values (Bytes bytes) = false
+is_values _ = false
 
 abbrev pub is_comma : Part → Bool
 is_comma Comma = true
-is_comma Value = false
-is_comma Values = false
-is_comma (Bytes bytes) = false
+is_comma _ = false
 
 -- a value or a list, put before others: where a comma and another value or list follow, they become one list
 abbrev pub joined : Spaced → List Spaced → List Spaced

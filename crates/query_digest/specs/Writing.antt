@@ -25,13 +25,9 @@ held_parts (Some held) = held_values held ∷ held_comma held.comma
 -- what is held once a part behind it belongs to it: a comma behind values, and a value behind that comma
 abbrev pub grown_by : Held → Option Bool → (apart : Bool) → Part → Option Held
 grown_by held None apart Comma = Some (record held { comma = Some apart })
-grown_by held None apart Value = None
-grown_by held None apart Values = None
-grown_by held None apart (Bytes bytes) = None
 grown_by held (Some before) apart Value = Some (record held { many = true; comma = None })
 grown_by held (Some before) apart Values = Some (record held { many = true; comma = None })
-grown_by held (Some before) apart Comma = None
-grown_by held (Some before) apart (Bytes bytes) = None
+grown_by held _ apart _ = None
 
 abbrev pub grown : Option Held → (apart : Bool) → Part → Option Held
 grown None apart part = None

@@ -2,11 +2,13 @@
 #![tactic(auto)]
 
 mod hash;
+mod laws;
 mod statement;
 mod table;
 mod writer;
 
 pub use hash::digest_hash;
+pub use laws::one_folding;
 pub use statement::digest;
 pub use table::{Counted, DigestKey, DigestTable};
 

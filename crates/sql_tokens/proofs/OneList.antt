@@ -1,50 +1,16 @@
 -- A text has one list of tokens.
 use Rattle.std.proofs.Common.{◌≡◌, ◌≤◌, ◌<◌, ℕ, zero, suc, ◌+◌, ◌-◌, Bool, true, false, List, [], ◌∷◌, length, get_or, take, drop, refl, sym, subst, ◌∙◌, ap, inl, inr, arith, length-drop}
-use Rattle.std.specs.List.{prefix_len, list_all}
+use Rattle.std.specs.List.{prefix_len, list_all, AllByRecursion}
 use Rattle.std.proofs.lemmas.Bool.{cond-true, cond-false, cases_Bool, cases_lt, and_parts, and_from}
 use Rattle.std.proofs.lemmas.List.{get_or-drop}
 use Rattle.std.proofs.lemmas.List.Sums.{prefix_len_stops}
 use Rattle.sql_tokens.specs.Bytes.{is_white}
-use Rattle.sql_tokens.specs.Spans.{IsTokenBehind, AreTokens}
+use Rattle.sql_tokens.specs.Spans.{IsTokenBehind, AreTokens, IsSpan}
 use Rattle.sql_tokens.specs.Tokens.{token_at, tokens_behind}
 use Rattle.sql_tokens.specs.declared.token.Token.{Token}
+use Rattle.sql_tokens.proofs.Runs.{run_is, run_all, all_in_run, all_of_run}
 use Rattle.sql_tokens.proofs.Sizes.{token_at-size}
 use Rattle.sql_tokens.proofs.Scan.{next_start, token_from, token_behind, none_left, next_left}
-
--- a run that is followed by something else
-run_is : (p : ℕ → Bool) (xs : List ℕ) (n : ℕ) → n < length xs → list_all p (take n xs) ≡ true → p (get_or xs n 0) ≡ false → prefix_len p xs ≡ n
-run_is p [] n h all stop = absurd (omega arith)
-run_is p (x ∷ xs) zero h all stop = cond-false (p x) (1 + prefix_len p xs) 0 stop
-run_is p (x ∷ xs) (suc n) h all stop =
-    let parts = and_parts (p x) (list_all p (take n xs)) all in
-    let rest : prefix_len p xs ≡ n = run_is p xs n (omega arith) parts.1 stop in
-    cond-true (p x) (1 + prefix_len p xs) 0 parts.0 ∙ omega arith
-
--- a run to the end
-run_all : (p : ℕ → Bool) (xs : List ℕ) → list_all p xs ≡ true → prefix_len p xs ≡ length xs
-run_all p [] all = refl
-run_all p (x ∷ xs) all =
-    let parts = and_parts (p x) (list_all p xs) all in
-    let rest = run_all p xs parts.1 in
-    cond-true (p x) (1 + prefix_len p xs) 0 parts.0 ∙ omega arith
-
--- each byte of a run passes
-all_in_run : (p : ℕ → Bool) (xs : List ℕ) (n : ℕ) → n ≤ prefix_len p xs → list_all p (take n xs) ≡ true
-all_in_run p xs zero h = refl
-all_in_run p [] (suc n) h = refl
-all_in_run p (x ∷ xs) (suc n) h =
-    elim (cases_Bool (p x)) [
-      | inl e ↦ let size : prefix_len p (x ∷ xs) ≡ 1 + prefix_len p xs = cond-true (p x) (1 + prefix_len p xs) 0 e in and_from (p x) (list_all p (take n xs)) e (all_in_run p xs n (omega arith))
-      | inr e ↦ let size : prefix_len p (x ∷ xs) ≡ 0 = cond-false (p x) (1 + prefix_len p xs) 0 e in absurd (omega arith)
-    ]
-
-all_of_run : (p : ℕ → Bool) (xs : List ℕ) → length xs ≤ prefix_len p xs → list_all p xs ≡ true
-all_of_run p [] h = refl
-all_of_run p (x ∷ xs) h =
-    elim (cases_Bool (p x)) [
-      | inl e ↦ let size : prefix_len p (x ∷ xs) ≡ 1 + prefix_len p xs = cond-true (p x) (1 + prefix_len p xs) 0 e in and_from (p x) (list_all p xs) e (all_of_run p xs (omega arith))
-      | inr e ↦ let size : prefix_len p (x ∷ xs) ≡ 0 = cond-false (p x) (1 + prefix_len p xs) 0 e in absurd (omega arith)
-    ]
 
 -- a token behind a place is the one that the scan finds
 behind_is : (text : List ℕ) (place : ℕ) (token : Token) → IsTokenBehind text place token → (next_start text place ≡ token.start) × (token_behind text place ≡ token)
@@ -111,3 +77,7 @@ are_found text place (token ∷ tokens) is =
 
 pub are_tokens : (text : List ℕ) (place : ℕ) → AreTokens text place (tokens_behind text place)
 are_tokens text place = are_found text place (tokens_behind text place) refl
+
+pub are_spans : (text : List ℕ) (place : ℕ) (tokens : List Token) → AreTokens text place tokens → AllByRecursion (IsSpan text) tokens
+are_spans text place [] are = tt
+are_spans text place (token ∷ tokens) are = ((are.0.some, are.0.to), are_spans text token.end tokens are.1)

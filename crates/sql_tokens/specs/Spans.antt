@@ -19,3 +19,7 @@ pub record IsTokenBehind (text : List ℕ) (place : ℕ) (token : Token) : Type 
 abbrev pub AreTokens : (text : List ℕ) → (place : ℕ) → List Token → Type 0
 AreTokens text place [] = IsTrue (list_all is_white (drop place text))
 AreTokens text place (token ∷ tokens) = IsTokenBehind text place token × AreTokens text token.end tokens
+
+-- some bytes of the text
+abbrev pub IsSpan : (text : List ℕ) → Token → Type 0
+IsSpan text token = (token.start < token.end) × (token.end ≤ length text)

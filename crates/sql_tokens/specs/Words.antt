@@ -17,14 +17,7 @@ inside bytes = slice_range bytes 1 (length bytes - 1)
 abbrev pub word_by : TokenKind → List ℕ → Option (List ℕ)
 word_by Word bytes = Some bytes
 word_by Name bytes = Some (inside bytes)
-word_by Quoted bytes = None
-word_by Number bytes = None
-word_by UserVar bytes = None
-word_by SysVar bytes = None
-word_by Symbol bytes = None
-word_by Comment bytes = None
-word_by Executed bytes = None
-word_by Unclosed bytes = None
+word_by _ bytes = None
 
 abbrev pub word_of : (text : List ℕ) → Token → Option (List ℕ)
 word_of text token = word_by token.kind (bytes_of text token)

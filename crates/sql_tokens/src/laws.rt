@@ -1,9 +1,12 @@
 // Laws of tokens, for whoever stands on this crate.
-ghost use Rattle.std.specs.Prelude.{◌≡◌, ◌≢◌, ℕ, List, Some};
+ghost use Rattle.std.specs.Prelude.{◌≡◌, ◌≢◌, ◌≤◌, ◌<◌, ℕ, List, ◌++◌, Some, length, take};
+ghost use Rattle.std.specs.List.{AllByRecursion};
 ghost use Rattle.sql_tokens.specs.Comments.{to_block_end};
 ghost use Rattle.sql_tokens.specs.Marks.{ClosesAfter, BlockEndsAfter};
+ghost use Rattle.sql_tokens.specs.Numbers.{number_length};
+ghost use Rattle.sql_tokens.specs.Numerals.{IsNumeral};
 ghost use Rattle.sql_tokens.specs.Quotes.{to_closing};
-ghost use Rattle.sql_tokens.specs.Spans.{AreTokens};
+ghost use Rattle.sql_tokens.specs.Spans.{AreTokens, IsSpan};
 ghost use Rattle.sql_tokens.specs.Tokens.{tokens_of};
 ghost use Rattle.sql_tokens.specs.declared.token.Token.{Token};
 
@@ -12,6 +15,7 @@ ghost use Rattle.sql_tokens.specs.declared.token.Token.{Token};
 pub fn one_token_list()
     ensures found { (text : List ℕ) → AreTokens text 0 (tokens_of text) }
     ensures only { (text : List ℕ) (tokens : List Token) → AreTokens text 0 tokens → tokens ≡ tokens_of text }
+    ensures spans { (text : List ℕ) → AllByRecursion (IsSpan text) (tokens_of text) }
 {}
 
 /// A quoted text or a name ends at the first quote that is neither escaped nor one of a doubled pair (MySQL Reference
@@ -25,4 +29,11 @@ pub fn closing_quote()
 pub fn block_end()
     ensures found { (bytes : List ℕ) (size : ℕ) → to_block_end bytes ≡ Some size → BlockEndsAfter bytes size }
     ensures only { (bytes : List ℕ) (size : ℕ) → BlockEndsAfter bytes size → to_block_end bytes ≡ Some size }
+{}
+
+/// A Number is the longest front that is one (MySQL Reference Manual, "Numeric Literals"): `0x` and hexadecimal digits,
+/// or digits, a fraction and an exponent. A front that none begins has the length 0.
+pub fn longest_number()
+    ensures found { (bytes : List ℕ) → 0 < number_length bytes → IsNumeral (take (number_length bytes) bytes) }
+    ensures longest { (bytes front rest : List ℕ) → bytes ≡ front ++ rest → IsNumeral front → length front ≤ number_length bytes }
 {}

@@ -12,7 +12,7 @@ mod tokens;
 mod variable;
 mod word;
 
-pub use laws::{block_end, closing_quote, one_token_list};
+pub use laws::{block_end, closing_quote, longest_number, one_token_list};
 pub use token::{Token, TokenKind};
 pub use tokens::Tokens;
 pub use word::{bytes_of, same_word, word_of};

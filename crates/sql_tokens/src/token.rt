@@ -9,7 +9,7 @@ pub enum TokenKind {
     Quoted,
     /// A name in backticks.
     Name,
-    /// A number, without a sign.
+    /// A number without a sign, as `0x1F` or `1.5e-3`. It ends before letters that don't belong to it.
     Number,
     /// `@` and a name, which may be empty.
     UserVar,
@@ -17,18 +17,21 @@ pub enum TokenKind {
     SysVar,
     /// One byte that begins nothing else.
     Symbol,
-    /// `#`, `--` or `/*` and what follows, but not `/*!`.
+    /// `#`, or `--` before white space, a control byte or the end, to before the line feed or to the end; or `/*` to
+    /// its `*/`, but not `/*!`.
     Comment,
     /// `/*!` to its `*/`, whose inside a server executes.
     Executed,
-    /// A comment, quoted text or name without its end, to the end of the text.
+    /// A `/*` comment, quoted text or name whose end is missing, to the end of the text.
     Unclosed,
 }
 
-/// A token of a text: its kind, and the places of its first byte and behind its last one.
+/// A token of a text. Its places count the text's bytes from 0.
 #[derive(Clone, Copy, Debug, PartialEq, Eq)]
 pub struct Token {
     pub kind: TokenKind,
+    /// The place of its first byte.
     pub start: usize,
+    /// The place behind its last byte.
     pub end: usize,
 }

@@ -28,7 +28,8 @@ impl<'a> Model for Tokens<'a> {
 }
 
 impl<'a> Tokens<'a> {
-    /// The tokens of these bytes, whatever they are (MySQL Reference Manual, "Language Structure"). Takes no memory.
+    /// The tokens of these bytes, whatever they are (MySQL Reference Manual, "Language Structure"). Takes no memory, and
+    /// looks at no byte more than a few times.
     pub fn of(text: &'a [u8]) -> Self
         ensures { result ≡ tokens_of text.now }
     {
