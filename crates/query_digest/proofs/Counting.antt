@@ -1,5 +1,5 @@
 -- A key that is counted.
-use Rattle.std.proofs.Common.{◌≡◌, ℕ, ◌+◌, ◌-◌, ◌^◌, min, true, false, nat_eq, length, List, [], ◌∷◌, ◌++◌, Option, option_copied, Bor, Some, None, refl, sym, ◌∙◌, ap, inl, inr}
+use Rattle.std.proofs.Common.{◌≡◌, ◌<◌, ◌≤◌, ℕ, ◌+◌, ◌-◌, ◌^◌, min, true, false, nat_eq, length, List, [], ◌∷◌, ◌++◌, Option, option_copied, Bor, Some, None, Result, Ok, Err, OnErr, refl, sym, ◌∙◌, ap, inl, inr, arith}
 use Rattle.std.specs.Map.{lookup}
 use Rattle.std.proofs.lemmas.Bool.{cond-true, cond-false, cases_Bool, or_left, or_right, or_from, eq-eqb, ne_eqb}
 use Rattle.indexmap.specs.IndexMap.{insert_entry}
@@ -50,3 +50,8 @@ counted-new table key none room =
 pub nothing_found : {X : Type 0} (found : Option (Bor X)) (value : Option X) → option_copied found ≡ value → ((x : Bor X) → found ≡ Some x → ⊥) → value ≡ None
 nothing_found None value same none = sym same
 nothing_found (Some x) value same none = absurd (none x refl)
+
+-- a new key for which there is room, whatever the outcome
+pub only_new : {A E : Type 0} (table : List (DigestKey × ℕ)) (key : DigestKey) (r : Result A E) → lookup (same_key key) table ≡ None → length table ≤ 10000 → (length table ≡ 10000 → ⊥) → OnErr r ((has_key table key ≡ false) × (length table < 10000))
+only_new table key (Ok x) none most room = tt
+only_new table key (Err e) none most room = ((new_key table key none).0, omega arith)

@@ -12,11 +12,12 @@ stays part [] h = refl
 stays part (first ∷ []) h = refl
 stays part (first ∷ second ∷ rest) h =
     elim (cases_Bool (is_values part.part && is_comma first.part && is_values second.part)) [
-      inl e ↦
-        let parts = and_parts (is_values part.part && is_comma first.part) (is_values second.part) e in
-        let both = and_parts (is_values part.part) (is_comma first.part) parts.0 in
-        absurd (both_ways (is_comma first.part && is_values second.part) (h both.0) (and_from (is_comma first.part) (is_values second.part) both.1 parts.1))
-    | inr e ↦ cond-false _ _ _ e ]
+      | inl e ↦
+          let parts = and_parts (is_values part.part && is_comma first.part) (is_values second.part) e in
+          let both = and_parts (is_values part.part) (is_comma first.part) parts.0 in
+          absurd (both_ways (is_comma first.part && is_values second.part) (h both.0) (and_from (is_comma first.part) (is_values second.part) both.1 parts.1))
+      | inr e ↦ cond-false _ _ _ e
+    ]
 
 -- what a run would go on with isn't changed by folding
 goes_on-folded : (parts : List Spaced) → goes_on (folded parts) ≡ goes_on parts
@@ -25,10 +26,11 @@ goes_on-folded (first ∷ []) = refl
 goes_on-folded (first ∷ second ∷ rest) =
     let f = front second (folded rest) in
     elim (cases_Bool (is_comma first.part)) [
-      inl comma ↦
-        ap goes_on (no_values_alone first (folded (second ∷ rest)) (no_values first.part comma) ∙ ap (λ (xs : List Spaced). first ∷ xs) f.is)
-        ∙ ap (λ b. is_comma first.part && b) f.values
-    | inr other ↦ front_goes_not first (folded (second ∷ rest)) other ∙ sym (and_left (is_comma first.part) (is_values second.part) other) ]
+      | inl comma ↦
+          ap goes_on (no_values_alone first (folded (second ∷ rest)) (no_values first.part comma) ∙ ap (λ (xs : List Spaced). first ∷ xs) f.is)
+          ∙ ap (λ b. is_comma first.part && b) f.values
+      | inr other ↦ front_goes_not first (folded (second ∷ rest)) other ∙ sym (and_left (is_comma first.part) (is_values second.part) other)
+    ]
   where
     front_goes_not : (first : Spaced) (rest : List Spaced) → is_comma first.part ≡ false → goes_on (joined first rest) ≡ false
     front_goes_not first rest other =
@@ -64,11 +66,12 @@ only_folded parts (part ∷ out) folds =
     let begins = folds.1 in
     let others : out ≡ folded rest = only_folded rest out folds.2 in
     elim begins.stands [
-      inl itself ↦
-        let all : parts ≡ begins.first ∷ rest = begins.all ∙ ap (λ (xs : List Spaced). (begins.first ∷ xs) ++ rest) itself.0 in
-        ap (λ (xs : List Spaced). part ∷ xs) others ∙ ap (λ (x : Spaced). x ∷ folded rest) itself.1 ∙ sym (ap folded all ∙ stays begins.first (folded rest) (λ value. goes_on-folded rest ∙ itself.2 value))
-    | inr list ↦
-        ap (λ (xs : List Spaced). part ∷ xs) others ∙ ap (λ (x : Spaced). x ∷ folded rest) list.1 ∙ sym (ap folded begins.all ∙ run_folds begins.first begins.more rest list.0 list.2 list.3) ]
+      | inl itself ↦
+          let all : parts ≡ begins.first ∷ rest = begins.all ∙ ap (λ (xs : List Spaced). (begins.first ∷ xs) ++ rest) itself.0 in
+          ap (λ (xs : List Spaced). part ∷ xs) others ∙ ap (λ (x : Spaced). x ∷ folded rest) itself.1 ∙ sym (ap folded all ∙ stays begins.first (folded rest) (λ value. goes_on-folded rest ∙ itself.2 value))
+      | inr list ↦
+          ap (λ (xs : List Spaced). part ∷ xs) others ∙ ap (λ (x : Spaced). x ∷ folded rest) list.1 ∙ sym (ap folded begins.all ∙ run_folds begins.first begins.more rest list.0 list.2 list.3)
+    ]
 
 -- a part before others that stays
 stays_begins : (part : Spaced) (parts out : List Spaced) → FoldsTo parts out → (is_values part.part ≡ true → goes_on parts ≡ false) → FoldsTo (part ∷ parts) (part ∷ out)
@@ -81,16 +84,18 @@ list_begins part comma value parts out folds part_is comma_is value_is =
     let two = folds.2.1 in
     let rest = folds.2.0 in
     elim one.stands [
-      inl itself ↦
-        let begins : parts ≡ one.first ∷ ((two.first ∷ two.more) ++ rest) = one.all ∙ ap (λ (xs : List Spaced). (one.first ∷ xs) ++ folds.0) itself.0 ∙ ap (λ (xs : List Spaced). one.first ∷ xs) two.all in
-        let is_comma_too : is_comma one.first.part ≡ true = ap (λ (x : Spaced). is_comma x.part) (sym itself.1) ∙ comma_is in
-        let run : IsRun (two.first ∷ two.more) × (goes_on rest ≡ false) = elim two.stands [
-          inl alone ↦
-            let is_value : is_values two.first.part ≡ true = ap (λ (x : Spaced). is_values x.part) (sym alone.1) ∙ value_is in
-            (subst (λ (xs : List Spaced). IsRun (two.first ∷ xs)) (sym alone.0) is_value, alone.2 is_value)
-        | inr list ↦ (list.2, list.3) ] in
-        (rest, record { first = part; more = one.first ∷ two.first ∷ two.more; all = ap (λ (xs : List Spaced). part ∷ xs) begins; stands = inr (omega arith, refl, (part_is, is_comma_too, run.0), run.1) }, folds.2.2)
-    | inr list ↦ absurd (both_ways (is_comma comma.part) (ap (λ (x : Spaced). is_comma x.part) list.1) comma_is) ]
+      | inl itself ↦
+          let begins : parts ≡ one.first ∷ ((two.first ∷ two.more) ++ rest) = one.all ∙ ap (λ (xs : List Spaced). (one.first ∷ xs) ++ folds.0) itself.0 ∙ ap (λ (xs : List Spaced). one.first ∷ xs) two.all in
+          let is_comma_too : is_comma one.first.part ≡ true = ap (λ (x : Spaced). is_comma x.part) (sym itself.1) ∙ comma_is in
+          let run : IsRun (two.first ∷ two.more) × (goes_on rest ≡ false) = elim two.stands [
+            | inl alone ↦
+                let is_value : is_values two.first.part ≡ true = ap (λ (x : Spaced). is_values x.part) (sym alone.1) ∙ value_is in
+                (subst (λ (xs : List Spaced). IsRun (two.first ∷ xs)) (sym alone.0) is_value, alone.2 is_value)
+            | inr list ↦ (list.2, list.3)
+          ] in
+          (rest, record { first = part; more = one.first ∷ two.first ∷ two.more; all = ap (λ (xs : List Spaced). part ∷ xs) begins; stands = inr (omega arith, refl, (part_is, is_comma_too, run.0), run.1) }, folds.2.2)
+      | inr list ↦ absurd (both_ways (is_comma comma.part) (ap (λ (x : Spaced). is_comma x.part) list.1) comma_is)
+    ]
 
 begins_folded : (part : Spaced) (parts out : List Spaced) → FoldsTo parts out → goes_on out ≡ goes_on parts → FoldsTo (part ∷ parts) (joined part out)
 begins_folded part parts [] folds same = stays_begins part parts [] folds (λ _. sym same)
@@ -98,13 +103,14 @@ begins_folded part parts (first ∷ []) folds same = stays_begins part parts (fi
 begins_folded part parts (first ∷ second ∷ out) folds same =
     let test = is_values part.part && is_comma first.part && is_values second.part in
     elim (cases_Bool test) [
-      inl e ↦
-        let halves = and_parts (is_values part.part && is_comma first.part) (is_values second.part) e in
-        let both = and_parts (is_values part.part) (is_comma first.part) halves.0 in
-        subst (FoldsTo (part ∷ parts)) (sym (cond-true test (list_for part ∷ out) (part ∷ first ∷ second ∷ out) e)) (list_begins part first second parts out folds both.0 both.1 halves.1)
-    | inr e ↦
-        subst (FoldsTo (part ∷ parts)) (sym (cond-false test (list_for part ∷ out) (part ∷ first ∷ second ∷ out) e))
-            (stays_begins part parts (first ∷ second ∷ out) folds (λ value. sym same ∙ sym (ap (λ b. b && is_comma first.part && is_values second.part) value) ∙ e)) ]
+      | inl e ↦
+          let halves = and_parts (is_values part.part && is_comma first.part) (is_values second.part) e in
+          let both = and_parts (is_values part.part) (is_comma first.part) halves.0 in
+          subst (FoldsTo (part ∷ parts)) (sym (cond-true test (list_for part ∷ out) (part ∷ first ∷ second ∷ out) e)) (list_begins part first second parts out folds both.0 both.1 halves.1)
+      | inr e ↦
+          subst (FoldsTo (part ∷ parts)) (sym (cond-false test (list_for part ∷ out) (part ∷ first ∷ second ∷ out) e))
+          (stays_begins part parts (first ∷ second ∷ out) folds (λ value. sym same ∙ sym (ap (λ b. b && is_comma first.part && is_values second.part) value) ∙ e))
+    ]
 
 -- and that one
 pub folds_to : (parts : List Spaced) → FoldsTo parts (folded parts)

@@ -1,5 +1,5 @@
 // How often each digest was seen.
-ghost use Rattle.std.specs.Prelude.{◌≡◌, [], length, slice_get, IfOk, OnErr};
+ghost use Rattle.std.specs.Prelude.{◌≡◌, ◌<◌, [], false, length, slice_get, IfOk, OnErr};
 ghost use Rattle.std.specs.Option.{option_map};
 
 use indexmap::IndexMap;
@@ -10,12 +10,17 @@ use std::marker::Model;
 // How many keys a table has at most.
 const MOST_KEYS: usize = 10_000;
 
-/// What statements are counted by (ProxySQL, "stats_mysql_query_digest").
+/// What statements are counted by (ProxySQL documentation, "stats_mysql_query_digest"). Keys are equal where all parts
+/// are, byte for byte.
 #[derive(Debug, PartialEq, Eq, Hash, Drop)]
 pub struct DigestKey {
+    /// Where the statement was sent.
     pub hostgroup: Hostgroup,
+    /// The client's schema.
     pub schema: Bytes,
+    /// The client's user.
     pub user: Bytes,
+    /// The statement's digest.
     pub digest: Bytes,
 }
 
@@ -48,7 +53,7 @@ impl Model for DigestTable {
 }
 
 impl DigestTable {
-    ghost use Rattle.query_digest.specs.Table.{counted};
+    ghost use Rattle.query_digest.specs.Table.{counted, has_key};
 
     /// A table without entries. Takes no memory.
     pub fn new(alloc: Global) -> Self
@@ -74,10 +79,12 @@ impl DigestTable {
         Some((key, *count))
     }
 
-    /// Counts one statement of this key. OutOfMemory changes nothing.
+    /// Counts one statement of this key. A count stays at the last value of a `u64`. OutOfMemory changes nothing, and
+    /// comes only with a new key for which there is room.
     pub fn count(&mut self, key: DigestKey) -> Result<Counted, OutOfMemory>
         ensures ok { IfOk result (λ answer. (answer, self.new) ≡ counted self.old key) }
         ensures err { OnErr result (self.new ≡ self.old) }
+        ensures only_new { OnErr result ((has_key self.old key ≡ false) × (length self.old < 10000)) }
     {
         if let Some(seen) = self.counts.get(&key) {
             let more = seen.saturating_add(1);

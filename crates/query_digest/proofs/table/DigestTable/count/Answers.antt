@@ -5,7 +5,7 @@ use Rattle.query_digest.specs.Table.{counted, same_key}
 use Rattle.query_digest.specs.declared.table.DigestKey.{DigestKey}
 use Rattle.query_digest.specs.declared.table.Counted.{Counted}
 use Rattle.query_digest.specs.declared.table.Counted.TheVariants.{Added, First, Full}
-use Rattle.query_digest.proofs.Counting.{counted-seen, counted-full, counted-new, nothing_found}
+use Rattle.query_digest.proofs.Counting.{counted-seen, counted-full, counted-new, nothing_found, only_new}
 use Rattle.query_digest.proofs.table.DigestTable.count.Goals as goal
 
 pub returns-in-Some-clause-ok : goal.returns-in-Some-clause-ok
@@ -33,3 +33,11 @@ returns-clause-ok c =
     let room : length table ≢ 10000 = λ is. c.if-len-eq-MOST_KEYS.false (c.len.ensures.len ∙ is) in
     let after : c.insert-2.new.self.entries ≡ insert_entry same_key table key 1 = c.in_ok-insert-2.ensures.entries in
     ap (λ (entries : List (DigestKey × ℕ)). (First, entries)) after ∙ sym (counted-new table key none room) ∙ ap (λ (entries : List (DigestKey × ℕ)). counted entries key) c.self.view_is
+
+pub returns-in_err-insert-2-clause-only_new : goal.returns-in_err-insert-2-clause-only_new
+returns-in_err-insert-2-clause-only_new c =
+    let key = c.args.key in
+    let table : List (DigestKey × ℕ) = c.self.inside.counts.entries in
+    let none : lookup (same_key key) table ≡ None = nothing_found c.get.result _ c.get.ensures.value c.in_default.not-Some in
+    let room : length table ≢ 10000 = λ is. c.if-len-eq-MOST_KEYS.false (c.len.ensures.len ∙ is) in
+    rw (← c.self.view_is) (only_new table key c.from_residual-in_err-insert-2.result none c.self.invariant room)
