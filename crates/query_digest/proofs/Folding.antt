@@ -1,8 +1,7 @@
 -- Lists of values, folded while they come.
-use Rattle.std.proofs.Common.{◌≡◌, Bool, true, false, ◌&&◌, cond, List, [], ◌∷◌, ◌++◌, Option, Some, None, Result, Ok, Err, OnOk, refl, sym, ◌∙◌, ap, inl, inr}
-use Rattle.std.proofs.lemmas.Bool.{cond-true, cond-false, cases_Bool, and_parts, and_from, and_left, and_right}
+use Rattle.std.proofs.Common.{◌≡◌, Bool, true, false, cond, List, [], ◌∷◌, ◌++◌, Option, Some, None, Result, Ok, Err, OnOk, refl, sym, ◌∙◌, ap}
 use Rattle.query_digest.specs.declared.writer.Held.{Held}
-use Rattle.query_digest.specs.Parts.{Part, Spaced, is_values, is_comma, joined, folded}
+use Rattle.query_digest.specs.Parts.{Part, Spaced, is_values, joined, folded}
 use Rattle.query_digest.specs.Parts.Part.{Value, Values, Comma, Bytes}
 use Rattle.query_digest.proofs.Joining.{one_list, alone, alone_with_comma}
 use Rattle.query_digest.specs.Writing.{held_comma, held_values, held_parts, grown_by, grown}

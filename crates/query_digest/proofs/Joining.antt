@@ -1,5 +1,5 @@
 -- A part before others: when it stays, and when it makes a list with them.
-use Rattle.std.proofs.Common.{◌≡◌, Bool, true, false, ◌&&◌, List, [], ◌∷◌, refl, sym, ◌∙◌, ap, inl, inr}
+use Rattle.std.proofs.Common.{◌≡◌, true, false, ◌&&◌, List, [], ◌∷◌, refl, sym, ◌∙◌, ap, inl, inr}
 use Rattle.std.proofs.lemmas.Bool.{cond-true, cond-false, cases_Bool, and_parts, and_from, and_left, and_right}
 use Rattle.query_digest.specs.Parts.{Part, Spaced, is_values, is_comma, joined}
 use Rattle.query_digest.specs.Parts.Part.{Value, Values, Comma, Bytes}

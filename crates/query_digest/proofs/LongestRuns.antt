@@ -1,9 +1,8 @@
 -- Folding makes each longest run of two or more values one list, and nothing else does.
-use Rattle.std.proofs.Common.{◌≡◌, ◌⊎◌, ◌<◌, Bool, true, false, ◌&&◌, List, [], ◌∷◌, ◌++◌, length, refl, sym, subst, ◌∙◌, ap, inl, inr, arith}
+use Rattle.std.proofs.Common.{◌≡◌, ◌<◌, true, false, ◌&&◌, List, [], ◌∷◌, ◌++◌, length, refl, sym, subst, ◌∙◌, ap, inl, inr, arith}
 use Rattle.std.proofs.lemmas.Bool.{cond-true, cond-false, cases_Bool, both_ways, and_parts, and_from, and_left}
-use Rattle.query_digest.specs.Parts.{Part, Spaced, is_values, is_comma, joined, folded}
-use Rattle.query_digest.specs.Parts.Part.{Value, Values, Comma, Bytes}
-use Rattle.query_digest.specs.Runs.{IsRun, goes_on, list_for, Begins, FoldsTo}
+use Rattle.query_digest.specs.Parts.{Spaced, is_values, is_comma, joined, folded}
+use Rattle.query_digest.specs.Runs.{IsRun, goes_on, list_for, FoldsTo}
 use Rattle.query_digest.proofs.Joining.{front, no_values, no_values_alone}
 
 -- where no run of two begins, a part stays

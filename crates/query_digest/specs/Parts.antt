@@ -1,7 +1,7 @@
 -- Parts of a digest: what stands for a token, and lists of values.
 use Rattle.std.specs.Prelude.{ℕ, Bool, true, false, ◌&&◌, List, [], ◌∷◌, ◌++◌, bytes_eq, flat_map, if◌then◌else◌}
 use Rattle.sql_tokens.specs.declared.token.TokenKind.{TokenKind}
-use Rattle.sql_tokens.specs.declared.token.TokenKind.TheVariants.{Word, Quoted, Name, Number, UserVar, SysVar, Symbol, Comment, Executed, Unclosed}
+use Rattle.sql_tokens.specs.declared.token.TokenKind.TheVariants.{Quoted, Number, Symbol}
 
 -- `?`, `?,...`, `,`, or the bytes of a token
 pub data Part : Type 0 where

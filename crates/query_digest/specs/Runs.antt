@@ -1,6 +1,6 @@
 -- Runs of values in a digest, and what it means that they are folded.
 use Rattle.std.specs.Prelude.{◌≡◌, ◌⊎◌, ◌<◌, Bool, true, false, ◌&&◌, List, [], ◌∷◌, ◌++◌, length}
-use Rattle.query_digest.specs.Parts.{Part, Spaced, is_values, is_comma}
+use Rattle.query_digest.specs.Parts.{Spaced, is_values, is_comma}
 use Rattle.query_digest.specs.Parts.Part.{Values}
 
 -- values with single commas between them

@@ -13,7 +13,7 @@ use std::alloc::Global;
 /// The digest of a statement, in the manner of the ProxySQL documentation's `stats_mysql_query_digest`: comments are
 /// dropped, each quoted text and number is `?`, two or more of these with single commas between them are `?,...`, and
 /// one blank stands where white space or a comment stood between two tokens. It is written into one buffer as long as
-/// the statement, which grows once at most, since a digest is less than twice as long.
+/// the statement, which grows once at most, since a digest is at most twice as long.
 pub fn digest(alloc: Global, text: &[u8]) -> Result<Bytes, OutOfMemory>
     ensures { IfOk result (λ digest. digest ≡ digest_of text.now) }
 {

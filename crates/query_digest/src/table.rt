@@ -1,5 +1,5 @@
 // How often each digest was seen.
-ghost use Rattle.std.specs.Prelude.{◌≡◌, ◌<◌, [], false, length, slice_get, IfOk, OnErr};
+ghost use Rattle.std.specs.Prelude.{◌≡◌, ◌<◌, [], false, length, slice_get, IfOk, OnErr, IsTrue, ◌↔◌};
 ghost use Rattle.std.specs.Option.{option_map};
 
 use indexmap::IndexMap;
@@ -69,6 +69,12 @@ impl DigestTable {
         ensures { result ≡ length self.now }
     {
         self.counts.len()
+    }
+
+    pub fn is_empty(&self) -> bool
+        ensures { IsTrue result ↔ (self.now ≡ []) }
+    {
+        self.counts.is_empty()
     }
 
     /// The key and its count at a place, in the order of first sight. None exactly past the end.

@@ -78,6 +78,7 @@ fn key(
 fn counts(rt: HostRuntime) -> Result<(), Fail> {
     let alloc = rt.alloc();
     let mut table = DigestTable::new(alloc);
+    assert!(rt; table.is_empty());
     let cases: [(u16, &[u8], &[u8], &[u8], Counted); 7] = [
         (0, b"s", b"u", b"DO 1", Counted::First),
         (0, b"s", b"u", b"DO 2", Counted::Added),
@@ -92,6 +93,7 @@ fn counts(rt: HostRuntime) -> Result<(), Fail> {
         assert_eq!(rt; found, want, "{text:?}");
     }
     assert_eq!(rt; table.len(), 5);
+    assert!(rt; !table.is_empty());
     let (first, count) = table.row(0).ok_or("no row")?;
     assert_eq!(rt; first.digest.as_slice(), b"DO ?".as_slice());
     assert_eq!(rt; first.hostgroup, Hostgroup(0));

@@ -1,14 +1,14 @@
 -- A number is the longest front that is one.
-use Rattle.std.proofs.Common.{◌≡◌, ◌⊎◌, ◌≤◌, ◌<◌, ℕ, zero, suc, ◌+◌, ◌-◌, Bool, true, false, ◌&&◌, ◌||◌, cond, nat_eq, nat_lt, List, [], ◌∷◌, ◌++◌, length, get_or, take, drop, refl, sym, subst, ◌∙◌, ap, inl, inr, arith, append_assoc, length-append, eq-eqb}
+use Rattle.std.proofs.Common.{◌≡◌, ◌⊎◌, ◌≤◌, ◌<◌, ℕ, suc, ◌+◌, Bool, true, false, ◌&&◌, ◌||◌, nat_eq, nat_lt, List, [], ◌∷◌, ◌++◌, length, take, drop, refl, sym, subst, ◌∙◌, ap, inl, inr, arith, append_assoc, length-append, eq-eqb}
 use Rattle.std.specs.Char.{is_ascii_digit, is_ascii_hexdigit}
 use Rattle.std.specs.List.{prefix_len, list_all}
-use Rattle.std.proofs.lemmas.Bool.{cond-true, cond-false, cond_both, cases_Bool, cases_eq, both_ways, and_parts, and_from, and_right, and_left, or_cases, or_left, or_right, or_from, eqb-true, eqb-false, ne_eqb, lt-ltb}
+use Rattle.std.proofs.lemmas.Bool.{cond-true, cond-false, cond_both, cases_Bool, cases_eq, both_ways, and_parts, and_from, and_right, or_cases, or_left, or_right, or_from, eqb-true, eqb-false, ne_eqb, lt-ltb}
 use Rattle.std.proofs.lemmas.List.{drop_at, length-take-le}
 use Rattle.std.proofs.lemmas.List.Folds.{length-prefix_len}
 use Rattle.std.proofs.Math.Seq.{take-add}
 use Rattle.sql_tokens.specs.Bytes.{has_byte, followed_by}
 use Rattle.sql_tokens.specs.Numbers.{digits_length, hexadecimal_length, fraction_length, sign_length, exponent_length, decimal_length, number_length}
-use Rattle.sql_tokens.specs.Numerals.{AreSome, IsFraction, AreSigned, IsExponent, IsDecimal, IsHexadecimal, IsNumeral}
+use Rattle.sql_tokens.specs.Numerals.{AreSome, IsFraction, AreSigned, IsExponent, IsDecimal, IsNumeral}
 use Rattle.sql_tokens.proofs.Lengths.{fraction_length-le}
 use Rattle.sql_tokens.proofs.Runs.{run_covers, run_ends, all_in_run}
 
