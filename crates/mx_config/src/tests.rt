@@ -176,6 +176,14 @@ host = "10.0.0.2"
 port = 3306
 "#;
 
+fn joined(alloc: Global, pieces: &[&str]) -> Result<Vec<u8>, AllocError> {
+    let mut text = Vec::new(alloc);
+    for piece in pieces {
+        text.extend_from_slice(piece.as_bytes())?;
+    }
+    Ok(text)
+}
+
 // The first fault of a file: its kind, table, row and key, with one blank between them.
 fn first_fault(alloc: Global, text: &[u8]) -> Result<String, Fail> {
     match read_config(alloc, text) {
@@ -193,13 +201,13 @@ fn first_fault(alloc: Global, text: &[u8]) -> Result<String, Fail> {
 // feed, and a `@` the keys for administrators.
 fn expect_faults(
     rt: &(impl Abort + AllocGlobal),
-    front: &str,
+    front: &[u8],
     cases: &[u8],
-    back: &str,
+    back: &[u8],
 ) -> Result<(), Fail> {
     for case in cases.split(|byte| *byte == b'\n') {
         let bar = case.iter().position(|byte| *byte == b'|').ok_or("no bar")?;
-        let mut text = Vec::from_slice(rt.alloc(), front.as_bytes())?;
+        let mut text = Vec::from_slice(rt.alloc(), front)?;
         for byte in &case[bar + 1..] {
             match byte {
                 b';' => text.push(b'\n')?,
@@ -207,7 +215,7 @@ fn expect_faults(
                 _ => text.push(*byte)?,
             }
         }
-        text.extend_from_slice(back.as_bytes())?;
+        text.extend_from_slice(back)?;
         let fault = first_fault(rt.alloc(), &text)?;
         assert_eq!(rt; fault.as_bytes(), &case[..bar], "{case:?}");
     }
@@ -216,19 +224,24 @@ fn expect_faults(
 
 #[test]
 fn names_the_first_fault(rt: HostRuntime) -> Result<(), Fail> {
-    let proxy = format!(in rt.alloc(); "proxy = {{{PROXY}}}\n")?;
-    let users = format!(in rt.alloc(); "{proxy}users = [")?;
-    let servers = format!(in rt.alloc(); "{users}{USER}]\nservers = [")?;
-    expect_faults(&rt, "", file_faults(), "")?;
-    expect_faults(&rt, "proxy = {", proxy_faults(), "}\nusers = 5\n")?;
-    expect_faults(&rt, users.as_str(), user_faults(), "]\nservers = 5\n")?;
-    expect_faults(&rt, servers.as_str(), server_faults(), "]\n")
+    let users = joined(rt.alloc(), &["proxy = {", PROXY, "}\nusers = ["])?;
+    let servers = joined(
+        rt.alloc(),
+        &["proxy = {", PROXY, "}\nusers = [", USER, "]\nservers = ["],
+    )?;
+    expect_faults(&rt, b"", file_faults(), b"")?;
+    expect_faults(&rt, b"proxy = {", proxy_faults(), b"}\nusers = 5\n")?;
+    expect_faults(&rt, &users, user_faults(), b"]\nservers = 5\n")?;
+    expect_faults(&rt, &servers, server_faults(), b"]\n")
 }
 
 #[test]
 fn reads_defaults(rt: HostRuntime) -> Result<(), Fail> {
-    let text = format!(in rt.alloc(); "proxy = {{{PROXY}}}\nusers = [{USER}]\n")?;
-    let config = read_config(rt.alloc(), text.as_bytes()).ok().ok_or("read")?;
+    let text = joined(
+        rt.alloc(),
+        &["proxy = {", PROXY, "}\nusers = [", USER, "]\n"],
+    )?;
+    let config = read_config(rt.alloc(), &text).ok().ok_or("read")?;
     let proxy = &config.proxy;
     assert_eq!(rt;
         proxy.listen,
@@ -350,19 +363,23 @@ fn refuses_bytes_that_are_no_text(rt: HostRuntime) {
     );
 }
 
+// A file whose version has so many bytes.
+fn versioned(alloc: Global, length: usize) -> Result<Vec<u8>, AllocError> {
+    let mut text = joined(alloc, &["proxy = {", PROXY, ",server_version='"])?;
+    for _ in 0..length {
+        text.push(b'8')?;
+    }
+    text.extend_from_slice(&joined(alloc, &["'}\nusers = [", USER, "]\n"])?)?;
+    Ok(text)
+}
+
 #[test]
 fn bounds_the_version(rt: HostRuntime) -> Result<(), Fail> {
-    let text = format!(in rt.alloc();
-        "proxy = {{{PROXY},server_version='{:0>255}'}}\nusers = [{USER}]\n",
-        8
-    )?;
-    assert!(rt; read_config(rt.alloc(), text.as_bytes()).is_ok());
-    let text = format!(in rt.alloc();
-        "proxy = {{{PROXY},server_version='{:0>256}'}}\nusers = [{USER}]\n",
-        8
-    )?;
+    let text = versioned(rt.alloc(), 255)?;
+    assert!(rt; read_config(rt.alloc(), &text).is_ok());
+    let text = versioned(rt.alloc(), 256)?;
     assert_eq!(rt;
-        first_fault(rt.alloc(), text.as_bytes())?.as_str(),
+        first_fault(rt.alloc(), &text)?.as_str(),
         "5 1 0 server_version"
     );
     Ok(())
