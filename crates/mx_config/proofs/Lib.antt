@@ -1,5 +1,6 @@
 pub mod Cuts
 pub mod Documents
 pub mod Keys
+pub mod OneMore
 pub mod RowSteps
 pub mod Steps

@@ -1,9 +1,9 @@
 pub mod Address
 pub mod Faults
+pub mod Lawful
 pub mod Lent
 pub mod Names
 pub mod Reading
 pub mod Rows
-pub mod Standing
 pub mod Tables
 pub mod Values

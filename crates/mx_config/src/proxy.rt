@@ -1,7 +1,8 @@
 // The table `proxy`.
-ghost use Rattle.std.specs.Prelude.{◌≡◌};
+ghost use Rattle.std.specs.Prelude.{◌≡◌, IfOk};
 ghost use Rattle.toml.specs.View.{table_view};
 ghost use Rattle.mx_config.specs.Faults.{Gives};
+ghost use Rattle.mx_config.specs.Lawful.{IsLawfulProxy};
 ghost use Rattle.mx_config.specs.Tables.{proxy_row};
 
 use crate::fault::{Place, TableName};
@@ -14,7 +15,8 @@ use toml::Table;
 /// The one row of the table `proxy`.
 #[tactic(auto, unfolding(crate::specs::Tables::proxy_row))]
 pub(crate) fn read_proxy_row(alloc: Global, members: &Table) -> Result<ProxyRow, ConfigRefusal>
-    ensures { Gives result (proxy_row (table_view members.now)) }
+    ensures said { Gives result (proxy_row (table_view members.now)) }
+    ensures lawful { IfOk result IsLawfulProxy }
 {
     let row = Row {
         alloc,

@@ -4,6 +4,7 @@ ghost use Rattle.std.specs.Bool.{OnTrue};
 ghost use Rattle.toml.specs.Data.{get_member};
 ghost use Rattle.toml.specs.View.{view, table_view, items_view};
 ghost use Rattle.mx_config.specs.Faults.{Gives, at_row};
+ghost use Rattle.mx_config.specs.Lawful.{IsLawfulProxy, AreLawfulUsers, AreLawfulServers, IsLawful, IsBetween};
 ghost use Rattle.mx_config.specs.Lent.{GivesRows};
 ghost use Rattle.mx_config.specs.Reading.{config_of, proxy_of, users_of, servers_of, rows_at, reading_of};
 
@@ -21,9 +22,17 @@ use toml::{Table, Value};
 /// The rows that the table `users` or `servers` may have.
 const MAX_ROWS: usize = 1024;
 
-/// The configuration that a file says.
+/// The configuration that a file says, or its first fault (after ProxySQL, "Configuration file"; the tables and keys are
+/// those of `mysql_variables`, `mysql_users` and `mysql_servers`, in TOML).
+///
+/// Bytes that are no TOML document come first, then unknown tables, the least name first, then the tables `proxy`, `users`
+/// and `servers` in this order, each with its rows in order. In a row the least unknown key comes first, and then its keys
+/// in the order of their fields in `ProxyRow`, `UserRow` and `ServerRow`, each tried for being missing, for its type, for
+/// an address and for its range; last comes a row that is a duplicate of an earlier one. A table that is none, or has too
+/// many or too few rows, is refused before its rows. Takes time and memory in proportion to the file.
 pub fn read_config(alloc: Global, bytes: &[u8]) -> Result<Config, ConfigRefusal>
-    ensures { Gives result (reading_of bytes.now) }
+    ensures said { Gives result (reading_of bytes.now) }
+    ensures lawful { IfOk result IsLawful }
 {
     match toml::table_from_slice(alloc, bytes) {
         Ok(file) => read_file(alloc, &file),
@@ -45,7 +54,8 @@ fn whole(table: TableName) -> Place
 
 #[tactic(auto, unfolding(crate::specs::Reading::config_of))]
 fn read_file(alloc: Global, file: &Table) -> Result<Config, ConfigRefusal>
-    ensures { Gives result (config_of (table_view file.now)) }
+    ensures said { Gives result (config_of (table_view file.now)) }
+    ensures lawful { IfOk result IsLawful }
 {
     let row = Row {
         alloc,
@@ -64,7 +74,8 @@ fn read_file(alloc: Global, file: &Table) -> Result<Config, ConfigRefusal>
 }
 
 fn read_proxy(alloc: Global, file: &Table) -> Result<ProxyRow, ConfigRefusal>
-    ensures { Gives result (proxy_of (get_member (codes "proxy") (table_view file.now))) }
+    ensures said { Gives result (proxy_of (get_member (codes "proxy") (table_view file.now))) }
+    ensures lawful { IfOk result IsLawfulProxy }
 {
     match member(file, "proxy") {
         Some(value) => {
@@ -79,7 +90,8 @@ fn read_proxy(alloc: Global, file: &Table) -> Result<ProxyRow, ConfigRefusal>
 }
 
 fn read_users(alloc: Global, file: &Table) -> Result<Rows<UserRow>, ConfigRefusal>
-    ensures { Gives result (users_of (get_member (codes "users") (table_view file.now))) }
+    ensures said { Gives result (users_of (get_member (codes "users") (table_view file.now))) }
+    ensures lawful { IfOk result AreLawfulUsers }
 {
     match member(file, "users") {
         Some(value) => {
@@ -91,7 +103,8 @@ fn read_users(alloc: Global, file: &Table) -> Result<Rows<UserRow>, ConfigRefusa
 }
 
 fn read_servers(alloc: Global, file: &Table) -> Result<Rows<ServerRow>, ConfigRefusal>
-    ensures { Gives result (servers_of (get_member (codes "servers") (table_view file.now))) }
+    ensures said { Gives result (servers_of (get_member (codes "servers") (table_view file.now))) }
+    ensures lawful { IfOk result AreLawfulServers }
 {
     match member(file, "servers") {
         Some(value) => {
@@ -111,7 +124,7 @@ fn table_rows(
     value: &Value,
 ) -> Result<&[Value], ConfigRefusal>
     ensures rows { GivesRows result (rows_at place least (view value.now)) }
-    ensures few { IfOk result (λ rows. length rows.now ≤ 1024) }
+    ensures few { IfOk result (λ rows. IsBetween least 1024 (length rows.now)) }
 {
     match value.as_array() {
         Some(rows) => {
@@ -128,7 +141,7 @@ fn table_rows(
 
 fn is_few(least: usize, rows: &[Value]) -> bool
     ensures test { result ≡ (nat_le least (length rows.now) && nat_le (length rows.now) 1024) }
-    ensures few { OnTrue result (length rows.now ≤ 1024) }
+    ensures few { OnTrue result (IsBetween least 1024 (length rows.now)) }
 {
     least <= rows.len() && rows.len() <= MAX_ROWS
 }

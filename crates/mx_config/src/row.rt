@@ -1,5 +1,5 @@
 // The keys of a row.
-ghost use Rattle.std.specs.Prelude.{◌≡◌, ◌≤◌, IfOk, map, not, string_bytes};
+ghost use Rattle.std.specs.Prelude.{◌≡◌, ◌≤◌, true, IfOk, map, not, string_bytes};
 ghost use Rattle.std.specs.BTreeMap.{keys, IsOrdered};
 ghost use Rattle.std.specs.List.{find};
 ghost use Rattle.std.specs.Option.{option_copied, ForSome};
@@ -8,7 +8,7 @@ ghost use Rattle.toml.specs.View.{view, table_view};
 ghost use Rattle.mx_config.specs.Faults.{Gives};
 ghost use Rattle.mx_config.specs.Lent.{GivesTable};
 ghost use Rattle.mx_config.specs.Rows.{key_of, known_only, least_unknown, is_known, table_at};
-ghost use Rattle.mx_config.specs.Values.{number, text, address_value, host_value, status_value};
+ghost use Rattle.mx_config.specs.Values.{number, text, fits, address_value, host_value, status_value};
 
 use crate::ConfigRefusal;
 use crate::fault::{Kind, Place, refusal};
@@ -74,7 +74,9 @@ impl Row<'_> {
         default: Option<&str>,
         form: TextForm,
     ) -> Result<Bytes, ConfigRefusal>
-        ensures { Gives result (key_of self.now.place key.now (option_copied default.entry) (text form) (table_view self.now.members.now)) }
+        requires { ForSome (option_copied default) (λ t. fits form t ≡ true) }
+        ensures value { Gives result (key_of self.now.place key.now (option_copied default.entry) (text form) (table_view self.now.members.now)) }
+        ensures fits { IfOk result (λ t. fits form t ≡ true) }
     {
         let text = match member(self.members, key) {
             Some(value) => match read_text(value, form) {

@@ -3,7 +3,7 @@ ghost use Rattle.std.specs.Prelude.{◌≡◌, ◌≤◌, ◌<◌, ◌+◌, ◌+
 ghost use Rattle.toml.specs.View.{view, items_view};
 ghost use Rattle.hostgroups.specs.Rows.{has_server, name_of, number_of, connections_of};
 ghost use Rattle.mx_config.specs.Faults.{Gives};
-ghost use Rattle.mx_config.specs.Standing.{Stands};
+ghost use Rattle.mx_config.specs.Lawful.{IsLawfulServer, AreLawfulServers};
 ghost use Rattle.mx_config.specs.Tables.{server_row, rows_from, counted, new_server};
 
 use crate::fault::{Kind, Place, TableName, refusal};
@@ -96,7 +96,8 @@ pub(crate) fn read_server_rows(
     items: &[Value],
 ) -> Result<Rows<ServerRow>, ConfigRefusal>
     requires { length items.now ≤ 1024 }
-    ensures { Gives result (rows_from server_row [] (items_view items.now)) }
+    ensures said { Gives result (rows_from server_row [] (items_view items.now)) }
+    ensures lawful { IfOk result AreLawfulServers }
 {
     let mut servers = ServerTable::new(alloc);
     for value in items {
@@ -107,14 +108,15 @@ pub(crate) fn read_server_rows(
 }
 
 // The row of servers behind the rows so far.
+#[tactic(auto, unfolding(crate::specs::Tables::server_row))]
 fn read_server_row(
     alloc: Global,
     before: &ServerTable,
     value: &Value,
 ) -> Result<ServerRow, ConfigRefusal>
     requires { length before.now < 1024 }
-    ensures row { Gives result (server_row before.now (view value.now)) }
-    ensures stands { IfOk result (Stands before.now) }
+    ensures said { Gives result (server_row before.now (view value.now)) }
+    ensures lawful { IfOk result (IsLawfulServer before.now) }
 {
     let place = Place {
         table: TableName::Servers,
@@ -163,7 +165,7 @@ fn few_connections(
     max_connections: u64,
 ) -> Result<(), ConfigRefusal>
     requires { max_connections ≤ 10000 }
-    ensures counted { Gives result (counted place before.now max_connections) }
+    ensures said { Gives result (counted place before.now max_connections) }
     ensures few { OnOk result (connections_of before.now + max_connections ≤ 10000) }
 {
     if before.connections() + max_connections > MAX_CONNECTIONS {
@@ -179,7 +181,7 @@ fn new_server(
     before: &ServerTable,
     server: ServerRow,
 ) -> Result<(), ConfigRefusal>
-    ensures unlike { Gives result (new_server place before.now (name_of server)) }
+    ensures said { Gives result (new_server place before.now (name_of server)) }
     ensures new { OnOk result (number_of (map name_of before.now) (name_of server) ≡ None) }
 {
     if before.has(server.name()) {

@@ -1,7 +1,7 @@
 // Worked files: one for each kind, table and key, and one for each pair of faults whose order could be mistaken.
 use super::*;
 use hostgroups::{ServerRow, ServerStatus};
-use mx_base::{Address, Bytes, Hostgroup};
+use mx_base::{Address, Hostgroup};
 use std::alloc::{AllocError, Global};
 use std::fmt::Write;
 use std::process::Abort;
@@ -139,8 +139,50 @@ fn file_faults() -> &'static [u8] {
 }
 
 // The shipped example, data/mx_proxy.toml.
-const EXAMPLE: &str =
-    "# A configuration of mx_proxy. Keys that are commented out have these values when they aren't there.\n\n[proxy]\nlisten = \"127.0.0.1:6033\"          # where clients connect\nadmin_listen = \"127.0.0.1:6032\"    # where administrators connect\nadmin_user = \"admin\"\nadmin_password = \"admin\"\n# server_version = \"8.0.30-mx\"     # what clients are told; at most 255 bytes\n# default_schema = \"information_schema\"\n# max_clients = 1000               # 1 to 4,000\n# max_packet = 67108864            # bytes of the longest message; 1,024 to 268,435,456\n# buffer_budget = 1073741824       # bytes of clients kept in all; 1,048,576 to 2,147,483,648\n# wait_ms = 10000                  # wait for a connection; 1 to 3,600,000\n# idle_ms = 600000                 # an idle connection is kept so long; 1 to 86,400,000\n\n# Who may log in; also the user and the password at the servers. At least one.\n[[users]]\nname = \"app\"\npassword = \"secret\"\ndefault_hostgroup = 0              # 0 to 65,535\n\n# The servers. Several may share a hostgroup; one that stands in two counts as two.\n[[servers]]\nhostgroup = 0\nhost = \"10.0.0.1\"\nport = 3306\nweight = 1                         # turns in each round of its hostgroup; 1 to 1,000\nmax_connections = 100              # 1 to 10,000, and 10,000 over all servers\nstatus = \"ONLINE\"                  # or OFFLINE_SOFT, OFFLINE_HARD\n\n[[servers]]\nhostgroup = 1\nhost = \"10.0.0.2\"\nport = 3306\n";
+const EXAMPLE: &[u8] =
+    br#"# A configuration of mx_proxy. Keys that are commented out have these values when they aren't there.
+
+[proxy]
+listen = "127.0.0.1:6033"          # where clients connect
+admin_listen = "127.0.0.1:6032"    # where administrators connect
+admin_user = "admin"
+admin_password = "admin"
+# server_version = "8.0.30-mx"     # what clients are told; at most 255 bytes
+# default_schema = "information_schema"
+# max_clients = 1000               # 1 to 4,000
+# max_packet = 67108864            # bytes of the longest message; 1,024 to 268,435,456
+# buffer_budget = 1073741824       # bytes of clients kept in all; 1,048,576 to 2,147,483,648
+# wait_ms = 10000                  # wait for a connection; 1 to 3,600,000
+# idle_ms = 600000                 # an idle connection is kept so long; 1 to 86,400,000
+
+# Who may log in; also the user and the password at the servers. At least one.
+[[users]]
+name = "app"
+password = "secret"
+default_hostgroup = 0              # 0 to 65,535
+
+# The servers. Several may share a hostgroup; one that stands in two counts as two.
+[[servers]]
+hostgroup = 0
+host = "10.0.0.1"
+port = 3306
+weight = 1                         # turns in each round of its hostgroup; 1 to 1,000
+max_connections = 100              # 1 to 10,000, and 10,000 over all servers
+status = "ONLINE"                  # or OFFLINE_SOFT, OFFLINE_HARD
+
+[[servers]]
+hostgroup = 1
+host = "10.0.0.2"
+port = 3306
+"#;
+
+fn joined(alloc: Global, pieces: &[&str]) -> Result<Vec<u8>, AllocError> {
+    let mut text = Vec::new(alloc);
+    for piece in pieces {
+        text.extend_from_slice(piece.as_bytes())?;
+    }
+    Ok(text)
+}
 
 // The first fault of a file: its kind, table, row and key, with one blank between them.
 fn first_fault(alloc: Global, text: &[u8]) -> Result<String, Fail> {
@@ -159,13 +201,13 @@ fn first_fault(alloc: Global, text: &[u8]) -> Result<String, Fail> {
 // feed, and a `@` the keys for administrators.
 fn expect_faults(
     rt: &(impl Abort + AllocGlobal),
-    front: &str,
+    front: &[u8],
     cases: &[u8],
-    back: &str,
+    back: &[u8],
 ) -> Result<(), Fail> {
     for case in cases.split(|byte| *byte == b'\n') {
         let bar = case.iter().position(|byte| *byte == b'|').ok_or("no bar")?;
-        let mut text = Vec::from_slice(rt.alloc(), front.as_bytes())?;
+        let mut text = Vec::from_slice(rt.alloc(), front)?;
         for byte in &case[bar + 1..] {
             match byte {
                 b';' => text.push(b'\n')?,
@@ -173,7 +215,7 @@ fn expect_faults(
                 _ => text.push(*byte)?,
             }
         }
-        text.extend_from_slice(back.as_bytes())?;
+        text.extend_from_slice(back)?;
         let fault = first_fault(rt.alloc(), &text)?;
         assert_eq!(rt; fault.as_bytes(), &case[..bar], "{case:?}");
     }
@@ -182,19 +224,24 @@ fn expect_faults(
 
 #[test]
 fn names_the_first_fault(rt: HostRuntime) -> Result<(), Fail> {
-    let proxy = format!(in rt.alloc(); "proxy = {{{PROXY}}}\n")?;
-    let users = format!(in rt.alloc(); "{proxy}users = [")?;
-    let servers = format!(in rt.alloc(); "{users}{USER}]\nservers = [")?;
-    expect_faults(&rt, "", file_faults(), "")?;
-    expect_faults(&rt, "proxy = {", proxy_faults(), "}\nusers = 5\n")?;
-    expect_faults(&rt, users.as_str(), user_faults(), "]\nservers = 5\n")?;
-    expect_faults(&rt, servers.as_str(), server_faults(), "]\n")
+    let users = joined(rt.alloc(), &["proxy = {", PROXY, "}\nusers = ["])?;
+    let servers = joined(
+        rt.alloc(),
+        &["proxy = {", PROXY, "}\nusers = [", USER, "]\nservers = ["],
+    )?;
+    expect_faults(&rt, b"", file_faults(), b"")?;
+    expect_faults(&rt, b"proxy = {", proxy_faults(), b"}\nusers = 5\n")?;
+    expect_faults(&rt, &users, user_faults(), b"]\nservers = 5\n")?;
+    expect_faults(&rt, &servers, server_faults(), b"]\n")
 }
 
 #[test]
 fn reads_defaults(rt: HostRuntime) -> Result<(), Fail> {
-    let text = format!(in rt.alloc(); "proxy = {{{PROXY}}}\nusers = [{USER}]\n")?;
-    let config = read_config(rt.alloc(), text.as_bytes()).ok().ok_or("read")?;
+    let text = joined(
+        rt.alloc(),
+        &["proxy = {", PROXY, "}\nusers = [", USER, "]\n"],
+    )?;
+    let config = read_config(rt.alloc(), &text).ok().ok_or("read")?;
     let proxy = &config.proxy;
     assert_eq!(rt;
         proxy.listen,
@@ -234,9 +281,7 @@ fn reads_defaults(rt: HostRuntime) -> Result<(), Fail> {
 
 #[test]
 fn reads_the_example(rt: HostRuntime) -> Result<(), Fail> {
-    let config = read_config(rt.alloc(), EXAMPLE.as_bytes())
-        .ok()
-        .ok_or("read")?;
+    let config = read_config(rt.alloc(), EXAMPLE).ok().ok_or("read")?;
     assert_eq!(rt; config.users.as_slice().len(), 1);
     let servers = config.servers.as_slice();
     let first = ServerRow {
@@ -318,19 +363,23 @@ fn refuses_bytes_that_are_no_text(rt: HostRuntime) {
     );
 }
 
+// A file whose version has so many bytes.
+fn versioned(alloc: Global, length: usize) -> Result<Vec<u8>, AllocError> {
+    let mut text = joined(alloc, &["proxy = {", PROXY, ",server_version='"])?;
+    for _ in 0..length {
+        text.push(b'8')?;
+    }
+    text.extend_from_slice(&joined(alloc, &["'}\nusers = [", USER, "]\n"])?)?;
+    Ok(text)
+}
+
 #[test]
 fn bounds_the_version(rt: HostRuntime) -> Result<(), Fail> {
-    let text = format!(in rt.alloc();
-        "proxy = {{{PROXY},server_version='{:0>255}'}}\nusers = [{USER}]\n",
-        8
-    )?;
-    assert!(rt; read_config(rt.alloc(), text.as_bytes()).is_ok());
-    let text = format!(in rt.alloc();
-        "proxy = {{{PROXY},server_version='{:0>256}'}}\nusers = [{USER}]\n",
-        8
-    )?;
+    let text = versioned(rt.alloc(), 255)?;
+    assert!(rt; read_config(rt.alloc(), &text).is_ok());
+    let text = versioned(rt.alloc(), 256)?;
     assert_eq!(rt;
-        first_fault(rt.alloc(), text.as_bytes())?.as_str(),
+        first_fault(rt.alloc(), &text)?.as_str(),
         "5 1 0 server_version"
     );
     Ok(())

@@ -1,7 +1,8 @@
 // The table `users`.
-ghost use Rattle.std.specs.Prelude.{◌≡◌, ◌≤◌, ◌<◌, ◌++◌, ◌∷◌, [], length, IfOk, OnOk};
+ghost use Rattle.std.specs.Prelude.{◌≡◌, ◌≤◌, ◌<◌, ◌++◌, ◌∷◌, [], false, length, IfOk, OnOk};
 ghost use Rattle.toml.specs.View.{view, items_view};
 ghost use Rattle.mx_config.specs.Faults.{Gives};
+ghost use Rattle.mx_config.specs.Lawful.{IsBetween, IsLawfulUser, AreLawfulUsers};
 ghost use Rattle.mx_config.specs.Tables.{has_user, user_row, rows_from, new_user};
 
 use crate::fault::{Kind, Place, TableName, refusal};
@@ -75,8 +76,9 @@ impl UserTable {
 
 /// The rows of users.
 pub(crate) fn read_user_rows(alloc: Global, items: &[Value]) -> Result<Rows<UserRow>, ConfigRefusal>
-    requires { length items.now ≤ 1024 }
-    ensures { Gives result (rows_from user_row [] (items_view items.now)) }
+    requires { IsBetween 1 1024 (length items.now) }
+    ensures said { Gives result (rows_from user_row [] (items_view items.now)) }
+    ensures lawful { IfOk result AreLawfulUsers }
 {
     let mut users = UserTable::new(alloc);
     for value in items {
@@ -90,7 +92,8 @@ pub(crate) fn read_user_rows(alloc: Global, items: &[Value]) -> Result<Rows<User
 #[tactic(auto, unfolding(crate::specs::Tables::user_row))]
 fn read_user_row(alloc: Global, before: &UserTable, value: &Value) -> Result<UserRow, ConfigRefusal>
     requires { length before.now < 1024 }
-    ensures { Gives result (user_row before.now (view value.now)) }
+    ensures said { Gives result (user_row before.now (view value.now)) }
+    ensures lawful { IfOk result (IsLawfulUser before.now) }
 {
     let place = Place {
         table: TableName::Users,
@@ -121,7 +124,8 @@ fn new_user(
     before: &UserTable,
     name: &Bytes,
 ) -> Result<(), ConfigRefusal>
-    ensures { Gives result (new_user place before.now name.now) }
+    ensures said { Gives result (new_user place before.now name.now) }
+    ensures new { OnOk result (has_user before.now name.now ≡ false) }
 {
     if before.has(name) {
         return Err(refusal(alloc, place, Kind::DuplicateUser, "name"));

@@ -1,5 +1,5 @@
 // What the value of a key may be.
-ghost use Rattle.std.specs.Prelude.{◌≡◌, ◌≤◌, IfOk, option_map, Result};
+ghost use Rattle.std.specs.Prelude.{◌≡◌, ◌≤◌, true, IfOk, option_map, Result};
 ghost use Rattle.std.specs.Option.{option_copied};
 ghost use Rattle.toml.specs.Data.{get_member};
 ghost use Rattle.toml.specs.View.{view, table_view};
@@ -45,7 +45,8 @@ pub(crate) fn read_number(value: &Value, least: u64, most: u64) -> Result<u64, K
 /// A text of a form.
 #[tactic(auto, unfolding(crate::specs::Values::text))]
 pub(crate) fn read_text(value: &Value, form: TextForm) -> Result<&str, Kind>
-    ensures { result_copied result ≡ text form (view value.now) }
+    ensures value { result_copied result ≡ text form (view value.now) }
+    ensures fits { IfOk result (λ t. fits form t.now ≡ true) }
 {
     match value.as_str() {
         None => Err(Kind::WrongType),
