@@ -138,7 +138,7 @@ fn file_faults() -> &'static [u8] {
 4 3 1 |proxy = {listen='127.0.0.1:6033',admin_listen='127.0.0.1:6032',admin_user='a',admin_password='p'};users = [{name='u',password=''}];servers = [[]];"#
 }
 
-// The shipped example, data/mx_proxy.toml.
+// The configuration that the program ships as an example.
 const EXAMPLE: &[u8] =
     br#"# A configuration of mx_proxy. Keys that are commented out have these values when they aren't there.
 
