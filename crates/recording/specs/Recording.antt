@@ -1,7 +1,6 @@
 -- What the bytes of a recording say, line by line, or the first line that is at fault.
 use Rattle.std.specs.Prelude.{ℕ, ◌+◌, ◌==◌, ◌||◌, not, nat_lt, nat_le, Bool, true, false, if◌then◌else◌, List, [], ◌∷◌, ◌++◌, length, Option, Some, None, is_none, Result, Ok, Err}
 use Rattle.std.specs.List.{slice_split}
-use Rattle.mx_base.specs.declared.names.Port.TheVariants.{Traffic, Admin}
 use Rattle.recording.specs.Fields.{fields}
 use Rattle.recording.specs.Line.{said}
 use Rattle.recording.specs.declared.entry.RecordEntry.{RecordEntry}
@@ -58,10 +57,8 @@ misplaced before entry = if is_none before.moment then Some BeforeFirstAt else k
 abbrev pub passes_bounds : ℕ → ℕ → Bool
 passes_bounds number end = nat_lt 1000000 number || nat_lt 268435456 end
 
--- a right line that isn't played yet: one client, on the port for traffic, and links that don't end
+-- a right line that isn't played yet: links that end, that take no more, or that aren't opened
 abbrev pub is_later : RecordEntry → Bool
-is_later (Accept n Traffic salt) = not (n == 1)
-is_later (Accept n Admin salt) = true
 is_later (End link) = true
 is_later (Fail link) = true
 is_later (Take link n) = true

@@ -9,7 +9,6 @@ use crate::fault::{Kind, LineRefusal};
 use crate::line::read_entry;
 use crate::progress::Progress;
 use crate::{RecordEntry, RecordFault, RecordRefusal};
-use mx_base::Port;
 use std::alloc::Global;
 
 /// The entries of a recording: a text of lines, each of which a line feed ends. Empty lines and those that begin
@@ -155,8 +154,10 @@ fn is_not_played(entry: &RecordEntry) -> bool
     ensures { result ≡ is_later entry.now }
 {
     match entry {
-        RecordEntry::At { .. } | RecordEntry::Bytes { .. } | RecordEntry::Exec { .. } => false,
-        RecordEntry::Accept { n, port, .. } => *port == Port::Admin || *n != 1,
+        RecordEntry::At { .. }
+        | RecordEntry::Accept { .. }
+        | RecordEntry::Bytes { .. }
+        | RecordEntry::Exec { .. } => false,
         RecordEntry::End { .. }
         | RecordEntry::Fail { .. }
         | RecordEntry::Take { .. }
