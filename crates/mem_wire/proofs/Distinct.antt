@@ -38,6 +38,8 @@ above moment clients port (line.Accept n at salt ∷ lines) can i c is =
     above-one (is_port port at) (record { number = n; salt = salt }) (clients_at port lines) clients (omega arith) (λ j d found. let later : clients + 1 < d.number = above moment (clients + 1) port lines can.2 j d found in omega arith) i c is
 above moment clients port (line.Bytes link bytes ∷ lines) can i c is = above moment clients port lines can.2 i c is
 above moment clients port (line.Exec k ∷ lines) can i c is = above moment clients port lines can.1 i c is
+above moment clients port (line.Drop k ∷ lines) can i c is = above moment clients port lines can.1 i c is
+above moment clients port (line.Refuse k ∷ lines) can i c is = above moment clients port lines can i c is
 above moment clients port (_ ∷ lines) can i c is = absurd can
 
 port-is : (a b : Port) → is_port a b ≡ true → a ≡ b
@@ -75,6 +77,8 @@ distinct moment clients p q (line.Accept n at salt ∷ lines) can i j c d isc is
     (distinct moment (clients + 1) p q lines can.2) (λ ports. ap (λ (x : Port). is_port x at) ports) i j c d isc isd same
 distinct moment clients p q (line.Bytes link bytes ∷ lines) can i j c d isc isd same = distinct moment clients p q lines can.2 i j c d isc isd same
 distinct moment clients p q (line.Exec k ∷ lines) can i j c d isc isd same = distinct moment clients p q lines can.1 i j c d isc isd same
+distinct moment clients p q (line.Drop k ∷ lines) can i j c d isc isd same = distinct moment clients p q lines can.1 i j c d isc isd same
+distinct moment clients p q (line.Refuse k ∷ lines) can i j c d isc isd same = distinct moment clients p q lines can i j c d isc isd same
 distinct moment clients p q (_ ∷ lines) can i j c d isc isd same = absurd can
 
 -- in the recording as in what is released

@@ -1,9 +1,11 @@
 -- The stage follows the log, entry by entry.
-use Rattle.std.proofs.Common.{◌≡◌, ◌⊎◌, ℕ, zero, suc, ◌<◌, ◌≤◌, ◌==◌, Bool, true, false, nat_lt, List, [], ◌∷◌, ◌++◌, length, take, drop, if◌then◌else◌, Option, Some, None, refl, sym, ◌∙◌, ap, subst, arith, inl, inr, min, get_or}
+use Rattle.std.proofs.Common.{◌≡◌, ◌⊎◌, ℕ, zero, suc, ◌<◌, ◌≤◌, ◌+◌, ◌==◌, Bool, true, false, nat_lt, List, [], ◌∷◌, ◌++◌, length, take, drop, if◌then◌else◌, Option, Some, None, refl, sym, ◌∙◌, ap, subst, arith, inl, inr, min, get_or}
 use Rattle.std.specs.Prelude.{IfSome, slice_get, not, ◌&&◌}
 use Rattle.std.proofs.lemmas.Option.{slice_get-get_or, slice_get_within}
 use Rattle.std.proofs.lemmas.List.{take-append-drop, length-take-le}
 use Rattle.mx_base.specs.declared.names.LinkId.{LinkId}
+use Rattle.mx_base.specs.declared.names.ServerId.{ServerId}
+use Rattle.mx_base.specs.declared.names.Address.{Address}
 use Rattle.mx_wire.specs.Log.{Log, link_of, moment_step}
 use Rattle.mx_wire.specs.Tells.{IsOpen, OpenFor}
 use Rattle.mx_wire.specs.Growth.{bool_cases, same_number}
@@ -16,9 +18,10 @@ use Rattle.mem_wire.specs.declared.naming.ToName.{ToName}
 use Rattle.mem_wire.specs.declared.track.Track.{Track}
 use Rattle.mem_wire.specs.declared.stage.Stage.{Stage}
 use Rattle.mem_wire.specs.Adds.{late_entries, Calls, CallsIf}
-use Rattle.mem_wire.specs.Lines.{bytes_for, name_at}
-use Rattle.mem_wire.specs.Came.{unread}
-use Rattle.mem_wire.specs.Play.{is_empty, is_opened, named_step, Answers}
+use Rattle.mem_wire.specs.Lines.{bytes_for, is_refused, name_at}
+use Rattle.mem_wire.specs.Came.{is_open_call, unread}
+use Rattle.mem_wire.specs.CameLaws.{opens-more}
+use Rattle.mem_wire.specs.Play.{is_empty, named_step, Answers}
 use Rattle.mem_wire.specs.Below.{link_below}
 use Rattle.mem_wire.specs.Tracks.{track_at, place, ChangesTrack}
 use Rattle.mem_wire.specs.Steps.{place_in, ReadsFrom, Moves, MovesAt, IsWithin}
@@ -26,7 +29,8 @@ use Rattle.mem_wire.specs.Naming.{is_named, named_by, named_at, NoneIn, NoneAt, 
 use Rattle.mem_wire.specs.Stands.{read_by, Fits, Stands, Passed}
 use Rattle.mem_wire.specs.Follows.{Follows, IsTape}
 use Rattle.mem_wire.proofs.Links.{is_below, open-below}
-use Rattle.mem_wire.proofs.Scenes.{IsIdle, alike-idle}
+use Rattle.mem_wire.proofs.Scenes.{IsIdle, alike-idle, opens-same}
+use Rattle.mem_wire.proofs.Sound.{KeepsCourse, sound-call, sound-late}
 use Rattle.mem_wire.proofs.Courses.{Moved, moved-moves}
 use Rattle.mem_wire.proofs.LineLaws.{name_of, place-name_of}
 use Rattle.mem_wire.proofs.NamingLaws.{named-link}
@@ -42,7 +46,7 @@ use Rattle.mem_wire.proofs.Following.{sound-moved}
 
 pub record Stays (old new : Stage) : Type 0 where
   pub frame : new ≡ record old { late = new.late; line = new.line; link = new.link }
-  pub late : new.late.marks ≡ 0
+  pub late : new.late.marks ≡ []
 
 stays-moved : (old new : Stage) → Stays old new → Moved old new
 stays-moved old new stays = record {
@@ -54,14 +58,17 @@ stays-moved old new stays = record {
 pub passed-late : (recording : List RecordEntry) (s : Stage) (late : Late) → Passed recording s → Passed recording (record s { late = late })
 passed-late recording s late passed = record { lines = passed.lines; places = passed.places }
 
-pub follows-stays : (recording : List RecordEntry) (old new : Stage) (log : Log) (e : Entry) → Follows recording old log → Stays old new → link_below (length old.places.items) (link_of e) ≡ true → ((m : ℕ) → moment_step m e ≡ m) → IsIdle e → IsPlain recording e → is_opened e ≡ false → Answers recording (log ++ late_entries old.late) e → Passed recording new → Follows recording new ((log ++ late_entries old.late) ++ e ∷ [])
+stands-idle : (recording : List RecordEntry) (s : Stage) (log : Log) (e : Entry) → IsIdle e → is_open_call e ≡ false → Stands recording s log → Stands recording s (log ++ e ∷ [])
+stands-idle recording s log e idle unopened st = stands-alike recording s s.opens s.refusals s.late log (log ++ e ∷ []) (alike-idle recording log e idle) (st.opens ∙ sym (opens-same log e unopened)) st
+
+pub follows-stays : (recording : List RecordEntry) (old new : Stage) (log : Log) (e : Entry) → Follows recording old log → Stays old new → link_below (length old.places.items) (link_of e) ≡ true → ((m : ℕ) → moment_step m e ≡ m) → IsIdle e → IsPlain recording e → is_open_call e ≡ false → Answers recording (log ++ late_entries old.late) e → Passed recording new → Follows recording new ((log ++ late_entries old.late) ++ e ∷ [])
 follows-stays recording old new log e follows stays low idle_moment idle plain unopened answer passed =
     let log1 = log ++ late_entries old.late in
     follows-plain recording old new log e follows plain answer
     (sound-moved recording old new log e follows (stays-moved old new stays) low idle_moment)
     (subst (λ (s : Stage). Stands recording s (log1 ++ e ∷ [])) (sym stays.frame)
-    (stands-stay recording old (log1 ++ e ∷ []) new.late new.line new.link (stands-alike recording old log1 (log1 ++ e ∷ []) (alike-idle recording log1 e idle) (stands-marked recording old log follows))))
-    passed (none-late recording log1 e new.late plain.call.unmarked unopened stays.late)
+    (stands-stay recording old (log1 ++ e ∷ []) new.late new.line new.link (stands-idle recording old log1 e idle unopened (stands-marked recording old log follows))))
+    passed (none-late recording log1 e new.late plain.call.unmarked idle.opened stays.late)
 
 -- Where an entry changes the track of its link.
 
@@ -119,13 +126,13 @@ now-named false false o = refl
 named-keeps : (last : ℕ) (t : Track) → named_by last t ≡ None → named_by last (record t { named = Some last }) ≡ None
 named-keeps last t none = ap (λ b. if not t.closed && (not (is_empty t.unread) && not b) then t.link else None) (same_number last) ∙ now-named t.closed (is_empty t.unread) t.link
 
-pub follows-moves : (recording : List RecordEntry) (old new : Stage) (log : Log) (e : Entry) (but : LinkId) (at : ℕ) (change : Track → Track) → Follows recording old log → Moved old new → ChangesTrack at change old.tracks.items new.tracks.items → slice_get old.places.items but.0 ≡ Some at → link_of e ≡ Some but → nat_lt but.0 (length old.places.items) ≡ true → ((m : ℕ) → moment_step m e ≡ m) → Brings_nothing e → ((links : List LinkId) → (named_step links e ≡ links) ⊎ (named_step links e ≡ links ++ but ∷ [])) → IsPlain recording e → is_opened e ≡ false → Answers recording (log ++ late_entries old.late) e → ((name : RecordLink) → place name ≡ at → Fits (take old.cut recording) old.last old.cut (log ++ late_entries old.late) name (track_at old.tracks.items (place name)) → Fits (take old.cut recording) old.last old.cut ((log ++ late_entries old.late) ++ e ∷ []) name (change (track_at old.tracks.items (place name)))) → Passed recording new → Follows recording new ((log ++ late_entries old.late) ++ e ∷ [])
+pub follows-moves : (recording : List RecordEntry) (old new : Stage) (log : Log) (e : Entry) (but : LinkId) (at : ℕ) (change : Track → Track) → Follows recording old log → Moved old new → ChangesTrack at change old.tracks.items new.tracks.items → slice_get old.places.items but.0 ≡ Some at → link_of e ≡ Some but → nat_lt but.0 (length old.places.items) ≡ true → ((m : ℕ) → moment_step m e ≡ m) → Brings_nothing e → ((links : List LinkId) → (named_step links e ≡ links) ⊎ (named_step links e ≡ links ++ but ∷ [])) → IsPlain recording e → is_open_call e ≡ false → Answers recording (log ++ late_entries old.late) e → ((name : RecordLink) → place name ≡ at → Fits (take old.cut recording) old.last old.cut (log ++ late_entries old.late) name (track_at old.tracks.items (place name)) → Fits (take old.cut recording) old.last old.cut ((log ++ late_entries old.late) ++ e ∷ []) name (change (track_at old.tracks.items (place name)))) → Passed recording new → Follows recording new ((log ++ late_entries old.late) ++ e ∷ [])
 follows-moves recording old new log e but at change follows moved changes here of low idle_moment brings names plain unopened answer mine passed =
     let log1 = log ++ late_entries old.late in
     follows-plain recording old new log e follows plain answer
     (sound-moved recording old new log e follows moved (ap (link_below (length old.places.items)) of ∙ low) idle_moment)
-    (stands-moves recording old new log1 e but at change (stands-marked recording old log follows) follows.sound.linked moved.frame changes moved.links here brings (but-entry but log1 e of names) mine)
-    passed (none-late recording log1 e new.late plain.call.unmarked unopened moved.late)
+    (stands-moves recording old new log1 e but at change (stands-marked recording old log follows) follows.sound.linked moved.frame changes moved.links here brings unopened (but-entry but log1 e of names) mine)
+    passed (none-late recording log1 e new.late plain.call.unmarked brings.opened moved.late)
 
 -- where an open link's track is
 pub record IsAt (s : Stage) (link : LinkId) : Type 0 where
@@ -239,14 +246,40 @@ follows-named recording old mid new log t within follows looks moves moved =
     (λ name spot fits. mine-named (take old.cut recording) old.last old.cut log1 t.link name (track_at old.tracks.items (place name)) (follows.stands.wake positive) (owner-at old t.link t.at name owner spot) fits)
     (passed-change recording mid new t.at (λ y. record y { named = Some mid.last }) (passed-more recording (Some t) old mid within follows.passed looks) moves.frame changes (named-keeps mid.last))
 
+-- An open that is refused.
+
+pub follows-refused : (recording : List RecordEntry) (old new : Stage) (log : Log) (at_server : ServerId) (address : Address) → Follows recording old log → new ≡ record old { opens = old.opens + 1; refusals = new.refusals; late = new.late } → new.late.marks ≡ [] → is_refused (old.opens + 1) recording ≡ true → Follows recording new ((log ++ late_entries old.late) ++ entry.OpenFailed at_server address ∷ [])
+follows-refused recording old new log at_server address follows frame late refused =
+    let e = entry.OpenFailed at_server address in
+    let log1 = log ++ late_entries old.late in
+    let st = stands-marked recording old log follows in
+    let keeps : KeepsCourse old new = record {
+      cut = ap (λ s. s.cut) frame;
+      places = ap (λ s. s.places) frame;
+      opened = ap (λ s. s.opened) frame;
+      traffic = ap (λ s. s.traffic) frame;
+      admin = ap (λ s. s.admin) frame;
+      late = late;
+      links = λ at. ap (λ s. (track_at s.tracks.items at).link) frame;
+    } in
+    follows-plain recording old new log e follows (record { call = record { unmarked = refl; judge = λ l c. c }; due = λ l. refl })
+    (ap (λ (n : ℕ). is_refused (n + 1) recording) (sym st.opens) ∙ refused)
+    (sound-call recording old new log (late_entries old.late) e follows.sound keeps (sound-late recording old log follows.sound) refl (λ m. refl))
+    (subst (λ (s : Stage). Stands recording s (log1 ++ e ∷ [])) (sym frame)
+    (stands-alike recording old (old.opens + 1) new.refusals new.late log1 (log1 ++ e ∷ [])
+    (alike-idle recording log1 e (record { woke = refl; accepted = λ port. refl; opened = refl; known = λ r l. refl; named = λ links. refl; got = refl; open_is = λ was. refl }))
+    (ap (λ (n : ℕ). n + 1) st.opens ∙ sym (opens-more log1 e)) st))
+    (subst (Passed recording) (sym frame) (record { lines = follows.passed.lines; places = follows.passed.places }))
+    (none-late recording log1 e new.late refl refl late)
+
 -- The same of a tape.
 
-pub tape-stays : (recording : List RecordEntry) (old new : Stage) (before after : Option Log) (e : Entry) → IsTape recording old before → IsWithin recording new → Stays old new → Calls before (late_entries old.late) e after → ((log : Log) → before ≡ Some log → Follows recording old log → link_below (length old.places.items) (link_of e) ≡ true) → ((m : ℕ) → moment_step m e ≡ m) → IsIdle e → IsPlain recording e → is_opened e ≡ false → ((log : Log) → Follows recording old log → Stands recording old (log ++ late_entries old.late) → Answers recording (log ++ late_entries old.late) e) → ((log : Log) → Follows recording old log → Passed recording new) → IsTape recording new after
+pub tape-stays : (recording : List RecordEntry) (old new : Stage) (before after : Option Log) (e : Entry) → IsTape recording old before → IsWithin recording new → Stays old new → Calls before (late_entries old.late) e after → ((log : Log) → before ≡ Some log → Follows recording old log → link_below (length old.places.items) (link_of e) ≡ true) → ((m : ℕ) → moment_step m e ≡ m) → IsIdle e → IsPlain recording e → is_open_call e ≡ false → ((log : Log) → Follows recording old log → Stands recording old (log ++ late_entries old.late) → Answers recording (log ++ late_entries old.late) e) → ((log : Log) → Follows recording old log → Passed recording new) → IsTape recording new after
 tape-stays recording old new before after e tape within stays call low moment idle plain unopened answer passed =
     goes_on recording old new before after (late_entries old.late) e tape within call (λ log is follows.
     follows-stays recording old new log e follows stays (low log is follows) moment idle plain unopened (answer log follows (stands-marked recording old log follows)) (passed log follows))
 
-pub tape-stays-if : (recording : List RecordEntry) (old new : Stage) (before after : Option Log) (told : Option Entry) (e : Entry) → IsTape recording old before → IsWithin recording new → Stays old new → CallsIf before (late_entries old.late) told after → IfSome told (λ x. x ≡ e) → ((log : Log) → before ≡ Some log → Follows recording old log → link_below (length old.places.items) (link_of e) ≡ true) → ((m : ℕ) → moment_step m e ≡ m) → IsIdle e → IsPlain recording e → is_opened e ≡ false → ((log : Log) → Follows recording old log → Stands recording old (log ++ late_entries old.late) → Answers recording (log ++ late_entries old.late) e) → ((log : Log) → Follows recording old log → Passed recording new) → IsTape recording new after
+pub tape-stays-if : (recording : List RecordEntry) (old new : Stage) (before after : Option Log) (told : Option Entry) (e : Entry) → IsTape recording old before → IsWithin recording new → Stays old new → CallsIf before (late_entries old.late) told after → IfSome told (λ x. x ≡ e) → ((log : Log) → before ≡ Some log → Follows recording old log → link_below (length old.places.items) (link_of e) ≡ true) → ((m : ℕ) → moment_step m e ≡ m) → IsIdle e → IsPlain recording e → is_open_call e ≡ false → ((log : Log) → Follows recording old log → Stands recording old (log ++ late_entries old.late) → Answers recording (log ++ late_entries old.late) e) → ((log : Log) → Follows recording old log → Passed recording new) → IsTape recording new after
 tape-stays-if recording old new before after told e tape within stays call is low moment idle plain unopened answer passed =
     goes_on_if recording old new before after (late_entries old.late) told e tape within call is (λ log told_is follows.
     follows-stays recording old new log e follows stays (low log told_is follows) moment idle plain unopened (answer log follows (stands-marked recording old log follows)) (passed log follows))
@@ -255,7 +288,7 @@ pub open-in : (told shown : Option Log) (link : LinkId) (log : Log) → told ≡
 open-in told shown link log same opened is = opened.holds log (sym same ∙ is)
 
 -- a search, and then the late marks are told
-pub stays-search : (recording : List RecordEntry) (found : Option ToName) (old mid new : Stage) → Searches recording found old mid → new ≡ record mid { late = new.late } → new.late.marks ≡ 0 → Stays old new
+pub stays-search : (recording : List RecordEntry) (found : Option ToName) (old mid new : Stage) → Searches recording found old mid → new ≡ record mid { late = new.late } → new.late.marks ≡ [] → Stays old new
 stays-search recording found old mid new looks frame late = record {
   frame = frame ∙ ap {A = Stage} (λ s. record s { late = new.late }) looks.frame
       ∙ ap (λ line. record old { late = new.late; line = line; link = mid.link }) (sym (ap (λ s. s.line) frame))

@@ -26,7 +26,7 @@ use Rattle.recording.specs.Playable.{PlayableAfter}
 use Rattle.mem_wire.specs.Follows.{IsSound, Follows, Continues, HaveSalts}
 use Rattle.mem_wire.specs.Steps.{Enters, Accepts, Opens, Wakes, numbered, next_link, clients_of, accepted_of}
 use Rattle.mem_wire.specs.declared.late.Late.{Late}
-use Rattle.mem_wire.proofs.Links.{late-marks, late-below, is_below, links_below-append, links_below-more, all_below-append, AreGood, good-append, marks-good, marks-append, marks-of}
+use Rattle.mem_wire.proofs.Links.{late_are, late-below, is_below, links_below-append, links_below-more, all_below-append, AreGood, good-append, marks-good, marks-append, marks-of}
 use Rattle.mem_wire.proofs.Quiet.{moment-marks}
 use Rattle.std.proofs.lemmas.Option.{slice_get_within}
 use Rattle.mem_wire.specs.declared.naming.ToName.{ToName}
@@ -44,9 +44,6 @@ sound-moved recording old new log e follows moved low idle =
     sound-call recording old new log (late_entries old.late) e follows.sound (keeps-moved old new moved) (sound-late recording old log follows.sound) low idle
 
 -- The same of a tape.
-
-pub late_are : (late : Late) → AreMarks (late_entries late)
-late_are late = late-marks late.marks late.link
 
 -- a caller's link is below the number of links
 pub low-if-open : (recording : List RecordEntry) (s : Stage) (told shown : Option Log) (link : LinkId) → told ≡ shown → OpenFor shown link → (log : Log) → told ≡ Some log → Follows recording s log → nat_lt link.0 (length s.places.items) ≡ true
@@ -77,7 +74,7 @@ sound-opens recording old new server address log follows opens =
     sound-enters recording old new (2 * length new.opened.items + 1) log (entry.Opened server address (next_link old)) follows opens.enters
     (ap (λ s. s.cut) opens.frame) (ap (λ s. s.traffic) opens.frame) (ap (λ s. s.admin) opens.frame)
     (ap (links_below (n + 1)) opens.opened ∙ opened-more n old.opened.items follows.sound.opened)
-    (ap (λ late. all_below (n + 1) (late_entries late)) opens.late ∙ late-below (track_at new.tracks.items (2 * length new.opened.items + 1)).marks (n + 1) (next_link old) (omega arith))
+    (ap (λ late. all_below (n + 1) (late_entries late)) opens.late ∙ late-below (track_at old.tracks.items (2 * length new.opened.items + 1)).marks (n + 1) (next_link old) (omega arith))
     refl (λ m. refl)
 
 pub new-link : (recording : List RecordEntry) (s : Stage) (log : Log) → Follows recording s log → IsNew (next_link s) (log ++ late_entries s.late)

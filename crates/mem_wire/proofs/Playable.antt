@@ -33,6 +33,8 @@ salts-of port moment clients (suc k) (line.At ms ∷ lines) can = salts-of port 
 salts-of port moment clients (suc k) (line.Accept n at salt ∷ lines) can = one-salt (is_port port at) n salt (clients_at port (take k lines)) can.1 (salts-of port moment (clients + 1) k lines can.2)
 salts-of port moment clients (suc k) (line.Bytes link bytes ∷ lines) can = salts-of port moment clients k lines can.2
 salts-of port moment clients (suc k) (line.Exec j ∷ lines) can = salts-of port moment clients k lines can.1
+salts-of port moment clients (suc k) (line.Drop j ∷ lines) can = salts-of port moment clients k lines can.1
+salts-of port moment clients (suc k) (line.Refuse j ∷ lines) can = salts-of port moment clients k lines can
 salts-of port moment clients (suc k) (_ ∷ lines) can = absurd can
 
 pub playable-skip : (moment clients k : ℕ) (lines : List RecordEntry) → PlayableAfter moment clients lines → NoMoment (take k lines) → Continues moment (drop k lines)
@@ -42,6 +44,8 @@ playable-skip moment clients (suc k) (line.At ms ∷ lines) can none = absurd (l
 playable-skip moment clients (suc k) (line.Accept n at salt ∷ lines) can none = playable-skip moment (clients + 1) k lines can.2 none.1
 playable-skip moment clients (suc k) (line.Bytes link bytes ∷ lines) can none = playable-skip moment clients k lines can.2 none.1
 playable-skip moment clients (suc k) (line.Exec j ∷ lines) can none = playable-skip moment clients k lines can.1 none.1
+playable-skip moment clients (suc k) (line.Drop j ∷ lines) can none = playable-skip moment clients k lines can.1 none.1
+playable-skip moment clients (suc k) (line.Refuse j ∷ lines) can none = playable-skip moment clients k lines can none.1
 playable-skip moment clients (suc k) (_ ∷ lines) can none = absurd can
 
 -- the rest of the lines begins with this moment

@@ -10,10 +10,10 @@ use Rattle.mx_wire.specs.Growth.{bytes-idle}
 use Rattle.mx_wire.specs.declared.entry.Entry.{Entry}
 use Rattle.mx_wire.specs.declared.entry.Entry.TheVariants as entry
 use Rattle.recording.specs.declared.entry.RecordEntry.{RecordEntry}
-use Rattle.mem_wire.specs.Came.{is_woke, wakes, is_accepted_at, accepted_at, known, known_by}
-use Rattle.mem_wire.specs.Play.{named_step, named_since, is_mark, is_opened, last_marks, just_opened}
-use Rattle.mem_wire.proofs.Quiet.{is_open-idle}
-use Rattle.mem_wire.specs.CameLaws.{wakes-more, accepted-more, known-more, named-more}
+use Rattle.mem_wire.specs.Came.{is_woke, wakes, is_accepted_at, accepted_at, is_open_call, opens, known, known_by}
+use Rattle.mem_wire.specs.Play.{named_step, named_since, is_mark, last_marks, just_opened}
+use Rattle.mem_wire.proofs.Quiet.{quiet, is_open-idle}
+use Rattle.mem_wire.specs.CameLaws.{wakes-more, accepted-more, opens-more, known-more, named-more}
 
 one_or_none : Bool → Entry → Log
 one_or_none b e = if b then e ∷ [] else []
@@ -24,8 +24,8 @@ opened-more log e = filter_map-append opened_link log (e ∷ [])
 pub marks-more : (log : Log) (e : Entry) → last_marks (log ++ e ∷ []) ≡ (if is_mark e then last_marks log ++ e ∷ [] else [])
 marks-more log e = fold-append (λ marks e. if is_mark e then marks ++ e ∷ [] else []) [] log (e ∷ [])
 
-pub just-more : (log : Log) (e : Entry) → just_opened (log ++ e ∷ []) ≡ (if is_mark e then just_opened log else is_opened e)
-just-more log e = fold-append (λ was e. if is_mark e then was else is_opened e) false log (e ∷ [])
+pub just-more : (log : Log) (e : Entry) → just_opened (log ++ e ∷ []) ≡ (if is_mark e then just_opened log else opened_link e)
+just-more log e = fold-append (λ was e. if is_mark e then was else opened_link e) None log (e ∷ [])
 
 -- an entry that a play doesn't look at
 pub record IsIdle (e : Entry) : Type 0 where
@@ -83,6 +83,17 @@ alike-marks recording log (e ∷ marks) are =
     subst (Alike recording log) (append_assoc log (e ∷ []) marks)
     (alike-then recording log (log ++ e ∷ []) ((log ++ e ∷ []) ++ marks) (alike-idle recording log e (idle-mark e are.0)) (alike-marks recording (log ++ e ∷ []) marks are.1))
 
+pub opens-same : (log : Log) (e : Entry) → is_open_call e ≡ false → opens (log ++ e ∷ []) ≡ opens log
+opens-same log e other = opens-more log e ∙ ap (λ b. opens log + length (if b then e ∷ [] else [])) other ∙ add-zero (opens log)
+
+no-open : (e : Entry) → IsMark e → is_open_call e ≡ false
+no-open (entry.Exec link) mark = refl
+no-open (entry.Drop link) mark = refl
+no-open _ mark = absurd mark
+
+pub opens-marks : (log marks : Log) → AreMarks marks → opens (log ++ marks) ≡ opens log
+opens-marks log marks are = quiet opens (λ before e mark. opens-same before e (no-open e mark)) log marks are
+
 mark-is : (e : Entry) → IsMark e → is_mark e ≡ true
 mark-is (entry.Exec link) mark = refl
 mark-is (entry.Drop link) mark = refl
@@ -90,7 +101,7 @@ mark-is _ mark = absurd mark
 
 pub just-marks : (log marks : Log) → AreMarks marks → just_opened (log ++ marks) ≡ just_opened log
 just-marks log [] are = ap just_opened (append-nil log)
-just-marks log (e ∷ marks) are = ap just_opened (sym (append_assoc log (e ∷ []) marks)) ∙ just-marks (log ++ e ∷ []) marks are.1 ∙ just-more log e ∙ ap (λ b. if b then just_opened log else is_opened e) (mark-is e are.0)
+just-marks log (e ∷ marks) are = ap just_opened (sym (append_assoc log (e ∷ []) marks)) ∙ just-marks (log ++ e ∷ []) marks are.1 ∙ just-more log e ∙ ap (λ b. if b then just_opened log else opened_link e) (mark-is e are.0)
 
 pub last-marks : (log marks : Log) → AreMarks marks → last_marks (log ++ marks) ≡ last_marks log ++ marks
 last-marks log [] are = ap last_marks (append-nil log) ∙ sym (append-nil (last_marks log))

@@ -14,7 +14,7 @@ use Rattle.recording.specs.declared.entry.RecordEntry.{RecordEntry}
 use Rattle.mem_wire.specs.declared.track.Track.{Track}
 use Rattle.mem_wire.specs.declared.stage.Stage.{Stage}
 use Rattle.mem_wire.specs.Lines.{clients_at}
-use Rattle.mem_wire.specs.Came.{is_woke, wakes, accepted_at, known, known_by, Known}
+use Rattle.mem_wire.specs.Came.{is_woke, wakes, accepted_at, opens, known, known_by, Known}
 use Rattle.mem_wire.specs.Play.{named_since, named_step}
 use Rattle.mem_wire.specs.Tracks.{track_at, place}
 use Rattle.mem_wire.specs.Steps.{numbered, next_link, clients_of, accepted_of, Enters}
@@ -94,8 +94,8 @@ mine-enters lines last cut n log e name t below brings none fits =
 none_some : (link : LinkId) → None ≡ Some link → ⊥
 none_some link is = cc
 
-pub stands-enters : (recording : List RecordEntry) (old new : Stage) (log : Log) (e : Entry) (at : ℕ) (name : RecordLink) → Stands recording old log → ((spot : ℕ) (link : LinkId) → (track_at old.tracks.items spot).link ≡ Some link → slice_get old.places.items link.0 ≡ Some spot) → all_below (length old.places.items) log ≡ true → Enters at old new → new.cut ≡ old.cut → new.last ≡ old.last → ((port : Port) → clients_of port new ≡ clients_of port old) → ((port : Port) → accepted_of port new ≡ accepted_at port (log ++ e ∷ [])) → opened_links (log ++ e ∷ []) ≡ new.opened.items → place name ≡ at → (track_at old.tracks.items at).link ≡ None → known_by recording log e ≡ record { link = next_link old; name = name } ∷ [] → ((spot : ℕ) → Entered old spot → Entered new spot) → Entered new at → Brings_link (next_link old) e → Stands recording new (log ++ e ∷ [])
-stands-enters recording old new log e at name st linked below enters cut last clients accepted opened spot_is none known_is entered entered_at brings =
+pub stands-enters : (recording : List RecordEntry) (old new : Stage) (log : Log) (e : Entry) (at : ℕ) (name : RecordLink) → Stands recording old log → ((spot : ℕ) (link : LinkId) → (track_at old.tracks.items spot).link ≡ Some link → slice_get old.places.items link.0 ≡ Some spot) → all_below (length old.places.items) log ≡ true → Enters at old new → new.cut ≡ old.cut → new.last ≡ old.last → ((port : Port) → clients_of port new ≡ clients_of port old) → ((port : Port) → accepted_of port new ≡ accepted_at port (log ++ e ∷ [])) → opened_links (log ++ e ∷ []) ≡ new.opened.items → new.opens ≡ opens (log ++ e ∷ []) → place name ≡ at → (track_at old.tracks.items at).link ≡ None → known_by recording log e ≡ record { link = next_link old; name = name } ∷ [] → ((spot : ℕ) → Entered old spot → Entered new spot) → Entered new at → Brings_link (next_link old) e → Stands recording new (log ++ e ∷ [])
+stands-enters recording old new log e at name st linked below enters cut last clients accepted opened opens_is spot_is none known_is entered entered_at brings =
     let n = length old.places.items in
     let woke : wakes (log ++ e ∷ []) ≡ wakes log = wakes-more log e ∙ ap (λ b. wakes log + length (if b then e ∷ [] else [])) brings.woke ∙ add-zero (wakes log) in
     let change : Track → Track = λ t. record t { link = Some (next_link old) } in
@@ -109,6 +109,7 @@ stands-enters recording old new log e at name st linked below enters cut last cl
       clients = λ port. clients port ∙ st.clients port ∙ ap (λ (c : ℕ). clients_at port (take c recording)) (sym cut);
       accepted = accepted;
       opened = opened;
+      opens = opens_is;
       links = subst (λ (ps : List ℕ). Numbered 0 (known recording (log ++ e ∷ [])) ps) (sym enters.places)
           (subst (λ (ks : List Known). Numbered 0 ks (old.places.items ++ at ∷ [])) (sym (known-more recording log e ∙ ap (λ ks. known recording log ++ ks) known_is))
           (numbered-more 0 (known recording log) old.places.items (record { link = next_link old; name = name }) at st.links (ap numbered (let z : n ≡ 0 + n = omega arith in z)) spot_is));

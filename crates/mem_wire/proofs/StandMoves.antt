@@ -16,13 +16,13 @@ use Rattle.recording.specs.declared.entry.RecordEntry.{RecordEntry}
 use Rattle.mem_wire.specs.declared.track.Track.{Track}
 use Rattle.mem_wire.specs.declared.stage.Stage.{Stage}
 use Rattle.mem_wire.specs.Lines.{bytes_for}
-use Rattle.mem_wire.specs.Came.{is_woke, is_accepted_at, wakes, accepted_at, known, known_by, Known}
+use Rattle.mem_wire.specs.Came.{is_woke, is_accepted_at, wakes, accepted_at, is_open_call, known, known_by, Known}
 use Rattle.mem_wire.specs.Play.{named_since}
 use Rattle.mem_wire.specs.Tracks.{track_at, place, SameLinks, ChangesTrack}
 use Rattle.mem_wire.specs.Steps.{clients_of, accepted_of}
 use Rattle.mem_wire.specs.Naming.{is_named}
 use Rattle.mem_wire.specs.Stands.{CutsAt, Numbered, read_by, is_in, Fits, Stands}
-use Rattle.mem_wire.proofs.Scenes.{opened-more}
+use Rattle.mem_wire.proofs.Scenes.{opened-more, opens-same}
 use Rattle.mem_wire.specs.CameLaws.{wakes-more, accepted-more, known-more, named-more}
 use Rattle.mem_wire.proofs.StandSteps.{AlikeBut, each-track, fits-but, other-links, entered-like}
 use Rattle.mem_wire.proofs.Quiet.{is_open-idle}
@@ -58,8 +58,8 @@ present [] (suc at) link is = cc
 present (t ∷ tracks) zero link is = omega arith
 present (t ∷ tracks) (suc at) link is = let later : at < length tracks = present tracks at link is in omega arith
 
-pub stands-moves : (recording : List RecordEntry) (old new : Stage) (log : Log) (e : Entry) (but : LinkId) (at : ℕ) (change : Track → Track) → Stands recording old log → ((spot : ℕ) (link : LinkId) → (track_at old.tracks.items spot).link ≡ Some link → slice_get old.places.items link.0 ≡ Some spot) → new ≡ record old { tracks = new.tracks; late = new.late; line = new.line; link = new.link } → ChangesTrack at change old.tracks.items new.tracks.items → SameLinks old.tracks.items new.tracks.items → slice_get old.places.items but.0 ≡ Some at → Brings_nothing e → AlikeBut but log (log ++ e ∷ []) → ((name : RecordLink) → place name ≡ at → Fits (take old.cut recording) old.last old.cut log name (track_at old.tracks.items (place name)) → Fits (take old.cut recording) old.last old.cut (log ++ e ∷ []) name (change (track_at old.tracks.items (place name)))) → Stands recording new (log ++ e ∷ [])
-stands-moves recording old new log e but at change st linked frame changes links here brings but_is mine =
+pub stands-moves : (recording : List RecordEntry) (old new : Stage) (log : Log) (e : Entry) (but : LinkId) (at : ℕ) (change : Track → Track) → Stands recording old log → ((spot : ℕ) (link : LinkId) → (track_at old.tracks.items spot).link ≡ Some link → slice_get old.places.items link.0 ≡ Some spot) → new ≡ record old { tracks = new.tracks; late = new.late; line = new.line; link = new.link } → ChangesTrack at change old.tracks.items new.tracks.items → SameLinks old.tracks.items new.tracks.items → slice_get old.places.items but.0 ≡ Some at → Brings_nothing e → is_open_call e ≡ false → AlikeBut but log (log ++ e ∷ []) → ((name : RecordLink) → place name ≡ at → Fits (take old.cut recording) old.last old.cut log name (track_at old.tracks.items (place name)) → Fits (take old.cut recording) old.last old.cut (log ++ e ∷ []) name (change (track_at old.tracks.items (place name)))) → Stands recording new (log ++ e ∷ [])
+stands-moves recording old new log e but at change st linked frame changes links here brings unopened but_is mine =
     let woke : wakes (log ++ e ∷ []) ≡ wakes log = wakes-more log e ∙ ap (λ b. wakes log + length (if b then e ∷ [] else [])) brings.woke ∙ add-zero (wakes log) in
     let known_is : known recording (log ++ e ∷ []) ≡ known recording log = known-more recording log e ∙ ap (λ ks. known recording log ++ ks) (brings.known recording log) ∙ append-nil (known recording log) in
     let opened_is : opened_links (log ++ e ∷ []) ≡ opened_links log = opened-more log e ∙ ap (λ o. opened_links log ++ cons_option o []) brings.opened ∙ append-nil (opened_links log) in
@@ -71,6 +71,7 @@ stands-moves recording old new log e but at change st linked frame changes links
       clients = λ port. clients-now old new port ∙ st.clients port;
       accepted = λ port. accepted-now old new port ∙ st.accepted port ∙ sym (accepted-more port log e ∙ ap (λ b. accepted_at port log + length (if b then e ∷ [] else [])) (brings.accepted port) ∙ add-zero (accepted_at port log));
       opened = opened_is ∙ st.opened;
+      opens = st.opens ∙ sym (opens-same log e unopened);
       links = subst (λ (ks : List Known). Numbered 0 ks old.places.items) (sym known_is) st.links;
       placed = λ number spot is. links spot ∙ st.placed number spot is;
       entered = λ spot link is. entered-like old now spot (clients-now old new) (accepted-now old new) refl (st.entered spot link (sym (links spot) ∙ is));

@@ -55,6 +55,7 @@ stands-stay recording s log late line link st = record {
   clients = clients-stay recording s log late line link st;
   accepted = accepted-stay recording s log late line link st;
   opened = st.opened;
+  opens = st.opens;
   links = st.links;
   placed = st.placed;
   entered = λ at owner is. entered-like s (record s { late = late; line = line; link = link }) at (λ port. same-clients s late line link port) (λ port. same-accepted s late line link port) refl (st.entered at owner is);

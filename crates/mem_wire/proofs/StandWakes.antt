@@ -16,14 +16,14 @@ use Rattle.mem_wire.specs.declared.track.Track.{Track}
 use Rattle.mem_wire.specs.declared.stage.Stage.{Stage}
 use Rattle.mem_wire.specs.Lines.{waiting_at, clients_at, bytes_for, marks_for}
 use Rattle.mem_wire.specs.Cuts.{NoMoment, EndsAtMoment, first_moment}
-use Rattle.mem_wire.specs.Came.{wakes, accepted_at, known, Known}
+use Rattle.mem_wire.specs.Came.{wakes, accepted_at, opens, known, Known}
 use Rattle.mem_wire.specs.Play.{named_since}
 use Rattle.mem_wire.specs.Tracks.{track_at, place, given}
 use Rattle.mem_wire.specs.Steps.{clients_of, accepted_of, Wakes}
 use Rattle.mem_wire.specs.Naming.{is_named}
 use Rattle.mem_wire.specs.Stands.{CutsAt, Numbered, read_by, is_in, Fits, Stands, Entered, client, server}
 use Rattle.mem_wire.proofs.Scenes.{opened-more}
-use Rattle.mem_wire.specs.CameLaws.{wakes-more, accepted-more, known-more, named-more}
+use Rattle.mem_wire.specs.CameLaws.{wakes-more, accepted-more, opens-more, known-more, named-more}
 use Rattle.mem_wire.proofs.Quiet.{is_open-idle}
 use Rattle.mem_wire.proofs.LineLaws.{bytes_for-append, marks_for-append, released-links}
 use Rattle.mem_wire.proofs.CutLaws.{cut-next}
@@ -53,7 +53,7 @@ fits-woke : (front lines all : List RecordEntry) (last cut next : ℕ) (log : Lo
 fits-woke front lines all last cut next log until_ms ms name t parts later fits =
     let e = entry.Woke until_ms ms in
     record {
-      marks = ap (λ (m : ℕ). m + marks_for name lines) fits.marks ∙ sym (ap (marks_for name) parts ∙ marks_for-append name front lines);
+      marks = ap (λ m. m ++ marks_for name lines) fits.marks ∙ sym (ap (marks_for name) parts ∙ marks_for-append name front lines);
       bytes = ap (λ bs. bs ++ (t.unread ++ bytes_for name lines)) (read-woke t.link log until_ms ms)
           ∙ sym (append_assoc (read_by t.link log) t.unread (bytes_for name lines)) ∙ ap (λ bs. bs ++ bytes_for name lines) fits.bytes
           ∙ sym (ap (bytes_for name) parts ∙ bytes_for-append name front lines);
@@ -96,6 +96,7 @@ stands-wakes recording old new log ms count until_ms rest st is first some most 
       clients = λ port. clients-woke recording lines (old.cut + length lines) old new port step ∙ ap (λ cs. cs ++ clients_at port lines) (st.clients port) ∙ sym (ap (clients_at port) parts ∙ filter_map-append (waiting_at port) (take old.cut recording) lines);
       accepted = λ port. accepted-woke lines (old.cut + length lines) old new port step ∙ st.accepted port ∙ sym (accepted-more port log e ∙ add-zero (accepted_at port log));
       opened = opened_is ∙ st.opened ∙ sym (ap (λ s. s.opened.items) step.frame);
+      opens = ap (λ s. s.opens) step.frame ∙ st.opens ∙ sym (opens-more log e ∙ add-zero (opens log));
       links = subst (λ (ps : List ℕ). Numbered 0 (known recording (log ++ e ∷ [])) ps) (sym (ap (λ s. s.places.items) step.frame)) (subst (λ (ks : List Known). Numbered 0 ks old.places.items) (sym known_is) st.links);
       placed = λ number spot here. released-links lines old.tracks.items new.tracks.items step.tracks spot ∙ st.placed number spot (ap (λ (ps : List ℕ). slice_get ps number) (sym (ap (λ s. s.places.items) step.frame)) ∙ here);
       entered = λ spot link owner. entered-woke recording lines (old.cut + length lines) old new spot step (st.entered spot link (sym (released-links lines old.tracks.items new.tracks.items step.tracks spot) ∙ owner));

@@ -4,19 +4,23 @@ use Rattle.std.specs.Prelude.{IfSome, slice_get, not, if◌then◌else◌}
 use Rattle.std.specs.List.{find}
 use Rattle.mx_base.specs.declared.names.LinkId.{LinkId}
 use Rattle.mx_base.specs.declared.names.Port.{Port}
+use Rattle.mx_base.specs.declared.names.Port.TheVariants.{Traffic, Admin}
 use Rattle.mx_wire.specs.Log.{Log, read_of, is_open}
 use Rattle.recording.specs.declared.entry.RecordLink.{RecordLink}
 use Rattle.recording.specs.declared.entry.RecordEntry.{RecordEntry}
 use Rattle.mem_wire.specs.declared.track.Track.{Track}
+use Rattle.mem_wire.specs.declared.late.Late.{Late}
+use Rattle.mem_wire.specs.declared.refusals.Refusals.{Refusals}
 use Rattle.mem_wire.specs.declared.stage.Stage.{Stage}
 use Rattle.mem_wire.specs.Lines.{clients_at, bytes_for, released}
-use Rattle.mem_wire.specs.Came.{wakes, accepted_at, next_client, Known, known, with_link, unread}
+use Rattle.mem_wire.specs.Came.{wakes, accepted_at, opens, next_client, Known, known, with_link, unread}
 use Rattle.mem_wire.specs.Play.{named_since}
 use Rattle.mem_wire.specs.Tracks.{track_at, place}
 use Rattle.mem_wire.specs.Steps.{clients_of, accepted_of, numbered}
 use Rattle.mem_wire.specs.Naming.{is_named}
 use Rattle.mem_wire.specs.Stands.{CutsAt, Numbered, read_by, is_in, Fits, Stands}
 use Rattle.mem_wire.proofs.Scenes.{Alike}
+use Rattle.mem_wire.proofs.StandSteps.{entered-like}
 use Rattle.mem_wire.proofs.CutLaws.{cut-released}
 
 if-same : {A : Type 0} (o : Option A) (P Q : A → Type 0) → ((x : A) → P x → Q x) → IfSome o P → IfSome o Q
@@ -37,17 +41,30 @@ fits-alike recording lines last cut old new name t alike fits = record {
   stamp = fits.stamp;
 }
 
-pub stands-alike : (recording : List RecordEntry) (s : Stage) (old new : Log) → Alike recording old new → Stands recording s old → Stands recording s new
-stands-alike recording s old new alike st = record {
+-- the stage with so many opens
+abbrev Asked : Stage → ℕ → Refusals → Late → Stage
+Asked s n refusals late = record s { opens = n; refusals = refusals; late = late }
+
+clients-same : (s : Stage) (n : ℕ) (refusals : Refusals) (late : Late) (port : Port) → clients_of port (Asked s n refusals late) ≡ clients_of port s
+clients-same s n refusals late Traffic = refl
+clients-same s n refusals late Admin = refl
+
+accepted-same : (s : Stage) (n : ℕ) (refusals : Refusals) (late : Late) (port : Port) → accepted_of port (Asked s n refusals late) ≡ accepted_of port s
+accepted-same s n refusals late Traffic = refl
+accepted-same s n refusals late Admin = refl
+
+pub stands-alike : (recording : List RecordEntry) (s : Stage) (n : ℕ) (refusals : Refusals) (late : Late) (old new : Log) → Alike recording old new → n ≡ opens new → Stands recording s old → Stands recording (Asked s n refusals late) new
+stands-alike recording s n refusals late old new alike count st = record {
   cut = subst (CutsAt recording s.cut) (sym alike.woke) st.cut;
   last = subst (λ (n : ℕ). CutsAt recording s.last (n - 1)) (sym alike.woke) st.last;
   wake = st.wake;
-  clients = st.clients;
-  accepted = λ port. st.accepted port ∙ sym (alike.accepted port);
+  clients = λ port. clients-same s n refusals late port ∙ st.clients port;
+  accepted = λ port. accepted-same s n refusals late port ∙ st.accepted port ∙ sym (alike.accepted port);
   opened = alike.opened ∙ st.opened;
+  opens = count;
   links = subst (λ (ks : List Known). Numbered 0 ks s.places.items) (sym alike.links) st.links;
   placed = st.placed;
-  entered = st.entered;
+  entered = λ at link is. entered-like s (Asked s n refusals late) at (clients-same s n refusals late) (accepted-same s n refusals late) refl (st.entered at link is);
   tracks = λ name. fits-alike recording (take s.cut recording) s.last s.cut old new name (track_at s.tracks.items (place name)) alike (st.tracks name);
 }
 

@@ -5,7 +5,7 @@ use Rattle.mx_base.specs.declared.names.LinkId.{LinkId}
 use Rattle.mx_base.specs.declared.names.Port.{Port}
 use Rattle.mx_wire.specs.Log.{Log, opened_links, read_of}
 use Rattle.mx_wire.specs.declared.entry.Entry.{Entry}
-use Rattle.mx_wire.specs.declared.entry.Entry.TheVariants.{Woke, Accepted, Opened}
+use Rattle.mx_wire.specs.declared.entry.Entry.TheVariants.{Woke, Accepted, Opened, OpenFailed}
 use Rattle.recording.specs.declared.entry.RecordLink.{RecordLink}
 use Rattle.recording.specs.declared.entry.RecordLink.TheVariants.{Client, Server}
 use Rattle.recording.specs.declared.entry.RecordEntry.{RecordEntry}
@@ -27,6 +27,15 @@ is_accepted_at port _ = false
 -- how many clients were accepted at the port
 abbrev pub accepted_at : Port → Log → ℕ
 accepted_at port log = length (filter (is_accepted_at port) log)
+
+-- how many opens there were, also those that failed
+abbrev pub is_open_call : Entry → Bool
+is_open_call (Opened server address link) = true
+is_open_call (OpenFailed server address) = true
+is_open_call _ = false
+
+abbrev pub opens : Log → ℕ
+opens log = length (filter is_open_call log)
 
 -- the client that waits at the port as the next one
 abbrev pub next_client : List RecordEntry → Log → Port → Option Waiting

@@ -1,8 +1,8 @@
 -- What a play of a recording is.
-use Rattle.std.specs.Prelude.{◌≡◌, ℕ, ◌+◌, ◌-◌, ◌<◌, ◌≤◌, ◌&&◌, not, Bool, true, false, nat_eq, if◌then◌else◌, List, [], ◌∷◌, ◌++◌, length, filter, fold, slice_get, Option, Some, None}
+use Rattle.std.specs.Prelude.{◌≡◌, ℕ, ◌+◌, ◌-◌, ◌<◌, ◌≤◌, ◌&&◌, not, Bool, true, false, nat_eq, if◌then◌else◌, List, [], ◌∷◌, ◌++◌, length, fold, slice_get, Option, Some, None}
 use Rattle.std.specs.List.{filter_map, find, list_any}
 use Rattle.mx_base.specs.declared.names.LinkId.{LinkId}
-use Rattle.mx_wire.specs.Log.{Log, opened_links, is_open}
+use Rattle.mx_wire.specs.Log.{Log, opened_link, opened_links, is_open}
 use Rattle.mx_wire.specs.Moments.{AllLawful}
 use Rattle.mx_wire.specs.declared.entry.Entry.{Entry}
 use Rattle.mx_wire.specs.declared.entry.Entry.TheVariants as entry
@@ -10,8 +10,11 @@ use Rattle.recording.specs.declared.entry.RecordLink.TheVariants.{Server}
 use Rattle.recording.specs.declared.entry.RecordEntry.{RecordEntry}
 use Rattle.recording.specs.declared.entry.RecordEntry.TheVariants as line
 use Rattle.mem_wire.specs.declared.waiting.Waiting.{Waiting}
-use Rattle.mem_wire.specs.Lines.{moments, released, released_last, is_mark_for, name_at}
-use Rattle.mem_wire.specs.Came.{wakes, next_client, Known, known, with_link, with_name, unread_of, unread}
+use Rattle.mem_wire.specs.declared.marks.Mark.{Mark}
+use Rattle.mem_wire.specs.declared.marks.Mark.TheVariants as mark
+use Rattle.mem_wire.specs.Marks.{mark_entry, entries_of}
+use Rattle.mem_wire.specs.Lines.{moments, released, released_last, marks_for, is_refused, name_at}
+use Rattle.mem_wire.specs.Came.{wakes, opens, next_client, Known, known, with_link, with_name, unread_of, unread}
 
 -- Which links a wake names.
 
@@ -54,25 +57,23 @@ is_mark _ = false
 abbrev pub last_marks : Log → Log
 last_marks log = fold (λ marks e. if is_mark e then marks ++ e ∷ [] else []) [] log
 
-abbrev pub is_opened : Entry → Bool
-is_opened (entry.Opened server address link) = true
-is_opened _ = false
+-- the link that was opened, where the last entry that is no mark says so
+abbrev pub just_opened : Log → Option LinkId
+just_opened log = fold (λ was e. if is_mark e then was else opened_link e) None log
 
--- the last entry that is no mark says that a link was opened
-abbrev pub just_opened : Log → Bool
-just_opened log = fold (λ was e. if is_mark e then was else is_opened e) false log
+-- the mark of an `exec` or `drop` line, where its link has been opened
+abbrev pub mark_on : Option LinkId → Mark → Option Entry
+mark_on (Some link) m = Some (mark_entry link m)
+mark_on None m = None
 
--- the mark of an `exec` line, where its link has been opened
 abbrev pub mark_at : List LinkId → RecordEntry → Option Entry
-mark_at links (line.Exec k) = elim (slice_get links (k - 1)) [ Some link ↦ Some (entry.Exec link) | None ↦ None ]
+mark_at links (line.Exec k) = mark_on (slice_get links (k - 1)) mark.Exec
+mark_at links (line.Drop k) = mark_on (slice_get links (k - 1)) mark.Drop
 mark_at links _ = None
 
 -- those of the link that was opened just before, which the wakes before had released
 abbrev pub late_marks : List RecordEntry → Log → Log
-late_marks recording log =
-    if just_opened log
-    then filter_map (mark_at (opened_links log)) (filter (is_mark_for (Server (length (opened_links log)))) (released (wakes log) recording))
-    else []
+late_marks recording log = elim (just_opened log) [ Some link ↦ entries_of link (marks_for (Server (length (opened_links log))) (released (wakes log) recording)) | None ↦ [] ]
 
 -- and before a wake those of its own lines
 abbrev pub due_marks : List RecordEntry → Log → Entry → Log
@@ -104,7 +105,8 @@ Answers recording before (entry.Named link) = Names (next_named recording before
 Answers recording before entry.NoneNamed = next_named recording before ≡ None
 Answers recording before (entry.Accepted port link salt) = Brings (next_client recording before port) salt
 Answers recording before (entry.AcceptNothing port) = next_client recording before port ≡ None
-Answers recording before (entry.Opened server address link) = Unit {0}
+Answers recording before (entry.Opened server address link) = is_refused (opens before + 1) recording ≡ false
+Answers recording before (entry.OpenFailed server address) = is_refused (opens before + 1) recording ≡ true
 Answers recording before (entry.Got link bytes) = Reads (unread recording before (with_link link (known recording before))) bytes
 Answers recording before (entry.ReadNothing link) = unread recording before (with_link link (known recording before)) ≡ []
 Answers recording before (entry.Wrote link tag bytes) = 0 < length bytes
@@ -115,9 +117,10 @@ pub record IsCallOf (recording : List RecordEntry) (before : Log) (e : Entry) : 
   pub marks : last_marks before ≡ due_marks recording before e
   pub answer : Answers recording before e
 
--- An `exec` mark is judged at the entry that it stands before.
+-- A mark is judged at the entry that it stands before.
 abbrev pub IsAnswerOf : List RecordEntry → Log → Entry → Type 0
 IsAnswerOf recording before (entry.Exec link) = Unit {0}
+IsAnswerOf recording before (entry.Drop link) = Unit {0}
 IsAnswerOf recording before e = IsCallOf recording before e
 
 -- Each answer of the wire is the one that the recording gives at that place.

@@ -11,7 +11,7 @@ use Rattle.mem_wire.specs.declared.track.Track.{Track}
 use Rattle.mem_wire.specs.declared.stage.Stage.{Stage}
 use Rattle.mem_wire.specs.Lines.{moments, clients_at, bytes_for, marks_for}
 use Rattle.mem_wire.specs.Cuts.{EndsAtMoment}
-use Rattle.mem_wire.specs.Came.{wakes, accepted_at, Known, known}
+use Rattle.mem_wire.specs.Came.{wakes, accepted_at, opens, Known, known}
 use Rattle.mem_wire.specs.Play.{named_since}
 use Rattle.mem_wire.specs.Tracks.{track_at, place}
 use Rattle.mem_wire.specs.Steps.{clients_of, accepted_of, numbered}
@@ -57,6 +57,7 @@ pub record Stands (recording : List RecordEntry) (s : Stage) (log : Log) : Type 
   pub clients : (port : Port) → clients_of port s ≡ clients_at port (take s.cut recording)
   pub accepted : (port : Port) → accepted_of port s ≡ accepted_at port log
   pub opened : opened_links log ≡ s.opened.items
+  pub opens : s.opens ≡ opens log
   pub links : Numbered 0 (known recording log) s.places.items
   pub placed : (number at : ℕ) → slice_get s.places.items number ≡ Some at → (track_at s.tracks.items at).link ≡ Some (numbered number)
   pub entered : (at : ℕ) (link : LinkId) → (track_at s.tracks.items at).link ≡ Some link → Entered s at

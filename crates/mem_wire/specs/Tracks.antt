@@ -3,12 +3,13 @@ use Rattle.std.specs.Prelude.{◌≡◌, ℕ, ◌+◌, ◌*◌, ◌==◌, ◌++�
 use Rattle.recording.specs.declared.entry.RecordLink.{RecordLink}
 use Rattle.recording.specs.declared.entry.RecordLink.TheVariants.{Client, Server}
 use Rattle.recording.specs.declared.entry.RecordEntry.{RecordEntry}
+use Rattle.mem_wire.specs.declared.marks.Mark.{Mark}
 use Rattle.mem_wire.specs.declared.track.Track.{Track}
 use Rattle.mem_wire.specs.Lines.{bytes_for, marks_for}
 
 -- the track of a link that no line named
 abbrev pub blank : Track
-blank = record { link = None; closed = false; unread = []; marks = 0; named = None }
+blank = record { link = None; closed = false; unread = []; marks = []; named = None }
 
 abbrev pub track_at : List Track → ℕ → Track
 track_at tracks at = slice_index_or tracks at blank
@@ -30,8 +31,8 @@ ChangesTrack at change old new =
     (other : ℕ) → track_at new other ≡ (if other == at then change (track_at old other) else track_at old other)
 
 -- so many bytes and marks more
-abbrev pub given : Track → List ℕ → ℕ → Track
-given t bytes marks = record t { unread = t.unread ++ bytes; marks = t.marks + marks }
+abbrev pub given : Track → List ℕ → List Mark → Track
+given t bytes marks = record t { unread = t.unread ++ bytes; marks = t.marks ++ marks }
 
 -- each track has its link's bytes and marks of the lines behind what it had
 abbrev pub Released : List RecordEntry → List Track → List Track → Type 0

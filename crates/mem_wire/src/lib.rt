@@ -3,9 +3,11 @@
 
 mod late;
 mod lines;
+mod marks;
 mod mem_files;
 mod mem_sink;
 mod naming;
+mod refusals;
 mod stage;
 mod steps;
 mod tape;

@@ -2,6 +2,7 @@
 ghost use Rattle.std.specs.Prelude.{◌≡◌, length, take, drop, min};
 ghost use Rattle.mem_wire.specs.Tracks.{blank};
 
+use crate::marks::MarkList;
 use mx_base::{ByteQueue, LinkId};
 use std::alloc::Global;
 
@@ -13,8 +14,8 @@ pub(crate) struct Track {
     pub closed: bool,
     /// The released bytes that were not read.
     pub unread: ByteQueue,
-    /// How many marks its released lines have.
-    pub marks: usize,
+    /// The marks of its released lines.
+    pub marks: MarkList,
     /// The line of the wake that named it last.
     pub named: Option<usize>,
 }
@@ -27,7 +28,7 @@ impl Track {
             link: None,
             closed: false,
             unread: ByteQueue::new(alloc),
-            marks: 0,
+            marks: MarkList::new(alloc),
             named: None,
         }
     }

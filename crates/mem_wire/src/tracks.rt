@@ -1,9 +1,10 @@
 // The tracks of all links, by place.
-ghost use Rattle.std.specs.Prelude.{◌≡◌, ◌<◌, ◌≤◌, ◌==◌, ◌++◌, ◌+◌, ℕ, length, take, drop, min, true, Some, if◌then◌else◌, OnOk, vec_len};
+ghost use Rattle.std.specs.Prelude.{◌≡◌, ◌<◌, ◌≤◌, ◌==◌, ◌++◌, ◌+◌, ℕ, length, take, drop, min, true, Some, if◌then◌else◌, OnOk, IfOk, [], ◌∷◌, vec_len};
 ghost use Rattle.mem_wire.specs.Lines.{marks_for, bytes_for};
 ghost use Rattle.mem_wire.specs.Tracks.{track_at, place, SameTracks, ChangesTrack, Released};
 ghost use Rattle.recording.specs.declared.entry.RecordLink.{RecordLink};
 
+use crate::marks::{Mark, MarkList};
 use crate::track::Track;
 use mx_base::OutOfMemory;
 use recording::{RecordEntry, RecordLink};
@@ -49,16 +50,40 @@ pub(crate) fn give_mark(
     alloc: Global,
     tracks: &mut Vec<Track>,
     at: usize,
+    mark: Mark,
 ) -> Result<(), OutOfMemory>
-    ensures { OnOk result (ChangesTrack at (λ t. record t { marks = t.marks + 1 }) tracks.old.items tracks.new.items) }
+    ensures { OnOk result (ChangesTrack at (λ t. record t { marks = t.marks ++ mark ∷ [] }) tracks.old.items tracks.new.items) }
 {
     reach(alloc, tracks, at)?;
     let track = &mut tracks[at];
-    if track.marks == usize::MAX {
-        return Err(OutOfMemory);
+    track.marks.push(mark)
+}
+
+// Gives the line's bytes or mark to the track of its link.
+fn release_line(
+    alloc: Global,
+    tracks: &mut Vec<Track>,
+    line: &RecordEntry,
+) -> Result<(), OutOfMemory>
+    ensures { OnOk result (Released (line.now ∷ []) tracks.old.items tracks.new.items) }
+{
+    match line {
+        RecordEntry::Bytes { link, bytes } => {
+            give_bytes(alloc, tracks, place_of(*link), bytes.as_slice())
+        }
+        RecordEntry::Exec { k } => {
+            give_mark(alloc, tracks, place_of(RecordLink::Server(*k)), Mark::Exec)
+        }
+        RecordEntry::Drop { k } => {
+            give_mark(alloc, tracks, place_of(RecordLink::Server(*k)), Mark::Drop)
+        }
+        RecordEntry::At { .. }
+        | RecordEntry::Accept { .. }
+        | RecordEntry::End { .. }
+        | RecordEntry::Fail { .. }
+        | RecordEntry::Take { .. }
+        | RecordEntry::Refuse { .. } => Ok(()),
     }
-    track.marks += 1;
-    Ok(())
 }
 
 /// Gives each line's bytes and marks to the track of its link.
@@ -70,15 +95,23 @@ pub(crate) fn release(
     ensures { OnOk result (Released lines.now tracks.old.items tracks.new.items) }
 {
     for line in lines {
-        match line {
-            RecordEntry::Bytes { link, bytes } => {
-                give_bytes(alloc, tracks, place_of(*link), bytes.as_slice())?;
-            }
-            RecordEntry::Exec { k } => give_mark(alloc, tracks, place_of(RecordLink::Server(*k)))?,
-            _ => {}
-        }
+        release_line(alloc, tracks, line)?;
     }
     Ok(())
+}
+
+/// A copy of the marks of a track.
+pub(crate) fn marks_at(
+    alloc: Global,
+    tracks: &[Track],
+    at: usize,
+) -> Result<MarkList, OutOfMemory>
+    ensures { IfOk result (λ marks. marks ≡ (track_at tracks.now at).marks) }
+{
+    match tracks.get(at) {
+        Some(track) => track.marks.copied(alloc),
+        None => Ok(MarkList::new(alloc)),
+    }
 }
 
 /// Moves a front of a track's unread bytes to the front of `into`, and answers how many there are.

@@ -11,7 +11,7 @@ use Rattle.recording.specs.Playable.{IsNumbered, PlayableAfter, BeginsAtMoment, 
 use Rattle.recording.specs.Recording.{Standing, Reading, Said, at_start, is_known, falls, kind_if, misplaced, passes_bounds, is_later, first_of, fault_of, after, is_skipped, unless_fault, checked, line_of, taken, with_line, line_read, lines_read, is_line_feed, recording_of}
 use Rattle.recording.specs.Spelling.{HasOrdinal, HasSpelling}
 use Rattle.recording.specs.declared.entry.RecordEntry.{RecordEntry}
-use Rattle.recording.specs.declared.entry.RecordEntry.TheVariants.{At, Accept, Bytes, Exec}
+use Rattle.recording.specs.declared.entry.RecordEntry.TheVariants.{At, Accept, Bytes, Refuse, Exec, Drop}
 use Rattle.recording.specs.declared.entry.RecordLink.{RecordLink}
 use Rattle.recording.specs.declared.entry.RecordLink.TheVariants.{Client, Server}
 use Rattle.recording.specs.declared.fault.Kind.{Kind}
@@ -91,6 +91,8 @@ placed_leads (Some last) clients ended (Bytes on bytes) is placed now later cont
     let right = or_parts (not (is_known before on)) (ended on) (kind_none (not (is_known before on) || ended on) WrongLink placed) in
     record { begins = tt; lines = (known_numbered before on is.0 (not-false (is_known before on) right.0), is.1, continues.lines) }
 placed_leads (Some last) clients ended (Exec k) is placed now later continues = record { begins = tt; lines = (is.0, continues.lines) }
+placed_leads (Some last) clients ended (Drop k) is placed now later continues = record { begins = tt; lines = (is.0, continues.lines) }
+placed_leads (Some last) clients ended (Refuse k) is placed now later continues = record { begins = tt; lines = continues.lines }
 placed_leads moment clients ended _ is placed now later continues = cc
 
 -- a line without a fault

@@ -4,7 +4,7 @@ use Rattle.std.specs.List.{slice_split}
 use Rattle.recording.specs.Fields.{fields}
 use Rattle.recording.specs.Line.{said}
 use Rattle.recording.specs.declared.entry.RecordEntry.{RecordEntry}
-use Rattle.recording.specs.declared.entry.RecordEntry.TheVariants.{At, Accept, Bytes, End, Fail, Take, Refuse, Drop}
+use Rattle.recording.specs.declared.entry.RecordEntry.TheVariants.{At, Accept, Bytes, End, Fail, Take}
 use Rattle.recording.specs.declared.entry.RecordLink.{RecordLink}
 use Rattle.recording.specs.declared.entry.RecordLink.TheVariants.{Client, Server}
 use Rattle.recording.specs.declared.fault.Kind.{Kind}
@@ -57,13 +57,11 @@ misplaced before entry = if is_none before.moment then Some BeforeFirstAt else k
 abbrev pub passes_bounds : ℕ → ℕ → Bool
 passes_bounds number end = nat_lt 1000000 number || nat_lt 268435456 end
 
--- a right line that isn't played yet: links that end, that take no more, or that aren't opened
+-- a right line that isn't played yet: links that end, or that take no more
 abbrev pub is_later : RecordEntry → Bool
 is_later (End link) = true
 is_later (Fail link) = true
 is_later (Take link n) = true
-is_later (Refuse k) = true
-is_later (Drop k) = true
 is_later _ = false
 
 abbrev pub first_of : Option Kind → Option Kind → Option Kind

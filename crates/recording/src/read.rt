@@ -157,11 +157,9 @@ fn is_not_played(entry: &RecordEntry) -> bool
         RecordEntry::At { .. }
         | RecordEntry::Accept { .. }
         | RecordEntry::Bytes { .. }
-        | RecordEntry::Exec { .. } => false,
-        RecordEntry::End { .. }
-        | RecordEntry::Fail { .. }
-        | RecordEntry::Take { .. }
         | RecordEntry::Refuse { .. }
-        | RecordEntry::Drop { .. } => true,
+        | RecordEntry::Exec { .. }
+        | RecordEntry::Drop { .. } => false,
+        RecordEntry::End { .. } | RecordEntry::Fail { .. } | RecordEntry::Take { .. } => true,
     }
 }
