@@ -23,9 +23,9 @@ use Rattle.mem_wire.specs.declared.track.Track.{Track}
 use Rattle.mem_wire.specs.declared.stage.Stage.{Stage}
 use Rattle.mem_wire.specs.Marks.{entries_of}
 use Rattle.mem_wire.specs.Adds.{late_entries}
-use Rattle.mem_wire.specs.Lines.{bytes_for, is_port, moments, marks_for, is_refused, released, released_last, clients_at}
+use Rattle.mem_wire.specs.Lines.{bytes_for, ending_for, room_for, is_port, moments, marks_for, is_refused, released, released_last, clients_at}
 use Rattle.mem_wire.specs.Cuts.{NoMoment, EndsAtMoment, first_moment}
-use Rattle.mem_wire.specs.Came.{wakes, accepted_at, next_client, as_client}
+use Rattle.mem_wire.specs.Came.{wakes, room_left, accepted_at, next_client, as_client}
 use Rattle.mem_wire.specs.Play.{mark_at, late_marks, due_marks}
 use Rattle.mem_wire.specs.Below.{links_below}
 use Rattle.mem_wire.specs.Tracks.{blank, track_at, place}
@@ -116,7 +116,7 @@ follows-accepted recording old new log port c within follows next accepts =
     (ap (λ s. s.opens) accepts.frame ∙ st.opens ∙ sym (opens-same log1 e refl)) refl fresh (ap (as_client (next_link old)) waits)
     (λ spot was. entered-more old new spot clients (λ p. let more : accepted_of p new ≡ accepted_of p old + (if is_port port p then 1 else 0) = accepts.accepted p in omega arith) (let same : length new.opened.items ≡ length old.opened.items = ap (λ s. length s.opened.items) accepts.frame in omega arith) was)
     (client port (accepted_of port old) c (let more : accepted_of port new ≡ accepted_of port old + 1 = accepts.accepted port ∙ ap (λ b. accepted_of port old + (if b then 1 else 0)) (port-self port) in omega arith) (ap (λ cs. slice_get cs (accepted_of port old)) (clients port) ∙ next) refl)
-    (record { woke = refl; of = refl; got = refl; opens = λ was. refl; names = λ links. refl }))
+    (record { woke = refl; of = refl; got = refl; opens = λ was. refl; names = λ links. refl; told = λ was. refl; blocked = λ was. refl; wrote = refl }))
     (passed-enters recording old new log1 (2 * c.number) st follows.passed within accepts.enters (ap (λ s. s.last) accepts.frame) (ap (λ s. s.link) accepts.frame) fresh)
     (none-late recording log1 e new.late refl refl accepts.late)
 
@@ -175,7 +175,7 @@ follows-opened recording old new log at_server address within follows opens_now 
     opened_is (counted ∙ ap (λ (n : ℕ). n + 1) st.opens ∙ sym (opens-more log1 e)) refl fresh (ap (λ (n : ℕ). record { link = next_link old; name = Server n } ∷ []) named)
     (λ spot was. entered-more old new spot clients (λ p. let same : accepted_of p new ≡ accepted_of p old = accepted p in omega arith) (omega arith) was)
     (server (length new.opened.items) (omega arith) refl)
-    (record { woke = refl; of = refl; got = refl; opens = λ was. refl; names = λ links. refl }) in
+    (record { woke = refl; of = refl; got = refl; opens = λ was. refl; names = λ links. refl; told = λ was. refl; blocked = λ was. refl; wrote = refl }) in
     follows-plain recording old new log e follows (record { call = record { unmarked = refl; judge = λ l x. x }; due = λ l. refl })
     (ap (λ (n : ℕ). is_refused (n + 1) recording) (sym st.opens) ∙ wanted) (sound-opens recording old new at_server address log follows opens_now) stands
     (passed-enters recording old new log1 (2 * length new.opened.items + 1) st follows.passed within opens_now.enters (ap (λ s. s.last) opens_now.frame) (ap (λ s. s.link) opens_now.frame) fresh)
@@ -206,7 +206,7 @@ follows-woken recording old new ms count until_ms rest log within follows is fir
     follows-entry recording old new log marks e follows are (record { unmarked = refl; judge = λ l x. x }) due
     (moment-is recording rest old.cut (wakes log1) ms st.cut is first)
     (sound-wakes recording old new ms count until_ms rest log follows is first some most none ends step)
-    (stands-wakes recording old new log1 ms count until_ms rest st is first some most none ends step)
+    (stands-wakes recording old new log1 ms count until_ms rest within.cut st is first some most none ends step)
     (record {
       lines = subst (λ (l : ℕ). NoneIn new.last new.tracks.items (lines_between new.last l recording)) (last ∙ sym line_is) (no-lines new.last new.tracks.items new.last recording);
       places = subst (λ (k : ℕ). NoneAt new.last new.tracks.items (take k new.places.items)) (sym link_is) tt;
@@ -243,6 +243,13 @@ no-owner s at link first is = none_owner link (sym (ap (λ t. t.link) (blank-at 
 none_at : (at : ℕ) → None ≡ Some at → ⊥
 none_at at is = cc
 
+drop-nil : (k : ℕ) → drop k (let none : List RecordEntry = [] in none) ≡ []
+drop-nil zero = refl
+drop-nil (suc k) = refl
+
+no-block : false ≡ true → ⊥
+no-block so = cc
+
 first-stands : (recording : List RecordEntry) (s : Stage) → IsPlayable recording → IsFirst s → Stands recording s []
 first-stands recording s playable first =
     let none : take s.cut recording ≡ [] = ap (λ (k : ℕ). take k recording) first.cut in
@@ -260,10 +267,16 @@ first-stands recording s playable first =
       tracks = λ name. subst (λ t. Fits (take s.cut recording) s.last s.cut [] name t) (sym (blank-at s (place name) first)) (record {
         marks = ap (marks_for name) (sym none);
         bytes = ap (bytes_for name) (sym none);
+        ending = ap (ending_for name) (sym none);
+        room = ap (λ (ls : List RecordEntry). room_left (room_for name ls) 0) (sym (ap (drop s.last) none ∙ drop-nil s.last));
         opened = tt;
+        told = tt;
+        blocked = tt;
         named = tt;
-        fresh = (refl, refl);
+        fresh = record { closed = refl; named = refl; told = refl; blocked = refl };
         stamp = tt;
+        dated = tt;
+        woken = λ so. absurd (no-block so);
       });
     }
 

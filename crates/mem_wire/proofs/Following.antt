@@ -115,7 +115,7 @@ sound-wakes recording old new ms count until_ms rest log follows is first some m
       below = subst (λ (k : ℕ). all_below k ((log ++ wake-marks old lines) ++ entry.Woke until_ms ms ∷ []) ≡ true) (sym same) all;
       late = no-late (length new.places.items) new.late.marks new.late.link wakes.late;
       opened = subst (λ (k : ℕ). links_below k new.opened.items ≡ true) (sym same) (ap (λ s. links_below n s.opened.items) wakes.frame ∙ follows.sound.opened);
-      linked = λ at link is. ap (λ s. slice_get s.places.items link.0) wakes.frame ∙ follows.sound.linked at link (sym (released-links lines old.tracks.items new.tracks.items wakes.tracks at) ∙ is);
+      linked = λ at link is. ap (λ s. slice_get s.places.items link.0) wakes.frame ∙ follows.sound.linked at link (sym (released-links old.cut lines old.tracks.items new.tracks.items wakes.tracks at) ∙ is);
       rest = subst (λ (m : ℕ). Continues m (drop new.cut recording)) (sym (moment_of-more (log ++ wake-marks old lines) (entry.Woke until_ms ms))) (subst (Continues ms) left can.after);
       traffic = subst HaveSalts (sym wakes.traffic) (salts-append old.traffic.items (clients_at Traffic lines) follows.sound.traffic (salts-of Traffic (moment_of log) clients count rest playable));
       admin = subst HaveSalts (sym wakes.admin) (salts-append old.admin.items (clients_at Admin lines) follows.sound.admin (salts-of Admin (moment_of log) clients count rest playable));

@@ -5,14 +5,14 @@ use Rattle.std.proofs.lemmas.List.Elements.{filter_map-append}
 use Rattle.std.proofs.lemmas.List.Sums.{fold-append}
 use Rattle.mx_base.specs.declared.names.LinkId.{LinkId}
 use Rattle.mx_base.specs.declared.names.Port.{Port}
-use Rattle.mx_wire.specs.Log.{Log, opened_link, opened_links, read_of, got_bytes, is_open, open_step, AreMarks, IsMark}
+use Rattle.mx_wire.specs.Log.{Log, opened_link, opened_links, read_of, got_bytes, is_open, open_step, written_of, wrote_bytes, AreMarks, IsMark}
 use Rattle.mx_wire.specs.Growth.{bytes-idle}
 use Rattle.mx_wire.specs.declared.entry.Entry.{Entry}
 use Rattle.mx_wire.specs.declared.entry.Entry.TheVariants as entry
 use Rattle.recording.specs.declared.entry.RecordEntry.{RecordEntry}
-use Rattle.mem_wire.specs.Came.{is_woke, wakes, is_accepted_at, accepted_at, is_open_call, opens, known, known_by}
+use Rattle.mem_wire.specs.Came.{is_woke, wakes, is_accepted_at, accepted_at, is_open_call, opens, since_wake, told_step, is_told, blocked_step, is_blocked, known, known_by}
 use Rattle.mem_wire.specs.Play.{named_step, named_since, is_mark, last_marks, just_opened}
-use Rattle.mem_wire.proofs.Quiet.{quiet, is_open-idle}
+use Rattle.mem_wire.proofs.Quiet.{quiet, is_open-idle, step-idle, wrote-idle}
 use Rattle.mem_wire.specs.CameLaws.{wakes-more, accepted-more, opens-more, known-more, named-more}
 
 one_or_none : Bool → Entry → Log
@@ -36,6 +36,9 @@ pub record IsIdle (e : Entry) : Type 0 where
   pub named : (links : List LinkId) → named_step links e ≡ links
   pub got : got_bytes e ≡ []
   pub open_is : (was : Bool) → open_step was e ≡ was
+  pub told : (was : Bool) → told_step was e ≡ was
+  pub blocked : (was : Bool) → blocked_step was e ≡ was
+  pub wrote : wrote_bytes e ≡ []
 
 -- two logs look alike
 pub record Alike (recording : List RecordEntry) (old new : Log) : Type 0 where
@@ -46,6 +49,9 @@ pub record Alike (recording : List RecordEntry) (old new : Log) : Type 0 where
   pub named : named_since new ≡ named_since old
   pub read : (link : LinkId) → read_of link new ≡ read_of link old
   pub open_is : (link : LinkId) → is_open link new ≡ is_open link old
+  pub told : (link : LinkId) → is_told link new ≡ is_told link old
+  pub blocked : (link : LinkId) → is_blocked link new ≡ is_blocked link old
+  pub wrote : (link : LinkId) → written_of link (since_wake new) ≡ written_of link (since_wake old)
 
 pub alike-idle : (recording : List RecordEntry) (log : Log) (e : Entry) → IsIdle e → Alike recording log (log ++ e ∷ [])
 alike-idle recording log e idle = record {
@@ -56,10 +62,13 @@ alike-idle recording log e idle = record {
   named = named-more log e ∙ idle.named (named_since log);
   read = λ link. bytes-idle got_bytes link log e idle.got;
   open_is = λ link. is_open-idle link log e idle.open_is;
+  told = λ link. step-idle told_step false link log e idle.told;
+  blocked = λ link. step-idle blocked_step false link log e idle.blocked;
+  wrote = λ link. wrote-idle link log e idle.woke idle.wrote;
 }
 
 pub alike-none : (recording : List RecordEntry) (log : Log) → Alike recording log log
-alike-none recording log = record { woke = refl; accepted = λ port. refl; opened = refl; links = refl; named = refl; read = λ link. refl; open_is = λ link. refl }
+alike-none recording log = record { woke = refl; accepted = λ port. refl; opened = refl; links = refl; named = refl; read = λ link. refl; open_is = λ link. refl; told = λ link. refl; blocked = λ link. refl; wrote = λ link. refl }
 
 pub alike-then : (recording : List RecordEntry) (a b c : Log) → Alike recording a b → Alike recording b c → Alike recording a c
 alike-then recording a b c p q = record {
@@ -70,11 +79,14 @@ alike-then recording a b c p q = record {
   named = q.named ∙ p.named;
   read = λ link. q.read link ∙ p.read link;
   open_is = λ link. q.open_is link ∙ p.open_is link;
+  told = λ link. q.told link ∙ p.told link;
+  blocked = λ link. q.blocked link ∙ p.blocked link;
+  wrote = λ link. q.wrote link ∙ p.wrote link;
 }
 
 idle-mark : (e : Entry) → IsMark e → IsIdle e
-idle-mark (entry.Exec link) mark = record { woke = refl; accepted = λ port. refl; opened = refl; known = λ recording log. refl; named = λ links. refl; got = refl; open_is = λ was. refl }
-idle-mark (entry.Drop link) mark = record { woke = refl; accepted = λ port. refl; opened = refl; known = λ recording log. refl; named = λ links. refl; got = refl; open_is = λ was. refl }
+idle-mark (entry.Exec link) mark = record { woke = refl; accepted = λ port. refl; opened = refl; known = λ recording log. refl; named = λ links. refl; got = refl; open_is = λ was. refl; told = λ was. refl; blocked = λ was. refl; wrote = refl }
+idle-mark (entry.Drop link) mark = record { woke = refl; accepted = λ port. refl; opened = refl; known = λ recording log. refl; named = λ links. refl; got = refl; open_is = λ was. refl; told = λ was. refl; blocked = λ was. refl; wrote = refl }
 idle-mark _ mark = absurd mark
 
 pub alike-marks : (recording : List RecordEntry) (log marks : Log) → AreMarks marks → Alike recording log (log ++ marks)

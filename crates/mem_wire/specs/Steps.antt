@@ -1,15 +1,22 @@
 -- How a play's stage changes.
-use Rattle.std.specs.Prelude.{◌≡◌, ℕ, ◌<◌, ◌≤◌, ◌+◌, ◌*◌, if◌then◌else◌, List, [], ◌∷◌, ◌++◌, length, take, min, slice_get, Bool, Option, Some, None}
+use Rattle.std.specs.Prelude.{◌≡◌, ℕ, ◌<◌, ◌≤◌, ◌+◌, ◌*◌, if◌then◌else◌, List, [], ◌∷◌, ◌++◌, length, take, min, slice_get, Bool, false, Option, Some, None}
 use Rattle.mx_base.specs.declared.names.LinkId.{LinkId}
 use Rattle.mx_base.specs.declared.names.Port.{Port}
 use Rattle.mx_base.specs.declared.names.Port.TheVariants.{Traffic, Admin}
 use Rattle.recording.specs.declared.entry.RecordEntry.{RecordEntry}
+use Rattle.mx_wire.specs.declared.wire.Got.{Got}
+use Rattle.mx_wire.specs.declared.wire.Got.TheVariants as got
+use Rattle.mx_wire.specs.declared.wire.Took.{Took}
+use Rattle.mx_wire.specs.declared.wire.Took.TheVariants as took
+use Rattle.mem_wire.specs.declared.ending.Ending.{Ending}
+use Rattle.mem_wire.specs.declared.ending.Ending.TheVariants as ending
 use Rattle.mem_wire.specs.declared.waiting.Waiting.{Waiting}
 use Rattle.mem_wire.specs.declared.track.Track.{Track}
 use Rattle.mem_wire.specs.declared.stage.Stage.{Stage}
 use Rattle.mem_wire.specs.Refusals.{Knows}
 use Rattle.mem_wire.specs.Lines.{clients_at, is_port, is_refused}
-use Rattle.mem_wire.specs.Tracks.{track_at, SameLinks, ChangesTrack, Released}
+use Rattle.mem_wire.specs.Play.{has_failed, FitsRoom}
+use Rattle.mem_wire.specs.Tracks.{track_at, room_in, SameLinks, ChangesTrack, Released}
 
 abbrev pub clients_of : Port → Stage → List Waiting
 clients_of Traffic s = s.traffic.items
@@ -32,7 +39,7 @@ pub record Wakes (lines : List RecordEntry) (next : ℕ) (old new : Stage) : Typ
   pub late : new.late.marks ≡ []
   pub traffic : new.traffic.items ≡ old.traffic.items ++ clients_at Traffic lines
   pub admin : new.admin.items ≡ old.admin.items ++ clients_at Admin lines
-  pub tracks : Released lines old.tracks.items new.tracks.items
+  pub tracks : Released old.cut lines old.tracks.items new.tracks.items
 
 -- a link comes, whose track is at this place
 pub record Enters (at : ℕ) (old new : Stage) : Type 0 where
@@ -63,8 +70,37 @@ place_in s link = slice_get s.places.items link.0
 
 -- so many bytes of those that are ready were moved to the front
 pub record ReadsFrom (ready old new : List ℕ) (size : ℕ) : Type 0 where
+  pub some : 0 < size
   pub size_is : size ≡ min (length old) (length ready)
   pub bytes : take size new ≡ take size ready
+
+-- the bytes were read, and this stands behind them
+pub record EndsBy (how : Option Ending) (t : Track) : Type 0 where
+  pub read : t.unread ≡ []
+  pub ends : t.ending ≡ how
+
+-- what a read of the track answers
+abbrev pub ReadsTrack : Track → (old new : List ℕ) → Got → Type 0
+ReadsTrack t old new (got.Got n) = ReadsFrom t.unread old new n
+ReadsTrack t old new got.NotReady = EndsBy None t
+ReadsTrack t old new got.End = EndsBy (Some ending.End) t
+ReadsTrack t old new got.Failed = EndsBy (Some ending.Fail) t
+
+pub record TakesFrom (last : ℕ) (t : Track) (size n : ℕ) : Type 0 where
+  pub may : has_failed t.unread t.ending ≡ false
+  pub some : 0 < n
+  pub most : n ≤ size
+  pub fits : FitsRoom (room_in last t.room) n
+
+pub record LetsNothing (last : ℕ) (t : Track) : Type 0 where
+  pub may : has_failed t.unread t.ending ≡ false
+  pub full : room_in last t.room ≡ Some 0
+
+-- what a write of so many bytes on the track answers
+abbrev pub WritesTrack : ℕ → Track → ℕ → Took → Type 0
+WritesTrack last t size (took.Took n) = TakesFrom last t size n
+WritesTrack last t size took.NotReady = LetsNothing last t
+WritesTrack last t size took.Failed = EndsBy (Some ending.Fail) t
 
 -- The track at a place changes, where there is one, and no marks are late.
 pub record MovesAt (at : ℕ) (change : Track → Track) (old new : Stage) : Type 0 where

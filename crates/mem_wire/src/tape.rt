@@ -168,21 +168,34 @@ impl Wire for Tape {
 
     fn read(&mut self, link: LinkId, into: &mut [u8]) -> Got {
         self.told.add_marks(&self.stage.late);
-        let n = steps::read(&mut self.stage, link, into);
-        if n == 0 {
-            self.told.add(Entry::ReadNothing { link });
-            return Got::NotReady;
+        let got = steps::read(&mut self.stage, link, into);
+        match got {
+            Got::Got { n } => self.told.add_if(got_entry(self.alloc, link, &into[..n])),
+            Got::NotReady => self.told.add(Entry::ReadNothing { link }),
+            Got::End => self.told.add(Entry::Ended { link }),
+            Got::Failed => {
+                self.told.add(Entry::ReadFailed { link });
+                self.failed = self.failed.and(&0, &0);
+            }
         }
-        self.told.add_if(got_entry(self.alloc, link, &into[..n]));
-        Got::Got { n }
+        got
     }
 
     fn write(&mut self, link: LinkId, tag: Tag, piece: &[u8]) -> Took {
         self.told.add_marks(&self.stage.late);
-        self.told
-            .add_if(wrote_entry(self.alloc, link, tag, piece));
-        self.stage.late.clear();
-        Took::Took { n: piece.len() }
+        let took = steps::write(&mut self.stage, link, piece.len());
+        match took {
+            Took::Took { n } => {
+                self.told
+                    .add_if(wrote_entry(self.alloc, link, tag, &piece[..n]));
+            }
+            Took::NotReady => self.told.add(Entry::WriteNothing { link }),
+            Took::Failed => {
+                self.told.add(Entry::WriteFailed { link });
+                self.failed = self.failed.and(&0, &0);
+            }
+        }
+        took
     }
 
     fn close(&mut self, link: LinkId) {

@@ -2,7 +2,7 @@
 ghost use Rattle.std.specs.Prelude.{◌≡◌, ◌≤◌, IfOk, IfErr, OnOk, position};
 ghost use Rattle.recording.specs.Ended.{standing_of};
 ghost use Rattle.recording.specs.Playable.{IsPlayable};
-ghost use Rattle.recording.specs.Recording.{recording_of, is_later, is_line_feed, is_skipped, passes_bounds, fault_of, line_of, taken};
+ghost use Rattle.recording.specs.Recording.{recording_of, is_line_feed, is_skipped, passes_bounds, fault_of, line_of, taken};
 ghost use Rattle.recording.specs.Refusal.{Gives, Refuses, Faults, refused_at};
 
 use crate::fault::{Kind, LineRefusal};
@@ -125,10 +125,7 @@ fn fault_in(progress: &Progress, number: u32, end: usize, entry: &RecordEntry) -
         return Some(kind);
     }
     if is_past_bounds(number, end) {
-        return Some(Kind::TooLong);
-    }
-    if is_not_played(entry) {
-        Some(Kind::NotYet)
+        Some(Kind::TooLong)
     } else {
         None
     }
@@ -147,19 +144,5 @@ fn is_skipped_line(line: &[u8]) -> bool
     match line {
         [] => true,
         [first, ..] => *first == b'#',
-    }
-}
-
-fn is_not_played(entry: &RecordEntry) -> bool
-    ensures { result ≡ is_later entry.now }
-{
-    match entry {
-        RecordEntry::At { .. }
-        | RecordEntry::Accept { .. }
-        | RecordEntry::Bytes { .. }
-        | RecordEntry::Refuse { .. }
-        | RecordEntry::Exec { .. }
-        | RecordEntry::Drop { .. } => false,
-        RecordEntry::End { .. } | RecordEntry::Fail { .. } | RecordEntry::Take { .. } => true,
     }
 }

@@ -13,6 +13,6 @@ loop-line-preserved c =
     let first = c.args.tracks.now.items in
     let old = c.loop-line.tracks.items in
     let new = c.release_line.new.tracks.items in
-    subst (λ (ls : List RecordEntry). Released ls first new) (sym (take_more lines i line c.loop-line-test.true))
-    (released-append (take i lines) (get_or lines i line ∷ []) first old new c.loop-line.invariant
-    (subst (λ (l : RecordEntry). Released (l ∷ []) old new) c.line-item.is c.in_ok-release_line.ensures))
+    subst (λ (ls : List RecordEntry). Released c.args.wake ls first new) (sym (take_more lines i line c.loop-line-test.true))
+    (released-append c.args.wake (take i lines) (get_or lines i line ∷ []) first old new c.loop-line.invariant
+    (subst (λ (l : RecordEntry). Released c.args.wake (l ∷ []) old new) c.line-item.is c.in_ok-release_line.ensures))

@@ -18,7 +18,7 @@ invariant_of-self c =
     tape-stays _ s _ c.self.inside.told _ (entry.AcceptNothing c.args.port) c.self.invariant
     (within-moves _ s _ c.self.invariant.within refl) (record { frame = refl; late = c.clear.ensures })
     c.add_call.ensures (λ log is follows. refl) (λ m. refl)
-    (record { woke = refl; accepted = λ port. refl; opened = refl; known = λ recording log. refl; named = λ links. refl; got = refl; open_is = λ was. refl }) (record { call = record { unmarked = refl; judge = λ log call. call }; due = λ log. refl }) refl (λ log follows stands. client-is _ s (log ++ late_entries s.late) c.args.port stands ∙ sym c.next_client.ensures ∙ c.in_default.is) (λ log follows. passed-late _ s _ follows.passed)
+    (record { woke = refl; accepted = λ port. refl; opened = refl; known = λ recording log. refl; named = λ links. refl; got = refl; open_is = λ was. refl; told = λ was. refl; blocked = λ was. refl; wrote = refl }) (record { call = record { unmarked = refl; judge = λ log call. call }; due = λ log. refl }) refl (λ log follows stands. client-is _ s (log ++ late_entries s.late) c.args.port stands ∙ sym c.next_client.ensures ∙ c.in_default.is) (λ log follows. passed-late _ s _ follows.passed)
 
 pub returns-in_default-clause-told : goal.returns-in_default-clause-told
 returns-in_default-clause-told c =

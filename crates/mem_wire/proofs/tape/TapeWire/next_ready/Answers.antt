@@ -20,7 +20,7 @@ invariant_of-self c =
     (within-moves _ mid _ (within-search _ c.next_to_name.result s mid c.self.invariant.within looks) refl)
     (stays-search _ c.next_to_name.result s mid _ looks refl (c.clear.ensures))
     (calls_after _ _ _ (late_entries s.late) entry.NoneNamed c.add_marks.ensures c.add.ensures.added c.add.ensures.bounded) (λ log is follows. refl) (λ m. refl)
-    (record { woke = refl; accepted = λ port. refl; opened = refl; known = λ recording log. refl; named = λ links. refl; got = refl; open_is = λ was. refl }) (record { call = record { unmarked = refl; judge = λ log call. call }; due = λ log. refl }) refl
+    (record { woke = refl; accepted = λ port. refl; opened = refl; known = λ recording log. refl; named = λ links. refl; got = refl; open_is = λ was. refl; told = λ was. refl; blocked = λ was. refl; wrote = refl }) (record { call = record { unmarked = refl; judge = λ log call. call }; due = λ log. refl }) refl
     (λ log follows stands. names-none _ s mid (log ++ late_entries s.late) stands c.self.invariant.within follows.sound.linked follows.passed (subst (λ (f : Option ToName). Searches c.self.inside.entries.items f s mid) c.in-None.is looks))
     (λ log follows. passed-late _ mid _ (passed-more _ c.next_to_name.result s mid c.self.invariant.within follows.passed looks))
 

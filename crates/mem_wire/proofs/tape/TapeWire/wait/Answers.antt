@@ -19,7 +19,7 @@ invariant_of-self c =
     tape-stays _ s _ c.self.inside.told _ entry.Over c.self.invariant
     (within-moves _ s _ c.self.invariant.within refl) (record { frame = refl; late = c.clear.ensures })
     c.add_call.ensures (λ log is follows. refl) (λ m. refl)
-    (record { woke = refl; accepted = λ port. refl; opened = refl; known = λ recording log. refl; named = λ links. refl; got = refl; open_is = λ was. refl }) (record { call = record { unmarked = refl; judge = λ log call. call }; due = λ log. refl }) refl
+    (record { woke = refl; accepted = λ port. refl; opened = refl; known = λ recording log. refl; named = λ links. refl; got = refl; open_is = λ was. refl; told = λ was. refl; blocked = λ was. refl; wrote = refl }) (record { call = record { unmarked = refl; judge = λ log call. call }; due = λ log. refl }) refl
     (λ log follows stands. over-is _ (take (length c.deref.result.now - s.cut) (drop s.cut c.deref.result.now)) s.cut _ stands.cut (take_rest c.deref.result.now s.cut ∙ ap (drop s.cut) c.deref.ensures.value) (sym c.first_moment.ensures ∙ c.in_default.is))
     (λ log follows. passed-late _ s _ follows.passed)
 
