@@ -92,17 +92,6 @@ within-wakes recording lines next old new within wakes later end = record {
   link = let link : new.link ≡ 0 = ap (λ s. s.link) wakes.frame in omega arith;
 }
 
--- a search, and then the late marks are told
-pub moved-search : (recording : List RecordEntry) (found : Option ToName) (old mid new : Stage) → Searches recording found old mid → new ≡ record mid { late = new.late } → new.late.marks ≡ [] → Moved old new
-moved-search recording found old mid new looks frame late = record {
-  links = λ at. ap (λ s. (track_at s.tracks.items at).link) frame ∙ ap (λ s. (track_at s.tracks.items at).link) looks.frame;
-  frame = frame ∙ ap {A = Stage} (λ s. record s { late = new.late }) looks.frame
-      ∙ ap (λ line. record old { late = new.late; line = line; link = mid.link }) (sym (ap (λ s. s.line) frame))
-      ∙ ap (λ link. record old { late = new.late; line = new.line; link = link }) (sym (ap (λ s. s.link) frame))
-      ∙ ap (λ tracks. record old { tracks = tracks; late = new.late; line = new.line; link = new.link }) (sym (ap (λ s. s.tracks) frame ∙ ap (λ s. s.tracks) looks.frame));
-  late = late;
-}
-
 -- a search, and then the track of the link that it found is changed
 pub moved-name : (recording : List RecordEntry) (found : Option ToName) (old mid new : Stage) → Searches recording found old mid → new ≡ record mid { tracks = new.tracks; late = new.late } → new.late.marks ≡ [] → SameLinks mid.tracks.items new.tracks.items → Moved old new
 moved-name recording found old mid new looks frame late links = record {

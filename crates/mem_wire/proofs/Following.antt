@@ -45,10 +45,6 @@ sound-moved recording old new log e follows moved low idle =
 
 -- The same of a tape.
 
--- a caller's link is below the number of links
-pub low-if-open : (recording : List RecordEntry) (s : Stage) (told shown : Option Log) (link : LinkId) → told ≡ shown → OpenFor shown link → (log : Log) → told ≡ Some log → Follows recording s log → nat_lt link.0 (length s.places.items) ≡ true
-low-if-open recording s told shown link same opened log is follows = open-low recording s log link follows.sound (opened.holds log (sym same ∙ is))
-
 pub open-if-open : (told shown : Option Log) (link : LinkId) (late : Late) → told ≡ shown → OpenFor shown link → (log : Log) → told ≡ Some log → IsOpen link (log ++ late_entries late)
 open-if-open told shown link late same opened log is = open-still link log (late_entries late) (late_are late) (opened.holds log (sym same ∙ is))
 
@@ -123,13 +119,6 @@ sound-wakes recording old new ms count until_ms rest log follows is first some m
 
 pub wake-calls : (told one two new : Option Log) (s : Stage) (lines : List RecordEntry) (opened : List LinkId) (e : Entry) → opened ≡ s.opened.items → Adds told (late_entries s.late) one → Adds one (filter_map (mark_at opened) lines) two → Adds two (e ∷ []) new → IsBounded new → Calls told (wake-marks s lines) e new
 wake-calls told one two new s lines opened e same first next last bounded = calls_in_parts told one two new (late_entries s.late) (filter_map (mark_at s.opened.items) lines) e first (subst (λ (links : List LinkId). Adds one (filter_map (mark_at links) lines) two) same next) last bounded
-
--- the link that a search has found is one of the links
-pub found-low : (recording : List RecordEntry) (found : Option ToName) (t : ToName) (old new : Stage) (log : Log) → Follows recording old log → Searches recording found old new → found ≡ Some t → nat_lt t.link.0 (length old.places.items) ≡ true
-found-low recording found t old new log follows looks is =
-    let looks_t = subst (λ (f : Option ToName). Searches recording f old new) is looks in
-    let here : (track_at old.tracks.items t.at).link ≡ Some t.link = named-link old.last (track_at old.tracks.items t.at) t.link looks_t.stopped.0 in
-    is_below t.link.0 (length old.places.items) (slice_get_within old.places.items t.link.0 t.at (follows.sound.linked t.at t.link here))
 
 pub marks_are : (s : Stage) (lines : List RecordEntry) → AreMarks (wake-marks s lines)
 marks_are s lines = marks-append (late_entries s.late) (filter_map (mark_at s.opened.items) lines) (late_are s.late) (marks-of s.opened.items lines)

@@ -46,11 +46,3 @@ moment-mark log _ mark = absurd mark
 
 pub moment-marks : (log marks : Log) → AreMarks marks → moment_of (log ++ marks) ≡ moment_of log
 moment-marks log marks are = quiet moment_of moment-mark log marks are
-
-got-mark : (e : Entry) → IsMark e → got_bytes e ≡ []
-got-mark (Exec link) mark = refl
-got-mark (Drop link) mark = refl
-got-mark _ mark = absurd mark
-
-pub read_of-marks : (link : LinkId) (log marks : Log) → AreMarks marks → read_of link (log ++ marks) ≡ read_of link log
-read_of-marks link log marks are = quiet (read_of link) (λ before e mark. bytes-idle got_bytes link before e (got-mark e mark)) log marks are

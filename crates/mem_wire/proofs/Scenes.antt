@@ -15,9 +15,6 @@ use Rattle.mem_wire.specs.Play.{named_step, named_since, is_mark, last_marks, ju
 use Rattle.mem_wire.proofs.Quiet.{quiet, is_open-idle, step-idle, wrote-idle}
 use Rattle.mem_wire.specs.CameLaws.{wakes-more, accepted-more, opens-more, known-more, named-more}
 
-one_or_none : Bool → Entry → Log
-one_or_none b e = if b then e ∷ [] else []
-
 pub opened-more : (log : Log) (e : Entry) → opened_links (log ++ e ∷ []) ≡ opened_links log ++ cons_option (opened_link e) []
 opened-more log e = filter_map-append opened_link log (e ∷ [])
 

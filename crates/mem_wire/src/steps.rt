@@ -7,8 +7,8 @@ ghost use Rattle.mem_wire.specs.Steps.{clients_of, accepted_of, place_in, next_l
 
 use crate::late::Late;
 use crate::lines::arrive;
-use crate::stage::Stage;
 use crate::refusals::Refusals;
+use crate::stage::Stage;
 use crate::tracks::{close_track, marks_at, name_track, reach, read_track, release, write_track};
 use crate::waiting::Waiting;
 use mx_base::{LinkId, OutOfMemory, Port};

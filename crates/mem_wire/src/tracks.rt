@@ -117,9 +117,7 @@ fn release_line(
         RecordEntry::Take { link, n } => {
             limit_track(alloc, tracks, place_of(*link), Room { wake, left: *n })
         }
-        RecordEntry::At { .. }
-        | RecordEntry::Accept { .. }
-        | RecordEntry::Refuse { .. } => Ok(()),
+        RecordEntry::At { .. } | RecordEntry::Accept { .. } | RecordEntry::Refuse { .. } => Ok(()),
     }
 }
 
@@ -139,11 +137,7 @@ pub(crate) fn release(
 }
 
 /// A copy of the marks of a track.
-pub(crate) fn marks_at(
-    alloc: Global,
-    tracks: &[Track],
-    at: usize,
-) -> Result<MarkList, OutOfMemory>
+pub(crate) fn marks_at(alloc: Global, tracks: &[Track], at: usize) -> Result<MarkList, OutOfMemory>
     ensures { IfOk result (λ marks. marks ≡ (track_at tracks.now at).marks) }
 {
     match tracks.get(at) {

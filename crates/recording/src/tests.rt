@@ -47,7 +47,10 @@ fn reads_lines(rt: HostRuntime) -> Result<(), Fail> {
         ("at 5\nat 4\n", Err((2, 5))),
         ("at 0\nbytes c1 00\n", Err((2, 6))),
         ("at 0\ntake c1 1\n", Err((2, 6))),
-        ("at 0\ntake s1 1\nend s1\nfail s2\nrefuse 1\ndrop s1\n", Ok(6)),
+        (
+            "at 0\ntake s1 1\nend s1\nfail s2\nrefuse 1\ndrop s1\n",
+            Ok(6),
+        ),
         ("at 0\nend s1\ntake s1 0\nexec s1\ndrop s1\n", Ok(5)),
         ("at 0\nend s1\nbytes s1 00\n", Err((3, 6))),
         ("at 0\nfail s1\nend s1\n", Err((3, 6))),
