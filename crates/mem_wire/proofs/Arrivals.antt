@@ -1,6 +1,7 @@
 -- The stage follows the log where links come and where it wakes.
 use Rattle.std.proofs.Common.{◌≡◌, ℕ, zero, suc, ◌<◌, ◌≤◌, ◌+◌, ◌-◌, ◌*◌, ◌==◌, Bool, true, false, List, [], ◌∷◌, ◌++◌, length, filter, take, drop, if◌then◌else◌, Option, Some, None, refl, sym, ◌∙◌, ap, subst, arith, append-nil, length-append, add-zero, replicate, inl, inr}
-use Rattle.std.specs.Prelude.{slice_get}
+use Rattle.std.specs.Prelude.{slice_get, IfSome, nat_eq}
+use Rattle.std.specs.HashSet.{contains}
 use Rattle.std.specs.List.{filter_map}
 use Rattle.std.proofs.lemmas.List.{length-take-le, drop-drop, take-append-le}
 use Rattle.std.proofs.lemmas.Bool.{eqb-true}
@@ -20,10 +21,11 @@ use Rattle.recording.specs.Playable.{IsPlayable, BeginsAtMoment}
 use Rattle.mem_wire.specs.declared.waiting.Waiting.{Waiting}
 use Rattle.mem_wire.specs.declared.track.Track.{Track}
 use Rattle.mem_wire.specs.declared.stage.Stage.{Stage}
+use Rattle.mem_wire.specs.Marks.{entries_of}
 use Rattle.mem_wire.specs.Adds.{late_entries}
-use Rattle.mem_wire.specs.Lines.{bytes_for, is_port, moments, is_mark_for, marks_for, released, released_last, clients_at}
+use Rattle.mem_wire.specs.Lines.{bytes_for, ending_for, room_for, is_port, moments, marks_for, is_refused, released, released_last, clients_at}
 use Rattle.mem_wire.specs.Cuts.{NoMoment, EndsAtMoment, first_moment}
-use Rattle.mem_wire.specs.Came.{wakes, accepted_at, next_client, as_client}
+use Rattle.mem_wire.specs.Came.{wakes, room_left, accepted_at, next_client, as_client}
 use Rattle.mem_wire.specs.Play.{mark_at, late_marks, due_marks}
 use Rattle.mem_wire.specs.Below.{links_below}
 use Rattle.mem_wire.specs.Tracks.{blank, track_at, place}
@@ -32,16 +34,16 @@ use Rattle.mem_wire.specs.Naming.{named_by, named_at, NoneIn, NoneAt, lines_betw
 use Rattle.mem_wire.specs.Stands.{Numbered, CutsAt, Fits, Stands, Passed, Entered, client, server}
 use Rattle.mem_wire.specs.Follows.{Follows, IsTape, Continues, HaveSalts}
 use Rattle.mem_wire.proofs.Links.{all_below-append}
-use Rattle.mem_wire.proofs.Scenes.{alike-marks, opened-more, just-more}
-use Rattle.mem_wire.specs.CameLaws.{accepted-more}
+use Rattle.mem_wire.proofs.Scenes.{opened-more, opens-same, just-more}
+use Rattle.mem_wire.specs.CameLaws.{accepted-more, opens-more}
 use Rattle.mem_wire.proofs.Sound.{sound-late, no-late, get-last}
 use Rattle.mem_wire.proofs.CutLaws.{moment-is, cut-next, last-lines, cut-released}
-use Rattle.mem_wire.proofs.Standing.{client-is, stands-alike}
+use Rattle.mem_wire.proofs.Standing.{client-is}
 use Rattle.mem_wire.proofs.StandEnters.{stands-enters}
 use Rattle.mem_wire.proofs.StandWakes.{stands-wakes}
 use Rattle.mem_wire.proofs.Distinct.{client-fresh, server-fresh}
-use Rattle.mem_wire.proofs.Playing.{execs-are, execs-append, late-execs-of, lines-execs, stands-marked, follows-plain, follows-entry, none-late, late-is, late-after}
-use Rattle.mem_wire.proofs.Following.{sound-accepts, sound-opens, sound-wakes, wake-marks}
+use Rattle.mem_wire.proofs.Playing.{stands-after, stands-marked, follows-plain, follows-entry, none-late, late-after}
+use Rattle.mem_wire.proofs.Following.{sound-accepts, sound-opens, sound-wakes, wake-marks, marks_are}
 
 -- What a search has passed stays passed where a link comes: its own track is looked for behind them.
 none_at-kept : (last : ℕ) (old new : List Track) (places : List ℕ) → ((i spot : ℕ) → slice_get places i ≡ Some spot → named_at last old spot ≡ None → named_at last new spot ≡ None) → NoneAt last old places → NoneAt last new places
@@ -111,10 +113,10 @@ follows-accepted recording old new log port c within follows next accepts =
     accepts.enters (ap (λ s. s.cut) accepts.frame) (ap (λ s. s.last) accepts.frame) clients
     (λ p. accepts.accepted p ∙ ap (λ (n : ℕ). n + (if is_port port p then 1 else 0)) (st.accepted p) ∙ ap (λ b. accepted_at p log1 + (if b then 1 else 0)) (port-flip port p) ∙ ap (λ (n : ℕ). accepted_at p log1 + n) (one-more (is_port p port) e) ∙ sym (accepted-more p log1 e))
     (opened-more log1 e ∙ append-nil (opened_links log1) ∙ st.opened ∙ sym (ap (λ s. s.opened.items) accepts.frame))
-    refl fresh (ap (as_client (next_link old)) waits)
+    (ap (λ s. s.opens) accepts.frame ∙ st.opens ∙ sym (opens-same log1 e refl)) refl fresh (ap (as_client (next_link old)) waits)
     (λ spot was. entered-more old new spot clients (λ p. let more : accepted_of p new ≡ accepted_of p old + (if is_port port p then 1 else 0) = accepts.accepted p in omega arith) (let same : length new.opened.items ≡ length old.opened.items = ap (λ s. length s.opened.items) accepts.frame in omega arith) was)
     (client port (accepted_of port old) c (let more : accepted_of port new ≡ accepted_of port old + 1 = accepts.accepted port ∙ ap (λ b. accepted_of port old + (if b then 1 else 0)) (port-self port) in omega arith) (ap (λ cs. slice_get cs (accepted_of port old)) (clients port) ∙ next) refl)
-    (record { woke = refl; of = refl; got = refl; opens = λ was. refl; names = λ links. refl }))
+    (record { woke = refl; of = refl; got = refl; opens = λ was. refl; names = λ links. refl; told = λ was. refl; blocked = λ was. refl; wrote = refl }))
     (passed-enters recording old new log1 (2 * c.number) st follows.passed within accepts.enters (ap (λ s. s.last) accepts.frame) (ap (λ s. s.link) accepts.frame) fresh)
     (none-late recording log1 e new.late refl refl accepts.late)
 
@@ -122,55 +124,71 @@ accepted-frame : (old new : Stage) (port : Port) → new.traffic_accepted ≡ ol
 accepted-frame old new Traffic traffic admin = traffic
 accepted-frame old new Admin traffic admin = admin
 
-late-opened : (recording : List RecordEntry) (old new : Stage) (log1 : Log) (at_server : ServerId) (address : Address) → Opens old new → Stands recording new (log1 ++ entry.Opened at_server address (next_link old) ∷ []) → opened_links (log1 ++ entry.Opened at_server address (next_link old) ∷ []) ≡ new.opened.items → length new.opened.items ≡ length old.opened.items + 1 → late_marks recording (log1 ++ entry.Opened at_server address (next_link old) ∷ []) ≡ late_entries new.late
-late-opened recording old new log1 at_server address opens st opened_is count =
+marks-same : (b : Bool) (t : Track) (link : Option LinkId) → (if b then record t { link = link } else t).marks ≡ t.marks
+marks-same true t link = refl
+marks-same false t link = refl
+
+late-opened : (recording : List RecordEntry) (old new : Stage) (log1 : Log) (at_server : ServerId) (address : Address) → Opens old new → Stands recording new (log1 ++ entry.Opened at_server address (next_link old) ∷ []) → opened_links (log1 ++ entry.Opened at_server address (next_link old) ∷ []) ≡ new.opened.items → late_marks recording (log1 ++ entry.Opened at_server address (next_link old) ∷ []) ≡ late_entries new.late
+late-opened recording old new log1 at_server address opens st opened_is =
     let e = entry.Opened at_server address (next_link old) in
     let log2 = log1 ++ e ∷ [] in
     let k = length new.opened.items in
-    let newest : slice_get new.opened.items (k - 1) ≡ Some (next_link old) =
-    ap (λ (links : List LinkId). slice_get links (k - 1)) opens.opened ∙ ap (slice_get (old.opened.items ++ next_link old ∷ [])) (let i : k - 1 ≡ length old.opened.items = omega arith in i) ∙ get-last old.opened.items (next_link old) in
-    let marks : (track_at new.tracks.items (2 * k + 1)).marks ≡ marks_for (Server k) (take new.cut recording) = (st.tracks (Server k)).marks in
-    ap (λ b. if b then filter_map (mark_at (opened_links log2)) (filter (is_mark_for (Server (length (opened_links log2)))) (released (wakes log2) recording)) else []) (just-more log1 e)
-    ∙ ap (λ (links : List LinkId). filter_map (mark_at links) (filter (is_mark_for (Server (length links))) (released (wakes log2) recording))) opened_is
-    ∙ ap (λ (lines : List RecordEntry). filter_map (mark_at new.opened.items) (filter (is_mark_for (Server k)) lines)) (cut-released recording new.cut (wakes log2) st.cut)
-    ∙ late-is new.opened.items k (next_link old) (take new.cut recording) newest
-    ∙ ap (λ (n : ℕ). replicate n (entry.Exec (next_link old))) (sym marks)
+    let at = 2 * k + 1 in
+    let same : (track_at new.tracks.items at).marks ≡ (track_at old.tracks.items at).marks = ap (λ t. t.marks) (opens.enters.tracks at) ∙ marks-same (at == at) (track_at old.tracks.items at) (Some (next_link old)) in
+    ap (λ o. elim o [ Some link ↦ entries_of link (marks_for (Server (length (opened_links log2))) (released (wakes log2) recording)) | None ↦ [] ]) (just-more log1 e)
+    ∙ ap (λ (links : List LinkId). entries_of (next_link old) (marks_for (Server (length links)) (released (wakes log2) recording))) opened_is
+    ∙ ap (λ (lines : List RecordEntry). entries_of (next_link old) (marks_for (Server k) lines)) (cut-released recording new.cut (wakes log2) st.cut)
+    ∙ ap (entries_of (next_link old)) (sym (st.tracks (Server k)).marks ∙ same)
     ∙ sym (ap late_entries opens.late)
 
-pub follows-opened : (recording : List RecordEntry) (old new : Stage) (log : Log) (at_server : ServerId) (address : Address) → IsWithin recording old → Follows recording old log → Opens old new → Follows recording new ((log ++ late_entries old.late) ++ entry.Opened at_server address (next_link old) ∷ [])
-follows-opened recording old new log at_server address within follows opens =
+-- an open that was asked for, and then comes
+pub opens-asked : (old mid new : Stage) → mid ≡ record old { opens = mid.opens; refusals = mid.refusals } → Opens mid new → Opens old new
+opens-asked old mid new asked opens =
+    let at = 2 * length new.opened.items + 1 in
+    record {
+      frame = opens.frame ∙ ap {A = Stage} (λ s. record s { tracks = new.tracks; places = new.places; opened = new.opened; opens = new.opens; refusals = new.refusals; line = s.last; late = new.late }) asked;
+      opened = opens.opened ∙ ap {A = Stage} (λ s. s.opened.items ++ next_link s ∷ []) asked;
+      late = opens.late ∙ ap {A = Stage} (λ s. record { link = next_link s; marks = (track_at s.tracks.items at).marks }) asked;
+      enters = record {
+        places = opens.enters.places ∙ ap {A = Stage} (λ s. s.places.items ++ at ∷ []) asked;
+        tracks = λ spot. opens.enters.tracks spot ∙ ap {A = Stage} (λ s. if spot == at then record (track_at s.tracks.items spot) { link = Some (next_link s) } else track_at s.tracks.items spot) asked;
+        line = opens.enters.line ∙ ap {A = Stage} (λ s. s.last) asked;
+      };
+    }
+
+pub follows-opened : (recording : List RecordEntry) (old new : Stage) (log : Log) (at_server : ServerId) (address : Address) → IsWithin recording old → Follows recording old log → Opens old new → new.opens ≡ old.opens + 1 → is_refused (old.opens + 1) recording ≡ false → Follows recording new ((log ++ late_entries old.late) ++ entry.Opened at_server address (next_link old) ∷ [])
+follows-opened recording old new log at_server address within follows opens_now counted wanted =
     let log1 = log ++ late_entries old.late in
     let e = entry.Opened at_server address (next_link old) in
     let log2 = log1 ++ e ∷ [] in
     let st = stands-marked recording old log follows in
-    let count : length new.opened.items ≡ length old.opened.items + 1 = ap length opens.opened ∙ length-append old.opened.items (next_link old ∷ []) in
+    let count : length new.opened.items ≡ length old.opened.items + 1 = ap length opens_now.opened ∙ length-append old.opened.items (next_link old ∷ []) in
     let fresh : (track_at old.tracks.items (2 * length new.opened.items + 1)).link ≡ None = ap (λ (n : ℕ). (track_at old.tracks.items (2 * n + 1)).link) count ∙ server-fresh recording old log1 st in
-    let clients : (p : Port) → clients_of p new ≡ clients_of p old = λ p. clients-same old new p (ap (λ s. s.traffic) opens.frame) (ap (λ s. s.admin) opens.frame) in
-    let accepted : (p : Port) → accepted_of p new ≡ accepted_of p old = λ p. accepted-frame old new p (ap (λ s. s.traffic_accepted) opens.frame) (ap (λ s. s.admin_accepted) opens.frame) in
-    let opened_is : opened_links log2 ≡ new.opened.items = opened-more log1 e ∙ ap (λ ls. ls ++ next_link old ∷ []) st.opened ∙ sym opens.opened in
+    let clients : (p : Port) → clients_of p new ≡ clients_of p old = λ p. clients-same old new p (ap (λ s. s.traffic) opens_now.frame) (ap (λ s. s.admin) opens_now.frame) in
+    let accepted : (p : Port) → accepted_of p new ≡ accepted_of p old = λ p. accepted-frame old new p (ap (λ s. s.traffic_accepted) opens_now.frame) (ap (λ s. s.admin_accepted) opens_now.frame) in
+    let opened_is : opened_links log2 ≡ new.opened.items = opened-more log1 e ∙ ap (λ ls. ls ++ next_link old ∷ []) st.opened ∙ sym opens_now.opened in
     let named : length (opened_links log1) + 1 ≡ length new.opened.items = ap (λ ls. length ls + 1) st.opened ∙ sym count in
     let stands = stands-enters recording old new log1 e (2 * length new.opened.items + 1) (Server (length new.opened.items)) st follows.sound.linked
     (all_below-append log (late_entries old.late) (length old.places.items) follows.sound.below (sound-late recording old log follows.sound).below)
-    opens.enters (ap (λ s. s.cut) opens.frame) (ap (λ s. s.last) opens.frame) clients
+    opens_now.enters (ap (λ s. s.cut) opens_now.frame) (ap (λ s. s.last) opens_now.frame) clients
     (λ p. accepted p ∙ st.accepted p ∙ sym (accepted-more p log1 e ∙ add-zero (accepted_at p log1)))
-    opened_is refl fresh (ap (λ (n : ℕ). record { link = next_link old; name = Server n } ∷ []) named)
+    opened_is (counted ∙ ap (λ (n : ℕ). n + 1) st.opens ∙ sym (opens-more log1 e)) refl fresh (ap (λ (n : ℕ). record { link = next_link old; name = Server n } ∷ []) named)
     (λ spot was. entered-more old new spot clients (λ p. let same : accepted_of p new ≡ accepted_of p old = accepted p in omega arith) (omega arith) was)
     (server (length new.opened.items) (omega arith) refl)
-    (record { woke = refl; of = refl; got = refl; opens = λ was. refl; names = λ links. refl }) in
+    (record { woke = refl; of = refl; got = refl; opens = λ was. refl; names = λ links. refl; told = λ was. refl; blocked = λ was. refl; wrote = refl }) in
     follows-plain recording old new log e follows (record { call = record { unmarked = refl; judge = λ l x. x }; due = λ l. refl })
-    tt (sound-opens recording old new at_server address log follows opens) stands
-    (passed-enters recording old new log1 (2 * length new.opened.items + 1) st follows.passed within opens.enters (ap (λ s. s.last) opens.frame) (ap (λ s. s.link) opens.frame) fresh)
-    (late-opened recording old new log1 at_server address opens stands opened_is count)
+    (ap (λ (n : ℕ). is_refused (n + 1) recording) (sym st.opens) ∙ wanted) (sound-opens recording old new at_server address log follows opens_now) stands
+    (passed-enters recording old new log1 (2 * length new.opened.items + 1) st follows.passed within opens_now.enters (ap (λ s. s.last) opens_now.frame) (ap (λ s. s.link) opens_now.frame) fresh)
+    (late-opened recording old new log1 at_server address opens_now stands opened_is)
 
 pub follows-woken : (recording : List RecordEntry) (old new : Stage) (ms count until_ms : ℕ) (rest : List RecordEntry) (log : Log) → IsWithin recording old → Follows recording old log → rest ≡ drop old.cut recording → first_moment rest ≡ Some ms → 0 < count → count ≤ length rest → old.cut + length (take count rest) ≤ length recording → NoMoment (drop 1 (take count rest)) → EndsAtMoment (drop count rest) → Wakes (take count rest) (old.cut + length (take count rest)) old new → Follows recording new ((log ++ wake-marks old (take count rest)) ++ entry.Woke until_ms ms ∷ [])
 follows-woken recording old new ms count until_ms rest log within follows is first some most end none ends step =
     let lines = take count rest in
     let e = entry.Woke until_ms ms in
     let marks = late_entries old.late ++ filter_map (mark_at old.opened.items) lines in
-    let execs = execs-append (late_entries old.late) (filter_map (mark_at old.opened.items) lines) (late-execs-of old.late) (lines-execs old.opened.items lines) in
-    let are = execs-are marks execs in
+    let are = marks_are old lines in
     let log1 = log ++ marks in
-    let st = stands-alike recording old log log1 (alike-marks recording log marks are) follows.stands in
+    let st = stands-after recording old log marks are follows.stands in
     let size : length lines ≡ count = length-take-le count rest most in
     let last : new.last ≡ old.cut = ap (λ s. s.last) step.frame in
     let line_is : new.line ≡ old.cut = ap (λ s. s.line) step.frame in
@@ -185,10 +203,10 @@ follows-woken recording old new ms count until_ms rest log within follows is fir
     ap (λ (l : Log). l ++ filter_map (mark_at (opened_links log1)) (released_last (wakes log1 + 1) recording)) (late-after recording log marks are ∙ follows.late)
     ∙ ap (λ (links : List LinkId). late_entries old.late ++ filter_map (mark_at links) (released_last (wakes log1 + 1) recording)) st.opened
     ∙ ap (λ (ls : List RecordEntry). late_entries old.late ++ filter_map (mark_at old.opened.items) ls) lines_are in
-    follows-entry recording old new log marks e follows execs (record { unmarked = refl; judge = λ l x. x }) due
+    follows-entry recording old new log marks e follows are (record { unmarked = refl; judge = λ l x. x }) due
     (moment-is recording rest old.cut (wakes log1) ms st.cut is first)
     (sound-wakes recording old new ms count until_ms rest log follows is first some most none ends step)
-    (stands-wakes recording old new log1 ms count until_ms rest st is first some most none ends step)
+    (stands-wakes recording old new log1 ms count until_ms rest within.cut st is first some most none ends step)
     (record {
       lines = subst (λ (l : ℕ). NoneIn new.last new.tracks.items (lines_between new.last l recording)) (last ∙ sym line_is) (no-lines new.last new.tracks.items new.last recording);
       places = subst (λ (k : ℕ). NoneAt new.last new.tracks.items (take k new.places.items)) (sym link_is) tt;
@@ -225,6 +243,13 @@ no-owner s at link first is = none_owner link (sym (ap (λ t. t.link) (blank-at 
 none_at : (at : ℕ) → None ≡ Some at → ⊥
 none_at at is = cc
 
+drop-nil : (k : ℕ) → drop k (let none : List RecordEntry = [] in none) ≡ []
+drop-nil zero = refl
+drop-nil (suc k) = refl
+
+no-block : false ≡ true → ⊥
+no-block so = cc
+
 first-stands : (recording : List RecordEntry) (s : Stage) → IsPlayable recording → IsFirst s → Stands recording s []
 first-stands recording s playable first =
     let none : take s.cut recording ≡ [] = ap (λ (k : ℕ). take k recording) first.cut in
@@ -235,16 +260,23 @@ first-stands recording s playable first =
       clients = λ port. first-clients s port first ∙ ap (clients_at port) (sym none);
       accepted = λ port. first-accepted s port first;
       opened = sym first.opened;
+      opens = first.opens;
       links = subst (λ (ps : List ℕ). Numbered 0 [] ps) (sym first.places) tt;
       placed = λ number at is. absurd (none_at at (ap (λ (ps : List ℕ). slice_get ps number) (sym first.places) ∙ is));
       entered = λ at link is. absurd (no-owner s at link first is);
       tracks = λ name. subst (λ t. Fits (take s.cut recording) s.last s.cut [] name t) (sym (blank-at s (place name) first)) (record {
         marks = ap (marks_for name) (sym none);
         bytes = ap (bytes_for name) (sym none);
+        ending = ap (ending_for name) (sym none);
+        room = ap (λ (ls : List RecordEntry). room_left (room_for name ls) 0) (sym (ap (drop s.last) none ∙ drop-nil s.last));
         opened = tt;
+        told = tt;
+        blocked = tt;
         named = tt;
-        fresh = (refl, refl);
+        fresh = record { closed = refl; named = refl; told = refl; blocked = refl };
         stamp = tt;
+        dated = tt;
+        woken = λ so. absurd (no-block so);
       });
     }
 
@@ -266,7 +298,7 @@ follows-first recording s playable first = record {
     lines = subst (λ (l : ℕ). NoneIn s.last s.tracks.items (lines_between s.last l recording)) (first.last ∙ sym first.line) (no-lines s.last s.tracks.items s.last recording);
     places = subst (λ (k : ℕ). NoneAt s.last s.tracks.items (take k s.places.items)) (sym first.link) tt;
   };
-  late = sym (ap (λ (n : ℕ). replicate n (entry.Exec s.late.link)) first.late);
+  late = sym (ap (entries_of s.late.link) first.late);
   unmarked = refl;
   played = tt;
 }
@@ -278,6 +310,7 @@ tape-first recording s told playable first is = record {
     last = let e : s.last ≡ 0 = first.last in omega arith;
     line = let e : s.line ≡ 0 = first.line in omega arith;
     link = let e : s.link ≡ 0 = first.link in omega arith;
+    refusals = subst (λ (o : Option _). IfSome o (λ found. (k : ℕ) → contains nat_eq found k ≡ is_refused k recording)) (sym first.refusals) tt;
   };
   follows = λ log told_is. let same : [] ≡ log = cc in subst (Follows recording s) same (follows-first recording s playable first);
 }

@@ -36,11 +36,15 @@ cut-released recording at n cut =
     ∙ ap (λ (k : ℕ). released k (take at recording ++ drop at recording)) (sym cut.count_is)
     ∙ released-front (take at recording) (drop at recording) cut.ends
 
-pub last-lines : (recording : List RecordEntry) (last cut n : ℕ) → CutsAt recording last (n - 1) → CutsAt recording cut n → last ≤ cut → cut ≤ length recording → released_last n recording ≡ lines_between last cut recording
-last-lines recording last cut n before now le within =
+pub last-drop : (recording : List RecordEntry) (last cut n : ℕ) → CutsAt recording last (n - 1) → CutsAt recording cut n → last ≤ cut → cut ≤ length recording → released_last n recording ≡ drop last (take cut recording)
+last-drop recording last cut n before now le within =
     ap (λ (lines : List RecordEntry). drop (length lines) (released n recording)) (cut-released recording last (n - 1) before)
     ∙ ap (λ (k : ℕ). drop k (released n recording)) (length-take-le last recording (omega arith))
     ∙ ap (drop last) (cut-released recording cut n now)
+
+pub last-lines : (recording : List RecordEntry) (last cut n : ℕ) → CutsAt recording last (n - 1) → CutsAt recording cut n → last ≤ cut → cut ≤ length recording → released_last n recording ≡ lines_between last cut recording
+last-lines recording last cut n before now le within =
+    last-drop recording last cut n before now le within
     ∙ ap (λ (k : ℕ). drop last (take k recording)) (let e : cut ≡ last + (cut - last) = omega arith in e)
     ∙ drop-take last (cut - last) recording
 

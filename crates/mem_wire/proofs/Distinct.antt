@@ -38,7 +38,11 @@ above moment clients port (line.Accept n at salt ∷ lines) can i c is =
     above-one (is_port port at) (record { number = n; salt = salt }) (clients_at port lines) clients (omega arith) (λ j d found. let later : clients + 1 < d.number = above moment (clients + 1) port lines can.2 j d found in omega arith) i c is
 above moment clients port (line.Bytes link bytes ∷ lines) can i c is = above moment clients port lines can.2 i c is
 above moment clients port (line.Exec k ∷ lines) can i c is = above moment clients port lines can.1 i c is
-above moment clients port (_ ∷ lines) can i c is = absurd can
+above moment clients port (line.Drop k ∷ lines) can i c is = above moment clients port lines can.1 i c is
+above moment clients port (line.Refuse k ∷ lines) can i c is = above moment clients port lines can i c is
+above moment clients port (line.End link ∷ lines) can i c is = above moment clients port lines can.1 i c is
+above moment clients port (line.Fail link ∷ lines) can i c is = above moment clients port lines can.1 i c is
+above moment clients port (line.Take link n ∷ lines) can i c is = above moment clients port lines can.1 i c is
 
 port-is : (a b : Port) → is_port a b ≡ true → a ≡ b
 port-is Traffic Traffic is = refl
@@ -75,7 +79,11 @@ distinct moment clients p q (line.Accept n at salt ∷ lines) can i j c d isc is
     (distinct moment (clients + 1) p q lines can.2) (λ ports. ap (λ (x : Port). is_port x at) ports) i j c d isc isd same
 distinct moment clients p q (line.Bytes link bytes ∷ lines) can i j c d isc isd same = distinct moment clients p q lines can.2 i j c d isc isd same
 distinct moment clients p q (line.Exec k ∷ lines) can i j c d isc isd same = distinct moment clients p q lines can.1 i j c d isc isd same
-distinct moment clients p q (_ ∷ lines) can i j c d isc isd same = absurd can
+distinct moment clients p q (line.Drop k ∷ lines) can i j c d isc isd same = distinct moment clients p q lines can.1 i j c d isc isd same
+distinct moment clients p q (line.Refuse k ∷ lines) can i j c d isc isd same = distinct moment clients p q lines can i j c d isc isd same
+distinct moment clients p q (line.End link ∷ lines) can i j c d isc isd same = distinct moment clients p q lines can.1 i j c d isc isd same
+distinct moment clients p q (line.Fail link ∷ lines) can i j c d isc isd same = distinct moment clients p q lines can.1 i j c d isc isd same
+distinct moment clients p q (line.Take link n ∷ lines) can i j c d isc isd same = distinct moment clients p q lines can.1 i j c d isc isd same
 
 -- in the recording as in what is released
 in-whole : (recording : List RecordEntry) (cut : ℕ) (port : Port) (i : ℕ) (c : Waiting) → slice_get (clients_at port (take cut recording)) i ≡ Some c → slice_get (clients_at port recording) i ≡ Some c

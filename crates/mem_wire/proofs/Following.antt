@@ -26,7 +26,7 @@ use Rattle.recording.specs.Playable.{PlayableAfter}
 use Rattle.mem_wire.specs.Follows.{IsSound, Follows, Continues, HaveSalts}
 use Rattle.mem_wire.specs.Steps.{Enters, Accepts, Opens, Wakes, numbered, next_link, clients_of, accepted_of}
 use Rattle.mem_wire.specs.declared.late.Late.{Late}
-use Rattle.mem_wire.proofs.Links.{late-marks, late-below, is_below, links_below-append, links_below-more, all_below-append, AreGood, good-append, marks-good, marks-append, marks-of}
+use Rattle.mem_wire.proofs.Links.{late_are, late-below, is_below, links_below-append, links_below-more, all_below-append, AreGood, good-append, marks-good, marks-append, marks-of}
 use Rattle.mem_wire.proofs.Quiet.{moment-marks}
 use Rattle.std.proofs.lemmas.Option.{slice_get_within}
 use Rattle.mem_wire.specs.declared.naming.ToName.{ToName}
@@ -44,13 +44,6 @@ sound-moved recording old new log e follows moved low idle =
     sound-call recording old new log (late_entries old.late) e follows.sound (keeps-moved old new moved) (sound-late recording old log follows.sound) low idle
 
 -- The same of a tape.
-
-pub late_are : (late : Late) → AreMarks (late_entries late)
-late_are late = late-marks late.marks late.link
-
--- a caller's link is below the number of links
-pub low-if-open : (recording : List RecordEntry) (s : Stage) (told shown : Option Log) (link : LinkId) → told ≡ shown → OpenFor shown link → (log : Log) → told ≡ Some log → Follows recording s log → nat_lt link.0 (length s.places.items) ≡ true
-low-if-open recording s told shown link same opened log is follows = open-low recording s log link follows.sound (opened.holds log (sym same ∙ is))
 
 pub open-if-open : (told shown : Option Log) (link : LinkId) (late : Late) → told ≡ shown → OpenFor shown link → (log : Log) → told ≡ Some log → IsOpen link (log ++ late_entries late)
 open-if-open told shown link late same opened log is = open-still link log (late_entries late) (late_are late) (opened.holds log (sym same ∙ is))
@@ -77,7 +70,7 @@ sound-opens recording old new server address log follows opens =
     sound-enters recording old new (2 * length new.opened.items + 1) log (entry.Opened server address (next_link old)) follows opens.enters
     (ap (λ s. s.cut) opens.frame) (ap (λ s. s.traffic) opens.frame) (ap (λ s. s.admin) opens.frame)
     (ap (links_below (n + 1)) opens.opened ∙ opened-more n old.opened.items follows.sound.opened)
-    (ap (λ late. all_below (n + 1) (late_entries late)) opens.late ∙ late-below (track_at new.tracks.items (2 * length new.opened.items + 1)).marks (n + 1) (next_link old) (omega arith))
+    (ap (λ late. all_below (n + 1) (late_entries late)) opens.late ∙ late-below (track_at old.tracks.items (2 * length new.opened.items + 1)).marks (n + 1) (next_link old) (omega arith))
     refl (λ m. refl)
 
 pub new-link : (recording : List RecordEntry) (s : Stage) (log : Log) → Follows recording s log → IsNew (next_link s) (log ++ late_entries s.late)
@@ -118,7 +111,7 @@ sound-wakes recording old new ms count until_ms rest log follows is first some m
       below = subst (λ (k : ℕ). all_below k ((log ++ wake-marks old lines) ++ entry.Woke until_ms ms ∷ []) ≡ true) (sym same) all;
       late = no-late (length new.places.items) new.late.marks new.late.link wakes.late;
       opened = subst (λ (k : ℕ). links_below k new.opened.items ≡ true) (sym same) (ap (λ s. links_below n s.opened.items) wakes.frame ∙ follows.sound.opened);
-      linked = λ at link is. ap (λ s. slice_get s.places.items link.0) wakes.frame ∙ follows.sound.linked at link (sym (released-links lines old.tracks.items new.tracks.items wakes.tracks at) ∙ is);
+      linked = λ at link is. ap (λ s. slice_get s.places.items link.0) wakes.frame ∙ follows.sound.linked at link (sym (released-links old.cut lines old.tracks.items new.tracks.items wakes.tracks at) ∙ is);
       rest = subst (λ (m : ℕ). Continues m (drop new.cut recording)) (sym (moment_of-more (log ++ wake-marks old lines) (entry.Woke until_ms ms))) (subst (Continues ms) left can.after);
       traffic = subst HaveSalts (sym wakes.traffic) (salts-append old.traffic.items (clients_at Traffic lines) follows.sound.traffic (salts-of Traffic (moment_of log) clients count rest playable));
       admin = subst HaveSalts (sym wakes.admin) (salts-append old.admin.items (clients_at Admin lines) follows.sound.admin (salts-of Admin (moment_of log) clients count rest playable));
@@ -126,13 +119,6 @@ sound-wakes recording old new ms count until_ms rest log follows is first some m
 
 pub wake-calls : (told one two new : Option Log) (s : Stage) (lines : List RecordEntry) (opened : List LinkId) (e : Entry) → opened ≡ s.opened.items → Adds told (late_entries s.late) one → Adds one (filter_map (mark_at opened) lines) two → Adds two (e ∷ []) new → IsBounded new → Calls told (wake-marks s lines) e new
 wake-calls told one two new s lines opened e same first next last bounded = calls_in_parts told one two new (late_entries s.late) (filter_map (mark_at s.opened.items) lines) e first (subst (λ (links : List LinkId). Adds one (filter_map (mark_at links) lines) two) same next) last bounded
-
--- the link that a search has found is one of the links
-pub found-low : (recording : List RecordEntry) (found : Option ToName) (t : ToName) (old new : Stage) (log : Log) → Follows recording old log → Searches recording found old new → found ≡ Some t → nat_lt t.link.0 (length old.places.items) ≡ true
-found-low recording found t old new log follows looks is =
-    let looks_t = subst (λ (f : Option ToName). Searches recording f old new) is looks in
-    let here : (track_at old.tracks.items t.at).link ≡ Some t.link = named-link old.last (track_at old.tracks.items t.at) t.link looks_t.stopped.0 in
-    is_below t.link.0 (length old.places.items) (slice_get_within old.places.items t.link.0 t.at (follows.sound.linked t.at t.link here))
 
 pub marks_are : (s : Stage) (lines : List RecordEntry) → AreMarks (wake-marks s lines)
 marks_are s lines = marks-append (late_entries s.late) (filter_map (mark_at s.opened.items) lines) (late_are s.late) (marks-of s.opened.items lines)

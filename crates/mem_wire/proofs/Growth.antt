@@ -29,6 +29,3 @@ adds-append old mid new a b first next = record {
       let early = first.told late.0 late.1 in
       (early.0, early.1, late.2 ∙ ap (λ (front : Log). front ++ b) early.2 ∙ append_assoc early.0 a b);
 }
-
-pub adds-none : (told : Option Log) → Adds told [] told
-adds-none told = record { told = λ log is. (log, is, sym (append-nil log)) }

@@ -1,15 +1,19 @@
 -- A number above all links of a log.
-use Rattle.std.proofs.Common.{◌≡◌, ◌⊎◌, ℕ, zero, ◌≤◌, ◌<◌, ◌-◌, Bool, true, false, nat_lt, List, [], ◌∷◌, ◌++◌, Option, Some, None, suc, refl, sym, ◌∙◌, inl, inr, arith, replicate}
+use Rattle.std.proofs.Common.{◌≡◌, ◌⊎◌, ℕ, zero, ◌≤◌, ◌<◌, ◌-◌, Bool, true, false, nat_lt, List, [], ◌∷◌, ◌++◌, Option, Some, None, suc, refl, sym, ◌∙◌, inl, inr, arith}
 use Rattle.std.specs.Prelude.{◌&&◌, slice_get}
 use Rattle.std.specs.List.{filter_map, cons_option}
 use Rattle.std.proofs.lemmas.List.Folds.{list_all-append}
 use Rattle.mx_base.specs.declared.names.LinkId.{LinkId}
-use Rattle.mx_wire.specs.Log.{Log, link_of, is_link, of_link, is_open, AreMarks}
+use Rattle.mx_wire.specs.Log.{Log, link_of, is_link, of_link, is_open, IsMark, AreMarks}
 use Rattle.mx_wire.specs.Tells.{IsOpen}
-use Rattle.mx_wire.specs.declared.entry.Entry.TheVariants.{Exec}
 use Rattle.recording.specs.declared.entry.RecordEntry.{RecordEntry}
 use Rattle.recording.specs.declared.entry.RecordEntry.TheVariants as line
-use Rattle.mem_wire.specs.Play.{mark_at}
+use Rattle.mem_wire.specs.declared.marks.Mark.{Mark}
+use Rattle.mem_wire.specs.declared.marks.Mark.TheVariants as mark
+use Rattle.mem_wire.specs.Marks.{mark_entry, entries_of}
+use Rattle.mem_wire.specs.Play.{mark_on, mark_at}
+use Rattle.mem_wire.specs.declared.late.Late.{Late}
+use Rattle.mem_wire.specs.Adds.{late_entries}
 use Rattle.mem_wire.specs.Below.{link_below, all_below, links_below}
 
 pub and-left : (a b : Bool) → (a && b) ≡ true → a ≡ true
@@ -76,16 +80,24 @@ open-below link log n all opened = elim (low_or_high link.0 n) [
 
 -- marks name links that were opened
 
-all_below-replicate : (k n : ℕ) (link : LinkId) → nat_lt link.0 n ≡ true → all_below n (replicate k (Exec link)) ≡ true
-all_below-replicate zero n link low = refl
-all_below-replicate (suc k) n link low = and-both (nat_lt link.0 n) (all_below n (replicate k (Exec link))) low (all_below-replicate k n link low)
+mark-below : (n : ℕ) (link : LinkId) (m : Mark) → link_below n (link_of (mark_entry link m)) ≡ nat_lt link.0 n
+mark-below n link mark.Exec = refl
+mark-below n link mark.Drop = refl
 
-pub late-below : (k n : ℕ) (link : LinkId) → link.0 < n → all_below n (replicate k (Exec link)) ≡ true
-late-below k n link low = all_below-replicate k n link (is_below link.0 n low)
+pub mark-is : (link : LinkId) (m : Mark) → IsMark (mark_entry link m)
+mark-is link mark.Exec = tt
+mark-is link mark.Drop = tt
 
-pub late-marks : (k : ℕ) (link : LinkId) → AreMarks (replicate k (Exec link))
-late-marks zero link = tt
-late-marks (suc k) link = (tt, late-marks k link)
+pub late-below : (marks : List Mark) (n : ℕ) (link : LinkId) → link.0 < n → all_below n (entries_of link marks) ≡ true
+late-below [] n link low = refl
+late-below (m ∷ marks) n link low = and-both (link_below n (link_of (mark_entry link m))) (all_below n (entries_of link marks)) (mark-below n link m ∙ is_below link.0 n low) (late-below marks n link low)
+
+late-marks : (marks : List Mark) (link : LinkId) → AreMarks (entries_of link marks)
+late-marks [] link = tt
+late-marks (m ∷ marks) link = (mark-is link m, late-marks marks link)
+
+pub late_are : (late : Late) → AreMarks (late_entries late)
+late_are late = late-marks late.marks late.link
 
 get-below : (links : List LinkId) (i n : ℕ) → links_below n links ≡ true → (link : LinkId) → slice_get links i ≡ Some link → nat_lt link.0 n ≡ true
 get-below [] i n all link is = cc
@@ -103,26 +115,28 @@ marks-append (e ∷ a) b p q = (p.0, marks-append a b p.1 q)
 pub good-append : (n : ℕ) (a b : Log) → AreGood n a → AreGood n b → AreGood n (a ++ b)
 good-append n a b p q = record { below = all_below-append a b n p.below q.below; are = marks-append a b p.are q.are }
 
-one-good : (n : ℕ) (links : List LinkId) (k : ℕ) (found : Option LinkId) (later : Log) → slice_get links (k - 1) ≡ found → links_below n links ≡ true → AreGood n later → AreGood n (cons_option (elim found [ Some link ↦ Some (Exec link) | None ↦ None ]) later)
-one-good n links k None later is all good = good
-one-good n links k (Some link) later is all good = record {
-  below = and-both (nat_lt link.0 n) (all_below n later) (get-below links (k - 1) n all link is) good.below;
-  are = (tt, good.are);
+one-good : (n : ℕ) (links : List LinkId) (k : ℕ) (m : Mark) (found : Option LinkId) (later : Log) → slice_get links (k - 1) ≡ found → links_below n links ≡ true → AreGood n later → AreGood n (cons_option (mark_on found m) later)
+one-good n links k m None later is all good = good
+one-good n links k m (Some link) later is all good = record {
+  below = and-both (link_below n (link_of (mark_entry link m))) (all_below n later) (mark-below n link m ∙ get-below links (k - 1) n all link is) good.below;
+  are = (mark-is link m, good.are);
 }
 
 pub marks-good : (n : ℕ) (links : List LinkId) (lines : List RecordEntry) → links_below n links ≡ true → AreGood n (filter_map (mark_at links) lines)
 marks-good n links [] all = record { below = refl; are = tt }
-marks-good n links (line.Exec k ∷ lines) all = one-good n links k (slice_get links (k - 1)) (filter_map (mark_at links) lines) refl all (marks-good n links lines all)
+marks-good n links (line.Exec k ∷ lines) all = one-good n links k mark.Exec (slice_get links (k - 1)) (filter_map (mark_at links) lines) refl all (marks-good n links lines all)
+marks-good n links (line.Drop k ∷ lines) all = one-good n links k mark.Drop (slice_get links (k - 1)) (filter_map (mark_at links) lines) refl all (marks-good n links lines all)
 marks-good n links (_ ∷ lines) all = marks-good n links lines all
 
-pub late-good : (n k : ℕ) (link : LinkId) → all_below n (replicate k (Exec link)) ≡ true → AreGood n (replicate k (Exec link))
-late-good n k link below = record { below = below; are = late-marks k link }
+pub late-good : (n : ℕ) (marks : List Mark) (link : LinkId) → all_below n (entries_of link marks) ≡ true → AreGood n (entries_of link marks)
+late-good n marks link below = record { below = below; are = late-marks marks link }
 
-one-mark : (found : Option LinkId) (later : Log) → AreMarks later → AreMarks (cons_option (elim found [ Some link ↦ Some (Exec link) | None ↦ None ]) later)
-one-mark None later are = are
-one-mark (Some link) later are = (tt, are)
+one-mark : (found : Option LinkId) (m : Mark) (later : Log) → AreMarks later → AreMarks (cons_option (mark_on found m) later)
+one-mark None m later are = are
+one-mark (Some link) m later are = (mark-is link m, are)
 
 pub marks-of : (links : List LinkId) (lines : List RecordEntry) → AreMarks (filter_map (mark_at links) lines)
 marks-of links [] = tt
-marks-of links (line.Exec k ∷ lines) = one-mark (slice_get links (k - 1)) (filter_map (mark_at links) lines) (marks-of links lines)
+marks-of links (line.Exec k ∷ lines) = one-mark (slice_get links (k - 1)) mark.Exec (filter_map (mark_at links) lines) (marks-of links lines)
+marks-of links (line.Drop k ∷ lines) = one-mark (slice_get links (k - 1)) mark.Drop (filter_map (mark_at links) lines) (marks-of links lines)
 marks-of links (_ ∷ lines) = marks-of links lines

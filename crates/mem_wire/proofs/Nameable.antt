@@ -17,21 +17,21 @@ use Rattle.mem_wire.specs.declared.naming.ToName.{ToName}
 use Rattle.mem_wire.specs.declared.track.Track.{Track}
 use Rattle.mem_wire.specs.declared.stage.Stage.{Stage}
 use Rattle.mem_wire.specs.Lines.{same_name, name_at, bytes_for}
-use Rattle.mem_wire.specs.Came.{wakes, Known, known, with_name, unread_of}
-use Rattle.mem_wire.specs.Play.{named_since, is_empty, is_to_name, known_at, naming_order, next_named, Names}
-use Rattle.mem_wire.specs.Tracks.{track_at, place}
+use Rattle.mem_wire.specs.Came.{wakes, is_told, is_blocked, Known, known, with_name, unread_of, ending_of, room_of}
+use Rattle.mem_wire.specs.Play.{named_since, is_ready, is_to_name, known_at, naming_order, next_named, Names}
+use Rattle.mem_wire.specs.Tracks.{track_at, place, room_in}
 use Rattle.mem_wire.specs.Steps.{numbered, IsWithin}
 use Rattle.mem_wire.specs.Naming.{is_named, named_by, named_at, NoneIn, NoneAt, BeginsIn, BeginsAt, lines_between, Searches}
 use Rattle.mem_wire.specs.Stands.{Numbered, read_by, is_in, Stands, Passed}
 use Rattle.mem_wire.proofs.LineLaws.{same_place}
-use Rattle.mem_wire.proofs.CutLaws.{cut-released, last-lines}
+use Rattle.mem_wire.proofs.CutLaws.{cut-released, last-drop, last-lines}
 use Rattle.mem_wire.proofs.NamingLaws.{named-link}
-use Rattle.mem_wire.proofs.Standing.{drop-read}
+use Rattle.mem_wire.proofs.Standing.{has-track}
 use Rattle.mem_wire.proofs.StandMoves.{if-own}
 
 -- whether the track's link is to be named
 abbrev test : ℕ → Track → Bool
-test last t = not t.closed && (not (is_empty t.unread) && not (is_named t.named last))
+test last t = not t.closed && (is_ready t.unread t.ending t.told t.blocked (room_in last t.room) && not (is_named t.named last))
 
 -- the link of each track's name is the track's
 abbrev Owned : List Track → List Known → Type 0
@@ -48,17 +48,19 @@ owned-from tracks n (k ∷ links) (p ∷ places) all owner = (
 )
 
 -- whether a link is to be named, by its track
-pub to-name : (recording : List RecordEntry) (s : Stage) (log : Log) (k : Known) → Stands recording s log → (track_at s.tracks.items (place k.name)).link ≡ Some k.link → is_to_name recording log k ≡ test s.last (track_at s.tracks.items (place k.name))
-to-name recording s log k st owner =
+pub to-name : (recording : List RecordEntry) (s : Stage) (log : Log) (k : Known) → IsWithin recording s → Stands recording s log → (track_at s.tracks.items (place k.name)).link ≡ Some k.link → is_to_name recording log k ≡ test s.last (track_at s.tracks.items (place k.name))
+to-name recording s log k within st owner =
     let t = track_at s.tracks.items (place k.name) in
     let fits = st.tracks k.name in
-    let unread : unread_of recording log k ≡ t.unread =
-    ap (λ (lines : List RecordEntry). drop (length (read_by (Some k.link) log)) (bytes_for k.name lines)) (cut-released recording s.cut (wakes log) st.cut)
-    ∙ ap (drop (length (read_by (Some k.link) log))) (sym (ap (λ o. read_by o log ++ t.unread) (sym owner) ∙ fits.bytes))
-    ∙ drop-read (read_by (Some k.link) log) t.unread in
-    ap (λ b. b && (not (is_empty (unread_of recording log k)) && not (is_in k.link (named_since log)))) (if-own t.link (λ l. is_open l log ≡ not t.closed) k.link owner fits.opened)
-    ∙ ap (λ bs. not t.closed && (not (is_empty bs) && not (is_in k.link (named_since log)))) unread
-    ∙ ap (λ b. not t.closed && (not (is_empty t.unread) && not b)) (if-own t.link (λ l. is_in l (named_since log) ≡ is_named t.named s.last) k.link owner fits.named)
+    let le1 : s.last ≤ s.line = within.last in let le2 : s.line ≤ s.cut = within.line in
+    let has = has-track recording s.last s.cut log k t (cut-released recording s.cut (wakes log) st.cut) (last-drop recording s.last s.cut (wakes log) st.last st.cut (omega arith) within.cut) owner fits in
+    ap (λ b. b && (is_ready (unread_of recording log k) (ending_of recording log k) (is_told k.link log) (is_blocked k.link log) (room_of recording log k) && not (is_in k.link (named_since log)))) (if-own t.link (λ l. is_open l log ≡ not t.closed) k.link owner fits.opened)
+    ∙ ap (λ bs. not t.closed && (is_ready bs (ending_of recording log k) (is_told k.link log) (is_blocked k.link log) (room_of recording log k) && not (is_in k.link (named_since log)))) has.unread
+    ∙ ap (λ o. not t.closed && (is_ready t.unread o (is_told k.link log) (is_blocked k.link log) (room_of recording log k) && not (is_in k.link (named_since log)))) has.ending
+    ∙ ap (λ b. not t.closed && (is_ready t.unread t.ending b (is_blocked k.link log) (room_of recording log k) && not (is_in k.link (named_since log)))) (if-own t.link (λ l. is_told l log ≡ t.told) k.link owner fits.told)
+    ∙ ap (λ b. not t.closed && (is_ready t.unread t.ending t.told b (room_of recording log k) && not (is_in k.link (named_since log)))) (if-own t.link (λ l. is_blocked l log ≡ t.blocked) k.link owner fits.blocked)
+    ∙ ap (λ o. not t.closed && (is_ready t.unread t.ending t.told t.blocked o && not (is_in k.link (named_since log)))) has.room
+    ∙ ap (λ b. not t.closed && (is_ready t.unread t.ending t.told t.blocked (room_in s.last t.room) && not b)) (if-own t.link (λ l. is_in l (named_since log) ≡ is_named t.named s.last) k.link owner fits.named)
 
 -- what a look-up among the tracks says of the test
 test-no : (b : Bool) (link : LinkId) (o : Option LinkId) → o ≡ Some link → (if b then o else None) ≡ None → b ≡ false
@@ -209,9 +211,9 @@ passed-more recording found old new within passed looks = subst (Passed recordin
       (none_at-append old.last old.tracks.items (take old.link old.places.items) (take (new.link - old.link) (drop old.link old.places.items)) passed.places looks.places);
 })
 
-lines-of : (recording : List RecordEntry) (s : Stage) (log : Log) → Stands recording s log → ((spot : ℕ) (link : LinkId) → (track_at s.tracks.items spot).link ≡ Some link → slice_get s.places.items link.0 ≡ Some spot) → Lines s.tracks.items s.last (known recording log) s.places.items (is_to_name recording log)
-lines-of recording s log st linked = record {
-  tests = λ k owner. to-name recording s log k st owner;
+lines-of : (recording : List RecordEntry) (s : Stage) (log : Log) → IsWithin recording s → Stands recording s log → ((spot : ℕ) (link : LinkId) → (track_at s.tracks.items spot).link ≡ Some link → slice_get s.places.items link.0 ≡ Some spot) → Lines s.tracks.items s.last (known recording log) s.places.items (is_to_name recording log)
+lines-of recording s log within st linked = record {
+  tests = λ k owner. to-name recording s log k within st owner;
   owned = owned-from s.tracks.items 0 (known recording log) s.places.items st.links (λ i at is. st.placed i at is ∙ ap (λ (m : ℕ). Some (numbered m)) (let e : i ≡ 0 + i = omega arith in e));
   all = st.links;
   linked = linked;
@@ -230,7 +232,7 @@ pub names-none : (recording : List RecordEntry) (old new : Stage) (log : Log) �
 names-none recording old new log st within linked passed looks =
     let p = is_to_name recording log in
     let links = known recording log in
-    let all = lines-of recording old log st linked in
+    let all = lines-of recording old log within st linked in
     let le1 : old.last ≤ old.line = within.last in let le2 : old.line ≤ new.line = looks.later_line in
     let done : new.line ≡ old.cut = looks.stopped.0 in
     let ended : new.link ≡ length old.places.items = looks.stopped.1 in
@@ -256,7 +258,7 @@ pub names-some : (recording : List RecordEntry) (old new : Stage) (log : Log) (t
 names-some recording old new log t st within linked passed looks =
     let p = is_to_name recording log in
     let links = known recording log in
-    let all = lines-of recording old log st linked in
+    let all = lines-of recording old log within st linked in
     let le1 : old.last ≤ old.line = within.last in let le2 : old.line ≤ new.line = looks.later_line in let le3 : new.line ≤ old.cut = looks.line in
     let before : NoneIn old.last old.tracks.items (lines_between old.last new.line recording) =
     subst (NoneIn old.last old.tracks.items) (sym (between-parts old.last old.line new.line recording le1 le2)) (none_in-append old.last old.tracks.items (lines_between old.last old.line recording) (lines_between old.line new.line recording) passed.lines looks.lines) in

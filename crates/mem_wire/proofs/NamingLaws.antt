@@ -2,7 +2,8 @@
 use Rattle.std.proofs.Common.{◌≡◌, ℕ, ◌<◌, ◌≤◌, ◌+◌, ◌-◌, List, [], ◌∷◌, ◌++◌, length, take, drop, get_or, Option, Some, None, refl, sym, ◌∙◌, ap, subst, arith, inl, inr, length-drop}
 use Rattle.std.specs.Prelude.{IfSome, IfNone, is_some, Bool, true, false, not, ◌&&◌, if◌then◌else◌}
 use Rattle.mx_base.specs.declared.names.LinkId.{LinkId}
-use Rattle.mem_wire.specs.Play.{is_empty}
+use Rattle.mem_wire.specs.Play.{is_ready}
+use Rattle.mem_wire.specs.Tracks.{room_in}
 use Rattle.std.proofs.lemmas.List.{take_more, take-take, drop-take, drop-drop, length-take-le}
 use Rattle.recording.specs.declared.entry.RecordEntry.{RecordEntry}
 use Rattle.mem_wire.specs.declared.track.Track.{Track}
@@ -99,4 +100,4 @@ if-some true o link is = is
 if-some false o link is = cc
 
 pub named-link : (last : ℕ) (t : Track) (link : LinkId) → named_by last t ≡ Some link → t.link ≡ Some link
-named-link last t link is = if-some (not t.closed && (not (is_empty t.unread) && not (is_named t.named last))) t.link link is
+named-link last t link is = if-some (not t.closed && (is_ready t.unread t.ending t.told t.blocked (room_in last t.room) && not (is_named t.named last))) t.link link is

@@ -33,7 +33,11 @@ salts-of port moment clients (suc k) (line.At ms ∷ lines) can = salts-of port 
 salts-of port moment clients (suc k) (line.Accept n at salt ∷ lines) can = one-salt (is_port port at) n salt (clients_at port (take k lines)) can.1 (salts-of port moment (clients + 1) k lines can.2)
 salts-of port moment clients (suc k) (line.Bytes link bytes ∷ lines) can = salts-of port moment clients k lines can.2
 salts-of port moment clients (suc k) (line.Exec j ∷ lines) can = salts-of port moment clients k lines can.1
-salts-of port moment clients (suc k) (_ ∷ lines) can = absurd can
+salts-of port moment clients (suc k) (line.Drop j ∷ lines) can = salts-of port moment clients k lines can.1
+salts-of port moment clients (suc k) (line.Refuse j ∷ lines) can = salts-of port moment clients k lines can
+salts-of port moment clients (suc k) (line.End link ∷ lines) can = salts-of port moment clients k lines can.1
+salts-of port moment clients (suc k) (line.Fail link ∷ lines) can = salts-of port moment clients k lines can.1
+salts-of port moment clients (suc k) (line.Take link n ∷ lines) can = salts-of port moment clients k lines can.1
 
 pub playable-skip : (moment clients k : ℕ) (lines : List RecordEntry) → PlayableAfter moment clients lines → NoMoment (take k lines) → Continues moment (drop k lines)
 playable-skip moment clients zero lines can none = record { clients = clients; playable = can }
@@ -42,7 +46,11 @@ playable-skip moment clients (suc k) (line.At ms ∷ lines) can none = absurd (l
 playable-skip moment clients (suc k) (line.Accept n at salt ∷ lines) can none = playable-skip moment (clients + 1) k lines can.2 none.1
 playable-skip moment clients (suc k) (line.Bytes link bytes ∷ lines) can none = playable-skip moment clients k lines can.2 none.1
 playable-skip moment clients (suc k) (line.Exec j ∷ lines) can none = playable-skip moment clients k lines can.1 none.1
-playable-skip moment clients (suc k) (_ ∷ lines) can none = absurd can
+playable-skip moment clients (suc k) (line.Drop j ∷ lines) can none = playable-skip moment clients k lines can.1 none.1
+playable-skip moment clients (suc k) (line.Refuse j ∷ lines) can none = playable-skip moment clients k lines can none.1
+playable-skip moment clients (suc k) (line.End link ∷ lines) can none = playable-skip moment clients k lines can.1 none.1
+playable-skip moment clients (suc k) (line.Fail link ∷ lines) can none = playable-skip moment clients k lines can.1 none.1
+playable-skip moment clients (suc k) (line.Take link n ∷ lines) can none = playable-skip moment clients k lines can.1 none.1
 
 -- the rest of the lines begins with this moment
 pub record Begins (moment ms : ℕ) (count : ℕ) (rest : List RecordEntry) : Type 0 where

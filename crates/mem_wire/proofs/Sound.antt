@@ -1,5 +1,5 @@
 -- What keeps the log of a tape sound.
-use Rattle.std.proofs.Common.{◌≡◌, ℕ, ◌+◌, true, nat_lt, List, [], ◌∷◌, ◌++◌, length, drop, Some, suc, refl, sym, ◌∙◌, ap, subst, arith, length-append, replicate, zero, inl, inr, ◌==◌, if◌then◌else◌}
+use Rattle.std.proofs.Common.{◌≡◌, ℕ, ◌+◌, true, nat_lt, List, [], ◌∷◌, ◌++◌, length, drop, Some, suc, refl, sym, ◌∙◌, ap, subst, arith, length-append, zero, inl, inr, ◌==◌, if◌then◌else◌}
 use Rattle.std.specs.Prelude.{slice_get}
 use Rattle.std.proofs.lemmas.Bool.{eqb-true}
 use Rattle.mx_base.specs.declared.names.LinkId.{LinkId}
@@ -10,6 +10,8 @@ use Rattle.mx_wire.specs.declared.entry.Entry.{Entry}
 use Rattle.mx_wire.specs.declared.entry.Entry.TheVariants as entry
 use Rattle.recording.specs.declared.entry.RecordEntry.{RecordEntry}
 use Rattle.mem_wire.specs.declared.stage.Stage.{Stage}
+use Rattle.mem_wire.specs.declared.marks.Mark.{Mark}
+use Rattle.mem_wire.specs.Marks.{entries_of}
 use Rattle.mem_wire.specs.Adds.{late_entries}
 use Rattle.mem_wire.specs.Below.{link_below, all_below, links_below}
 use Rattle.mem_wire.specs.Tracks.{track_at, SameLinks, ChangesTrack}
@@ -25,11 +27,11 @@ pub record KeepsCourse (old new : Stage) : Type 0 where
   pub opened : new.opened ≡ old.opened
   pub traffic : new.traffic ≡ old.traffic
   pub admin : new.admin ≡ old.admin
-  pub late : new.late.marks ≡ 0
+  pub late : new.late.marks ≡ []
   pub links : SameLinks old.tracks.items new.tracks.items
 
-pub no-late : (n k : ℕ) (link : LinkId) → k ≡ 0 → all_below n (replicate k (entry.Exec link)) ≡ true
-no-late n k link none = rw none refl
+pub no-late : (n : ℕ) (marks : List Mark) (link : LinkId) → marks ≡ [] → all_below n (entries_of link marks) ≡ true
+no-late n marks link none = rw none refl
 
 pub sound-call : (recording : List RecordEntry) (old new : Stage) (log marks : Log) (e : Entry) → IsSound recording old log → KeepsCourse old new → AreGood (length old.places.items) marks → link_below (length old.places.items) (link_of e) ≡ true → ((m : ℕ) → moment_step m e ≡ m) → IsSound recording new ((log ++ marks) ++ e ∷ [])
 sound-call recording old new log marks e sound keeps good low idle =

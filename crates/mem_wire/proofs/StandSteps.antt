@@ -1,5 +1,5 @@
 -- How the stage goes on standing to the log, entry by entry.
-use Rattle.std.proofs.Common.{◌≡◌, ◌⊎◌, ℕ, ◌<◌, ◌≤◌, ◌==◌, Bool, true, false, nat_eq, List, [], ◌∷◌, ◌++◌, length, take, if◌then◌else◌, Option, Some, None, refl, sym, ◌∙◌, ap, subst, arith, inl, inr}
+use Rattle.std.proofs.Common.{◌≡◌, ◌⊎◌, ℕ, ◌<◌, ◌≤◌, ◌==◌, Bool, true, false, nat_eq, List, [], ◌∷◌, ◌++◌, length, take, drop, if◌then◌else◌, Option, Some, None, refl, sym, ◌∙◌, ap, subst, arith, inl, inr}
 use Rattle.std.specs.Prelude.{IfSome, slice_get, not, ◌||◌}
 use Rattle.std.proofs.lemmas.Bool.{eqb-true}
 use Rattle.std.proofs.lemmas.Option.{slice_get_within}
@@ -7,7 +7,7 @@ use Rattle.std.proofs.lemmas.List.Folds.{list_any-append}
 use Rattle.mx_base.specs.declared.names.LinkId.{LinkId}
 use Rattle.mx_base.specs.declared.names.Port.{Port}
 use Rattle.mx_base.specs.declared.names.Port.TheVariants.{Traffic, Admin}
-use Rattle.mx_wire.specs.Log.{Log, link_of, is_link, read_of, got_bytes, is_open, open_step}
+use Rattle.mx_wire.specs.Log.{Log, link_of, is_link, read_of, got_bytes, is_open, open_step, written_of, wrote_bytes}
 use Rattle.mx_wire.specs.Growth.{bool_cases, bytes-other, step-other, nat_eq-sym}
 use Rattle.mx_wire.specs.declared.entry.Entry.{Entry}
 use Rattle.recording.specs.declared.entry.RecordLink.{RecordLink}
@@ -15,13 +15,14 @@ use Rattle.recording.specs.declared.entry.RecordEntry.{RecordEntry}
 use Rattle.mem_wire.specs.declared.track.Track.{Track}
 use Rattle.mem_wire.specs.declared.late.Late.{Late}
 use Rattle.mem_wire.specs.declared.stage.Stage.{Stage}
-use Rattle.mem_wire.specs.Lines.{clients_at}
-use Rattle.mem_wire.specs.Came.{accepted_at}
+use Rattle.mem_wire.specs.Lines.{clients_at, room_for}
+use Rattle.mem_wire.specs.Came.{is_woke, accepted_at, since_wake, told_step, is_told, blocked_step, is_blocked, room_left}
+use Rattle.mem_wire.proofs.Quiet.{since-next}
 use Rattle.mem_wire.specs.Play.{named_since, named_step}
 use Rattle.mem_wire.specs.Tracks.{track_at, place, ChangesTrack}
 use Rattle.mem_wire.specs.Steps.{clients_of, accepted_of}
 use Rattle.mem_wire.specs.Naming.{is_named}
-use Rattle.mem_wire.specs.Stands.{read_by, is_in, Fits, Stands, Entered, client, server}
+use Rattle.mem_wire.specs.Stands.{read_by, written_by, is_in, Fits, Stands, Entered, client, server}
 use Rattle.mem_wire.specs.CameLaws.{named-more}
 
 -- what was entered stays entered
@@ -55,6 +56,7 @@ stands-stay recording s log late line link st = record {
   clients = clients-stay recording s log late line link st;
   accepted = accepted-stay recording s log late line link st;
   opened = st.opened;
+  opens = st.opens;
   links = st.links;
   placed = st.placed;
   entered = λ at owner is. entered-like s (record s { late = late; line = line; link = link }) at (λ port. same-clients s late line link port) (λ port. same-accepted s late line link port) refl (st.entered at owner is);
@@ -76,6 +78,9 @@ pub record AlikeBut (but : LinkId) (old new : Log) : Type 0 where
   pub read : (link : LinkId) → nat_eq link.0 but.0 ≡ false → read_of link new ≡ read_of link old
   pub open_is : (link : LinkId) → nat_eq link.0 but.0 ≡ false → is_open link new ≡ is_open link old
   pub named : (link : LinkId) → nat_eq link.0 but.0 ≡ false → is_in link (named_since new) ≡ is_in link (named_since old)
+  pub told : (link : LinkId) → nat_eq link.0 but.0 ≡ false → is_told link new ≡ is_told link old
+  pub blocked : (link : LinkId) → nat_eq link.0 but.0 ≡ false → is_blocked link new ≡ is_blocked link old
+  pub wrote : (link : LinkId) → nat_eq link.0 but.0 ≡ false → written_of link (since_wake new) ≡ written_of link (since_wake old)
 
 or-false : (b : Bool) → (b || false) ≡ b
 or-false true = refl
@@ -86,8 +91,11 @@ in-more link but links apart =
     list_any-append (λ other. nat_eq other.0 link.0) links (but ∷ [])
     ∙ ap (λ b. is_in link links || (b || false)) (nat_eq-sym link.0 but.0 apart) ∙ or-false (is_in link links)
 
-pub but-entry : (but : LinkId) (log : Log) (e : Entry) → link_of e ≡ Some but → ((links : List LinkId) → (named_step links e ≡ links) ⊎ (named_step links e ≡ links ++ but ∷ [])) → AlikeBut but log (log ++ e ∷ [])
-but-entry but log e of names = record {
+pub but-entry : (but : LinkId) (log : Log) (e : Entry) → link_of e ≡ Some but → is_woke e ≡ false → ((links : List LinkId) → (named_step links e ≡ links) ⊎ (named_step links e ≡ links ++ but ∷ [])) → AlikeBut but log (log ++ e ∷ [])
+but-entry but log e of still names = record {
+  told = λ link apart. step-other told_step false link log e (ap (is_link link) of ∙ apart);
+  blocked = λ link apart. step-other blocked_step false link log e (ap (is_link link) of ∙ apart);
+  wrote = λ link apart. ap (written_of link) (since-next log e still) ∙ bytes-other wrote_bytes link (since_wake log) e (ap (is_link link) of ∙ apart);
   read = λ link apart. bytes-other got_bytes link log e (ap (is_link link) of ∙ apart);
   open_is = λ link apart. step-other open_step false link log e (ap (is_link link) of ∙ apart);
   named = λ link apart. elim (names (named_since log)) [
@@ -104,14 +112,24 @@ read_by-but : (but : LinkId) (old new : Log) (o : Option LinkId) → AlikeBut bu
 read_by-but but old new None alike apart = refl
 read_by-but but old new (Some link) alike apart = alike.read link apart
 
+written_by-but : (but : LinkId) (old new : Log) (o : Option LinkId) → AlikeBut but old new → IfSome o (λ link. nat_eq link.0 but.0 ≡ false) → written_by o new ≡ written_by o old
+written_by-but but old new None alike apart = refl
+written_by-but but old new (Some link) alike apart = ap length (alike.wrote link apart)
+
 pub fits-but : (lines : List RecordEntry) (last cut : ℕ) (but : LinkId) (old new : Log) (name : RecordLink) (t : Track) → AlikeBut but old new → IfSome t.link (λ link. nat_eq link.0 but.0 ≡ false) → Fits lines last cut old name t → Fits lines last cut new name t
 fits-but lines last cut but old new name t alike apart fits = record {
   marks = fits.marks;
   bytes = ap (λ bytes. bytes ++ t.unread) (read_by-but but old new t.link alike apart) ∙ fits.bytes;
   opened = if-both t.link (λ link. nat_eq link.0 but.0 ≡ false) (λ link. is_open link old ≡ not t.closed) (λ link. is_open link new ≡ not t.closed) (λ link away h. alike.open_is link away ∙ h) apart fits.opened;
   named = if-both t.link (λ link. nat_eq link.0 but.0 ≡ false) (λ link. is_in link (named_since old) ≡ is_named t.named last) (λ link. is_in link (named_since new) ≡ is_named t.named last) (λ link away h. alike.named link away ∙ h) apart fits.named;
+  ending = fits.ending;
+  room = fits.room ∙ ap (room_left (room_for name (drop last lines))) (sym (written_by-but but old new t.link alike apart));
+  told = if-both t.link (λ link. nat_eq link.0 but.0 ≡ false) (λ link. is_told link old ≡ t.told) (λ link. is_told link new ≡ t.told) (λ link away h. alike.told link away ∙ h) apart fits.told;
+  blocked = if-both t.link (λ link. nat_eq link.0 but.0 ≡ false) (λ link. is_blocked link old ≡ t.blocked) (λ link. is_blocked link new ≡ t.blocked) (λ link away h. alike.blocked link away ∙ h) apart fits.blocked;
   fresh = fits.fresh;
   stamp = fits.stamp;
+  dated = fits.dated;
+  woken = fits.woken;
 }
 
 -- the tracks of other places have other links

@@ -1,23 +1,27 @@
 -- The stage stands to the log as a play asks.
-use Rattle.std.proofs.Common.{◌≡◌, ℕ, zero, suc, ◌+◌, ◌-◌, true, false, nat_eq, List, [], ◌∷◌, ◌++◌, length, take, drop, Option, Some, None, refl, sym, ◌∙◌, ap, subst, arith}
+use Rattle.std.proofs.Common.{◌≡◌, ℕ, zero, suc, ◌≤◌, ◌+◌, ◌-◌, true, false, nat_eq, List, [], ◌∷◌, ◌++◌, length, take, drop, Option, Some, None, refl, sym, ◌∙◌, ap, subst, arith}
 use Rattle.std.specs.Prelude.{IfSome, slice_get, not, if◌then◌else◌}
 use Rattle.std.specs.List.{find}
 use Rattle.mx_base.specs.declared.names.LinkId.{LinkId}
 use Rattle.mx_base.specs.declared.names.Port.{Port}
+use Rattle.mx_base.specs.declared.names.Port.TheVariants.{Traffic, Admin}
 use Rattle.mx_wire.specs.Log.{Log, read_of, is_open}
 use Rattle.recording.specs.declared.entry.RecordLink.{RecordLink}
 use Rattle.recording.specs.declared.entry.RecordEntry.{RecordEntry}
 use Rattle.mem_wire.specs.declared.track.Track.{Track}
+use Rattle.mem_wire.specs.declared.late.Late.{Late}
+use Rattle.mem_wire.specs.declared.refusals.Refusals.{Refusals}
 use Rattle.mem_wire.specs.declared.stage.Stage.{Stage}
-use Rattle.mem_wire.specs.Lines.{clients_at, bytes_for, released}
-use Rattle.mem_wire.specs.Came.{wakes, accepted_at, next_client, Known, known, with_link, unread}
+use Rattle.mem_wire.specs.Lines.{clients_at, bytes_for, ending_for, room_for, released, released_last}
+use Rattle.mem_wire.specs.Came.{wakes, accepted_at, opens, is_told, is_blocked, room_left, next_client, Known, known, with_link, unread_of, unread, ending_of, known_ending, room_of, known_room}
 use Rattle.mem_wire.specs.Play.{named_since}
-use Rattle.mem_wire.specs.Tracks.{track_at, place}
-use Rattle.mem_wire.specs.Steps.{clients_of, accepted_of, numbered}
+use Rattle.mem_wire.specs.Tracks.{track_at, place, room_in}
+use Rattle.mem_wire.specs.Steps.{clients_of, accepted_of, numbered, IsWithin}
 use Rattle.mem_wire.specs.Naming.{is_named}
-use Rattle.mem_wire.specs.Stands.{CutsAt, Numbered, read_by, is_in, Fits, Stands}
+use Rattle.mem_wire.specs.Stands.{CutsAt, Numbered, read_by, written_by, is_in, Fits, Stands}
 use Rattle.mem_wire.proofs.Scenes.{Alike}
-use Rattle.mem_wire.proofs.CutLaws.{cut-released}
+use Rattle.mem_wire.proofs.StandSteps.{entered-like}
+use Rattle.mem_wire.proofs.CutLaws.{cut-released, last-drop}
 
 if-same : {A : Type 0} (o : Option A) (P Q : A → Type 0) → ((x : A) → P x → Q x) → IfSome o P → IfSome o Q
 if-same None P Q f h = h
@@ -27,27 +31,50 @@ read_by-alike : (recording : List RecordEntry) (old new : Log) (o : Option LinkI
 read_by-alike recording old new None alike = refl
 read_by-alike recording old new (Some link) alike = alike.read link
 
+written_by-alike : (recording : List RecordEntry) (old new : Log) (o : Option LinkId) → Alike recording old new → written_by o new ≡ written_by o old
+written_by-alike recording old new None alike = refl
+written_by-alike recording old new (Some link) alike = ap length (alike.wrote link)
+
 pub fits-alike : (recording lines : List RecordEntry) (last cut : ℕ) (old new : Log) (name : RecordLink) (t : Track) → Alike recording old new → Fits lines last cut old name t → Fits lines last cut new name t
 fits-alike recording lines last cut old new name t alike fits = record {
   marks = fits.marks;
   bytes = ap (λ bytes. bytes ++ t.unread) (read_by-alike recording old new t.link alike) ∙ fits.bytes;
+  ending = fits.ending;
+  room = fits.room ∙ ap (room_left (room_for name (drop last lines))) (sym (written_by-alike recording old new t.link alike));
+  told = if-same t.link (λ link. is_told link old ≡ t.told) (λ link. is_told link new ≡ t.told) (λ link h. alike.told link ∙ h) fits.told;
+  blocked = if-same t.link (λ link. is_blocked link old ≡ t.blocked) (λ link. is_blocked link new ≡ t.blocked) (λ link h. alike.blocked link ∙ h) fits.blocked;
   opened = if-same t.link (λ link. is_open link old ≡ not t.closed) (λ link. is_open link new ≡ not t.closed) (λ link h. alike.open_is link ∙ h) fits.opened;
   named = if-same t.link (λ link. is_in link (named_since old) ≡ is_named t.named last) (λ link. is_in link (named_since new) ≡ is_named t.named last) (λ link h. ap (is_in link) alike.named ∙ h) fits.named;
   fresh = fits.fresh;
   stamp = fits.stamp;
+  dated = fits.dated;
+  woken = fits.woken;
 }
 
-pub stands-alike : (recording : List RecordEntry) (s : Stage) (old new : Log) → Alike recording old new → Stands recording s old → Stands recording s new
-stands-alike recording s old new alike st = record {
+-- the stage with so many opens
+abbrev Asked : Stage → ℕ → Refusals → Late → Stage
+Asked s n refusals late = record s { opens = n; refusals = refusals; late = late }
+
+clients-same : (s : Stage) (n : ℕ) (refusals : Refusals) (late : Late) (port : Port) → clients_of port (Asked s n refusals late) ≡ clients_of port s
+clients-same s n refusals late Traffic = refl
+clients-same s n refusals late Admin = refl
+
+accepted-same : (s : Stage) (n : ℕ) (refusals : Refusals) (late : Late) (port : Port) → accepted_of port (Asked s n refusals late) ≡ accepted_of port s
+accepted-same s n refusals late Traffic = refl
+accepted-same s n refusals late Admin = refl
+
+pub stands-alike : (recording : List RecordEntry) (s : Stage) (n : ℕ) (refusals : Refusals) (late : Late) (old new : Log) → Alike recording old new → n ≡ opens new → Stands recording s old → Stands recording (Asked s n refusals late) new
+stands-alike recording s n refusals late old new alike count st = record {
   cut = subst (CutsAt recording s.cut) (sym alike.woke) st.cut;
   last = subst (λ (n : ℕ). CutsAt recording s.last (n - 1)) (sym alike.woke) st.last;
   wake = st.wake;
-  clients = st.clients;
-  accepted = λ port. st.accepted port ∙ sym (alike.accepted port);
+  clients = λ port. clients-same s n refusals late port ∙ st.clients port;
+  accepted = λ port. accepted-same s n refusals late port ∙ st.accepted port ∙ sym (alike.accepted port);
   opened = alike.opened ∙ st.opened;
+  opens = count;
   links = subst (λ (ks : List Known). Numbered 0 ks s.places.items) (sym alike.links) st.links;
   placed = st.placed;
-  entered = st.entered;
+  entered = λ at link is. entered-like s (Asked s n refusals late) at (clients-same s n refusals late) (accepted-same s n refusals late) refl (st.entered at link is);
   tracks = λ name. fits-alike recording (take s.cut recording) s.last s.cut old new name (track_at s.tracks.items (place name)) alike (st.tracks name);
 }
 
@@ -94,18 +121,40 @@ pub drop-read : (a b : List ℕ) → drop (length a) (a ++ b) ≡ b
 drop-read [] b = refl
 drop-read (x ∷ a) b = drop-read a b
 
--- what is unread of a link is what its track has
-pub unread-is : (recording : List RecordEntry) (s : Stage) (log : Log) (link : LinkId) (at : ℕ) → Stands recording s log → slice_get s.places.items link.0 ≡ Some at → unread recording log (with_link link (known recording log)) ≡ (track_at s.tracks.items at).unread
-unread-is recording s log link at st here =
+-- what a link has is what its track has
+pub record HasTrack (recording : List RecordEntry) (last : ℕ) (log : Log) (k : Known) (t : Track) : Type 0 where
+  pub unread : unread_of recording log k ≡ t.unread
+  pub ending : ending_of recording log k ≡ t.ending
+  pub room : room_of recording log k ≡ room_in last t.room
+
+pub has-track : (recording : List RecordEntry) (last cut : ℕ) (log : Log) (k : Known) (t : Track) → released (wakes log) recording ≡ take cut recording → released_last (wakes log) recording ≡ drop last (take cut recording) → t.link ≡ Some k.link → Fits (take cut recording) last cut log k.name t → HasTrack recording last log k t
+has-track recording last cut log k t lines last_lines owner fits =
+    let bytes : read_of k.link log ++ t.unread ≡ bytes_for k.name (take cut recording) = ap (λ o. read_by o log ++ t.unread) (sym owner) ∙ fits.bytes in
+    record {
+      unread = ap (λ (ls : List RecordEntry). drop (length (read_of k.link log)) (bytes_for k.name ls)) lines ∙ ap (drop (length (read_of k.link log))) (sym bytes) ∙ drop-read (read_of k.link log) t.unread;
+      ending = ap (ending_for k.name) lines ∙ sym fits.ending;
+      room = ap (λ (ls : List RecordEntry). room_left (room_for k.name ls) (written_by (Some k.link) log)) last_lines
+          ∙ ap (λ o. room_left (room_for k.name (drop last (take cut recording))) (written_by o log)) (sym owner) ∙ sym fits.room;
+    }
+
+-- the same of a caller's link
+pub record Has (recording : List RecordEntry) (last : ℕ) (log : Log) (link : LinkId) (t : Track) : Type 0 where
+  pub unread : unread recording log (with_link link (known recording log)) ≡ t.unread
+  pub ending : known_ending recording log (with_link link (known recording log)) ≡ t.ending
+  pub room : known_room recording log (with_link link (known recording log)) ≡ room_in last t.room
+
+pub has-is : (recording : List RecordEntry) (s : Stage) (log : Log) (link : LinkId) (at : ℕ) → IsWithin recording s → Stands recording s log → slice_get s.places.items link.0 ≡ Some at → Has recording s.last log link (track_at s.tracks.items at)
+has-is recording s log link at within st here =
+    let le1 : s.last ≤ s.line = within.last in let le2 : s.line ≤ s.cut = within.line in
     let zero_is : 0 + link.0 ≡ link.0 = omega arith in
     let found = with-number 0 link.0 at (known recording log) s.places.items st.links here in
-    let t = track_at s.tracks.items at in
-    let fits = subst (λ (p : ℕ). Fits (take s.cut recording) s.last s.cut log found.k.name (track_at s.tracks.items p)) found.place_is (st.tracks found.k.name) in
-    let owner : t.link ≡ Some link = st.placed link.0 at here in
     let same : found.k.link ≡ link = found.link_is ∙ ap numbered zero_is in
-    let bytes : read_of link log ++ t.unread ≡ bytes_for found.k.name (take s.cut recording) = ap (λ o. read_by o log ++ t.unread) (sym owner) ∙ fits.bytes in
-    ap (λ (m : ℕ). unread recording log (with_link (numbered m) (known recording log))) (sym zero_is)
-    ∙ ap (unread recording log) found.is
-    ∙ ap (λ (l : LinkId). drop (length (read_of l log)) (bytes_for found.k.name (released (wakes log) recording))) same
-    ∙ ap (λ (lines : List RecordEntry). drop (length (read_of link log)) (bytes_for found.k.name lines)) (cut-released recording s.cut (wakes log) st.cut)
-    ∙ ap (drop (length (read_of link log))) (sym bytes) ∙ drop-read (read_of link log) t.unread
+    let fits = subst (λ (p : ℕ). Fits (take s.cut recording) s.last s.cut log found.k.name (track_at s.tracks.items p)) found.place_is (st.tracks found.k.name) in
+    let owner : (track_at s.tracks.items at).link ≡ Some found.k.link = st.placed link.0 at here ∙ ap Some (sym same) in
+    let is : with_link found.k.link (known recording log) ≡ Some found.k = ap (λ (l : LinkId). with_link l (known recording log)) (same ∙ sym (ap numbered zero_is)) ∙ found.is in
+    let has = has-track recording s.last s.cut log found.k (track_at s.tracks.items at) (cut-released recording s.cut (wakes log) st.cut) (last-drop recording s.last s.cut (wakes log) st.last st.cut (omega arith) within.cut) owner fits in
+    subst (λ (l : LinkId). Has recording s.last log l (track_at s.tracks.items at)) same (record {
+      unread = ap (unread recording log) is ∙ has.unread;
+      ending = ap (known_ending recording log) is ∙ has.ending;
+      room = ap (known_room recording log) is ∙ has.room;
+    })

@@ -6,7 +6,7 @@ use Rattle.mx_wire.specs.Tells.{Tells, Fits}
 use Rattle.mx_wire.specs.declared.entry.Entry.{Entry}
 use Rattle.recording.specs.declared.entry.RecordEntry.{RecordEntry}
 use Rattle.mem_wire.specs.declared.stage.Stage.{Stage}
-use Rattle.mem_wire.specs.Adds.{Adds, IsBounded, Calls, CallsIf}
+use Rattle.mem_wire.specs.Adds.{Adds, IsBounded, AddsIf, Calls, CallsIf}
 use Rattle.mem_wire.specs.Steps.{IsWithin}
 use Rattle.mem_wire.specs.Follows.{Follows, IsTape}
 use Rattle.mem_wire.proofs.Growth.{adds-append}
@@ -58,3 +58,11 @@ calls_in_parts told one two new late more e first next last bounded = record {
   adds = adds-append told two new (late ++ more) (e ∷ []) (adds-append told one two late more first next) last;
   bounded = bounded;
 }
+
+-- marks, and an entry behind them
+pub calls_after : (told mid new : Option Log) (marks : Log) (e : Entry) → Adds told marks mid → Adds mid (e ∷ []) new → IsBounded new → Calls told marks e new
+calls_after told mid new marks e first last bounded = record { adds = adds-append told mid new marks (e ∷ []) first last; bounded = bounded }
+
+pub calls_after_if : (told mid new : Option Log) (marks : Log) (given : Option Entry) → Adds told marks mid → AddsIf mid given new → CallsIf told marks given new
+calls_after_if told mid new marks (Some e) first last = calls_after told mid new marks e first last.0 last.1
+calls_after_if told mid new marks None first last = last

@@ -1,3 +1,4 @@
+pub mod Marks
 pub mod Lines
 pub mod Came
 pub mod Play
@@ -6,6 +7,7 @@ pub mod Plays
 pub mod Adds
 pub mod Tracks
 pub mod Cuts
+pub mod Refusals
 pub mod Steps
 pub mod Naming
 pub mod Below

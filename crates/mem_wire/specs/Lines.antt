@@ -1,13 +1,17 @@
 -- What the lines of a recording give.
-use Rattle.std.specs.Prelude.{ℕ, ◌-◌, ◌==◌, ◌&&◌, Bool, true, false, nat_eq, if◌then◌else◌, List, [], ◌∷◌, length, filter, drop, Option, Some, None}
-use Rattle.std.specs.List.{flat_map, filter_map}
+use Rattle.std.specs.Prelude.{ℕ, ◌-◌, ◌==◌, ◌&&◌, Bool, true, false, nat_eq, if◌then◌else◌, List, [], ◌∷◌, length, fold, drop, Option, Some, None}
+use Rattle.std.specs.List.{flat_map, filter_map, list_any}
 use Rattle.mx_base.specs.declared.names.Port.{Port}
 use Rattle.mx_base.specs.declared.names.Port.TheVariants.{Traffic, Admin}
 use Rattle.recording.specs.declared.entry.RecordLink.{RecordLink}
 use Rattle.recording.specs.declared.entry.RecordLink.TheVariants.{Client, Server}
 use Rattle.recording.specs.declared.entry.RecordEntry.{RecordEntry}
+use Rattle.mem_wire.specs.declared.ending.Ending.{Ending}
+use Rattle.mem_wire.specs.declared.ending.Ending.TheVariants as ending
+use Rattle.mem_wire.specs.declared.marks.Mark.{Mark}
+use Rattle.mem_wire.specs.declared.marks.Mark.TheVariants as mark
 use Rattle.mem_wire.specs.declared.waiting.Waiting.{Waiting}
-use Rattle.recording.specs.declared.entry.RecordEntry.TheVariants.{At, Accept, Bytes, End, Fail, Take, Exec, Drop}
+use Rattle.recording.specs.declared.entry.RecordEntry.TheVariants.{At, Accept, Bytes, End, Fail, Take, Refuse, Exec, Drop}
 
 abbrev pub is_at : RecordEntry → Bool
 is_at (At ms) = true
@@ -58,14 +62,39 @@ bytes_at name _ = []
 abbrev pub bytes_for : RecordLink → List RecordEntry → List ℕ
 bytes_for name lines = flat_map (bytes_at name) lines
 
--- an `exec` line of the link
-abbrev pub is_mark_for : RecordLink → RecordEntry → Bool
-is_mark_for name (Exec k) = same_name name (Server k)
-is_mark_for name _ = false
+-- how the link ends behind its bytes
+abbrev pub ending_step : RecordLink → Option Ending → RecordEntry → Option Ending
+ending_step name was (End link) = if same_name name link then Some ending.End else was
+ending_step name was (Fail link) = if same_name name link then Some ending.Fail else was
+ending_step name was _ = was
 
--- how many there are
-abbrev pub marks_for : RecordLink → List RecordEntry → ℕ
-marks_for name lines = length (filter (is_mark_for name) lines)
+abbrev pub ending_for : RecordLink → List RecordEntry → Option Ending
+ending_for name lines = fold (ending_step name) None lines
+
+-- how many bytes writes on it take in all, where a line says so; the last line counts
+abbrev pub room_step : RecordLink → Option ℕ → RecordEntry → Option ℕ
+room_step name was (Take link n) = if same_name name link then Some n else was
+room_step name was _ = was
+
+abbrev pub room_for : RecordLink → List RecordEntry → Option ℕ
+room_for name lines = fold (room_step name) None lines
+
+-- the marks of the link
+abbrev pub mark_for : RecordLink → RecordEntry → Option Mark
+mark_for name (Exec k) = if same_name name (Server k) then Some mark.Exec else None
+mark_for name (Drop k) = if same_name name (Server k) then Some mark.Drop else None
+mark_for name _ = None
+
+abbrev pub marks_for : RecordLink → List RecordEntry → List Mark
+marks_for name lines = filter_map (mark_for name) lines
+
+-- a line refuses the open of this number
+abbrev pub refuses : ℕ → RecordEntry → Bool
+refuses k (Refuse other) = nat_eq other k
+refuses k _ = false
+
+abbrev pub is_refused : ℕ → List RecordEntry → Bool
+is_refused k lines = list_any (refuses k) lines
 
 -- the link that the line names
 abbrev pub name_at : RecordEntry → Option RecordLink

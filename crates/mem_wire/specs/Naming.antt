@@ -6,8 +6,8 @@ use Rattle.mem_wire.specs.declared.track.Track.{Track}
 use Rattle.mem_wire.specs.declared.stage.Stage.{Stage}
 use Rattle.mem_wire.specs.declared.naming.ToName.{ToName}
 use Rattle.mem_wire.specs.Lines.{name_at}
-use Rattle.mem_wire.specs.Play.{is_empty}
-use Rattle.mem_wire.specs.Tracks.{track_at, place}
+use Rattle.mem_wire.specs.Play.{is_ready}
+use Rattle.mem_wire.specs.Tracks.{track_at, place, room_in}
 
 abbrev pub is_named : Option ℕ → ℕ → Bool
 is_named (Some wake) last = wake == last
@@ -15,7 +15,7 @@ is_named None last = false
 
 -- the link of the track, where it is to be named by the wake of this line
 abbrev pub named_by : ℕ → Track → Option LinkId
-named_by last t = if not t.closed && (not (is_empty t.unread) && not (is_named t.named last)) then t.link else None
+named_by last t = if not t.closed && (is_ready t.unread t.ending t.told t.blocked (room_in last t.room) && not (is_named t.named last)) then t.link else None
 
 abbrev pub named_at : ℕ → List Track → ℕ → Option LinkId
 named_at last tracks at = named_by last (track_at tracks at)

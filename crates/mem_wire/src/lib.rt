@@ -1,11 +1,15 @@
 //! The outside in memory: a wire that plays a recording and tells its log, files, and a sink.
 #![tactic(auto)]
 
+mod ending;
 mod late;
 mod lines;
+mod marks;
 mod mem_files;
 mod mem_sink;
 mod naming;
+mod refusals;
+mod room;
 mod stage;
 mod steps;
 mod tape;

@@ -1,11 +1,12 @@
 // Walks over the lines of a recording.
-ghost use Rattle.std.specs.Prelude.{◌≡◌, ℕ, ◌<◌, ◌≤◌, ◌-◌, ◌++◌, List, drop, take, length, OnOk, false, All};
+ghost use Rattle.std.specs.Prelude.{◌≡◌, ℕ, ◌<◌, ◌≤◌, ◌-◌, ◌++◌, List, drop, take, length, slice_get, OnOk, false, All};
 ghost use Rattle.std.specs.List.{filter_map};
 ghost use Rattle.mem_wire.specs.Adds.{Adds};
 ghost use Rattle.mem_wire.specs.Lines.{is_at, waiting_at, clients_at, name_at};
-ghost use Rattle.mem_wire.specs.Play.{mark_at};
+ghost use Rattle.mem_wire.specs.Play.{mark_at, mark_on};
 ghost use Rattle.mem_wire.specs.Cuts.{NoMoment, EndsAtMoment, first_moment};
 
+use crate::marks::Mark;
 use crate::told_log::ToldLog;
 use crate::waiting::Waiting;
 use mx_base::{LinkId, OutOfMemory, Port};
@@ -99,15 +100,21 @@ fn mark_in(opened: &[LinkId], line: &RecordEntry) -> Option<Entry>
     ensures { result ≡ mark_at opened.now line.now }
 {
     match line {
-        RecordEntry::Exec { k } => {
-            let at = usize::from(*k).saturating_sub(1);
-            if at < opened.len() {
-                Some(Entry::Exec { link: opened[at] })
-            } else {
-                None
-            }
-        }
+        RecordEntry::Exec { k } => mark_on(opened, *k, Mark::Exec),
+        RecordEntry::Drop { k } => mark_on(opened, *k, Mark::Drop),
         _ => None,
+    }
+}
+
+// The mark of the k-th link to a server, where it was opened.
+fn mark_on(opened: &[LinkId], k: u16, mark: Mark) -> Option<Entry>
+    ensures { result ≡ mark_on (slice_get opened.now (k - 1)) mark }
+{
+    let at = usize::from(k).saturating_sub(1);
+    if at < opened.len() {
+        Some(mark.on(opened[at]))
+    } else {
+        None
     }
 }
 

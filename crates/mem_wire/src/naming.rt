@@ -23,7 +23,7 @@ fn link_to_name(stage: &Stage, at: usize) -> Option<LinkId>
         return None;
     }
     let track = &stage.tracks[at];
-    if track.closed || track.unread.as_slice().is_empty() {
+    if track.closed || !track.is_ready(stage.last) {
         return None;
     }
     if let Some(wake) = track.named {

@@ -1,11 +1,12 @@
 // Where a play stands.
 use crate::late::Late;
+use crate::refusals::Refusals;
 use crate::track::Track;
 use crate::waiting::Waiting;
 use mx_base::LinkId;
 
 /// Where a play stands. Links are numbered from 0 as they come.
-#[derive(Drop, Debug)]
+#[derive(Drop)]
 pub(crate) struct Stage {
     /// The lines before this one are released.
     pub cut: usize,
@@ -22,6 +23,9 @@ pub(crate) struct Stage {
     pub places: Vec<usize>,
     /// The links to servers.
     pub opened: Vec<LinkId>,
+    /// How many opens there were, also those that failed, and which fail.
+    pub opens: u64,
+    pub refusals: Refusals,
     pub late: Late,
     /// No line of the last wake before this one names a link that is still to be named.
     pub line: usize,

@@ -1,14 +1,18 @@
 // The steps of a play, call by call.
-ghost use Rattle.std.specs.Prelude.{◌≡◌, ℕ, ◌+◌, ◌-◌, ◌*◌, ◌^◌, ◌<◌, ◌≤◌, ◌++◌, ◌∷◌, length, [], take, drop, min, true, slice_get, Some, None, OnOk, OnErr, IfSome, vec_len};
-ghost use Rattle.mem_wire.specs.Tracks.{track_at};
-ghost use Rattle.mem_wire.specs.Steps.{clients_of, accepted_of, place_in, next_link, Wakes, Enters, Accepts, Opens, IsFirst, Moves, MovesAt, ReadsFrom, KeepsPlaces};
+ghost use Rattle.std.specs.Prelude.{◌≡◌, ℕ, ◌+◌, ◌-◌, ◌*◌, ◌^◌, ◌<◌, ◌≤◌, ◌++◌, ◌∷◌, length, [], take, drop, min, true, slice_get, Some, None, OnOk, OnErr, IfOk, IfSome, vec_len};
+ghost use Rattle.mem_wire.specs.Refusals.{Knows};
+ghost use Rattle.mem_wire.specs.Tracks.{track_at, read_change, write_change};
+ghost use Rattle.mx_wire.specs.Answers.{ReadsAtMost, TakesAtMost};
+ghost use Rattle.mem_wire.specs.Steps.{clients_of, accepted_of, place_in, next_link, Wakes, Enters, Accepts, Asks, Opens, IsFirst, Moves, MovesAt, ReadsTrack, WritesTrack, KeepsPlaces};
 
 use crate::late::Late;
 use crate::lines::arrive;
+use crate::refusals::Refusals;
 use crate::stage::Stage;
-use crate::tracks::{close_track, name_track, reach, read_track, release};
+use crate::tracks::{close_track, marks_at, name_track, reach, read_track, release, write_track};
 use crate::waiting::Waiting;
 use mx_base::{LinkId, OutOfMemory, Port};
+use mx_wire::{Got, Took};
 use recording::RecordEntry;
 use std::alloc::Global;
 
@@ -26,7 +30,9 @@ pub(crate) fn new_stage(alloc: Global) -> Stage
         tracks: Vec::new(alloc),
         places: Vec::new(alloc),
         opened: Vec::new(alloc),
-        late: Late::none(),
+        opens: 0,
+        refusals: Refusals::new(),
+        late: Late::none(alloc),
         line: 0,
         link: 0,
     }
@@ -44,12 +50,12 @@ pub(crate) fn wake(
 {
     arrive(Port::Traffic, &mut stage.traffic, lines)?;
     arrive(Port::Admin, &mut stage.admin, lines)?;
-    release(alloc, &mut stage.tracks, lines)?;
+    release(alloc, &mut stage.tracks, stage.cut, lines)?;
     stage.last = stage.cut;
     stage.cut += lines.len();
     stage.line = stage.last;
     stage.link = 0;
-    stage.late = Late::none();
+    stage.late.clear();
     Ok(())
 }
 
@@ -98,7 +104,7 @@ pub(crate) fn accept(
     ensures err { OnErr result (KeepsPlaces stage.old stage.new) }
 {
     enter(stage, alloc, 2 * usize::from(number))?;
-    stage.late = Late::none();
+    stage.late.clear();
     match port {
         Port::Traffic => stage.traffic_accepted += 1,
         Port::Admin => stage.admin_accepted += 1,
@@ -106,16 +112,36 @@ pub(crate) fn accept(
     Ok(())
 }
 
+/// Whether the next open is refused. It counts, also where it is.
+pub(crate) fn ask_open(
+    stage: &mut Stage,
+    alloc: Global,
+    entries: &[RecordEntry],
+) -> Result<bool, OutOfMemory>
+    requires { Knows entries.now stage.old.refusals }
+    ensures ok { IfOk result (λ refused. Asks entries.now refused stage.old stage.new) }
+    ensures frame { stage.new ≡ record stage.old { opens = stage.new.opens; refusals = stage.new.refusals } }
+    ensures knows { Knows entries.now stage.new.refusals }
+{
+    if stage.opens == u64::MAX {
+        return Err(OutOfMemory);
+    }
+    stage.opens += 1;
+    stage.refusals.has(alloc, entries, stage.opens)
+}
+
 /// The next link to a server comes, and its marks are late.
 pub(crate) fn open(stage: &mut Stage, alloc: Global) -> Result<(), OutOfMemory>
     ensures ok { OnOk result (Opens stage.old stage.new) }
+    ensures opens { OnOk result (stage.new.opens ≡ stage.old.opens) }
+    ensures refusals { OnOk result (stage.new.refusals ≡ stage.old.refusals) }
     ensures err { OnErr result (KeepsPlaces stage.old stage.new) }
 {
     let link = next_link(stage);
     stage.opened.push(link)?;
     let at = 2 * stage.opened.len() + 1;
+    let marks = marks_at(alloc, &stage.tracks, at)?;
     enter(stage, alloc, at)?;
-    let marks = stage.tracks[at].marks;
     stage.late = Late { link, marks };
     Ok(())
 }
@@ -130,27 +156,45 @@ fn place_of_link(stage: &Stage, link: LinkId) -> Option<usize>
     Some(stage.places[link.0 as usize])
 }
 
-/// Moves a front of the link's unread bytes to the front of `into`, and answers how many there are.
-pub(crate) fn read(stage: &mut Stage, link: LinkId, into: &mut [u8]) -> usize
-    ensures bound { result ≤ length into.old }
-    ensures bytes { (at : ℕ) → place_in stage.old link ≡ Some at → ReadsFrom (track_at stage.old.tracks.items at).unread into.old into.new result }
-    ensures moves { Moves link (λ t. record t { unread = drop result t.unread }) stage.old stage.new }
+/// Reads of the link.
+pub(crate) fn read(stage: &mut Stage, link: LinkId, into: &mut [u8]) -> Got
+    requires { 0 < length into.old }
+    ensures bound { ReadsAtMost (length into.old) result }
+    ensures reads { (at : ℕ) → place_in stage.old link ≡ Some at → at < length stage.old.tracks.items → ReadsTrack (track_at stage.old.tracks.items at) into.old into.new result }
+    ensures moves { Moves link (read_change result) stage.old stage.new }
 {
-    stage.late = Late::none();
+    stage.late.clear();
     let Some(at) = place_of_link(stage, link) else {
-        return 0;
+        return Got::NotReady;
     };
     if at >= stage.tracks.len() {
-        return 0;
+        return Got::NotReady;
     }
     read_track(&mut stage.tracks, at, into)
+}
+
+/// Writes so many bytes on the link.
+pub(crate) fn write(stage: &mut Stage, link: LinkId, size: usize) -> Took
+    requires { 0 < size }
+    ensures bound { TakesAtMost size result }
+    ensures writes { (at : ℕ) → place_in stage.old link ≡ Some at → at < length stage.old.tracks.items → WritesTrack stage.old.last (track_at stage.old.tracks.items at) size result }
+    ensures moves { Moves link (write_change result) stage.old stage.new }
+{
+    stage.late.clear();
+    let Some(at) = place_of_link(stage, link) else {
+        return Took::NotReady;
+    };
+    if at >= stage.tracks.len() {
+        return Took::NotReady;
+    }
+    write_track(&mut stage.tracks, at, stage.last, size)
 }
 
 /// The link is closed.
 pub(crate) fn close(stage: &mut Stage, link: LinkId)
     ensures { Moves link (λ t. record t { closed = true }) stage.old stage.new }
 {
-    stage.late = Late::none();
+    stage.late.clear();
     let Some(at) = place_of_link(stage, link) else {
         return;
     };
@@ -163,7 +207,7 @@ pub(crate) fn close(stage: &mut Stage, link: LinkId)
 pub(crate) fn name(stage: &mut Stage, at: usize)
     ensures { MovesAt at (λ t. record t { named = Some stage.old.last }) stage.old stage.new }
 {
-    stage.late = Late::none();
+    stage.late.clear();
     if at < stage.tracks.len() {
         name_track(&mut stage.tracks, at, stage.last);
     }

@@ -1,16 +1,16 @@
 // A wire that plays a recording.
 ghost use Rattle.std.specs.Prelude.{◌≡◌, [], Some, IfSome, option_map};
 ghost use Rattle.mx_wire.specs.declared.entry.Entry.TheVariants as entry;
-ghost use Rattle.mx_wire.specs.Log.{Log};
+ghost use Rattle.mx_wire.specs.Log.{Log as Told};
 ghost use Rattle.recording.specs.Playable.{IsPlayable};
 ghost use Rattle.mem_wire.specs.Play.{IsPlay};
 
-use crate::late::Late;
 use crate::lines::{first_moment, lines_of_moment, put_marks};
 use crate::naming::next_to_name;
 use crate::stage::Stage;
 use crate::steps;
 use crate::told_log::ToldLog;
+use http_server::Log;
 use mx_base::{Address, Bytes, LinkId, OutOfMemory, Port, ServerId, Tag};
 use mx_wire::{Accepted, Entry, Got, Listened, Opened, Took, Wire, Woke};
 use recording::RecordEntry;
@@ -25,15 +25,17 @@ pub struct Tape {
     entries: Vec<RecordEntry>,
     told: ToldLog,
     stage: Stage,
+    failed: Log<u64, u64>,
 }
 
 impl Model for Tape {
+    ghost use Rattle.std.specs.Prelude.{length};
     ghost use Rattle.mem_wire.specs.Told.{Played};
     ghost use Rattle.mem_wire.specs.Follows.{IsTape};
 
     ghost Value = { Played };
 
-    ghost view = { λ t. record { recording = t.entries.items; told = t.told } };
+    ghost view = { λ t. record { recording = t.entries.items; told = t.told; faults = length t.failed.items } };
 
     ghost invariant = { λ t. IsTape t.entries.items t.stage t.told };
 }
@@ -42,20 +44,21 @@ impl Tape {
     /// A tape at its beginning. Takes no memory.
     pub fn new(alloc: Global, entries: Vec<RecordEntry>) -> Self
         requires { IsPlayable entries.items }
-        ensures { result ≡ record { recording = entries.items; told = Some [] } }
+        ensures { result ≡ record { recording = entries.items; told = Some []; faults = 0 } }
     {
         Tape {
             alloc,
             entries,
             told: ToldLog::new(alloc),
             stage: steps::new_stage(alloc),
+            failed: Log::new(),
         }
     }
 
     /// The log so far, where it is told. It is a play of the recording.
     pub fn log(&self) -> Option<&[Entry]>
         ensures told { option_map (λ log. log.now) result ≡ self.now.told }
-        ensures plays { (log : Log) → self.now.told ≡ Some log → IsPlay self.now.recording log }
+        ensures plays { (log : Told) → self.now.told ≡ Some log → IsPlay self.now.recording log }
     {
         self.told.told()
     }
@@ -66,7 +69,7 @@ impl Wire for Tape {
 
     ghost port_faults = { λ tape. 0 };
 
-    ghost faults = { λ tape. 0 };
+    ghost faults = { λ tape. tape.faults };
 
     ghost rule = { λ tape log. IsPlay tape.recording log };
 
@@ -76,20 +79,20 @@ impl Wire for Tape {
 
     fn listen(&mut self, port: Port, address: Address) -> Listened {
         self.told
-            .add_call(self.stage.late, Entry::Listening { port, address });
-        self.stage.late = Late::none();
+            .add_call(&self.stage.late, Entry::Listening { port, address });
+        self.stage.late.clear();
         Listened::Done
     }
 
     fn wait(&mut self, until_ms: u64) -> Woke {
         let rest = &self.entries[self.stage.cut..];
         let Some(now_ms) = first_moment(rest) else {
-            self.told.add_call(self.stage.late, Entry::Over);
-            self.stage.late = Late::none();
+            self.told.add_call(&self.stage.late, Entry::Over);
+            self.stage.late.clear();
             return Woke::Over;
         };
         let lines = &rest[..lines_of_moment(rest)];
-        self.told.add_marks(self.stage.late);
+        self.told.add_marks(&self.stage.late);
         put_marks(&mut self.told, &self.stage.opened, lines);
         self.told.add(Entry::Woke { until_ms, now_ms });
         if steps::wake(&mut self.stage, self.alloc, lines).is_err() {
@@ -99,15 +102,15 @@ impl Wire for Tape {
     }
 
     fn next_ready(&mut self) -> Option<LinkId> {
-        let late = self.stage.late;
+        self.told.add_marks(&self.stage.late);
         match next_to_name(&mut self.stage, &self.entries) {
             None => {
-                self.told.add_call(late, Entry::NoneNamed);
-                self.stage.late = Late::none();
+                self.told.add(Entry::NoneNamed);
+                self.stage.late.clear();
                 None
             }
             Some(found) => {
-                self.told.add_call(late, Entry::Named { link: found.link });
+                self.told.add(Entry::Named { link: found.link });
                 steps::name(&mut self.stage, found.at);
                 Some(found.link)
             }
@@ -117,14 +120,14 @@ impl Wire for Tape {
     fn accept(&mut self, port: Port) -> Accepted {
         let Some(client) = steps::next_client(&self.stage, port) else {
             self.told
-                .add_call(self.stage.late, Entry::AcceptNothing { port });
-            self.stage.late = Late::none();
+                .add_call(&self.stage.late, Entry::AcceptNothing { port });
+            self.stage.late.clear();
             return Accepted::NotReady;
         };
         let id = steps::next_link(&self.stage);
         let salt = client.salt;
         self.told.add_call(
-            self.stage.late,
+            &self.stage.late,
             Entry::Accepted {
                 port,
                 link: id,
@@ -138,13 +141,25 @@ impl Wire for Tape {
     }
 
     fn open(&mut self, server: ServerId, address: Address) -> Opened {
+        let Ok(refused) = steps::ask_open(&mut self.stage, self.alloc, &self.entries) else {
+            self.told.stop();
+            self.failed = self.failed.and(&0, &0);
+            return Opened::Failed;
+        };
+        if refused {
+            self.told
+                .add_call(&self.stage.late, Entry::OpenFailed { server, address });
+            self.stage.late.clear();
+            self.failed = self.failed.and(&0, &0);
+            return Opened::Failed;
+        }
         let id = steps::next_link(&self.stage);
         let entry = Entry::Opened {
             server,
             address,
             link: id,
         };
-        self.told.add_call(self.stage.late, entry);
+        self.told.add_call(&self.stage.late, entry);
         if steps::open(&mut self.stage, self.alloc).is_err() {
             self.told.stop();
         }
@@ -152,26 +167,39 @@ impl Wire for Tape {
     }
 
     fn read(&mut self, link: LinkId, into: &mut [u8]) -> Got {
-        let late = self.stage.late;
-        let n = steps::read(&mut self.stage, link, into);
-        if n == 0 {
-            self.told.add_call(late, Entry::ReadNothing { link });
-            return Got::NotReady;
+        self.told.add_marks(&self.stage.late);
+        let got = steps::read(&mut self.stage, link, into);
+        match got {
+            Got::Got { n } => self.told.add_if(got_entry(self.alloc, link, &into[..n])),
+            Got::NotReady => self.told.add(Entry::ReadNothing { link }),
+            Got::End => self.told.add(Entry::Ended { link }),
+            Got::Failed => {
+                self.told.add(Entry::ReadFailed { link });
+                self.failed = self.failed.and(&0, &0);
+            }
         }
-        self.told
-            .add_call_if(late, got_entry(self.alloc, link, &into[..n]));
-        Got::Got { n }
+        got
     }
 
     fn write(&mut self, link: LinkId, tag: Tag, piece: &[u8]) -> Took {
-        self.told
-            .add_call_if(self.stage.late, wrote_entry(self.alloc, link, tag, piece));
-        self.stage.late = Late::none();
-        Took::Took { n: piece.len() }
+        self.told.add_marks(&self.stage.late);
+        let took = steps::write(&mut self.stage, link, piece.len());
+        match took {
+            Took::Took { n } => {
+                self.told
+                    .add_if(wrote_entry(self.alloc, link, tag, &piece[..n]));
+            }
+            Took::NotReady => self.told.add(Entry::WriteNothing { link }),
+            Took::Failed => {
+                self.told.add(Entry::WriteFailed { link });
+                self.failed = self.failed.and(&0, &0);
+            }
+        }
+        took
     }
 
     fn close(&mut self, link: LinkId) {
-        self.told.add_call(self.stage.late, Entry::Closed { link });
+        self.told.add_call(&self.stage.late, Entry::Closed { link });
         steps::close(&mut self.stage, link);
     }
 }

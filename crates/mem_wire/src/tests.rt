@@ -1,12 +1,14 @@
 // A recording played by hand, and files and a sink in memory.
-ghost use Rattle.std.specs.Prelude.{◌≡◌, IfOk};
+ghost use Rattle.std.specs.Prelude.{◌≡◌, IfOk, true, if◌then◌else◌};
+ghost use Rattle.mx_wire.specs.Log.{is_open, is_link, link_of, open_step};
+ghost use Rattle.mx_wire.specs.Tells.{OpenFor};
 ghost use Rattle.recording.specs.declared.entry.RecordEntry.TheVariants as line;
 ghost use Rattle.recording.specs.Playable.{IsPlayable};
 
 use crate::{MemFiles, MemSink, Tape};
 use mx_base::{Address, Bytes, LinkId, OutOfMemory, Port, ServerId, Tag};
 use mx_wire::{Accepted, Entry, FileFault, Files, Got, Listened, Opened, Sink, Took, Wire, Woke};
-use recording::{RecordEntry, RecordLink};
+use recording::{RecordEntry, RecordLink, read_recording};
 use std::alloc::Global;
 
 const SALT: [u8; 20] = [
@@ -122,8 +124,195 @@ fn kind_of(entry: &Entry) -> u8 {
         Entry::Wrote { .. } => b'w',
         Entry::Closed { .. } => b'C',
         Entry::Exec { .. } => b'E',
+        Entry::Drop { .. } => b'D',
+        Entry::OpenFailed { .. } => b'F',
+        Entry::ReadNothing { .. } => b'r',
+        Entry::Ended { .. } => b'e',
+        Entry::ReadFailed { .. } => b'b',
+        Entry::WriteNothing { .. } => b'x',
+        Entry::WriteFailed { .. } => b'f',
         _ => b'?',
     }
+}
+
+// Whether the link is open behind these entries.
+fn is_open(log: &[Entry], link: LinkId) -> bool
+    ensures { result ≡ is_open link log.now }
+{
+    let mut open = false;
+    for entry in log {
+        open = open_behind(open, entry, link);
+    }
+    open
+}
+
+fn open_behind(was: bool, entry: &Entry, link: LinkId) -> bool
+    ensures { result ≡ (if is_link link (link_of entry.now) then open_step was entry.now else was) }
+{
+    match entry {
+        Entry::Accepted { link: other, .. } | Entry::Opened { link: other, .. } => {
+            was || *other == link
+        }
+        Entry::Closed { link: other } => was && *other != link,
+        _ => was,
+    }
+}
+
+fn is_told_open(tape: &Tape, link: LinkId) -> bool
+    ensures { result ≡ true → OpenFor tape.now.told link }
+{
+    match tape.log() {
+        Some(log) => is_open(log, link),
+        None => false,
+    }
+}
+
+fn read(tape: &mut Tape, link: u64, size: usize) -> Got {
+    let mut into = [0u8; 16];
+    if size == 0 || size > 16 || !is_told_open(tape, LinkId(link)) {
+        return Got::NotReady;
+    }
+    tape.read(LinkId(link), &mut into[..size])
+}
+
+fn write(tape: &mut Tape, link: u64, piece: &[u8]) -> Took {
+    if piece.is_empty() || !is_told_open(tape, LinkId(link)) {
+        return Took::NotReady;
+    }
+    tape.write(LinkId(link), Tag::Own, piece)
+}
+
+fn close(tape: &mut Tape, link: u64) {
+    if is_told_open(tape, LinkId(link)) {
+        tape.close(LinkId(link));
+    }
+}
+
+// Each line of every kind, on two clients and a server.
+const EVERY_LINE: &str = "at 3
+accept c1 traffic 0102030405060708090a0b0c0d0e0f1011121314
+accept c2 admin 0102030405060708090a0b0c0d0e0f1011121315
+bytes c1 6162
+refuse 2
+exec s1
+drop s1
+bytes s1 7879
+at 5
+take c1 3
+take s1 0
+end c1
+drop s1
+exec s1
+bytes c2 71
+fail c2
+at 9
+end s1
+";
+
+// A log as text: for each entry its letter, its link and its bytes.
+fn spelled(alloc: Global, tape: &Tape) -> Result<Vec<u8>, OutOfMemory> {
+    let mut text = Vec::new(alloc);
+    if let Some(log) = tape.log() {
+        for entry in log {
+            text.push(b' ')?;
+            text.push(kind_of(entry))?;
+            spell_rest(&mut text, entry)?;
+        }
+    }
+    Ok(text)
+}
+
+fn spell_rest(text: &mut Vec<u8>, entry: &Entry) -> Result<(), OutOfMemory> {
+    match entry {
+        Entry::Named { link }
+        | Entry::Accepted { link, .. }
+        | Entry::Opened { link, .. }
+        | Entry::ReadNothing { link }
+        | Entry::Ended { link }
+        | Entry::ReadFailed { link }
+        | Entry::WriteNothing { link }
+        | Entry::WriteFailed { link }
+        | Entry::Closed { link }
+        | Entry::Exec { link }
+        | Entry::Drop { link } => text.push(digit(*link))?,
+        Entry::Got { link, bytes } | Entry::Wrote { link, bytes, .. } => {
+            text.push(digit(*link))?;
+            text.extend_from_slice(bytes.as_slice())?;
+        }
+        _ => {}
+    }
+    Ok(())
+}
+
+fn digit(link: LinkId) -> u8 {
+    match link.0 {
+        0 => b'0',
+        1 => b'1',
+        2 => b'2',
+        _ => b'?',
+    }
+}
+
+#[test]
+fn plays_every_line(rt: HostRuntime) {
+    let alloc = rt.alloc();
+    let lines = read_recording(alloc, EVERY_LINE.as_bytes()).expect(&rt, "a recording");
+    let mut tape = Tape::new(alloc, lines);
+    play_first(&mut tape);
+    play_second(&mut tape);
+    play_third(&mut tape);
+    let want: &[u8] =
+        b" W A0 A1 n L0 N G0ab r0 O2 E2 D2 w2go F D2 E2 W L0 L2 L1 N w0hel x0 x2 e0 G1q f1 b1 G2x W L2 L0 N w0lo G2y e2 C0 o";
+    assert!(rt; spelled(alloc, &tape).expect(&rt, "memory").as_slice() == want);
+}
+
+// Two clients come, and a server's link is opened; the second open is refused.
+fn play_first(tape: &mut Tape) {
+    let address = Address {
+        ip: [127, 0, 0, 1],
+        port: 3306,
+    };
+    tape.wait(0);
+    tape.accept(Port::Traffic);
+    tape.accept(Port::Admin);
+    tape.accept(Port::Traffic);
+    tape.next_ready();
+    tape.next_ready();
+    read(tape, 0, 16);
+    read(tape, 0, 16);
+    tape.open(ServerId(1), address);
+    write(tape, 2, b"go");
+    tape.open(ServerId(1), address);
+}
+
+// Writes find no room, the first client ends, and the second fails behind its byte.
+fn play_second(tape: &mut Tape) {
+    tape.wait(0);
+    tape.next_ready();
+    tape.next_ready();
+    tape.next_ready();
+    tape.next_ready();
+    write(tape, 0, b"hello");
+    write(tape, 0, b"lo");
+    write(tape, 2, b"more");
+    read(tape, 0, 16);
+    read(tape, 1, 16);
+    write(tape, 1, b"late");
+    read(tape, 1, 16);
+    read(tape, 2, 1);
+}
+
+// The server's link ends, and the first client has room again.
+fn play_third(tape: &mut Tape) {
+    tape.wait(0);
+    tape.next_ready();
+    tape.next_ready();
+    tape.next_ready();
+    write(tape, 0, b"lo");
+    read(tape, 2, 16);
+    read(tape, 2, 16);
+    close(tape, 0);
+    tape.wait(0);
 }
 
 #[test]

@@ -1,6 +1,6 @@
 // The log that a wire in memory tells.
 ghost use Rattle.std.specs.Prelude.{◌≡◌, ◌<◌, ◌∷◌, [], length, Some, None, option_map};
-ghost use Rattle.mem_wire.specs.Adds.{Adds, IsBounded, Calls, CallsIf, late_entries};
+ghost use Rattle.mem_wire.specs.Adds.{Adds, IsBounded, Calls, CallsIf, late_entries, AddsIf};
 
 use crate::late::Late;
 use mx_wire::Entry;
@@ -58,28 +58,28 @@ impl ToldLog {
     }
 
     /// Adds late marks.
-    pub fn add_marks(&mut self, late: Late)
-        ensures { Adds self.old (late_entries late) self.new }
+    pub fn add_marks(&mut self, late: &Late)
+        ensures { Adds self.old (late_entries late.now) self.new }
     {
-        for _ in 0..late.marks {
-            self.add(Entry::Exec { link: late.link });
+        for mark in late.marks.as_slice() {
+            self.add(mark.on(late.link));
         }
     }
 
     /// Adds late marks, and a call's entry behind them.
-    pub fn add_call(&mut self, late: Late, entry: Entry)
-        ensures { Calls self.old (late_entries late) entry self.new }
+    pub fn add_call(&mut self, late: &Late, entry: Entry)
+        ensures { Calls self.old (late_entries late.now) entry self.new }
     {
         self.add_marks(late);
         self.add(entry);
     }
 
-    /// The same where there was memory for the entry, and else it tells the log no more.
-    pub fn add_call_if(&mut self, late: Late, entry: Option<Entry>)
-        ensures { CallsIf self.old (late_entries late) entry self.new }
+    /// Adds an entry where there was memory for it, or tells the log no more.
+    pub fn add_if(&mut self, entry: Option<Entry>)
+        ensures { AddsIf self.old entry self.new }
     {
         match entry {
-            Some(entry) => self.add_call(late, entry),
+            Some(entry) => self.add(entry),
             None => self.stop(),
         }
     }

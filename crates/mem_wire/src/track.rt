@@ -1,8 +1,14 @@
 // The lines of one link of a recording.
-ghost use Rattle.std.specs.Prelude.{◌≡◌, length, take, drop, min};
-ghost use Rattle.mem_wire.specs.Tracks.{blank};
+ghost use Rattle.std.specs.Prelude.{◌≡◌, ◌<◌, ◌≤◌, length, Some};
+ghost use Rattle.mem_wire.specs.Play.{is_ready, has_failed, FitsRoom};
+ghost use Rattle.mem_wire.specs.Tracks.{blank, room_in, read_change, write_change};
+ghost use Rattle.mem_wire.specs.Steps.{ReadsTrack, WritesTrack};
 
+use crate::ending::Ending;
+use crate::marks::MarkList;
+use crate::room::Room;
 use mx_base::{ByteQueue, LinkId};
+use mx_wire::{Got, Took};
 use std::alloc::Global;
 
 /// What the lines of one link have given so far, whether the link has come or not.
@@ -13,8 +19,15 @@ pub(crate) struct Track {
     pub closed: bool,
     /// The released bytes that were not read.
     pub unread: ByteQueue,
-    /// How many marks its released lines have.
-    pub marks: usize,
+    /// How the link ends behind them, and whether that was told.
+    pub ending: Option<Ending>,
+    pub told: bool,
+    /// The limit for writes, of the last wake that set one.
+    pub room: Option<Room>,
+    /// The last write found no room.
+    pub blocked: bool,
+    /// The marks of its released lines.
+    pub marks: MarkList,
     /// The line of the wake that named it last.
     pub named: Option<usize>,
 }
@@ -27,21 +40,106 @@ impl Track {
             link: None,
             closed: false,
             unread: ByteQueue::new(alloc),
-            marks: 0,
+            ending: None,
+            told: false,
+            room: None,
+            blocked: false,
+            marks: MarkList::new(alloc),
             named: None,
         }
     }
 
-    /// Moves a front of the unread bytes to the front of `into`, and answers how many there are.
-    pub fn read(&mut self, into: &mut [u8]) -> usize
-        ensures size { result ≡ min (length into.old) (length self.old.unread) }
-        ensures bytes { take result into.new ≡ take result self.old.unread }
-        ensures rest { self.new ≡ record self.old { unread = drop result self.old.unread } }
+    /// Moves a front of the unread bytes to the front of `into`, or says how the link stands behind them.
+    pub fn read(&mut self, into: &mut [u8]) -> Got
+        requires { 0 < length into.old }
+        ensures reads { ReadsTrack self.old into.old into.new result }
+        ensures change { self.new ≡ read_change result self.old }
     {
         let ready = self.unread.as_slice();
-        let n = into.len().min(ready.len());
-        into[..n].copy_from_slice(&ready[..n]);
-        self.unread.advance(n);
-        n
+        if !ready.is_empty() {
+            let n = into.len().min(ready.len());
+            into[..n].copy_from_slice(&ready[..n]);
+            self.unread.advance(n);
+            return Got::Got { n };
+        }
+        match self.ending {
+            None => Got::NotReady,
+            Some(Ending::End) => {
+                self.told = true;
+                Got::End
+            }
+            Some(Ending::Fail) => {
+                self.told = true;
+                Got::Failed
+            }
+        }
+    }
+
+    // Whether the link has failed: the bytes before its fault were read.
+    fn has_failed(&self) -> bool
+        ensures { result ≡ has_failed self.now.unread self.now.ending }
+    {
+        match self.ending {
+            Some(Ending::Fail) => self.unread.as_slice().is_empty(),
+            _ => false,
+        }
+    }
+
+    /// How many bytes more writes take in the wake of this line, where there is a limit.
+    pub fn room_in(&self, wake: usize) -> Option<u64>
+        ensures { result ≡ room_in wake self.now.room }
+    {
+        match self.room {
+            Some(room) if room.wake == wake => Some(room.left),
+            _ => None,
+        }
+    }
+
+    /// Whether a wake that begins at this line is to name the link, if it is open.
+    pub fn is_ready(&self, wake: usize) -> bool
+        ensures { result ≡ is_ready self.now.unread self.now.ending self.now.told self.now.blocked (room_in wake self.now.room) }
+    {
+        if !self.unread.as_slice().is_empty() {
+            return true;
+        }
+        if self.ending.is_some() && !self.told {
+            return true;
+        }
+        self.blocked && self.room_in(wake) != Some(0)
+    }
+
+    /// Takes a front of so many bytes in the wake of this line.
+    pub fn write(&mut self, wake: usize, size: usize) -> Took
+        requires { 0 < size }
+        ensures writes { WritesTrack wake self.old size result }
+        ensures change { self.new ≡ write_change result self.old }
+    {
+        if self.has_failed() {
+            self.told = true;
+            return Took::Failed;
+        }
+        let n = fitting(self.room_in(wake), size);
+        if n == 0 {
+            self.blocked = true;
+            return Took::NotReady;
+        }
+        if let Some(room) = self.room {
+            self.room = Some(room.without(n));
+        }
+        self.blocked = false;
+        Took::Took { n }
+    }
+}
+
+// How many of the bytes fit.
+fn fitting(room: Option<u64>, size: usize) -> usize
+    requires { 0 < size }
+    ensures most { result ≤ size }
+    ensures fits { FitsRoom room result }
+    ensures none { result ≡ 0 → room ≡ Some 0 }
+{
+    match room {
+        Some(left) if left < size as u64 => left as usize,
+        _ => size,
     }
 }

@@ -1,11 +1,16 @@
 // The tracks of all links, by place.
-ghost use Rattle.std.specs.Prelude.{◌≡◌, ◌<◌, ◌≤◌, ◌==◌, ◌++◌, ◌+◌, ℕ, length, take, drop, min, true, Some, if◌then◌else◌, OnOk, vec_len};
+ghost use Rattle.std.specs.Prelude.{◌≡◌, ◌<◌, ◌≤◌, ◌==◌, ◌++◌, ◌+◌, ℕ, length, take, drop, min, true, Some, if◌then◌else◌, OnOk, IfOk, [], ◌∷◌, vec_len};
 ghost use Rattle.mem_wire.specs.Lines.{marks_for, bytes_for};
-ghost use Rattle.mem_wire.specs.Tracks.{track_at, place, SameTracks, ChangesTrack, Released};
+ghost use Rattle.mem_wire.specs.Tracks.{track_at, place, SameTracks, ChangesTrack, Released, read_change, write_change};
+ghost use Rattle.mem_wire.specs.Steps.{ReadsTrack, WritesTrack};
 ghost use Rattle.recording.specs.declared.entry.RecordLink.{RecordLink};
 
+use crate::ending::Ending;
+use crate::marks::{Mark, MarkList};
+use crate::room::Room;
 use crate::track::Track;
 use mx_base::OutOfMemory;
+use mx_wire::{Got, Took};
 use recording::{RecordEntry, RecordLink};
 use std::alloc::Global;
 
@@ -49,47 +54,118 @@ pub(crate) fn give_mark(
     alloc: Global,
     tracks: &mut Vec<Track>,
     at: usize,
+    mark: Mark,
 ) -> Result<(), OutOfMemory>
-    ensures { OnOk result (ChangesTrack at (λ t. record t { marks = t.marks + 1 }) tracks.old.items tracks.new.items) }
+    ensures { OnOk result (ChangesTrack at (λ t. record t { marks = t.marks ++ mark ∷ [] }) tracks.old.items tracks.new.items) }
 {
     reach(alloc, tracks, at)?;
     let track = &mut tracks[at];
-    if track.marks == usize::MAX {
-        return Err(OutOfMemory);
-    }
-    track.marks += 1;
+    track.marks.push(mark)
+}
+
+/// Ends a track's link behind its bytes.
+pub(crate) fn end_track(
+    alloc: Global,
+    tracks: &mut Vec<Track>,
+    at: usize,
+    ending: Ending,
+) -> Result<(), OutOfMemory>
+    ensures { OnOk result (ChangesTrack at (λ t. record t { ending = Some ending }) tracks.old.items tracks.new.items) }
+{
+    reach(alloc, tracks, at)?;
+    let track = &mut tracks[at];
+    track.ending = Some(ending);
     Ok(())
 }
 
-/// Gives each line's bytes and marks to the track of its link.
+/// Limits the writes on a track's link.
+pub(crate) fn limit_track(
+    alloc: Global,
+    tracks: &mut Vec<Track>,
+    at: usize,
+    room: Room,
+) -> Result<(), OutOfMemory>
+    ensures { OnOk result (ChangesTrack at (λ t. record t { room = Some room }) tracks.old.items tracks.new.items) }
+{
+    reach(alloc, tracks, at)?;
+    let track = &mut tracks[at];
+    track.room = Some(room);
+    Ok(())
+}
+
+// Gives what the line has for its link to the link's track, in the wake of this line.
+fn release_line(
+    alloc: Global,
+    tracks: &mut Vec<Track>,
+    wake: usize,
+    line: &RecordEntry,
+) -> Result<(), OutOfMemory>
+    ensures { OnOk result (Released wake (line.now ∷ []) tracks.old.items tracks.new.items) }
+{
+    match line {
+        RecordEntry::Bytes { link, bytes } => {
+            give_bytes(alloc, tracks, place_of(*link), bytes.as_slice())
+        }
+        RecordEntry::Exec { k } => {
+            give_mark(alloc, tracks, place_of(RecordLink::Server(*k)), Mark::Exec)
+        }
+        RecordEntry::Drop { k } => {
+            give_mark(alloc, tracks, place_of(RecordLink::Server(*k)), Mark::Drop)
+        }
+        RecordEntry::End { link } => end_track(alloc, tracks, place_of(*link), Ending::End),
+        RecordEntry::Fail { link } => end_track(alloc, tracks, place_of(*link), Ending::Fail),
+        RecordEntry::Take { link, n } => {
+            limit_track(alloc, tracks, place_of(*link), Room { wake, left: *n })
+        }
+        RecordEntry::At { .. } | RecordEntry::Accept { .. } | RecordEntry::Refuse { .. } => Ok(()),
+    }
+}
+
+/// Gives what the lines of a wake have to the tracks of their links.
 pub(crate) fn release(
     alloc: Global,
     tracks: &mut Vec<Track>,
+    wake: usize,
     lines: &[RecordEntry],
 ) -> Result<(), OutOfMemory>
-    ensures { OnOk result (Released lines.now tracks.old.items tracks.new.items) }
+    ensures { OnOk result (Released wake lines.now tracks.old.items tracks.new.items) }
 {
     for line in lines {
-        match line {
-            RecordEntry::Bytes { link, bytes } => {
-                give_bytes(alloc, tracks, place_of(*link), bytes.as_slice())?;
-            }
-            RecordEntry::Exec { k } => give_mark(alloc, tracks, place_of(RecordLink::Server(*k)))?,
-            _ => {}
-        }
+        release_line(alloc, tracks, wake, line)?;
     }
     Ok(())
 }
 
-/// Moves a front of a track's unread bytes to the front of `into`, and answers how many there are.
-pub(crate) fn read_track(tracks: &mut Vec<Track>, at: usize, into: &mut [u8]) -> usize
-    requires { at < vec_len tracks.old }
-    ensures size { result ≡ min (length into.old) (length (track_at tracks.old.items at).unread) }
-    ensures bytes { take result into.new ≡ take result (track_at tracks.old.items at).unread }
-    ensures rest { ChangesTrack at (λ t. record t { unread = drop result t.unread }) tracks.old.items tracks.new.items }
+/// A copy of the marks of a track.
+pub(crate) fn marks_at(alloc: Global, tracks: &[Track], at: usize) -> Result<MarkList, OutOfMemory>
+    ensures { IfOk result (λ marks. marks ≡ (track_at tracks.now at).marks) }
+{
+    match tracks.get(at) {
+        Some(track) => track.marks.copied(alloc),
+        None => Ok(MarkList::new(alloc)),
+    }
+}
+
+/// Reads of a track's link.
+pub(crate) fn read_track(tracks: &mut Vec<Track>, at: usize, into: &mut [u8]) -> Got
+    requires at { at < vec_len tracks.old }
+    requires some { 0 < length into.old }
+    ensures reads { ReadsTrack (track_at tracks.old.items at) into.old into.new result }
+    ensures change { ChangesTrack at (read_change result) tracks.old.items tracks.new.items }
 {
     let track = &mut tracks[at];
     track.read(into)
+}
+
+/// Writes so many bytes on a track's link, in the wake of this line.
+pub(crate) fn write_track(tracks: &mut Vec<Track>, at: usize, wake: usize, size: usize) -> Took
+    requires at { at < vec_len tracks.old }
+    requires some { 0 < size }
+    ensures writes { WritesTrack wake (track_at tracks.old.items at) size result }
+    ensures change { ChangesTrack at (write_change result) tracks.old.items tracks.new.items }
+{
+    let track = &mut tracks[at];
+    track.write(wake, size)
 }
 
 /// Closes the link of a track.

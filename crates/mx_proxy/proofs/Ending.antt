@@ -19,13 +19,14 @@ use Rattle.mx_wire.specs.declared.entry.Entry.TheVariants as entry
 use Rattle.recording.specs.declared.entry.RecordEntry.{RecordEntry}
 use Rattle.recording.specs.declared.entry.RecordEntry.TheVariants as line
 use Rattle.recording.specs.Playable.{BeginsAtMoment, IsPlayable}
+use Rattle.mem_wire.specs.declared.ending.Ending.{Ending}
 use Rattle.mem_wire.specs.declared.waiting.Waiting.{Waiting}
 use Rattle.mem_wire.specs.Lines.{moments, released, clients_at, bytes_for}
-use Rattle.mem_wire.specs.Came.{is_woke, wakes, is_accepted_at, accepted_at, next_client, Known, as_client, known_by, known, with_link, unread_of, unread}
+use Rattle.mem_wire.specs.Came.{is_woke, wakes, is_accepted_at, accepted_at, next_client, Known, as_client, known_by, known, with_link, unread_of, unread, ending_of, room_of, is_told, is_blocked}
 use Rattle.mem_wire.specs.CameLaws.{wakes-more, accepted-more, named-more}
-use Rattle.mem_wire.specs.Play.{named_step, named_since, is_empty, is_to_name, next_named, IsAnswerOf, IsPlay}
+use Rattle.mem_wire.specs.Play.{named_step, named_since, is_ready, is_to_name, next_named, IsAnswerOf, IsPlay}
 use Rattle.mem_wire.specs.Plays.{HasTaken, play-taken, released-all, with-link, known-before}
-use Rattle.ready_loop.specs.Drained.{accept_step, name_step, read_step, write_step, all_accepted, all_named, read_dry, write_dry}
+use Rattle.ready_loop.specs.Drained.{accept_step, name_step, read_step, all_accepted, all_named, read_dry, write_dry}
 use Rattle.session_core.specs.Rest.{IsAtRest, RestsAt}
 use Rattle.mx_proxy.specs.Replay.{IsPlayedOut}
 
@@ -38,7 +39,6 @@ pub record IsUnnamed (link : LinkId) (log : Log) : Type 0 where
 pub record IsSettled (recording : List RecordEntry) (log : Log) : Type 0 where
   pub accepted : (at_port : Port) → all_accepted at_port log ≡ true → next_client recording log at_port ≡ None
   pub read : (link : LinkId) (k : Known) → with_link link (known recording log) ≡ Some k → IsOpen link log → read_dry link log ≡ true → (unread_of recording log k ≡ []) ⊎ IsUnnamed link log
-  pub taken : (link : LinkId) → write_dry link log ≡ false
 
 -- One entry more.
 
@@ -140,15 +140,15 @@ or-none : (a b : Option Known) → option_or a b ≡ None → b ≡ None
 or-none None b none = none
 or-none (Some x) b none = cc
 
-empty-unread : (opened named : Bool) (bytes : List ℕ) → opened ≡ true → named ≡ false → (opened && (not (is_empty bytes) && not named)) ≡ false → bytes ≡ []
-empty-unread opened named [] is_opened unnamed unready = refl
-empty-unread opened named (b ∷ bytes) is_opened unnamed unready = cc
+empty-unread : (opened named : Bool) (bytes : List ℕ) (ends : Option Ending) (told blocked : Bool) (left : Option ℕ) → opened ≡ true → named ≡ false → (opened && (is_ready bytes ends told blocked left && not named)) ≡ false → bytes ≡ []
+empty-unread opened named [] ends told blocked left is_opened unnamed unready = refl
+empty-unread opened named (b ∷ bytes) ends told blocked left is_opened unnamed unready = cc
 
 named-all : (recording : List RecordEntry) (log : Log) (link : LinkId) (k : Known) → next_named recording log ≡ None → with_link link (known recording log) ≡ Some k → IsOpen link log → IsUnnamed link log → unread_of recording log k ≡ []
 named-all recording log link k none found opened unnamed =
     let here : link ≡ k.link = sym (with-link link k (known recording log) found) in
     let known_none : find (is_to_name recording log) (known recording log) ≡ None = or-none _ (find (is_to_name recording log) (known recording log)) (sym (find-append (is_to_name recording log) _ (known recording log)) ∙ none) in
-    empty-unread (is_open k.link log) (list_any (λ (other : LinkId). nat_eq other.0 k.link.0) (named_since log)) (unread_of recording log k)
+    empty-unread (is_open k.link log) (list_any (λ (other : LinkId). nat_eq other.0 k.link.0) (named_since log)) (unread_of recording log k) (ending_of recording log k) (is_told k.link log) (is_blocked k.link log) (room_of recording log k)
     (subst (λ (l : LinkId). IsOpen l log) here opened)
     (subst (λ (l : LinkId). list_any (λ (other : LinkId). nat_eq other.0 l.0) (named_since log) ≡ false) here unnamed.unnamed)
     (nothing-ready recording log link k (known recording log) known_none found)
@@ -184,7 +184,7 @@ settled-read recording log (entry.Got to bytes) link k call found was opened dry
 ]
 settled-read recording log (entry.ReadNothing to) link k call found was opened dry = elim (bool_cases (nat_eq link.0 to.0)) [
   | inl here ↦ (
-      let nothing : unread recording log (with_link link (known recording log)) ≡ [] = subst (λ (l : LinkId). unread recording log (with_link l (known recording log)) ≡ []) (same-link link to here) call.answer in
+      let nothing : unread recording log (with_link link (known recording log)) ≡ [] = subst (λ (l : LinkId). unread recording log (with_link l (known recording log)) ≡ []) (same-link link to here) call.answer.read in
       inl (unread-left recording log (entry.ReadNothing to) link k refl (bytes-idle got_bytes link log (entry.ReadNothing to) refl) found ∙ (rw found at nothing)))
   | inr other ↦ read-left recording log (entry.ReadNothing to) link k (left-other link log (entry.ReadNothing to) refl other) (unnamed-left link log (entry.ReadNothing to) (λ b. refl) (λ ns. refl)) found was opened dry
 ]
@@ -218,17 +218,6 @@ comes-wet recording log (entry.Opened server address to) link k found dry = elim
 ]
 comes-wet recording log _ link k found dry = cc
 
--- no write of a play finds no room
-settled-taken : (recording : List RecordEntry) (log : Log) (e : Entry) (link : LinkId) → IsAnswerOf recording log e → write_dry link log ≡ false → write_dry link (log ++ e ∷ []) ≡ false
-settled-taken recording log e link call was = elim (bool_cases (is_link link (link_of e))) [
-  | inl here ↦ step-same write_step false link log e here ∙ ap (λ b. write_step b e) was ∙ flows e call
-  | inr other ↦ step-other write_step false link log e other ∙ was
-]
-  where
-    flows : (x : Entry) → IsAnswerOf recording log x → write_step false x ≡ false
-    flows (entry.WriteNothing to) answer = absurd answer.answer
-    flows _ answer = refl
-
 settled-more : (recording : List RecordEntry) (log : Log) (e : Entry) → IsAnswerOf recording log e → IsSettled recording log → IsSettled recording (log ++ e ∷ [])
 settled-more recording log e call was = record {
   accepted = λ at_port done. settled-accepted recording log e at_port call (was.accepted at_port) (sym (fold-append (accept_step at_port) true log (e ∷ [])) ∙ done);
@@ -236,7 +225,6 @@ settled-more recording log e call was = record {
     | inl before ↦ settled-read recording log e link k call before (was.read link k before) opened dry
     | inr new ↦ absurd (comes-wet recording log e link k new.1 dry)
   ];
-  taken = λ link. settled-taken recording log e link call (was.taken link);
 }
 
 none-released : (recording : List RecordEntry) → BeginsAtMoment recording → released 0 recording ≡ []
@@ -248,7 +236,6 @@ play-settled : (recording : List RecordEntry) (log : Log) → IsPlayable recordi
 play-settled recording log playable play = lawful-each (IsAnswerOf recording) (IsSettled recording) log (settled-more recording) (record {
   accepted = λ at_port done. rw (none-released recording playable.begins) refl;
   read = λ link k found opened dry. cc;
-  taken = λ link. refl;
 }) play
 
 -- At the end.
@@ -285,12 +272,11 @@ played-out recording log before playable play rests over =
     record {
       woke = (let few = taken.woke in omega arith);
       accepted = λ at_port. all-accepted recording before at_port taken all (settled.accepted at_port (rest.accepted at_port));
-      read = λ link k found opened. all-read recording before link k taken all found (elim (rest.read link opened) [
-        | inl dry ↦ elim (settled.read link k found opened dry) [
+      read = λ link k found opened. elim (rest.read link opened) [
+        | inl dry ↦ inl (all-read recording before link k taken all found (elim (settled.read link k found opened dry) [
           | inl nothing ↦ nothing
           | inr unnamed ↦ (let no : true ≡ false = sym rest.named ∙ unnamed.naming in absurd (cc))
-        ]
-        | inr blocked ↦ (let no : true ≡ false = sym blocked ∙ settled.taken link in absurd (cc))
-      ]);
-      taken = settled.taken;
+        ]))
+        | inr blocked ↦ inr blocked
+      ];
     }

@@ -1,5 +1,5 @@
 -- What a replay puts, and why it stops short.
-use Rattle.std.specs.Prelude.{◌≡◌, ℕ, ◌<◌, ◌≤◌, false, List, [], ◌∷◌, ◌++◌, length, Option, Some, None, Ok, Err}
+use Rattle.std.specs.Prelude.{◌≡◌, ◌⊎◌, ℕ, ◌<◌, ◌≤◌, true, List, [], ◌∷◌, ◌++◌, length, Option, Some, None, Ok, Err}
 use Rattle.mx_base.specs.declared.names.LinkId.{LinkId}
 use Rattle.mx_base.specs.declared.names.Port.{Port}
 use Rattle.mx_wire.specs.Log.{Log, read_of}
@@ -64,13 +64,12 @@ pub record ServesToEnd (log : Log) : Type 0 where
   pub before : Log
   pub over : log ≡ before ++ Over ∷ []
 
--- Each moment of the recording came, each of its clients was accepted, and of each link that is open all its bytes were read. No write
--- found a link that takes no more.
+-- Each moment of the recording came, each of its clients was accepted, and of each link that is open all its bytes were read, or its
+-- last write found no room.
 pub record IsPlayedOut (entries : List RecordEntry) (log : Log) : Type 0 where
   pub woke : wakes log ≡ length (moments entries)
   pub accepted : (port : Port) → accepted_at port log ≡ length (clients_at port entries)
-  pub read : (link : LinkId) (k : Known) → with_link link (known entries log) ≡ Some k → IsOpen link log → read_of link log ≡ bytes_for k.name entries
-  pub taken : (link : LinkId) → write_dry link log ≡ false
+  pub read : (link : LinkId) (k : Known) → with_link link (known entries log) ≡ Some k → IsOpen link log → (read_of link log ≡ bytes_for k.name entries) ⊎ (write_dry link log ≡ true)
 
 -- the wire answered as the recording says, until it was played out
 pub record ReplaysTo (entries : List RecordEntry) (log : Log) : Type 0 where

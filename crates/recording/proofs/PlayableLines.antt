@@ -8,14 +8,14 @@ use Rattle.mx_wire.specs.Tells.{IsSaltByte}
 use Rattle.recording.specs.Fields.{fields, is_salt_byte}
 use Rattle.recording.specs.Line.{said}
 use Rattle.recording.specs.Playable.{IsNumbered, PlayableAfter, BeginsAtMoment, IsPlayable}
-use Rattle.recording.specs.Recording.{Standing, Reading, Said, at_start, is_known, falls, kind_if, misplaced, passes_bounds, is_later, first_of, fault_of, after, is_skipped, unless_fault, checked, line_of, taken, with_line, line_read, lines_read, is_line_feed, recording_of}
+use Rattle.recording.specs.Recording.{Standing, Reading, Said, at_start, is_known, falls, kind_if, misplaced, passes_bounds, first_of, fault_of, after, is_skipped, unless_fault, checked, line_of, taken, with_line, line_read, lines_read, is_line_feed, recording_of}
 use Rattle.recording.specs.Spelling.{HasOrdinal, HasSpelling}
 use Rattle.recording.specs.declared.entry.RecordEntry.{RecordEntry}
-use Rattle.recording.specs.declared.entry.RecordEntry.TheVariants.{At, Accept, Bytes, Exec}
+use Rattle.recording.specs.declared.entry.RecordEntry.TheVariants.{At, Accept, Bytes, End, Fail, Take, Refuse, Exec, Drop}
 use Rattle.recording.specs.declared.entry.RecordLink.{RecordLink}
 use Rattle.recording.specs.declared.entry.RecordLink.TheVariants.{Client, Server}
 use Rattle.recording.specs.declared.fault.Kind.{Kind}
-use Rattle.recording.specs.declared.fault.Kind.TheVariants.{TooLong, NotYet, MomentFell, WrongLink}
+use Rattle.recording.specs.declared.fault.Kind.TheVariants.{TooLong, MomentFell, WrongLink}
 use Rattle.recording.specs.declared.fault.RecordFault.{RecordFault}
 use Rattle.recording.proofs.SaidEntries.{has_spelling}
 
@@ -79,26 +79,39 @@ at_leads before ms rises later continues = record {
 abbrev standing : Option ℕ → ℕ → (RecordLink → Bool) → Standing
 standing moment clients ended = record { moment = moment; clients = clients; ended = ended }
 
+-- a link that hasn't ended
+ended_numbered : (last clients : ℕ) (ended : RecordLink → Bool) (on : RecordLink) → HasOrdinal on → kind_if (not (is_known (standing (Some last) clients ended) on) || ended on) WrongLink ≡ None → IsNumbered clients on
+ended_numbered last clients ended on is placed =
+    let before : Standing = standing (Some last) clients ended in
+    let right = or_parts (not (is_known before on)) (ended on) (kind_none (not (is_known before on) || ended on) WrongLink placed) in
+    known_numbered before on is (not-false (is_known before on) right.0)
+
 -- a line that isn't misplaced
-placed_leads : (moment : Option ℕ) (clients : ℕ) (ended : RecordLink → Bool) (entry : RecordEntry) → HasSpelling entry → misplaced (standing moment clients ended) entry ≡ None → is_later entry ≡ false → Leads (standing moment clients ended) entry
+placed_leads : (moment : Option ℕ) (clients : ℕ) (ended : RecordLink → Bool) (entry : RecordEntry) → HasSpelling entry → misplaced (standing moment clients ended) entry ≡ None → Leads (standing moment clients ended) entry
 unfolding after misplaced
-placed_leads moment clients ended (At ms) is placed now later continues = at_leads (standing moment clients ended) ms (kind_none (falls moment ms) MomentFell placed) later continues
-placed_leads (Some last) clients ended (Accept n port salt) is placed now later continues =
+placed_leads moment clients ended (At ms) is placed later continues = at_leads (standing moment clients ended) ms (kind_none (falls moment ms) MomentFell placed) later continues
+placed_leads (Some last) clients ended (Accept n port salt) is placed later continues =
     let next : n ≡ clients + 1 = eqb-true n (clients + 1) (not-false (n == clients + 1) (kind_none (not (n == clients + 1)) WrongLink placed)) in
     record { begins = tt; lines = (next, record { size = is.1; bytes = salt_bytes salt is.2 }, subst (λ (m : ℕ). PlayableAfter last m later) next continues.lines) }
-placed_leads (Some last) clients ended (Bytes on bytes) is placed now later continues =
+placed_leads (Some last) clients ended (Bytes on bytes) is placed later continues =
     let before : Standing = standing (Some last) clients ended in
     let right = or_parts (not (is_known before on)) (ended on) (kind_none (not (is_known before on) || ended on) WrongLink placed) in
     record { begins = tt; lines = (known_numbered before on is.0 (not-false (is_known before on) right.0), is.1, continues.lines) }
-placed_leads (Some last) clients ended (Exec k) is placed now later continues = record { begins = tt; lines = (is.0, continues.lines) }
-placed_leads moment clients ended _ is placed now later continues = cc
+placed_leads (Some last) clients ended (Exec k) is placed later continues = record { begins = tt; lines = (is.0, continues.lines) }
+placed_leads (Some last) clients ended (Drop k) is placed later continues = record { begins = tt; lines = (is.0, continues.lines) }
+placed_leads (Some last) clients ended (Refuse k) is placed later continues = record { begins = tt; lines = continues.lines }
+placed_leads (Some last) clients ended (End on) is placed later continues = record { begins = tt; lines = (ended_numbered last clients ended on is placed, continues.lines) }
+placed_leads (Some last) clients ended (Fail on) is placed later continues = record { begins = tt; lines = (ended_numbered last clients ended on is placed, continues.lines) }
+placed_leads (Some last) clients ended (Take on n) is placed later continues =
+    let before : Standing = standing (Some last) clients ended in
+    record { begins = tt; lines = (known_numbered before on is.0 (not-false (is_known before on) (kind_none (not (is_known before on)) WrongLink placed)), continues.lines) }
+placed_leads None clients ended _ is placed later continues = cc
 
 -- a line without a fault
 faultless_leads : (before : Standing) (number end : ℕ) (entry : RecordEntry) → HasSpelling entry → fault_of before number end entry ≡ None → Leads before entry
 faultless_leads before number end entry is none =
     let place = first_none (misplaced before entry) _ none in
-    let bounds = first_none (kind_if (passes_bounds number end) TooLong) _ place.1 in
-    placed_leads before.moment before.clients before.ended entry is place.0 (kind_none (is_later entry) NotYet bounds.1)
+    placed_leads before.moment before.clients before.ended entry is place.0
 
 abbrev LeadsIfAny : Standing → Option RecordEntry → Type 0
 LeadsIfAny before entry = IfSome entry (Leads before)

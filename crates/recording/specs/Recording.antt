@@ -1,15 +1,14 @@
 -- What the bytes of a recording say, line by line, or the first line that is at fault.
 use Rattle.std.specs.Prelude.{ℕ, ◌+◌, ◌==◌, ◌||◌, not, nat_lt, nat_le, Bool, true, false, if◌then◌else◌, List, [], ◌∷◌, ◌++◌, length, Option, Some, None, is_none, Result, Ok, Err}
 use Rattle.std.specs.List.{slice_split}
-use Rattle.mx_base.specs.declared.names.Port.TheVariants.{Traffic, Admin}
 use Rattle.recording.specs.Fields.{fields}
 use Rattle.recording.specs.Line.{said}
 use Rattle.recording.specs.declared.entry.RecordEntry.{RecordEntry}
-use Rattle.recording.specs.declared.entry.RecordEntry.TheVariants.{At, Accept, Bytes, End, Fail, Take, Refuse, Drop}
+use Rattle.recording.specs.declared.entry.RecordEntry.TheVariants.{At, Accept, Bytes, End, Fail, Take}
 use Rattle.recording.specs.declared.entry.RecordLink.{RecordLink}
 use Rattle.recording.specs.declared.entry.RecordLink.TheVariants.{Client, Server}
 use Rattle.recording.specs.declared.fault.Kind.{Kind}
-use Rattle.recording.specs.declared.fault.Kind.TheVariants.{NoLineFeed, UnknownWord, BadFields, BeforeFirstAt, MomentFell, WrongLink, TooLong, NotYet}
+use Rattle.recording.specs.declared.fault.Kind.TheVariants.{NoLineFeed, UnknownWord, BadFields, BeforeFirstAt, MomentFell, WrongLink, TooLong}
 use Rattle.recording.specs.declared.fault.RecordFault.{RecordFault}
 
 -- what the lines so far leave: the moment of the last `at`, how many clients were accepted, and the links on
@@ -58,24 +57,13 @@ misplaced before entry = if is_none before.moment then Some BeforeFirstAt else k
 abbrev pub passes_bounds : ℕ → ℕ → Bool
 passes_bounds number end = nat_lt 1000000 number || nat_lt 268435456 end
 
--- a right line that isn't played yet: one client, on the port for traffic, and links that don't end
-abbrev pub is_later : RecordEntry → Bool
-is_later (Accept n Traffic salt) = not (n == 1)
-is_later (Accept n Admin salt) = true
-is_later (End link) = true
-is_later (Fail link) = true
-is_later (Take link n) = true
-is_later (Refuse k) = true
-is_later (Drop k) = true
-is_later _ = false
-
 abbrev pub first_of : Option Kind → Option Kind → Option Kind
 first_of (Some kind) later = Some kind
 first_of None later = later
 
 -- the lowest kind of fault of a line that says this
 abbrev pub fault_of : Standing → ℕ → ℕ → RecordEntry → Option Kind
-fault_of before number end entry = first_of (misplaced before entry) (first_of (kind_if (passes_bounds number end) TooLong) (kind_if (is_later entry) NotYet))
+fault_of before number end entry = first_of (misplaced before entry) (kind_if (passes_bounds number end) TooLong)
 
 unfoldable pub after : Standing → RecordEntry → Standing
 after before (At ms) = record before { moment = Some ms }
@@ -111,7 +99,6 @@ kind_number BeforeFirstAt = 4
 kind_number MomentFell = 5
 kind_number WrongLink = 6
 kind_number TooLong = 7
-kind_number NotYet = 8
 
 abbrev pub fault_at : ℕ → Kind → RecordFault
 fault_at number kind = record { line = number; kind = kind_number kind }

@@ -22,15 +22,13 @@ pub(crate) enum Kind {
     WrongLink,
     /// The line passes 1,000,000 lines or 268,435,456 bytes.
     TooLong,
-    /// The line is right, and isn't played yet.
-    NotYet,
 }
 
 /// The first faulty line of a recording, counted from 1, skipped lines too, and the least kind of its faults:
 /// 1 the last line has no line feed; 2 unknown word; 3 bad fields; 4 a line before the first `at`; 5 a moment
 /// below the last; 6 a client's number out of order, or a line on a client that isn't accepted, or `bytes`,
 /// `end` or `fail` on a link that has ended or failed; 7 the line that passes 1,000,000 lines or 268,435,456
-/// bytes; 8 a right line that isn't played yet.
+/// bytes.
 #[derive(Clone, Copy, Debug, PartialEq, Eq)]
 pub struct RecordFault {
     pub line: u32,
@@ -83,7 +81,6 @@ impl Kind {
             Kind::MomentFell => 5,
             Kind::WrongLink => 6,
             Kind::TooLong => 7,
-            Kind::NotYet => 8,
         }
     }
 }

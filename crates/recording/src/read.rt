@@ -2,14 +2,13 @@
 ghost use Rattle.std.specs.Prelude.{◌≡◌, ◌≤◌, IfOk, IfErr, OnOk, position};
 ghost use Rattle.recording.specs.Ended.{standing_of};
 ghost use Rattle.recording.specs.Playable.{IsPlayable};
-ghost use Rattle.recording.specs.Recording.{recording_of, is_later, is_line_feed, is_skipped, passes_bounds, fault_of, line_of, taken};
+ghost use Rattle.recording.specs.Recording.{recording_of, is_line_feed, is_skipped, passes_bounds, fault_of, line_of, taken};
 ghost use Rattle.recording.specs.Refusal.{Gives, Refuses, Faults, refused_at};
 
 use crate::fault::{Kind, LineRefusal};
 use crate::line::read_entry;
 use crate::progress::Progress;
 use crate::{RecordEntry, RecordFault, RecordRefusal};
-use mx_base::Port;
 use std::alloc::Global;
 
 /// The entries of a recording: a text of lines, each of which a line feed ends. Empty lines and those that begin
@@ -126,10 +125,7 @@ fn fault_in(progress: &Progress, number: u32, end: usize, entry: &RecordEntry) -
         return Some(kind);
     }
     if is_past_bounds(number, end) {
-        return Some(Kind::TooLong);
-    }
-    if is_not_played(entry) {
-        Some(Kind::NotYet)
+        Some(Kind::TooLong)
     } else {
         None
     }
@@ -148,19 +144,5 @@ fn is_skipped_line(line: &[u8]) -> bool
     match line {
         [] => true,
         [first, ..] => *first == b'#',
-    }
-}
-
-fn is_not_played(entry: &RecordEntry) -> bool
-    ensures { result ≡ is_later entry.now }
-{
-    match entry {
-        RecordEntry::At { .. } | RecordEntry::Bytes { .. } | RecordEntry::Exec { .. } => false,
-        RecordEntry::Accept { n, port, .. } => *port == Port::Admin || *n != 1,
-        RecordEntry::End { .. }
-        | RecordEntry::Fail { .. }
-        | RecordEntry::Take { .. }
-        | RecordEntry::Refuse { .. }
-        | RecordEntry::Drop { .. } => true,
     }
 }

@@ -19,7 +19,7 @@ fn answer(alloc: Global, text: &[u8]) -> Result<usize, (u32, u8)> {
 #[test]
 fn reads_lines(rt: HostRuntime) -> Result<(), Fail> {
     let alloc = rt.alloc();
-    let rows: [(&str, Result<usize, (u32, u8)>); 31] = [
+    let rows: [(&str, Result<usize, (u32, u8)>); 41] = [
         ("", Ok(0)),
         ("\n#at\n\n", Ok(0)),
         ("at 0\nat 0\nat\t18446744073709551615\n", Ok(3)),
@@ -47,10 +47,23 @@ fn reads_lines(rt: HostRuntime) -> Result<(), Fail> {
         ("at 5\nat 4\n", Err((2, 5))),
         ("at 0\nbytes c1 00\n", Err((2, 6))),
         ("at 0\ntake c1 1\n", Err((2, 6))),
-        ("at 0\ntake s1 1\n", Err((2, 8))),
-        ("at 0\nend s1\n", Err((2, 8))),
-        ("at 0\nrefuse 1\n", Err((2, 8))),
-        ("at 0\ndrop s1\n", Err((2, 8))),
+        (
+            "at 0\ntake s1 1\nend s1\nfail s2\nrefuse 1\ndrop s1\n",
+            Ok(6),
+        ),
+        ("at 0\nend s1\ntake s1 0\nexec s1\ndrop s1\n", Ok(5)),
+        ("at 0\nend s1\nbytes s1 00\n", Err((3, 6))),
+        ("at 0\nfail s1\nend s1\n", Err((3, 6))),
+        ("at 0\nend s1\nat 0\nfail s1\n", Err((4, 6))),
+        ("at 0\nend c1\n", Err((2, 6))),
+        ("at 0\nfail c1\n", Err((2, 6))),
+        ("at 0\nrefuse 0\n", Err((2, 3))),
+        ("at 0\ntake s1\n", Err((2, 3))),
+        ("at 0\ntake s1 18446744073709551616\n", Err((2, 3))),
+        ("at 0\ndrop c1\n", Err((2, 3))),
+        ("end s1 s1\nfrob\n", Err((1, 3))),
+        ("refuse 1\n", Err((1, 4))),
+        ("at 0\nfrob\nat 00\n", Err((2, 2))),
     ];
     for (text, want) in rows {
         assert_eq!(rt; answer(alloc, text.as_bytes()), want, "at {text:?}");
@@ -59,19 +72,21 @@ fn reads_lines(rt: HostRuntime) -> Result<(), Fail> {
 }
 
 #[test]
-fn accepts_one_client(rt: HostRuntime) -> Result<(), Fail> {
+fn accepts_clients(rt: HostRuntime) -> Result<(), Fail> {
     let alloc = rt.alloc();
     let first = format!(in alloc; "at 0\naccept c1 traffic {SALT}\n")?;
     assert_eq!(rt; answer(alloc, first.as_bytes()), Ok(2));
     for (more, want) in [
         ("accept c1 traffic", (3, 6)),
         ("accept c3 traffic", (3, 6)),
-        ("accept c2 traffic", (3, 8)),
-        ("accept c2 admin", (3, 8)),
         ("accept c2 other", (3, 3)),
     ] {
         let text = format!(in alloc; "{first}{more} {SALT}\n")?;
         assert_eq!(rt; answer(alloc, text.as_bytes()), Err(want), "at {more:?}");
+    }
+    for more in ["accept c2 traffic", "accept c2 admin"] {
+        let text = format!(in alloc; "{first}{more} {SALT}\n")?;
+        assert_eq!(rt; answer(alloc, text.as_bytes()), Ok(3), "at {more:?}");
     }
     for salt in [
         "0002030405060708090a0b0c0d0e0f1011121314",

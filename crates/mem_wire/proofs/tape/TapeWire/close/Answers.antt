@@ -3,7 +3,8 @@ use Rattle.mx_wire.specs.declared.entry.Entry.TheVariants as entry
 use Rattle.mem_wire.specs.Adds.{late_entries}
 use Rattle.mem_wire.proofs.Telling.{tells, goes_on}
 use Rattle.mem_wire.proofs.Courses.{within-moves}
-use Rattle.mem_wire.proofs.Following.{late_are, open-if-open}
+use Rattle.mem_wire.proofs.Links.{late_are}
+use Rattle.mem_wire.proofs.Following.{open-if-open}
 use Rattle.mem_wire.proofs.Entries.{follows-closed, open-in}
 use Rattle.mem_wire.proofs.tape.TapeWire.close.Goals as goal
 

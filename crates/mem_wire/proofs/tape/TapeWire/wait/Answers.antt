@@ -4,7 +4,8 @@ use Rattle.mx_wire.specs.declared.entry.Entry.TheVariants as entry
 use Rattle.mem_wire.specs.Adds.{late_entries}
 use Rattle.mem_wire.proofs.Telling.{tells, goes_on}
 use Rattle.mem_wire.proofs.Courses.{within-moves, within-wakes}
-use Rattle.mem_wire.proofs.Following.{late_are, wake-marks, wake-later, wake-calls, marks_are}
+use Rattle.mem_wire.proofs.Links.{late_are}
+use Rattle.mem_wire.proofs.Following.{wake-marks, wake-later, wake-calls, marks_are}
 use Rattle.mem_wire.proofs.CutLaws.{over-is}
 use Rattle.mem_wire.proofs.Entries.{tape-stays, passed-late}
 use Rattle.mem_wire.proofs.Arrivals.{follows-woken}
@@ -16,11 +17,11 @@ pub invariant_of-self : goal.invariant_of-self
 invariant_of-self c =
     let s = c.self.inside.stage in
     tape-stays _ s _ c.self.inside.told _ entry.Over c.self.invariant
-    (within-moves _ s _ c.self.invariant.within refl) (record { frame = refl; late = ap (λ l. l.marks) c.none-self-inside.ensures })
+    (within-moves _ s _ c.self.invariant.within refl) (record { frame = refl; late = c.clear.ensures })
     c.add_call.ensures (λ log is follows. refl) (λ m. refl)
-    (record { woke = refl; accepted = λ port. refl; opened = refl; known = λ recording log. refl; named = λ links. refl; got = refl; open_is = λ was. refl }) (record { call = record { unmarked = refl; judge = λ log call. call }; due = λ log. refl }) refl
+    (record { woke = refl; accepted = λ port. refl; opened = refl; known = λ recording log. refl; named = λ links. refl; got = refl; open_is = λ was. refl; told = λ was. refl; blocked = λ was. refl; wrote = refl }) (record { call = record { unmarked = refl; judge = λ log call. call }; due = λ log. refl }) refl
     (λ log follows stands. over-is _ (take (length c.deref.result.now - s.cut) (drop s.cut c.deref.result.now)) s.cut _ stands.cut (take_rest c.deref.result.now s.cut ∙ ap (drop s.cut) c.deref.ensures.value) (sym c.first_moment.ensures ∙ c.in_default.is))
-    (λ log follows. passed-late _ s c.none-self-inside.result follows.passed)
+    (λ log follows. passed-late _ s _ follows.passed)
 
 pub returns-in_default-clause-told : goal.returns-in_default-clause-told
 returns-in_default-clause-told c =

@@ -1,0 +1,8 @@
+// How a link ends.
+
+/// How a link ends behind its bytes: reads answer End, or reads and writes answer Failed.
+#[derive(Clone, Copy, Debug)]
+pub(crate) enum Ending {
+    End,
+    Fail,
+}
