@@ -1,6 +1,6 @@
 -- Assignments that are joined.
-use Rattle.std.proofs.Common.{◌≡◌, ◌<◌, ◌+◌, ℕ, true, false, nat_eq, eqb, List, [], ◌∷◌, ◌++◌, Option, Some, None, length, codes, fold, filter, refl, sym, ◌∙◌, ap, inl, inr, arith, append_assoc, length-append}
-use Rattle.std.specs.List.{flat_map, join_by}
+use Rattle.std.proofs.Common.{◌≡◌, ◌<◌, ℕ, true, false, nat_eq, eqb, List, [], ◌∷◌, ◌++◌, Option, Some, None, length, codes, fold, filter, refl, sym, ◌∙◌, ap, inl, inr, arith, append_assoc, length-append}
+use Rattle.std.specs.List.{flat_map}
 use Rattle.std.proofs.lemmas.Bool.{cond-true, cond-false, cases_Bool, ne_eqb, eqb-true, eqb-false}
 use Rattle.std.proofs.lemmas.List.{append-nil}
 use Rattle.session_vars.specs.Texts.{assignment_text, is_assigned, session_by, session_text, with_assignment}

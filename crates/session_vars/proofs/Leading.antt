@@ -1,11 +1,10 @@
 -- A difference leads from settings to others.
-use Rattle.std.proofs.Common.{◌≡◌, ◌≤◌, ◌<◌, ◌+◌, ◌-◌, ℕ, zero, suc, true, false, not, ◌&&◌, ◌||◌, List, [], ◌∷◌, ◌++◌, length, take, drop, set, get_or, refl, sym, ◌∙◌, ap, inl, inr, arith, append_assoc, bytes_eq, add-one, length-take}
+use Rattle.std.proofs.Common.{◌≡◌, ◌≤◌, ◌<◌, ℕ, suc, true, false, not, ◌&&◌, List, [], ◌∷◌, ◌++◌, length, take, drop, set, get_or, refl, sym, ◌∙◌, ap, inl, inr, arith, append_assoc, add-one}
 use Rattle.std.specs.Cmp.Lexicographic.{bytes_decides}
 use Rattle.std.proofs.lemmas.Bool.{cond-true, cond-false, cases_Bool, or_parts, not-false}
 use Rattle.std.proofs.lemmas.List.{append-nil, take_all, drop_all, drop_more, take_more, set-append_right, length-take-le}
-use Rattle.session_vars.specs.Settings.{AreSettings, value_at, changed, applied, same_value, is_text, differs, names_differ, results_differ, has_to_change, changes_of, difference_of}
+use Rattle.session_vars.specs.Settings.{AreSettings, value_at, applied, same_value, is_text, differs, names_differ, results_differ, has_to_change, changes_of, difference_of}
 use Rattle.session_vars.specs.Slots.{place_of, all_slots}
-use Rattle.session_vars.specs.declared.change.Change.{Change}
 use Rattle.session_vars.specs.declared.change.SlotValue.{SlotValue}
 use Rattle.session_vars.specs.declared.change.SlotValue.TheVariants.{Default, Text}
 use Rattle.session_vars.specs.declared.slot.Slot.{Slot}

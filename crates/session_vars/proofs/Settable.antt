@@ -1,36 +1,30 @@
 -- Two statements can make a difference.
-use Rattle.std.proofs.Common.{◌≡◌, ℕ, true, false, not, ◌&&◌, ◌||◌, Bool, cond, List, [], ◌∷◌, drop, refl, sym, ◌∙◌, ap, inl, inr}
-use Rattle.std.specs.List.{list_all, list_any}
+use Rattle.std.proofs.Common.{◌≡◌, true, false, not, ◌&&◌, ◌||◌, Bool, List, [], ◌∷◌, drop, refl, ◌∙◌, ap, inl, inr}
+use Rattle.std.specs.List.{list_any}
 use Rattle.std.proofs.lemmas.Bool.{cond-true, cond-false, cases_Bool, and_from, and_left, or_left, or_right, or_from, or_parts, not_from_false}
 use Rattle.session_vars.specs.Settings.{value_at, same_value, is_text, differs, names_differ, results_differ, has_to_change, changes_of, difference_of}
-use Rattle.session_vars.specs.Slots.{all_slots, assigned_slots}
-use Rattle.session_vars.specs.Texts.{is_names, is_default_value, is_left_by_names, is_results_default, CanBeSet}
+use Rattle.session_vars.specs.Slots.{all_slots}
+use Rattle.session_vars.specs.Texts.{is_names, is_default_value, is_left_by_names, is_results_default, takes_names_back, any_takes_names_back, CanBeSet}
 use Rattle.session_vars.specs.declared.change.Change.{Change}
 use Rattle.session_vars.specs.declared.change.SlotValue.{SlotValue}
 use Rattle.session_vars.specs.declared.change.SlotValue.TheVariants.{Default, Text}
 use Rattle.session_vars.specs.declared.slot.Slot.{Slot}
 use Rattle.session_vars.specs.declared.slot.Slot.TheVariants.{Names, CharacterSetResults}
 
--- a change that makes `names` no default
-is_right : Change → Bool
-is_right change = not (is_names change.slot && is_default_value change.value)
-
 text_is_no_default : (value : SlotValue) → is_text value ≡ true → is_default_value value ≡ false
 text_is_no_default Default h = absurd (cc)
 text_is_no_default (Text bytes) h = refl
 
-right_change : (to : List SlotValue) (slot : Slot) → is_text (value_at to Names) ≡ true → is_right (record { slot = slot; value = value_at to slot }) ≡ true
-unfolding is_right
-right_change to Names h = ap not (text_is_no_default (value_at to Names) h)
+right_change : (to : List SlotValue) (slot : Slot) → is_text (value_at to Names) ≡ true → takes_names_back (record { slot = slot; value = value_at to slot }) ≡ false
+right_change to Names h = text_is_no_default (value_at to Names) h
 right_change to _ h = refl
 
-all_right : (from to : List SlotValue) (slots : List Slot) → is_text (value_at to Names) ≡ true → list_all (λ change. not (is_names change.slot && is_default_value change.value)) (changes_of from to slots) ≡ true
-unfolding is_right
-all_right from to [] h = refl
-all_right from to (slot ∷ slots) h =
+none_taken_back : (from to : List SlotValue) (slots : List Slot) → is_text (value_at to Names) ≡ true → any_takes_names_back (changes_of from to slots) ≡ false
+none_taken_back from to [] h = refl
+none_taken_back from to (slot ∷ slots) h =
     elim (cases_Bool (has_to_change from to slot)) [
-      | inl e ↦ ap (list_all is_right) (cond-true (has_to_change from to slot) _ _ e) ∙ and_from _ _ (right_change to slot h) (all_right from to slots h)
-      | inr e ↦ ap (list_all is_right) (cond-false (has_to_change from to slot) _ _ e) ∙ all_right from to slots h
+      | inl e ↦ ap any_takes_names_back (cond-true (has_to_change from to slot) _ _ e) ∙ or_from _ _ (right_change to slot h) (none_taken_back from to slots h)
+      | inr e ↦ ap any_takes_names_back (cond-false (has_to_change from to slot) _ _ e) ∙ none_taken_back from to slots h
     ]
 
 -- character_set_results isn't among these
@@ -80,4 +74,4 @@ names_or_none from to =
     ]
 
 pub difference_settable : (from to : List SlotValue) → is_text (value_at to Names) ≡ true → CanBeSet (difference_of from to)
-difference_settable from to wanted = and_from _ _ (all_right from to all_slots wanted) (names_or_none from to)
+difference_settable from to wanted = and_from _ _ (not_from_false _ (none_taken_back from to all_slots wanted)) (names_or_none from to)

@@ -1,6 +1,5 @@
 -- A statement has no more tokens than bytes.
-use Rattle.std.proofs.Common.{◌≡◌, ◌≤◌, ◌<◌, ℕ, zero, suc, ◌+◌, ◌-◌, true, false, not, List, [], ◌∷◌, length, drop, refl, ap, inl, inr, arith, length-drop}
-use Rattle.std.specs.List.{filter}
+use Rattle.std.proofs.Common.{◌≡◌, ◌≤◌, ℕ, zero, suc, ◌+◌, ◌-◌, not, List, [], ◌∷◌, length, ap, inl, inr, arith}
 use Rattle.std.proofs.lemmas.Bool.{cond-true, cond-false, cases_Bool}
 use Rattle.sql_tokens.specs.Bytes.{is_white}
 use Rattle.sql_tokens.specs.Tokens.{tokens_from, tokens_of, token_at}

@@ -1,5 +1,5 @@
 -- Assignments of a SET statement, behind its SET.
-use Rattle.std.specs.Prelude.{ℕ, Bool, ◌&&◌, nat_eq, List, [], ◌∷◌, take, drop, codes, Option, Some, None, option_and_then, if◌then◌else◌}
+use Rattle.std.specs.Prelude.{ℕ, ◌&&◌, nat_eq, List, [], ◌∷◌, take, drop, codes, Option, Some, None, option_and_then, if◌then◌else◌}
 use Rattle.std.specs.List.{slice_split}
 use Rattle.sql_tokens.specs.Words.{bytes_of, inside, word_of}
 use Rattle.sql_tokens.specs.declared.token.Token.{Token}

@@ -1,5 +1,5 @@
 -- Whether a SET statement sets anything of the whole server.
-use Rattle.std.specs.Prelude.{ℕ, ◌+◌, ◌-◌, Bool, true, false, not, ◌&&◌, ◌||◌, nat_eq, List, [], ◌∷◌, take, drop, codes, if◌then◌else◌}
+use Rattle.std.specs.Prelude.{ℕ, ◌+◌, ◌-◌, Bool, false, not, ◌&&◌, ◌||◌, nat_eq, List, [], ◌∷◌, take, drop, codes, if◌then◌else◌}
 use Rattle.std.specs.List.{prefix_len}
 use Rattle.sql_tokens.specs.Words.{bytes_of, inside}
 use Rattle.sql_tokens.specs.declared.token.Token.{Token}

@@ -1,6 +1,6 @@
 -- The statements that change settings.
 use Rattle.std.specs.Prelude.{ℕ, Bool, nat_eq, length, true, false, not, ◌&&◌, ◌||◌, List, [], ◌∷◌, ◌++◌, reverse, codes, Option, Some, None, option_map, filter, find, IsTrue, if◌then◌else◌}
-use Rattle.std.specs.List.{list_any, list_all, join_by}
+use Rattle.std.specs.List.{list_any, join_by}
 use Rattle.session_vars.specs.Slots.{name_of}
 use Rattle.session_vars.specs.declared.change.Change.{Change}
 use Rattle.session_vars.specs.declared.change.SlotValue.{SlotValue}
@@ -50,10 +50,26 @@ session_by (change ∷ changes) = Some (codes "SET SESSION " ++ join_by assignme
 abbrev pub session_text : List Change → Option (List ℕ)
 session_text changes = session_by (filter is_assigned changes)
 
--- the changes that two statements can make: `names` is there as no default, and is there where
--- character_set_results is to be as SET NAMES leaves it
+abbrev pub has_names : List Change → Bool
+has_names changes = list_any (λ change. is_names change.slot) changes
+
+abbrev pub leaves_results : List Change → Bool
+leaves_results changes = list_any is_results_default changes
+
+-- SET NAMES has no value that takes back what the session's client said
+abbrev pub takes_names_back : Change → Bool
+takes_names_back change = is_names change.slot && is_default_value change.value
+
+abbrev pub any_takes_names_back : List Change → Bool
+any_takes_names_back changes = list_any takes_names_back changes
+
+-- two statements can make these changes: none makes `names` a default, and one makes it a text where one makes
+-- character_set_results as SET NAMES leaves it
+abbrev pub can_be_set : List Change → Bool
+can_be_set changes = not (any_takes_names_back changes) && (has_names changes || not (leaves_results changes))
+
 abbrev pub CanBeSet : List Change → Type 0
-CanBeSet changes = IsTrue (list_all (λ change. not (is_names change.slot && is_default_value change.value)) changes && (list_any (λ change. is_names change.slot) changes || not (list_any is_results_default changes)))
+CanBeSet changes = IsTrue (can_be_set changes)
 
 -- a text of assignments, with one more where this change is one
 abbrev pub with_assignment : List ℕ → Change → List ℕ

@@ -1,5 +1,5 @@
 -- SET SESSION TRANSACTION, behind its SET.
-use Rattle.std.specs.Prelude.{ℕ, ◌&&◌, List, [], ◌∷◌, codes, Option, Some, None, option_map, if◌then◌else◌}
+use Rattle.std.specs.Prelude.{ℕ, ◌&&◌, List, [], ◌∷◌, codes, Option, Some, None, if◌then◌else◌}
 use Rattle.sql_tokens.specs.declared.token.Token.{Token}
 use Rattle.session_vars.specs.Statement.{says, is_session_word}
 use Rattle.session_vars.specs.declared.change.Change.{Change}

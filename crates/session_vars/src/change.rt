@@ -1,5 +1,6 @@
 // Changes of settings.
 ghost use Rattle.std.specs.Prelude.{◌≡◌, [], ◌∷◌, ◌++◌, OnOk, OnErr, IfOk};
+ghost use Rattle.session_vars.specs.Settings.{is_text};
 
 use crate::Slot;
 use mx_base::{Bytes, OutOfMemory};
@@ -16,13 +17,26 @@ pub enum SlotValue {
 }
 
 impl SlotValue {
+    /// Whether it is a text. Takes no memory.
+    pub fn is_text(&self) -> bool
+        ensures { result ≡ is_text self.now }
+    {
+        match self {
+            SlotValue::Default => false,
+            SlotValue::Text(_) => true,
+        }
+    }
+
     /// A copy.
     pub fn copy(&self, alloc: Global) -> Result<Self, OutOfMemory>
         ensures { IfOk result (λ value. value ≡ self.now) }
     {
         match self {
             SlotValue::Default => Ok(SlotValue::Default),
-            SlotValue::Text(text) => Ok(SlotValue::Text(Bytes::from_slice(alloc, text.as_slice())?)),
+            SlotValue::Text(text) => Ok(SlotValue::Text(Bytes::from_slice(
+                alloc,
+                text.as_slice(),
+            )?)),
         }
     }
 }

@@ -17,15 +17,6 @@ fn same_value(a: &SlotValue, b: &SlotValue) -> bool
     }
 }
 
-fn is_text(value: &SlotValue) -> bool
-    ensures { result ≡ is_text value.now }
-{
-    match value {
-        SlotValue::Default => false,
-        SlotValue::Text(_) => true,
-    }
-}
-
 fn differs(from: &Settings, to: &Settings, slot: Slot) -> bool
     ensures { result ≡ differs from.now to.now slot }
 {
@@ -38,8 +29,8 @@ fn names_differ(from: &Settings, to: &Settings) -> bool
     ensures { result ≡ names_differ from.now to.now }
 {
     differs(from, to, Slot::Names)
-        || (is_text(from.value(Slot::CharacterSetResults))
-            && !is_text(to.value(Slot::CharacterSetResults)))
+        || (from.value(Slot::CharacterSetResults).is_text()
+            && !to.value(Slot::CharacterSetResults).is_text())
 }
 
 // SET NAMES takes character_set_results with it.
@@ -48,7 +39,7 @@ fn results_differ(from: &Settings, to: &Settings) -> bool
     ensures { result ≡ results_differ from.now to.now }
 {
     differs(from, to, Slot::CharacterSetResults)
-        || (names_differ(from, to) && is_text(to.value(Slot::CharacterSetResults)))
+        || (names_differ(from, to) && to.value(Slot::CharacterSetResults).is_text())
 }
 
 fn has_to_change(from: &Settings, to: &Settings, slot: Slot) -> bool
@@ -83,11 +74,7 @@ fn push_change(
 /// The changes that lead from settings to others: those of the settings that differ, in order. `Names` is among them
 /// also where `CharacterSetResults` has to become as SET NAMES leaves it, and `CharacterSetResults` also where `Names`
 /// is among them and `CharacterSetResults` is wanted as a text. `Names` has to be wanted as a text.
-pub fn difference(
-    alloc: Global,
-    from: &Settings,
-    to: &Settings,
-) -> Result<Changes, OutOfMemory>
+pub fn difference(alloc: Global, from: &Settings, to: &Settings) -> Result<Changes, OutOfMemory>
     requires { IsTrue (is_text (value_at to.now Slot.Names)) }
     ensures { IfOk result (λ changes. changes ≡ difference_of from.now to.now) }
 {

@@ -27,7 +27,7 @@ pub use settings::Settings;
 pub use shape::SetShape;
 pub use slot::{SLOTS, Slot};
 pub use statement::{Statement, is_symbol, same_text, says};
-pub use text::{SetTexts, set_texts};
+pub use text::{SetTexts, can_be_set, set_texts};
 
 #[cfg(test)]
 mod tests;

@@ -25,7 +25,11 @@ fn character_set<'a>(text: &'a [u8], token: &Token) -> Option<&'a [u8]>
     ensures { option_copied result ≡ character_set text.now token.now }
 {
     let name = spoken(text, token)?;
-    if is_character_set(name) { Some(name) } else { None }
+    if is_character_set(name) {
+        Some(name)
+    } else {
+        None
+    }
 }
 
 fn collation<'a>(text: &'a [u8], token: &Token) -> Option<&'a [u8]>

@@ -3,7 +3,10 @@ use crate::Slot::{
     Autocommit, CharacterSetResults, GroupConcatMaxLen, MaxExecutionTime, Names, SqlMode,
     SqlSafeUpdates, TimeZone, TransactionIsolation, TransactionReadOnly, WaitTimeout,
 };
-use crate::{Change, Changes, SetShape, Settings, Slot, SlotValue, difference, read_set, set_texts};
+use crate::{
+    Change, Changes, SLOTS, SetShape, Settings, Slot, SlotValue, can_be_set, difference, read_set,
+    set_texts,
+};
 use mx_base::{Bytes, OutOfMemory};
 use std::alloc::Global;
 use std::process::Abort;
@@ -131,10 +134,7 @@ fn tracked_one(rt: HostRuntime) -> Result<(), Fail> {
             b"SET SESSION transaction_read_only = 1",
             (TransactionReadOnly, Some(b"1")),
         ),
-        (
-            b"SET sql_safe_updates = 1",
-            (SqlSafeUpdates, Some(b"1")),
-        ),
+        (b"SET sql_safe_updates = 1", (SqlSafeUpdates, Some(b"1"))),
         (
             b"SET foreign_key_checks = 0",
             (Slot::ForeignKeyChecks, Some(b"0")),
@@ -218,7 +218,7 @@ enum Untracked {
     NotSet,
 }
 
-fn untracked(rt: &impl Abort, shape: SetShape) -> Untracked {
+fn shape_of(rt: &impl Abort, shape: SetShape) -> Untracked {
     match shape {
         SetShape::Global => Untracked::Global,
         SetShape::NextTransaction => Untracked::NextTransaction,
@@ -256,7 +256,10 @@ fn not_tracked(rt: HostRuntime) -> Result<(), Fail> {
         (b"SET GLOBAL TRANSACTION READ ONLY", Untracked::Global),
         (b"SET TRANSACTION READ ONLY", Untracked::NextTransaction),
         (b"SET transaction", Untracked::NextTransaction),
-        (b"SET TRANSACTION ISOLATION LEVEL SERIALIZABLE;", Untracked::NextTransaction),
+        (
+            b"SET TRANSACTION ISOLATION LEVEL SERIALIZABLE;",
+            Untracked::NextTransaction,
+        ),
         (b"SET", Untracked::Other),
         (b"SET;", Untracked::Other),
         (b"SET ;;", Untracked::Other),
@@ -274,11 +277,26 @@ fn not_tracked(rt: HostRuntime) -> Result<(), Fail> {
         (b"SET CHARACTER SET utf8", Untracked::Other),
         (b"SET SESSION TRANSACTION", Untracked::Other),
         (b"SET SESSION TRANSACTION READ", Untracked::Other),
-        (b"SET SESSION TRANSACTION READ ONLY, READ WRITE", Untracked::Other),
-        (b"SET SESSION TRANSACTION ISOLATION LEVEL READ ONLY", Untracked::Other),
-        (b"SET SESSION TRANSACTION ISOLATION LEVEL SERIALIZABLE READ", Untracked::Other),
-        (b"SET SESSION TRANSACTION ISOLATION LEVEL READ COMMITTED x", Untracked::Other),
-        (b"SET @@transaction_isolation = 'SERIALIZABLE'", Untracked::Other),
+        (
+            b"SET SESSION TRANSACTION READ ONLY, READ WRITE",
+            Untracked::Other,
+        ),
+        (
+            b"SET SESSION TRANSACTION ISOLATION LEVEL READ ONLY",
+            Untracked::Other,
+        ),
+        (
+            b"SET SESSION TRANSACTION ISOLATION LEVEL SERIALIZABLE READ",
+            Untracked::Other,
+        ),
+        (
+            b"SET SESSION TRANSACTION ISOLATION LEVEL READ COMMITTED x",
+            Untracked::Other,
+        ),
+        (
+            b"SET @@transaction_isolation = 'SERIALIZABLE'",
+            Untracked::Other,
+        ),
         (b"SET @@transaction_read_only = 1", Untracked::Other),
         (b"SET SESSION @@autocommit = 1", Untracked::Other),
         (b"SET SESSION SESSION autocommit = 1", Untracked::Other),
@@ -307,7 +325,7 @@ fn not_tracked(rt: HostRuntime) -> Result<(), Fail> {
         (b"SET character_set_results = 'NULL'", Untracked::Other),
     ];
     for (text, want) in cases {
-        let found = untracked(&rt, read_set(rt.alloc(), text)?);
+        let found = shape_of(&rt, read_set(rt.alloc(), text)?);
         assert_eq!(rt; found, want, "{text:?}");
     }
     Ok(())
@@ -330,7 +348,7 @@ fn longest_values(rt: HostRuntime) -> Result<(), Fail> {
     assert!(rt; matches!(read_set(alloc, longest.as_slice())?, SetShape::Tracked(_)));
     let longer = long_value(alloc, 1025)?;
     assert_eq!(rt;
-        untracked(&rt, read_set(alloc, longer.as_slice())?),
+        shape_of(&rt, read_set(alloc, longer.as_slice())?),
         Untracked::Other
     );
     Ok(())
@@ -358,21 +376,121 @@ fn collations(rt: HostRuntime) -> Result<(), Fail> {
     Ok(())
 }
 
+type Statements<'a> = (&'a [Short<'a>], Option<&'a [u8]>, Option<&'a [u8]>);
+
 #[test]
 fn texts(rt: HostRuntime) -> Result<(), Fail> {
     let alloc = rt.alloc();
-    let changes = changes_of(
-        alloc,
-        &[
-            (Names, Some(b"utf8")),
-            (SqlMode, None),
-            (SqlSafeUpdates, Some(b"1")),
-        ],
-    )?;
+    let cases: [Statements; 5] = [
+        (&[], None, None),
+        (
+            &[
+                (Names, Some(b"utf8")),
+                (SqlMode, None),
+                (SqlSafeUpdates, Some(b"1")),
+            ],
+            Some(b"SET NAMES utf8"),
+            Some(b"SET SESSION sql_mode = DEFAULT, sql_safe_updates = 1"),
+        ),
+        (
+            &[(Names, Some(b"binary")), (CharacterSetResults, None)],
+            Some(b"SET NAMES binary"),
+            None,
+        ),
+        (
+            &[(CharacterSetResults, Some(b"NULL"))],
+            None,
+            Some(b"SET SESSION character_set_results = NULL"),
+        ),
+        (
+            &[(Names, Some(b"utf8")), (Names, Some(b"latin1"))],
+            Some(b"SET NAMES latin1"),
+            None,
+        ),
+    ];
+    for (short, names, session) in cases {
+        let changes = changes_of(alloc, short)?;
+        assert!(rt; can_be_set(changes.as_slice()));
+        let texts = set_texts(alloc, changes.as_slice())?;
+        assert_eq!(rt; texts.names.as_ref().map(|text| text.as_slice()), names);
+        assert_eq!(rt; texts.session.as_ref().map(|text| text.as_slice()), session);
+    }
+    for short in [(Names, None), (CharacterSetResults, None)] {
+        let changes = changes_of(alloc, &[short])?;
+        assert!(rt; !can_be_set(changes.as_slice()));
+    }
+    Ok(())
+}
+
+// Two settings have the same values.
+fn are_same(a: &Settings, b: &Settings) -> bool {
+    SLOTS.iter().all(|slot| a.value(*slot) == b.value(*slot))
+}
+
+// Brings settings to others by the two statements, each read again.
+fn bring(rt: &impl Abort, alloc: Global, from: &mut Settings, to: &Settings) -> Result<(), Fail> {
+    assert!(rt; to.value(Names).is_text());
+    let changes = difference(alloc, from, to)?;
+    assert!(rt; can_be_set(changes.as_slice()));
     let texts = set_texts(alloc, changes.as_slice())?;
-    let names = Bytes::from_slice(alloc, b"SET NAMES utf8")?;
-    let session = Bytes::from_slice(alloc, b"SET SESSION sql_mode = DEFAULT, sql_safe_updates = 1")?;
-    assert_eq!(rt; texts.names, Some(names));
-    assert_eq!(rt; texts.session, Some(session));
+    for text in [texts.names, texts.session] {
+        let Some(text) = text else {
+            continue;
+        };
+        match read_set(alloc, text.as_slice())? {
+            SetShape::Tracked(changes) => from.apply(changes.as_slice())?,
+            _ => panic!(rt; "not tracked: {text:?}"),
+        }
+    }
+    Ok(())
+}
+
+#[test]
+fn differences(rt: HostRuntime) -> Result<(), Fail> {
+    let alloc = rt.alloc();
+    let steps: [(u8, &[Short]); 8] = [
+        (45, &[]),
+        (33, &[(CharacterSetResults, Some(b"NULL"))]),
+        (33, &[]),
+        (8, &[(CharacterSetResults, Some(b"NULL"))]),
+        (46, &[(CharacterSetResults, Some(b"NULL"))]),
+        (
+            63,
+            &[(SqlMode, Some(b"'ANSI_'")), (WaitTimeout, Some(b"-1"))],
+        ),
+        (
+            63,
+            &[
+                (TransactionIsolation, Some(b"'READ-COMMITTED'")),
+                (TransactionReadOnly, Some(b"1")),
+            ],
+        ),
+        (224, &[(GroupConcatMaxLen, Some(b"1.5e3"))]),
+    ];
+    let mut held = Settings::defaults(alloc)?;
+    for (number, short) in steps {
+        let mut wanted = Settings::for_collation(alloc, number)?;
+        wanted.apply(changes_of(alloc, short)?.as_slice())?;
+        bring(&rt, alloc, &mut held, &wanted)?;
+        assert!(rt; are_same(&held, &wanted));
+    }
+    Ok(())
+}
+
+// A driver's opening.
+#[test]
+fn opening(rt: HostRuntime) -> Result<(), Fail> {
+    let alloc = rt.alloc();
+    let mut settings = Settings::for_collation(alloc, 45)?;
+    let before = settings.copy()?;
+    for text in [b"SET NAMES utf8mb4".as_slice(), b"SET autocommit=1"] {
+        if let SetShape::Tracked(changes) = read_set(alloc, text)? {
+            settings.apply(changes.as_slice())?;
+        }
+    }
+    assert!(rt; !are_same(&settings, &before));
+    assert_eq!(rt; settings.value(Names), &value_of(alloc, Some(b"utf8mb4"))?);
+    assert_eq!(rt; settings.value(Autocommit), &value_of(alloc, Some(b"1"))?);
+    assert_eq!(rt; settings.value(SqlMode), &SlotValue::Default);
     Ok(())
 }

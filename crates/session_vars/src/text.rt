@@ -1,7 +1,7 @@
 // The statements that change settings.
 ghost use Rattle.std.specs.Prelude.{◌≡◌, OnOk, IfOk, reverse, find};
 ghost use Rattle.std.specs.Option.{option_copied};
-ghost use Rattle.session_vars.specs.Texts.{is_names, is_default_value, value_text, names_statement, names_text, is_assigned, assignment_text, session_text, with_assignment, CanBeSet};
+ghost use Rattle.session_vars.specs.Texts.{is_names, is_default_value, is_results_default, value_text, names_statement, names_text, is_assigned, assignment_text, session_text, with_assignment, has_names, leaves_results, takes_names_back, any_takes_names_back, can_be_set, CanBeSet};
 
 use crate::{Change, Slot, SlotValue};
 use mx_base::{Bytes, OutOfMemory};
@@ -103,6 +103,47 @@ fn session_text(alloc: Global, changes: &[Change]) -> Result<Option<Bytes>, OutO
     } else {
         Ok(Some(text))
     }
+}
+
+fn is_results_default(change: &Change) -> bool
+    ensures { result ≡ is_results_default change.now }
+{
+    match change.slot {
+        Slot::CharacterSetResults => is_default_value(&change.value),
+        _ => false,
+    }
+}
+
+fn has_names(changes: &[Change]) -> bool
+    ensures { result ≡ has_names changes.now }
+{
+    changes.iter().any(|change| is_names(change.slot))
+}
+
+fn leaves_results(changes: &[Change]) -> bool
+    ensures { result ≡ leaves_results changes.now }
+{
+    changes.iter().any(|change| is_results_default(change))
+}
+
+fn takes_names_back(change: &Change) -> bool
+    ensures { result ≡ takes_names_back change.now }
+{
+    is_names(change.slot) && is_default_value(&change.value)
+}
+
+fn any_takes_names_back(changes: &[Change]) -> bool
+    ensures { result ≡ any_takes_names_back changes.now }
+{
+    changes.iter().any(|change| takes_names_back(change))
+}
+
+/// Whether two statements can make these changes: `Names` is among them as no default, and is among them where
+/// `CharacterSetResults` becomes a default. Takes no memory.
+pub fn can_be_set(changes: &[Change]) -> bool
+    ensures { result ≡ can_be_set changes.now }
+{
+    !any_takes_names_back(changes) && (has_names(changes) || !leaves_results(changes))
 }
 
 /// The statements that make these changes (MySQL Reference Manual, "SET NAMES" and "SET Syntax for Variable

@@ -85,7 +85,9 @@ fn mode_of(text: &[u8], tokens: &mut Statement) -> Option<Mode>
         return None;
     };
     let fourth = tokens.next();
-    if tokens.next().is_some() || !says(text, &first, b"ISOLATION") || !says(text, &second, b"LEVEL")
+    if tokens.next().is_some()
+        || !says(text, &first, b"ISOLATION")
+        || !says(text, &second, b"LEVEL")
     {
         return None;
     }

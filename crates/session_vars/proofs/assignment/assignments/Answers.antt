@@ -1,5 +1,5 @@
-use Rattle.std.proofs.Common.{◌≡◌, [], ◌∷◌, Some, None, sym, ◌∙◌, ap, option_map, ◌++◌, List, Option}
-use Rattle.session_vars.specs.Assignments.{assignments, assignment, with_change}
+use Rattle.std.proofs.Common.{◌≡◌, [], ◌∷◌, Some, None, sym, ◌∙◌, ap, option_map, ◌++◌, List}
+use Rattle.session_vars.specs.Assignments.{assignments, assignment}
 use Rattle.session_vars.specs.Statement.{before_comma, behind_comma}
 use Rattle.session_vars.specs.declared.change.Change.{Change}
 use Rattle.session_vars.proofs.Parts.{none_assigned, last_assigned, next_assigned, one_more_change, nothing}

@@ -1,4 +1,4 @@
-use Rattle.std.proofs.Common.{◌≡◌, ◌≤◌, List, [], length, drop, fold, eqb, true, false, sym, ◌∙◌, ap, arith}
+use Rattle.std.proofs.Common.{◌≡◌, ◌≤◌, List, [], length, fold, eqb, sym, ◌∙◌, ap, arith}
 use Rattle.std.proofs.lemmas.List.{at_drop_all}
 use Rattle.session_vars.specs.Texts.{with_assignment}
 use Rattle.session_vars.specs.declared.change.Change.{Change}
