@@ -1,5 +1,5 @@
 -- The stage follows the log where links come and where it wakes.
-use Rattle.std.proofs.Common.{◌≡◌, ℕ, zero, suc, ◌<◌, ◌≤◌, ◌+◌, ◌-◌, ◌*◌, ◌==◌, Bool, true, false, List, [], ◌∷◌, ◌++◌, length, filter, take, drop, if◌then◌else◌, Option, Some, None, refl, sym, ◌∙◌, ap, subst, arith, append-nil, length-append, add-zero, replicate, inl, inr}
+use Rattle.std.proofs.Common.{◌≡◌, ℕ, zero, suc, ◌<◌, ◌≤◌, ◌+◌, ◌-◌, ◌*◌, ◌==◌, Bool, true, false, List, [], ◌∷◌, ◌++◌, length, take, drop, if◌then◌else◌, Option, Some, None, refl, sym, ◌∙◌, ap, subst, arith, append-nil, length-append, add-zero, inl, inr}
 use Rattle.std.specs.Prelude.{slice_get, IfSome, nat_eq}
 use Rattle.std.specs.HashSet.{contains}
 use Rattle.std.specs.List.{filter_map}
@@ -36,7 +36,7 @@ use Rattle.mem_wire.specs.Follows.{Follows, IsTape, Continues, HaveSalts}
 use Rattle.mem_wire.proofs.Links.{all_below-append}
 use Rattle.mem_wire.proofs.Scenes.{opened-more, opens-same, just-more}
 use Rattle.mem_wire.specs.CameLaws.{accepted-more, opens-more}
-use Rattle.mem_wire.proofs.Sound.{sound-late, no-late, get-last}
+use Rattle.mem_wire.proofs.Sound.{sound-late, no-late}
 use Rattle.mem_wire.proofs.CutLaws.{moment-is, cut-next, last-lines, cut-released}
 use Rattle.mem_wire.proofs.Standing.{client-is}
 use Rattle.mem_wire.proofs.StandEnters.{stands-enters}

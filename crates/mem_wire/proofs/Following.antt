@@ -1,5 +1,5 @@
 -- The stage follows the log, call by call.
-use Rattle.std.proofs.Common.{◌≡◌, ℕ, ◌<◌, ◌≤◌, ◌+◌, ◌*◌, true, nat_lt, List, [], ◌∷◌, ◌++◌, length, drop, take, Option, Some, None, refl, sym, ◌∙◌, ap, subst, arith}
+use Rattle.std.proofs.Common.{◌≡◌, ℕ, ◌<◌, ◌≤◌, ◌+◌, ◌*◌, true, List, [], ◌∷◌, ◌++◌, length, drop, take, Option, Some, None, refl, sym, ◌∙◌, ap, subst, arith}
 use Rattle.mx_base.specs.declared.names.LinkId.{LinkId}
 use Rattle.std.specs.Prelude.{slice_get}
 use Rattle.std.specs.List.{filter_map}
@@ -28,14 +28,10 @@ use Rattle.mem_wire.specs.Steps.{Enters, Accepts, Opens, Wakes, numbered, next_l
 use Rattle.mem_wire.specs.declared.late.Late.{Late}
 use Rattle.mem_wire.proofs.Links.{late_are, late-below, is_below, links_below-append, links_below-more, all_below-append, AreGood, good-append, marks-good, marks-append, marks-of}
 use Rattle.mem_wire.proofs.Quiet.{moment-marks}
-use Rattle.std.proofs.lemmas.Option.{slice_get_within}
-use Rattle.mem_wire.specs.declared.naming.ToName.{ToName}
-use Rattle.mem_wire.specs.Naming.{Searches}
-use Rattle.mem_wire.proofs.NamingLaws.{named-link}
 use Rattle.mem_wire.proofs.LineLaws.{released-links}
 use Rattle.mem_wire.proofs.Playable.{salts-append, salts-of, salt-at, begins}
 use Rattle.mem_wire.proofs.Telling.{calls_in_parts}
-use Rattle.mem_wire.proofs.Sound.{sound-call, sound-late, sound-new, sound-enter, no-late, open-low, open-still}
+use Rattle.mem_wire.proofs.Sound.{sound-call, sound-late, sound-new, sound-enter, no-late, open-still}
 use Rattle.mem_wire.proofs.Courses.{Moved, keeps-moved}
 
 -- an entry that brings no link and no moment

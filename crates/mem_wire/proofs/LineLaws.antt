@@ -1,6 +1,5 @@
 -- What lines release, a line at a time.
-use Rattle.std.proofs.Common.{◌≡◌, ℕ, ◌+◌, ◌*◌, ◌<◌, ◌==◌, Bool, true, false, if◌then◌else◌, List, [], ◌∷◌, ◌++◌, length, Option, Some, None, refl, sym, ◌∙◌, ap, arith, append-nil, append_assoc, length-append, add_assoc, add-zero, subst, zero, suc, ◌%◌, ◌/◌}
-use Rattle.std.specs.List.{cons_option}
+use Rattle.std.proofs.Common.{◌≡◌, ℕ, ◌+◌, ◌*◌, ◌<◌, ◌==◌, if◌then◌else◌, List, [], ◌++◌, sym, ◌∙◌, ap, arith, append-nil, append_assoc, subst, zero, suc, ◌%◌, ◌/◌}
 use Rattle.std.proofs.lemmas.List.Elements.{filter_map-append}
 use Rattle.std.proofs.lemmas.Grind.{flat_map-append}
 use Rattle.recording.specs.declared.entry.RecordLink.{RecordLink}
@@ -8,14 +7,9 @@ use Rattle.recording.specs.declared.entry.RecordLink.TheVariants.{Client, Server
 use Rattle.recording.specs.declared.entry.RecordEntry.{RecordEntry}
 use Rattle.std.proofs.lemmas.List.Sums.{fold-append}
 use Rattle.std.specs.Prelude.{fold}
-use Rattle.mem_wire.specs.declared.ending.Ending.{Ending}
-use Rattle.mem_wire.specs.declared.ending.Ending.TheVariants as ending
-use Rattle.mem_wire.specs.declared.room.Room.{Room}
-use Rattle.mem_wire.specs.declared.marks.Mark.{Mark}
-use Rattle.mem_wire.specs.declared.marks.Mark.TheVariants as mark
 use Rattle.mem_wire.specs.declared.track.Track.{Track}
 use Rattle.mem_wire.specs.Lines.{same_name, bytes_at, bytes_for, ending_step, mark_for, marks_for}
-use Rattle.mem_wire.specs.Tracks.{track_at, place, room_given, given, ChangesTrack, Released}
+use Rattle.mem_wire.specs.Tracks.{track_at, place, room_given, given, Released}
 
 pub bytes_for-append : (name : RecordLink) (a b : List RecordEntry) → bytes_for name (a ++ b) ≡ bytes_for name a ++ bytes_for name b
 bytes_for-append name a b = flat_map-append (bytes_at name) a b

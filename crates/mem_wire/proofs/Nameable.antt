@@ -16,13 +16,13 @@ use Rattle.recording.specs.declared.entry.RecordEntry.{RecordEntry}
 use Rattle.mem_wire.specs.declared.naming.ToName.{ToName}
 use Rattle.mem_wire.specs.declared.track.Track.{Track}
 use Rattle.mem_wire.specs.declared.stage.Stage.{Stage}
-use Rattle.mem_wire.specs.Lines.{same_name, name_at, bytes_for}
+use Rattle.mem_wire.specs.Lines.{same_name, name_at}
 use Rattle.mem_wire.specs.Came.{wakes, is_told, is_blocked, Known, known, with_name, unread_of, ending_of, room_of}
 use Rattle.mem_wire.specs.Play.{named_since, is_ready, is_to_name, known_at, naming_order, next_named, Names}
 use Rattle.mem_wire.specs.Tracks.{track_at, place, room_in}
 use Rattle.mem_wire.specs.Steps.{numbered, IsWithin}
 use Rattle.mem_wire.specs.Naming.{is_named, named_by, named_at, NoneIn, NoneAt, BeginsIn, BeginsAt, lines_between, Searches}
-use Rattle.mem_wire.specs.Stands.{Numbered, read_by, is_in, Stands, Passed}
+use Rattle.mem_wire.specs.Stands.{Numbered, is_in, Stands, Passed}
 use Rattle.mem_wire.proofs.LineLaws.{same_place}
 use Rattle.mem_wire.proofs.CutLaws.{cut-released, last-drop, last-lines}
 use Rattle.mem_wire.proofs.NamingLaws.{named-link}

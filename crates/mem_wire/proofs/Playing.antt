@@ -1,8 +1,5 @@
 -- A call's entry goes on with the play.
-use Rattle.std.proofs.Common.{◌≡◌, ℕ, zero, suc, ◌-◌, Bool, true, false, nat_eq, List, [], ◌∷◌, ◌++◌, length, filter, if◌then◌else◌, Option, Some, None, refl, sym, ◌∙◌, ap, subst, replicate, append-nil, append_assoc}
-use Rattle.std.specs.Prelude.{slice_get}
-use Rattle.std.specs.List.{filter_map, cons_option}
-use Rattle.std.proofs.lemmas.Bool.{eqb-true}
+use Rattle.std.proofs.Common.{◌≡◌, ℕ, false, List, [], ◌∷◌, ◌++◌, length, if◌then◌else◌, Option, Some, None, sym, ◌∙◌, ap, subst, append-nil, append_assoc}
 use Rattle.mx_base.specs.declared.names.LinkId.{LinkId}
 use Rattle.mx_wire.specs.Log.{Log, IsMark, AreMarks, opened_link, opened_links}
 use Rattle.mx_wire.specs.Moments.{lawful-more}
@@ -10,7 +7,6 @@ use Rattle.mx_wire.specs.declared.entry.Entry.{Entry}
 use Rattle.mx_wire.specs.declared.entry.Entry.TheVariants as entry
 use Rattle.recording.specs.declared.entry.RecordLink.TheVariants.{Server}
 use Rattle.recording.specs.declared.entry.RecordEntry.{RecordEntry}
-use Rattle.recording.specs.declared.entry.RecordEntry.TheVariants as line
 use Rattle.mem_wire.specs.declared.late.Late.{Late}
 use Rattle.mem_wire.specs.declared.stage.Stage.{Stage}
 use Rattle.mem_wire.specs.Adds.{late_entries}

@@ -1,7 +1,7 @@
 -- What marks leave as it is.
 use Rattle.std.proofs.Common.{◌≡◌, Bool, false, if◌then◌else◌, [], ◌∷◌, ◌++◌, refl, sym, ◌∙◌, ap, append_assoc, append-nil, inl, inr}
 use Rattle.mx_base.specs.declared.names.LinkId.{LinkId}
-use Rattle.mx_wire.specs.Log.{Log, link_of, is_link, of_link, is_open, open_step, moment_of, AreMarks, IsMark, read_of, got_bytes, written_of, wrote_bytes}
+use Rattle.mx_wire.specs.Log.{Log, link_of, is_link, of_link, is_open, open_step, moment_of, AreMarks, IsMark, written_of, wrote_bytes}
 use Rattle.mem_wire.specs.Came.{is_woke, since_wake}
 use Rattle.mem_wire.specs.CameLaws.{since-more}
 use Rattle.std.specs.Prelude.{fold}

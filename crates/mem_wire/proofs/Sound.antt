@@ -7,7 +7,6 @@ use Rattle.mx_wire.specs.Log.{Log, AreMarks, link_of, moment_of, moment_step}
 use Rattle.mx_wire.specs.Growth.{moment_of-more, bool_cases}
 use Rattle.mx_wire.specs.Tells.{IsNew, IsOpen}
 use Rattle.mx_wire.specs.declared.entry.Entry.{Entry}
-use Rattle.mx_wire.specs.declared.entry.Entry.TheVariants as entry
 use Rattle.recording.specs.declared.entry.RecordEntry.{RecordEntry}
 use Rattle.mem_wire.specs.declared.stage.Stage.{Stage}
 use Rattle.mem_wire.specs.declared.marks.Mark.{Mark}

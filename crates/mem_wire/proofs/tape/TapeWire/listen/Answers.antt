@@ -1,4 +1,4 @@
-use Rattle.std.proofs.Common.{refl, ap}
+use Rattle.std.proofs.Common.{refl}
 use Rattle.mx_wire.specs.declared.entry.Entry.TheVariants as entry
 use Rattle.mem_wire.specs.Adds.{late_entries}
 use Rattle.mem_wire.proofs.Telling.{tells}

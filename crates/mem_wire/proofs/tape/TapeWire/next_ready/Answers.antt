@@ -1,4 +1,4 @@
-use Rattle.std.proofs.Common.{List, ◌++◌, Option, refl, ap, subst}
+use Rattle.std.proofs.Common.{List, ◌++◌, Option, refl, subst}
 use Rattle.mx_wire.specs.declared.entry.Entry.TheVariants as entry
 use Rattle.recording.specs.declared.entry.RecordEntry.{RecordEntry}
 use Rattle.mem_wire.specs.Adds.{late_entries}
