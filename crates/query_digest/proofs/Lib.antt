@@ -1,4 +1,0 @@
-pub mod Counting
-pub mod Folding
-pub mod Joining
-pub mod LongestRuns
