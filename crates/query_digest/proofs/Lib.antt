@@ -1,0 +1,4 @@
+pub mod Counting
+pub mod Folding
+pub mod Joining
+pub mod LongestRuns

@@ -1,0 +1,9 @@
+pub mod Ends
+pub mod Inside
+pub mod Lengths
+pub mod LongestNumbers
+pub mod OneList
+pub mod Runs
+pub mod Scan
+pub mod Sizes
+pub mod Worked

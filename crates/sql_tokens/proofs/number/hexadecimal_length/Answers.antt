@@ -1,0 +1,7 @@
+use Rattle.std.proofs.Common.{arith}
+use Rattle.std.specs.Char.{is_ascii_hexdigit}
+use Rattle.sql_tokens.proofs.Lengths.{run_fits}
+use Rattle.sql_tokens.proofs.number.hexadecimal_length.Goals as goal
+
+pub followed_by-requires : goal.followed_by-requires
+followed_by-requires c = rw (c.hexdigit_run.ensures, c.behind.ensures.rest) (run_fits is_ascii_hexdigit c.args.bytes.now 2 (omega arith) c.behind.ensures.small)

@@ -1,0 +1,10 @@
+pub mod Bytes
+pub mod Comments
+pub mod Marks
+pub mod Numbers
+pub mod Numerals
+pub mod Quotes
+pub mod Spans
+pub mod Tokens
+pub mod Variables
+pub mod Words

@@ -1,0 +1,78 @@
+// Bytes at the front of a slice.
+ghost use Rattle.std.specs.Prelude.{◌≡◌, ◌+◌, ◌<◌, ◌^◌, length, drop};
+ghost use Rattle.std.specs.List.{prefix_len};
+ghost use Rattle.std.specs.Char.{is_ascii_digit, is_ascii_hexdigit};
+ghost use Rattle.sql_tokens.specs.Bytes.{has_byte, followed_by, is_white, is_word_byte, is_name_byte};
+
+// Whether this byte stands at this place.
+pub(crate) fn has_byte(bytes: &[u8], place: usize, byte: u8) -> bool
+    ensures { result ≡ has_byte bytes.now place byte }
+{
+    place < bytes.len() && bytes[place] == byte
+}
+
+// What follows so many bytes.
+pub(crate) fn behind(bytes: &[u8], count: usize) -> &[u8]
+    ensures rest { result.now ≡ drop count bytes.now }
+    ensures small { length bytes.now < 2 ^ 64 }
+{
+    &bytes[count.min(bytes.len())..]
+}
+
+// So many bytes and behind them a run, which mustn't be empty; 0 where it is.
+pub(crate) fn followed_by(front: usize, run: usize) -> usize
+    requires { front + run < 2 ^ 64 }
+    ensures { result ≡ followed_by front run }
+{
+    if run == 0 { 0 } else { front + run }
+}
+
+// White space: tab to carriage return, and the space.
+fn is_white(byte: u8) -> bool
+    ensures { result ≡ is_white byte }
+{
+    (9 <= byte && byte <= 13) || byte == b' '
+}
+
+fn is_word_byte(byte: u8) -> bool
+    ensures { result ≡ is_word_byte byte }
+{
+    byte.is_ascii_alphanumeric() || byte == b'_' || byte == b'$' || byte >= 0x80
+}
+
+fn is_name_byte(byte: u8) -> bool
+    ensures { result ≡ is_name_byte byte }
+{
+    is_word_byte(byte) || byte == b'.'
+}
+
+// How many bytes of white space stand at the front.
+pub(crate) fn white_run(bytes: &[u8]) -> usize
+    ensures { result ≡ prefix_len is_white bytes.now }
+{
+    bytes.iter().take_while(|b| is_white(**b)).count()
+}
+
+pub(crate) fn word_run(bytes: &[u8]) -> usize
+    ensures { result ≡ prefix_len is_word_byte bytes.now }
+{
+    bytes.iter().take_while(|b| is_word_byte(**b)).count()
+}
+
+pub(crate) fn name_run(bytes: &[u8]) -> usize
+    ensures { result ≡ prefix_len is_name_byte bytes.now }
+{
+    bytes.iter().take_while(|b| is_name_byte(**b)).count()
+}
+
+pub(crate) fn digit_run(bytes: &[u8]) -> usize
+    ensures { result ≡ prefix_len is_ascii_digit bytes.now }
+{
+    bytes.iter().take_while(|b| b.is_ascii_digit()).count()
+}
+
+pub(crate) fn hexdigit_run(bytes: &[u8]) -> usize
+    ensures { result ≡ prefix_len is_ascii_hexdigit bytes.now }
+{
+    bytes.iter().take_while(|b| b.is_ascii_hexdigit()).count()
+}
