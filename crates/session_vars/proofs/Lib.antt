@@ -1,0 +1,5 @@
+pub mod Joining
+pub mod Leading
+pub mod Parts
+pub mod Settable
+pub mod Sizes

@@ -1,0 +1,77 @@
+-- Two statements can make a difference.
+use Rattle.std.proofs.Common.{◌≡◌, true, false, not, ◌&&◌, ◌||◌, Bool, List, [], ◌∷◌, drop, refl, ◌∙◌, ap, inl, inr}
+use Rattle.std.specs.List.{list_any}
+use Rattle.std.proofs.lemmas.Bool.{cond-true, cond-false, cases_Bool, and_from, and_left, or_left, or_right, or_from, or_parts, not_from_false}
+use Rattle.session_vars.specs.Settings.{value_at, same_value, is_text, differs, names_differ, results_differ, has_to_change, changes_of, difference_of}
+use Rattle.session_vars.specs.Slots.{all_slots}
+use Rattle.session_vars.specs.Texts.{is_names, is_default_value, is_left_by_names, is_results_default, takes_names_back, any_takes_names_back, CanBeSet}
+use Rattle.session_vars.specs.declared.change.Change.{Change}
+use Rattle.session_vars.specs.declared.change.SlotValue.{SlotValue}
+use Rattle.session_vars.specs.declared.change.SlotValue.TheVariants.{Default, Text}
+use Rattle.session_vars.specs.declared.slot.Slot.{Slot}
+use Rattle.session_vars.specs.declared.slot.Slot.TheVariants.{Names, CharacterSetResults}
+
+text_is_no_default : (value : SlotValue) → is_text value ≡ true → is_default_value value ≡ false
+text_is_no_default Default h = absurd (cc)
+text_is_no_default (Text bytes) h = refl
+
+right_change : (to : List SlotValue) (slot : Slot) → is_text (value_at to Names) ≡ true → takes_names_back (record { slot = slot; value = value_at to slot }) ≡ false
+right_change to Names h = text_is_no_default (value_at to Names) h
+right_change to _ h = refl
+
+none_taken_back : (from to : List SlotValue) (slots : List Slot) → is_text (value_at to Names) ≡ true → any_takes_names_back (changes_of from to slots) ≡ false
+none_taken_back from to [] h = refl
+none_taken_back from to (slot ∷ slots) h =
+    elim (cases_Bool (has_to_change from to slot)) [
+      | inl e ↦ ap any_takes_names_back (cond-true (has_to_change from to slot) _ _ e) ∙ or_from _ _ (right_change to slot h) (none_taken_back from to slots h)
+      | inr e ↦ ap any_takes_names_back (cond-false (has_to_change from to slot) _ _ e) ∙ none_taken_back from to slots h
+    ]
+
+-- character_set_results isn't among these
+IsWithoutResults : List Slot → Type 0
+IsWithoutResults [] = Unit {0}
+IsWithoutResults (slot ∷ slots) = ((value : SlotValue) → is_left_by_names slot value ≡ false) × IsWithoutResults slots
+
+none_left : (from to : List SlotValue) (slots : List Slot) → IsWithoutResults slots → list_any is_results_default (changes_of from to slots) ≡ false
+unfolding IsWithoutResults
+none_left from to [] without = refl
+none_left from to (slot ∷ slots) without =
+    elim (cases_Bool (has_to_change from to slot)) [
+      | inl e ↦ ap (list_any is_results_default) (cond-true (has_to_change from to slot) _ _ e) ∙ or_from _ _ (without.0 (value_at to slot)) (none_left from to slots without.1)
+      | inr e ↦ ap (list_any is_results_default) (cond-false (has_to_change from to slot) _ _ e) ∙ none_left from to slots without.1
+    ]
+
+-- where `names` hasn't to change, character_set_results hasn't to become a default
+kept_results : (names_differs : Bool) (from to : SlotValue) → is_text from && not (is_text to) ≡ false → names_differs ≡ false → not (same_value from to) || (names_differs && is_text to) ≡ true → is_default_value to ≡ false
+kept_results names_differs Default Default h n change = let right : names_differs && false ≡ false = and_left names_differs false n in absurd (cc)
+kept_results names_differs (Text a) Default h n change = absurd (cc)
+kept_results names_differs from (Text b) h n change = refl
+
+-- behind `names` and character_set_results
+abbrev other_slots : List Slot
+other_slots = drop 2 all_slots
+
+others_without : IsWithoutResults other_slots
+unfolding IsWithoutResults
+others_without = ((λ _. refl), ((λ _. refl), ((λ _. refl), ((λ _. refl), ((λ _. refl), ((λ _. refl), ((λ _. refl), ((λ _. refl), ((λ _. refl), ((λ _. refl), ((λ _. refl), ((λ _. refl), ((λ _. refl), ((λ _. refl), ((λ _. refl), ((λ _. refl), ((λ _. refl), ((λ _. refl), tt))))))))))))))))))
+
+none_as_left : (from to : List SlotValue) → names_differ from to ≡ false → list_any is_results_default (difference_of from to) ≡ false
+unfolding names_differ results_differ
+none_as_left from to same =
+    let parts = or_parts (differs from to Names) (is_text (value_at from CharacterSetResults) && not (is_text (value_at to CharacterSetResults))) same in
+    let others = none_left from to other_slots others_without in
+    ap (list_any is_results_default) (cond-false (names_differ from to) _ _ same)
+    ∙ elim (cases_Bool (results_differ from to)) [
+      | inl e ↦ ap (list_any is_results_default) (cond-true (results_differ from to) _ _ e) ∙ or_from _ _ (kept_results (names_differ from to) (value_at from CharacterSetResults) (value_at to CharacterSetResults) parts.1 same e) others
+      | inr e ↦ ap (list_any is_results_default) (cond-false (results_differ from to) _ _ e) ∙ others
+    ]
+
+names_or_none : (from to : List SlotValue) → list_any (λ change. is_names change.slot) (difference_of from to) || not (list_any is_results_default (difference_of from to)) ≡ true
+names_or_none from to =
+    elim (cases_Bool (names_differ from to)) [
+      | inl e ↦ or_left _ _ (ap (list_any (λ (change : Change). is_names change.slot)) (cond-true (names_differ from to) _ _ e))
+      | inr e ↦ or_right _ _ (not_from_false _ (none_as_left from to e))
+    ]
+
+pub difference_settable : (from to : List SlotValue) → is_text (value_at to Names) ≡ true → CanBeSet (difference_of from to)
+difference_settable from to wanted = and_from _ _ (not_from_false _ (none_taken_back from to all_slots wanted)) (names_or_none from to)

@@ -1,0 +1,80 @@
+-- Assignments of a SET statement, behind its SET.
+use Rattle.std.specs.Prelude.{ℕ, ◌&&◌, nat_eq, List, [], ◌∷◌, take, drop, codes, Option, Some, None, option_and_then, if◌then◌else◌}
+use Rattle.std.specs.List.{slice_split}
+use Rattle.sql_tokens.specs.Words.{bytes_of, inside, word_of}
+use Rattle.sql_tokens.specs.declared.token.Token.{Token}
+use Rattle.sql_tokens.specs.declared.token.TokenKind.{TokenKind}
+use Rattle.sql_tokens.specs.declared.token.TokenKind.TheVariants.{Word, Name, SysVar}
+use Rattle.session_vars.specs.Slots.{slot_named, unless_transaction}
+use Rattle.session_vars.specs.Statement.{same_text, is_symbol, is_comma, is_session_word}
+use Rattle.session_vars.specs.Values.{value_of, negative_value}
+use Rattle.session_vars.specs.declared.change.Change.{Change}
+use Rattle.session_vars.specs.declared.change.SlotValue.{SlotValue}
+use Rattle.session_vars.specs.declared.slot.Slot.{Slot}
+
+-- the setting of `@@session.name`, `@@local.name` or `@@name`
+unfoldable pub slot_of_variable : List ℕ → Option Slot
+slot_of_variable variable =
+    if same_text (take 10 variable) (codes "@@session.") then slot_named (drop 10 variable)
+    else if same_text (take 8 variable) (codes "@@local.") then slot_named (drop 8 variable)
+    else option_and_then unless_transaction (slot_named (drop 2 variable))
+
+-- the setting of a bare name
+abbrev pub slot_of_name : (text : List ℕ) → Token → Option Slot
+slot_of_name text token = option_and_then slot_named (word_of text token)
+
+-- the setting of a name or a variable
+abbrev pub slot_by : TokenKind → List ℕ → Option Slot
+slot_by SysVar bytes = slot_of_variable bytes
+slot_by Word bytes = slot_named bytes
+slot_by Name bytes = slot_named (inside bytes)
+slot_by _ bytes = None
+
+abbrev pub change_to : Slot → Option SlotValue → Option Change
+change_to slot None = None
+change_to slot (Some value) = Some (record { slot = slot; value = value })
+
+-- the value, to the end
+unfoldable pub written : (text : List ℕ) → Slot → List Token → Option Change
+written text slot [] = None
+written text slot (value ∷ []) = change_to slot (value_of slot value.kind (bytes_of text value))
+written text slot (minus ∷ value ∷ []) =
+    if is_symbol text minus 45 then change_to slot (negative_value slot value.kind (bytes_of text value)) else None
+written text slot (minus ∷ value ∷ more ∷ tokens) = None
+
+-- the `=` of a `:=`, between whose bytes nothing stands
+unfoldable pub behind_colon : (text : List ℕ) → Slot → (colon : Token) → List Token → Option Change
+behind_colon text slot colon [] = None
+behind_colon text slot colon (equals ∷ tokens) =
+    if is_symbol text equals 61 && nat_eq colon.end equals.start then written text slot tokens else None
+
+-- `=` or `:=`, and the value
+unfoldable pub assigned : (text : List ℕ) → Option Slot → List Token → Option Change
+assigned text None tokens = None
+assigned text (Some slot) [] = None
+assigned text (Some slot) (equals ∷ tokens) =
+    if is_symbol text equals 61 then written text slot tokens
+    else if is_symbol text equals 58 then behind_colon text slot equals tokens
+    else None
+
+-- one assignment: SESSION or LOCAL and a name, or a name or variable alone; and what is assigned
+unfoldable pub assignment : (text : List ℕ) → List Token → Option Change
+assignment text [] = None
+assignment text (scope ∷ []) = None
+assignment text (scope ∷ name ∷ tokens) =
+    if is_session_word text scope then assigned text (slot_of_name text name) tokens
+    else assigned text (slot_by scope.kind (bytes_of text scope)) (name ∷ tokens)
+
+abbrev pub with_change : Option Change → Option (List Change) → Option (List Change)
+with_change None changes = None
+with_change (Some change) None = None
+with_change (Some change) (Some changes) = Some (change ∷ changes)
+
+-- each of these is an assignment
+abbrev pub all_assigned : (text : List ℕ) → List (List Token) → Option (List Change)
+all_assigned text [] = Some []
+all_assigned text (part ∷ parts) = with_change (assignment text part) (all_assigned text parts)
+
+-- assignments with commas between them
+unfoldable pub assignments : (text : List ℕ) → List Token → Option (List Change)
+assignments text tokens = all_assigned text (slice_split (is_comma text) tokens)

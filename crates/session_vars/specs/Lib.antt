@@ -1,0 +1,10 @@
+pub mod Assignments
+pub mod Names
+pub mod Scopes
+pub mod Settings
+pub mod Shapes
+pub mod Slots
+pub mod Statement
+pub mod Texts
+pub mod Transactions
+pub mod Values

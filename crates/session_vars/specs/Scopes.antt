@@ -1,0 +1,32 @@
+-- Whether a SET statement sets anything of the whole server.
+use Rattle.std.specs.Prelude.{ℕ, ◌+◌, ◌-◌, Bool, false, not, ◌&&◌, ◌||◌, nat_eq, List, [], ◌∷◌, take, drop, codes, if◌then◌else◌}
+use Rattle.std.specs.List.{prefix_len}
+use Rattle.sql_tokens.specs.Words.{bytes_of, inside}
+use Rattle.sql_tokens.specs.declared.token.Token.{Token}
+use Rattle.sql_tokens.specs.declared.token.TokenKind.{TokenKind}
+use Rattle.sql_tokens.specs.declared.token.TokenKind.TheVariants.{Word, Name, SysVar}
+use Rattle.session_vars.specs.Statement.{same_text, is_symbol}
+
+unfoldable pub is_server_scope : List ℕ → Bool
+is_server_scope word = same_text word (codes "GLOBAL") || same_text word (codes "PERSIST") || same_text word (codes "PERSIST_ONLY")
+
+-- what stands before the first `.`
+abbrev pub before_dot : List ℕ → List ℕ
+before_dot bytes = take (prefix_len (λ b. not (nat_eq b 46)) bytes) bytes
+
+-- the word GLOBAL, PERSIST or PERSIST_ONLY, or a system variable whose first part is one of them
+abbrev pub names_server : TokenKind → List ℕ → Bool
+names_server Word bytes = is_server_scope bytes
+names_server Name bytes = is_server_scope (inside bytes)
+names_server SysVar bytes = is_server_scope (before_dot (drop 2 bytes))
+names_server _ bytes = false
+
+-- how many brackets are open behind a token; one that closes nothing is passed over
+abbrev pub deeper : (text : List ℕ) → Token → (depth : ℕ) → ℕ
+deeper text token depth = if is_symbol text token 40 then depth + 1 else if is_symbol text token 41 then depth - 1 else depth
+
+-- such a token is the first, where `first` says that one is due, or stands right behind a comma outside brackets
+abbrev pub sets_server : (text : List ℕ) → (depth : ℕ) → (first : Bool) → List Token → Bool
+sets_server text depth first [] = false
+sets_server text depth first (token ∷ tokens) =
+    (first && names_server token.kind (bytes_of text token)) || sets_server text (deeper text token depth) (is_symbol text token 44 && nat_eq depth 0) tokens

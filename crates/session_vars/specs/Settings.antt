@@ -1,0 +1,81 @@
+-- The settings of a session: one value for each of the twenty, in their order.
+use Rattle.std.specs.Prelude.{◌≡◌, ℕ, Bool, true, false, not, ◌&&◌, ◌||◌, nat_eq, bytes_eq, List, [], ◌∷◌, length, slice_index_or, slice_set, replicate, codes, if◌then◌else◌}
+use Rattle.session_vars.specs.Slots.{place_of, all_slots}
+use Rattle.session_vars.specs.declared.change.Change.{Change}
+use Rattle.session_vars.specs.declared.change.SlotValue.{SlotValue}
+use Rattle.session_vars.specs.declared.change.SlotValue.TheVariants.{Default, Text}
+use Rattle.session_vars.specs.declared.slot.Slot.{Slot}
+use Rattle.session_vars.specs.declared.slot.Slot.TheVariants.{Names, CharacterSetResults}
+
+-- twenty values
+abbrev pub AreSettings : List SlotValue → Type 0
+AreSettings values = length values ≡ 20
+
+-- the value of one of them
+abbrev pub value_at : List SlotValue → Slot → SlotValue
+value_at values slot = slice_index_or values (place_of slot) Default
+
+-- what a change leaves
+abbrev pub changed : List SlotValue → Change → List SlotValue
+changed values change = slice_set values (place_of change.slot) change.value
+
+-- what changes leave, one after the other
+abbrev pub applied : List SlotValue → List Change → List SlotValue
+applied values [] = values
+applied values (change ∷ changes) = applied (changed values change) changes
+
+-- the settings of a session that set nothing
+abbrev pub defaults : List SlotValue
+defaults = replicate 20 Default
+
+-- what the collation that a client names as it logs in gives the setting `names`
+unfoldable pub collation_names : ℕ → List ℕ
+collation_names number =
+    if nat_eq number 8 then codes "latin1"
+    else if nat_eq number 33 then codes "utf8"
+    else if nat_eq number 46 then codes "utf8mb4 COLLATE utf8mb4_bin"
+    else if nat_eq number 63 then codes "binary"
+    else if nat_eq number 224 then codes "utf8mb4 COLLATE utf8mb4_unicode_ci"
+    else if nat_eq number 255 then codes "utf8mb4"
+    else codes "utf8mb4 COLLATE utf8mb4_general_ci"
+
+-- the settings of a client that logged in with this collation
+abbrev pub collation_settings : ℕ → List SlotValue
+collation_settings number = changed defaults (record { slot = Names; value = Text (collation_names number) })
+
+abbrev pub same_value : SlotValue → SlotValue → Bool
+same_value Default Default = true
+same_value Default (Text b) = false
+same_value (Text a) Default = false
+same_value (Text a) (Text b) = bytes_eq a b
+
+abbrev pub is_text : SlotValue → Bool
+is_text Default = false
+is_text (Text bytes) = true
+
+abbrev pub differs : (from to : List SlotValue) → Slot → Bool
+differs from to slot = not (same_value (value_at from slot) (value_at to slot))
+
+-- SET NAMES is needed also where character_set_results has to become as SET NAMES leaves it
+unfoldable pub names_differ : (from to : List SlotValue) → Bool
+names_differ from to = differs from to Names || (is_text (value_at from CharacterSetResults) && not (is_text (value_at to CharacterSetResults)))
+
+-- and it takes character_set_results with it
+unfoldable pub results_differ : (from to : List SlotValue) → Bool
+results_differ from to = differs from to CharacterSetResults || (names_differ from to && is_text (value_at to CharacterSetResults))
+
+abbrev pub has_to_change : (from to : List SlotValue) → Slot → Bool
+has_to_change from to Names = names_differ from to
+has_to_change from to CharacterSetResults = results_differ from to
+has_to_change from to slot = differs from to slot
+
+-- the changes of those of these settings that have to change
+abbrev pub changes_of : (from to : List SlotValue) → List Slot → List Change
+changes_of from to [] = []
+changes_of from to (slot ∷ slots) =
+    if has_to_change from to slot then record { slot = slot; value = value_at to slot } ∷ changes_of from to slots
+    else changes_of from to slots
+
+-- the changes that lead from settings to others
+abbrev pub difference_of : (from to : List SlotValue) → List Change
+difference_of from to = changes_of from to all_slots

@@ -1,0 +1,69 @@
+-- The settings of a session that are tracked, and their names.
+use Rattle.std.specs.Prelude.{ℕ, List, [], ◌∷◌, Option, Some, None, find, codes}
+use Rattle.session_vars.specs.Statement.{same_text}
+use Rattle.session_vars.specs.declared.slot.Slot.{Slot}
+use Rattle.session_vars.specs.declared.slot.Slot.TheVariants.{Names, CharacterSetResults, Autocommit, SqlMode, TimeZone, TransactionIsolation, TransactionReadOnly, SqlSafeUpdates, ForeignKeyChecks, UniqueChecks, SqlSelectLimit, GroupConcatMaxLen, LcTimeNames, LcMessages, WaitTimeout, NetReadTimeout, NetWriteTimeout, InnodbLockWaitTimeout, LockWaitTimeout, MaxExecutionTime}
+
+-- the name of the system variable; `names` stands for the three that SET NAMES sets
+abbrev pub name_of : Slot → List ℕ
+name_of Names = codes "names"
+name_of CharacterSetResults = codes "character_set_results"
+name_of Autocommit = codes "autocommit"
+name_of SqlMode = codes "sql_mode"
+name_of TimeZone = codes "time_zone"
+name_of TransactionIsolation = codes "transaction_isolation"
+name_of TransactionReadOnly = codes "transaction_read_only"
+name_of SqlSafeUpdates = codes "sql_safe_updates"
+name_of ForeignKeyChecks = codes "foreign_key_checks"
+name_of UniqueChecks = codes "unique_checks"
+name_of SqlSelectLimit = codes "sql_select_limit"
+name_of GroupConcatMaxLen = codes "group_concat_max_len"
+name_of LcTimeNames = codes "lc_time_names"
+name_of LcMessages = codes "lc_messages"
+name_of WaitTimeout = codes "wait_timeout"
+name_of NetReadTimeout = codes "net_read_timeout"
+name_of NetWriteTimeout = codes "net_write_timeout"
+name_of InnodbLockWaitTimeout = codes "innodb_lock_wait_timeout"
+name_of LockWaitTimeout = codes "lock_wait_timeout"
+name_of MaxExecutionTime = codes "max_execution_time"
+
+-- the place of a setting among the twenty
+abbrev pub place_of : Slot → ℕ
+place_of Names = 0
+place_of CharacterSetResults = 1
+place_of Autocommit = 2
+place_of SqlMode = 3
+place_of TimeZone = 4
+place_of TransactionIsolation = 5
+place_of TransactionReadOnly = 6
+place_of SqlSafeUpdates = 7
+place_of ForeignKeyChecks = 8
+place_of UniqueChecks = 9
+place_of SqlSelectLimit = 10
+place_of GroupConcatMaxLen = 11
+place_of LcTimeNames = 12
+place_of LcMessages = 13
+place_of WaitTimeout = 14
+place_of NetReadTimeout = 15
+place_of NetWriteTimeout = 16
+place_of InnodbLockWaitTimeout = 17
+place_of LockWaitTimeout = 18
+place_of MaxExecutionTime = 19
+
+-- all but `names`, which no assignment sets
+abbrev pub assigned_slots : List Slot
+assigned_slots = CharacterSetResults ∷ Autocommit ∷ SqlMode ∷ TimeZone ∷ TransactionIsolation ∷ TransactionReadOnly ∷ SqlSafeUpdates ∷ ForeignKeyChecks ∷ UniqueChecks ∷ SqlSelectLimit ∷ GroupConcatMaxLen ∷ LcTimeNames ∷ LcMessages ∷ WaitTimeout ∷ NetReadTimeout ∷ NetWriteTimeout ∷ InnodbLockWaitTimeout ∷ LockWaitTimeout ∷ MaxExecutionTime ∷ []
+
+-- all twenty
+abbrev pub all_slots : List Slot
+all_slots = Names ∷ assigned_slots
+
+-- the setting that a name assigns, in any case
+abbrev pub slot_named : List ℕ → Option Slot
+slot_named name = find (λ slot. same_text name (name_of slot)) assigned_slots
+
+-- of a name behind `@@` alone: these two set the next transaction there, and not the session
+abbrev pub unless_transaction : Slot → Option Slot
+unless_transaction TransactionIsolation = None
+unless_transaction TransactionReadOnly = None
+unless_transaction slot = Some slot

@@ -1,0 +1,85 @@
+-- The values that an assignment may give a setting, and what is kept of them.
+use Rattle.std.specs.Prelude.{ℕ, ◌-◌, Bool, true, false, not, ◌&&◌, ◌||◌, nat_eq, nat_le, List, [], ◌∷◌, ◌++◌, length, take, drop, codes, Option, Some, None, if◌then◌else◌}
+use Rattle.std.specs.List.{list_all, list_any, slice_split, prefix_len, suffix_len}
+use Rattle.sql_tokens.specs.Words.{inside}
+use Rattle.sql_tokens.specs.declared.token.TokenKind.{TokenKind}
+use Rattle.sql_tokens.specs.declared.token.TokenKind.TheVariants.{Word, Quoted, Number}
+use Rattle.session_vars.specs.Statement.{same_text}
+use Rattle.session_vars.specs.declared.slot.Slot.{Slot}
+use Rattle.session_vars.specs.declared.slot.Slot.TheVariants.{CharacterSetResults, SqlMode}
+use Rattle.session_vars.specs.declared.change.SlotValue.{SlotValue}
+use Rattle.session_vars.specs.declared.change.SlotValue.TheVariants.{Default, Text}
+
+-- a value that is kept has at most 1,024 bytes
+abbrev pub kept : List ℕ → Option SlotValue
+kept bytes = if nat_le (length bytes) 1024 then Some (Text bytes) else None
+
+-- printable ASCII, but no quote and no backslash
+abbrev pub is_plain_byte : ℕ → Bool
+is_plain_byte b = nat_le 32 b && nat_le b 126 && not (nat_eq b 39 || nat_eq b 34 || nat_eq b 92)
+
+abbrev pub is_default : List ℕ → Bool
+is_default word = same_text word (codes "DEFAULT")
+
+-- a number, a word or a quoted text is kept as it is written, a quoted text in `'`
+unfoldable pub plain_value : TokenKind → List ℕ → Option SlotValue
+plain_value Number bytes = kept bytes
+plain_value Word bytes = if is_default bytes then Some Default else kept bytes
+plain_value Quoted bytes = if list_all is_plain_byte (inside bytes) then kept (39 ∷ [] ++ inside bytes ++ 39 ∷ []) else None
+plain_value _ bytes = None
+
+-- the character sets that SET NAMES and character_set_results may name
+unfoldable pub is_character_set : List ℕ → Bool
+is_character_set word = same_text word (codes "latin1") || same_text word (codes "ascii") || same_text word (codes "utf8") || same_text word (codes "utf8mb3") || same_text word (codes "utf8mb4") || same_text word (codes "binary")
+
+-- the modes that change where tokens begin and end, and those that hold one of them
+unfoldable pub is_reading_mode : List ℕ → Bool
+is_reading_mode mode = same_text mode (codes "ANSI") || same_text mode (codes "ANSI_QUOTES") || same_text mode (codes "NO_BACKSLASH_ESCAPES") || same_text mode (codes "DB2") || same_text mode (codes "MAXDB") || same_text mode (codes "MSSQL") || same_text mode (codes "ORACLE") || same_text mode (codes "POSTGRESQL")
+
+abbrev pub is_blank : ℕ → Bool
+is_blank b = nat_eq b 32
+
+-- without blanks at either end
+abbrev pub without_last_blanks : List ℕ → List ℕ
+without_last_blanks bytes = take (length bytes - suffix_len is_blank bytes) bytes
+
+abbrev pub without_blanks : List ℕ → List ℕ
+without_blanks bytes = without_last_blanks (drop (prefix_len is_blank bytes) bytes)
+
+-- one of the modes of a list, which has commas between them
+unfoldable pub has_reading_mode : List ℕ → Bool
+has_reading_mode modes = list_any (λ mode. is_reading_mode (without_blanks mode)) (slice_split (λ b. nat_eq b 44) modes)
+
+-- character_set_results takes a character set or NULL, and not DEFAULT
+abbrev pub may_be_results : TokenKind → List ℕ → Bool
+may_be_results Word bytes = is_character_set bytes || same_text bytes (codes "NULL")
+may_be_results Quoted bytes = is_character_set (inside bytes)
+may_be_results _ bytes = false
+
+-- sql_mode takes a quoted list of modes, or DEFAULT
+abbrev pub may_be_modes : TokenKind → List ℕ → Bool
+may_be_modes Word bytes = is_default bytes
+may_be_modes Quoted bytes = not (has_reading_mode (inside bytes))
+may_be_modes _ bytes = false
+
+abbrev pub may_be : Slot → TokenKind → List ℕ → Bool
+may_be CharacterSetResults kind bytes = may_be_results kind bytes
+may_be SqlMode kind bytes = may_be_modes kind bytes
+may_be _ kind bytes = true
+
+-- the value of one token
+unfoldable pub value_of : Slot → TokenKind → List ℕ → Option SlotValue
+value_of slot kind bytes = if may_be slot kind bytes then plain_value kind bytes else None
+
+abbrev pub takes_numbers : Slot → Bool
+takes_numbers CharacterSetResults = false
+takes_numbers SqlMode = false
+takes_numbers _ = true
+
+abbrev pub is_number : TokenKind → Bool
+is_number Number = true
+is_number _ = false
+
+-- the value of a token behind `-`
+unfoldable pub negative_value : Slot → TokenKind → List ℕ → Option SlotValue
+negative_value slot kind bytes = if takes_numbers slot && is_number kind then kept (45 ∷ [] ++ bytes ++ []) else None

@@ -1,0 +1,33 @@
+//! The settings of a session that are tracked: SET statements that are read, settings that they change, and statements
+//! that bring a session from some settings to others.
+#![tactic(auto)]
+
+mod assignment;
+mod change;
+mod differences;
+mod laws;
+mod long_part;
+mod names;
+mod read;
+mod scope;
+mod settings;
+mod shape;
+mod slot;
+mod statement;
+mod text;
+mod transaction;
+mod value;
+
+pub use change::{Change, Changes, SlotValue};
+pub use differences::difference;
+pub use laws::{difference_can_be_set, difference_leads};
+pub use long_part::LongPart;
+pub use read::read_set;
+pub use settings::Settings;
+pub use shape::SetShape;
+pub use slot::{SLOTS, Slot};
+pub use statement::{Statement, is_symbol, same_text, says};
+pub use text::{SetTexts, can_be_set, set_texts};
+
+#[cfg(test)]
+mod tests;

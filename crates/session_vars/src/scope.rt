@@ -1,0 +1,71 @@
+// Whether a SET statement sets anything of the whole server.
+ghost use Rattle.std.specs.Prelude.{◌≡◌, ◌+◌, ◌<◌, ◌^◌, true, not, nat_eq, length};
+ghost use Rattle.std.specs.List.{prefix_len};
+ghost use Rattle.session_vars.specs.Scopes.{is_server_scope, before_dot, names_server, deeper, sets_server};
+
+use crate::statement::{Statement, behind, inside, is_symbol, same_text};
+use sql_tokens::{Token, TokenKind, bytes_of};
+
+#[tactic(auto, unfolding(crate::specs::Scopes::is_server_scope))]
+fn is_server_scope(word: &[u8]) -> bool
+    ensures { result ≡ is_server_scope word.now }
+{
+    same_text(word, b"GLOBAL") || same_text(word, b"PERSIST") || same_text(word, b"PERSIST_ONLY")
+}
+
+// How many bytes stand before the first `.`.
+fn dotless_run(bytes: &[u8]) -> usize
+    ensures { result ≡ prefix_len (λ b. not (nat_eq b 46)) bytes.now }
+{
+    bytes.iter().take_while(|b| **b != b'.').count()
+}
+
+// What stands before the first `.`.
+fn before_dot(bytes: &[u8]) -> &[u8]
+    ensures { result.now ≡ before_dot bytes.now }
+{
+    &bytes[..dotless_run(bytes)]
+}
+
+// The word GLOBAL, PERSIST or PERSIST_ONLY, or a system variable whose first part is one of them.
+fn names_server(kind: TokenKind, bytes: &[u8]) -> bool
+    ensures { result ≡ names_server kind bytes.now }
+{
+    match kind {
+        TokenKind::Word => is_server_scope(bytes),
+        TokenKind::Name => is_server_scope(inside(bytes)),
+        TokenKind::SysVar => is_server_scope(before_dot(behind(bytes, 2))),
+        _ => false,
+    }
+}
+
+// How many brackets are open behind a token; one that closes nothing is passed over.
+fn deeper(text: &[u8], token: &Token, depth: usize) -> usize
+    requires { depth + 1 < 2 ^ 64 }
+    ensures { result ≡ deeper text.now token.now depth }
+{
+    if is_symbol(text, token, b'(') {
+        depth + 1
+    } else if is_symbol(text, token, b')') {
+        depth.saturating_sub(1)
+    } else {
+        depth
+    }
+}
+
+// Whether a SET statement sets anything of the whole server, by its tokens behind SET.
+pub(crate) fn sets_server(text: &[u8], tokens: Statement) -> bool
+    requires { length tokens < 2 ^ 64 }
+    ensures { result ≡ sets_server text.now 0 true tokens.entry }
+{
+    let mut depth = 0usize;
+    let mut first = true;
+    for token in tokens {
+        if first && names_server(token.kind, bytes_of(text, &token)) {
+            return true;
+        }
+        first = is_symbol(text, &token, b',') && depth == 0;
+        depth = deeper(text, &token, depth);
+    }
+    false
+}

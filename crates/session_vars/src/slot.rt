@@ -1,0 +1,136 @@
+// The settings of a session that are tracked, and their names.
+ghost use Rattle.std.specs.Prelude.{◌≡◌};
+ghost use Rattle.session_vars.specs.Slots.{name_of, place_of, slot_named, unless_transaction};
+
+use crate::statement::same_text;
+
+/// A setting of a session that is tracked (MySQL Reference Manual, "Server System Variables"), in the order in which
+/// settings are listed.
+#[derive(Clone, Copy, Debug, PartialEq, Eq)]
+pub enum Slot {
+    /// What SET NAMES sets: the character sets of client and connection and the connection's collation.
+    Names,
+    CharacterSetResults,
+    Autocommit,
+    SqlMode,
+    TimeZone,
+    TransactionIsolation,
+    TransactionReadOnly,
+    SqlSafeUpdates,
+    ForeignKeyChecks,
+    UniqueChecks,
+    SqlSelectLimit,
+    GroupConcatMaxLen,
+    LcTimeNames,
+    LcMessages,
+    WaitTimeout,
+    NetReadTimeout,
+    NetWriteTimeout,
+    InnodbLockWaitTimeout,
+    LockWaitTimeout,
+    MaxExecutionTime,
+}
+
+/// All of them, in order.
+pub static SLOTS: [Slot; 20] = [
+    Slot::Names,
+    Slot::CharacterSetResults,
+    Slot::Autocommit,
+    Slot::SqlMode,
+    Slot::TimeZone,
+    Slot::TransactionIsolation,
+    Slot::TransactionReadOnly,
+    Slot::SqlSafeUpdates,
+    Slot::ForeignKeyChecks,
+    Slot::UniqueChecks,
+    Slot::SqlSelectLimit,
+    Slot::GroupConcatMaxLen,
+    Slot::LcTimeNames,
+    Slot::LcMessages,
+    Slot::WaitTimeout,
+    Slot::NetReadTimeout,
+    Slot::NetWriteTimeout,
+    Slot::InnodbLockWaitTimeout,
+    Slot::LockWaitTimeout,
+    Slot::MaxExecutionTime,
+];
+
+// All but `Names`, which no assignment sets.
+static ASSIGNED: [Slot; 19] = [
+    Slot::CharacterSetResults,
+    Slot::Autocommit,
+    Slot::SqlMode,
+    Slot::TimeZone,
+    Slot::TransactionIsolation,
+    Slot::TransactionReadOnly,
+    Slot::SqlSafeUpdates,
+    Slot::ForeignKeyChecks,
+    Slot::UniqueChecks,
+    Slot::SqlSelectLimit,
+    Slot::GroupConcatMaxLen,
+    Slot::LcTimeNames,
+    Slot::LcMessages,
+    Slot::WaitTimeout,
+    Slot::NetReadTimeout,
+    Slot::NetWriteTimeout,
+    Slot::InnodbLockWaitTimeout,
+    Slot::LockWaitTimeout,
+    Slot::MaxExecutionTime,
+];
+
+impl Slot {
+    /// The name of the system variable. Takes no memory.
+    pub fn name(self) -> &'static [u8]
+        ensures { result.now ≡ name_of self }
+    {
+        match self {
+            Slot::Names => b"names",
+            Slot::CharacterSetResults => b"character_set_results",
+            Slot::Autocommit => b"autocommit",
+            Slot::SqlMode => b"sql_mode",
+            Slot::TimeZone => b"time_zone",
+            Slot::TransactionIsolation => b"transaction_isolation",
+            Slot::TransactionReadOnly => b"transaction_read_only",
+            Slot::SqlSafeUpdates => b"sql_safe_updates",
+            Slot::ForeignKeyChecks => b"foreign_key_checks",
+            Slot::UniqueChecks => b"unique_checks",
+            Slot::SqlSelectLimit => b"sql_select_limit",
+            Slot::GroupConcatMaxLen => b"group_concat_max_len",
+            Slot::LcTimeNames => b"lc_time_names",
+            Slot::LcMessages => b"lc_messages",
+            Slot::WaitTimeout => b"wait_timeout",
+            Slot::NetReadTimeout => b"net_read_timeout",
+            Slot::NetWriteTimeout => b"net_write_timeout",
+            Slot::InnodbLockWaitTimeout => b"innodb_lock_wait_timeout",
+            Slot::LockWaitTimeout => b"lock_wait_timeout",
+            Slot::MaxExecutionTime => b"max_execution_time",
+        }
+    }
+
+    // The place of a setting among the twenty.
+    pub(crate) fn place(self) -> usize
+        ensures { result ≡ place_of self }
+    {
+        self as usize
+    }
+
+    // The setting that a name assigns, in any ASCII case.
+    pub(crate) fn named(name: &[u8]) -> Option<Slot>
+        ensures { result ≡ slot_named name.now }
+    {
+        ASSIGNED
+            .iter()
+            .copied()
+            .find(|slot| same_text(name, slot.name()))
+    }
+
+    // None for the two that behind `@@` alone set the next transaction and not the session.
+    pub(crate) fn unless_transaction(self) -> Option<Slot>
+        ensures { result ≡ unless_transaction self }
+    {
+        match self {
+            Slot::TransactionIsolation | Slot::TransactionReadOnly => None,
+            _ => Some(self),
+        }
+    }
+}

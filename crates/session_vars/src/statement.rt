@@ -1,0 +1,141 @@
+// The tokens of a statement that count.
+ghost use Rattle.std.specs.Prelude.{◌≡◌};
+ghost use Rattle.std.specs.Iterator.{YieldsFirst, item_count};
+ghost use Rattle.std.specs.Prelude.{◌<◌, [], ◌∷◌, length, drop, slice_range, MatchOption, option_copied};
+ghost use Rattle.session_vars.specs.Statement.{statement_of, without_comments, same_text, says, is_symbol, is_session_word, spoken_by, before_comma, behind_comma};
+ghost use Rattle.sql_tokens.specs.Words.{bytes_of as bytes_at, inside};
+
+use sql_tokens::{Token, TokenKind, Tokens, bytes_of, word_of};
+use std::marker::Model;
+
+/// The tokens of a statement that are left, without comments and without one `;` at the end. A contract sees them as a
+/// list.
+#[derive(Drop)]
+pub struct Statement<'a> {
+    text: &'a [u8],
+    ahead: Option<Token>,
+    tokens: Tokens<'a>,
+}
+
+impl<'a> Model for Statement<'a> {
+    ghost use Rattle.std.specs.Prelude.{List};
+    ghost use Rattle.sql_tokens.specs.declared.token.Token.{Token};
+    ghost use Rattle.session_vars.specs.Statement.{left_with};
+
+    ghost Value = { List Token };
+
+    ghost view = { λ s. left_with s.text.now s.ahead s.tokens };
+}
+
+impl<'a> Statement<'a> {
+    /// The tokens of this statement, whatever bytes it has (MySQL Reference Manual, "Language Structure"). Takes no
+    /// memory.
+    pub fn of(text: &'a [u8]) -> Self
+        ensures { result ≡ statement_of text.now }
+    {
+        let mut tokens = Tokens::of(text);
+        let ahead = next_counting(&mut tokens);
+        Statement {
+            text,
+            ahead,
+            tokens,
+        }
+    }
+
+    // The next token, where it is no comma of this text; a comma stays.
+    pub(crate) fn next_before_comma(&mut self, text: &[u8]) -> Option<Token>
+        ensures { MatchOption result ((before_comma text.now self.old ≡ []) × (self.new ≡ self.old)) (λ token. (before_comma text.now self.old ≡ token ∷ before_comma text.now self.new) × (behind_comma text.now self.new ≡ behind_comma text.now self.old) × (length self.new < length self.old)) }
+    {
+        let token = self.ahead?;
+        if is_symbol(text, &token, b',') {
+            return None;
+        }
+        self.next()
+    }
+}
+
+impl<'a> Iterator for Statement<'a> {
+    type Item = Token;
+
+    ghost next_gives = { YieldsFirst (λ tokens. tokens) };
+
+    ghost remaining = { item_count (λ tokens. tokens) };
+
+    fn next(&mut self) -> Option<Token> {
+        let token = self.ahead?;
+        self.ahead = next_counting(&mut self.tokens);
+        if self.ahead.is_none() && is_symbol(self.text, &token, b';') {
+            return None;
+        }
+        Some(token)
+    }
+}
+
+// The next token that is no comment.
+fn next_counting(tokens: &mut Tokens) -> Option<Token>
+    ensures { MatchOption result (without_comments tokens.old ≡ []) (λ token. without_comments tokens.old ≡ token ∷ without_comments tokens.new) }
+{
+    while let Some(token) = tokens.next() {
+        if token.kind != TokenKind::Comment {
+            return Some(token);
+        }
+    }
+    None
+}
+
+/// Whether two texts are one without regard to ASCII case. Takes no memory.
+pub fn same_text(a: &[u8], b: &[u8]) -> bool
+    ensures { result ≡ same_text a.now b.now }
+{
+    a.eq_ignore_ascii_case(b)
+}
+
+/// Whether a token of this text is this word, in any ASCII case, in backticks or not. Takes no memory.
+pub fn says(text: &[u8], token: &Token, word: &[u8]) -> bool
+    ensures { result ≡ says text.now token.now word.now }
+{
+    match word_of(text, token) {
+        Some(named) => same_text(named, word),
+        None => false,
+    }
+}
+
+/// Whether a token of this text is this one byte. Takes no memory.
+pub fn is_symbol(text: &[u8], token: &Token, byte: u8) -> bool
+    ensures { result ≡ is_symbol text.now token.now byte }
+{
+    token.kind == TokenKind::Symbol && bytes_of(text, token) == [byte].as_slice()
+}
+
+// SESSION or LOCAL, which are one.
+pub(crate) fn is_session_word(text: &[u8], token: &Token) -> bool
+    ensures { result ≡ is_session_word text.now token.now }
+{
+    says(text, token, b"SESSION") || says(text, token, b"LOCAL")
+}
+
+// What follows so many bytes.
+pub(crate) fn behind(bytes: &[u8], count: usize) -> &[u8]
+    ensures { result.now ≡ drop count bytes.now }
+{
+    &bytes[count.min(bytes.len())..]
+}
+
+// What stands between the first byte and the last one.
+pub(crate) fn inside(bytes: &[u8]) -> &[u8]
+    ensures { result.now ≡ inside bytes.now }
+{
+    let end = bytes.len().saturating_sub(1);
+    &bytes[end.min(1)..end]
+}
+
+// What a word, a name in backticks or a quoted text stands for.
+pub(crate) fn spoken<'a>(text: &'a [u8], token: &Token) -> Option<&'a [u8]>
+    ensures { option_copied result ≡ spoken_by token.now.kind (bytes_at text.now token.now) }
+{
+    match token.kind {
+        TokenKind::Word => Some(bytes_of(text, token)),
+        TokenKind::Name | TokenKind::Quoted => Some(inside(bytes_of(text, token))),
+        _ => None,
+    }
+}

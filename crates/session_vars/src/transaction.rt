@@ -1,0 +1,113 @@
+// SET SESSION TRANSACTION, behind its SET.
+ghost use Rattle.std.specs.Prelude.{◌≡◌};
+ghost use Rattle.session_vars.specs.Transactions.{slot_of, value_of, access_mode, isolation_level, mode_of, transaction_mode};
+
+use crate::Slot;
+use crate::statement::{Statement, is_session_word, says};
+use sql_tokens::Token;
+
+// What SET SESSION TRANSACTION gives the session's transactions.
+#[derive(Clone, Copy)]
+pub(crate) enum Mode {
+    ReadUncommitted,
+    ReadCommitted,
+    RepeatableRead,
+    Serializable,
+    ReadOnly,
+    ReadWrite,
+}
+
+impl Mode {
+    pub(crate) fn slot(self) -> Slot
+        ensures { result ≡ slot_of self }
+    {
+        match self {
+            Mode::ReadOnly | Mode::ReadWrite => Slot::TransactionReadOnly,
+            _ => Slot::TransactionIsolation,
+        }
+    }
+
+    pub(crate) fn value(self) -> &'static [u8]
+        ensures { result.now ≡ value_of self }
+    {
+        match self {
+            Mode::ReadUncommitted => b"'READ-UNCOMMITTED'",
+            Mode::ReadCommitted => b"'READ-COMMITTED'",
+            Mode::RepeatableRead => b"'REPEATABLE-READ'",
+            Mode::Serializable => b"'SERIALIZABLE'",
+            Mode::ReadOnly => b"1",
+            Mode::ReadWrite => b"0",
+        }
+    }
+}
+
+// Behind READ.
+#[tactic(auto, unfolding(crate::specs::Transactions::access_mode))]
+fn access_mode(text: &[u8], token: &Token) -> Option<Mode>
+    ensures { result ≡ access_mode text.now token.now }
+{
+    if says(text, token, b"ONLY") {
+        Some(Mode::ReadOnly)
+    } else if says(text, token, b"WRITE") {
+        Some(Mode::ReadWrite)
+    } else {
+        None
+    }
+}
+
+// An isolation level of two words.
+#[tactic(auto, unfolding(crate::specs::Transactions::isolation_level))]
+fn isolation_level(text: &[u8], first: &Token, second: &Token) -> Option<Mode>
+    ensures { result ≡ isolation_level text.now first.now second.now }
+{
+    if says(text, first, b"READ") && says(text, second, b"UNCOMMITTED") {
+        Some(Mode::ReadUncommitted)
+    } else if says(text, first, b"READ") && says(text, second, b"COMMITTED") {
+        Some(Mode::ReadCommitted)
+    } else if says(text, first, b"REPEATABLE") && says(text, second, b"READ") {
+        Some(Mode::RepeatableRead)
+    } else {
+        None
+    }
+}
+
+// `READ ONLY`, `READ WRITE`, or `ISOLATION LEVEL` and a level, and nothing behind.
+#[tactic(auto, unfolding(crate::specs::Transactions::mode_of))]
+fn mode_of(text: &[u8], tokens: &mut Statement) -> Option<Mode>
+    ensures { result ≡ mode_of text.now tokens.old }
+{
+    let first = tokens.next()?;
+    let second = tokens.next()?;
+    let Some(third) = tokens.next() else {
+        if says(text, &first, b"READ") {
+            return access_mode(text, &second);
+        }
+        return None;
+    };
+    let fourth = tokens.next();
+    if tokens.next().is_some()
+        || !says(text, &first, b"ISOLATION")
+        || !says(text, &second, b"LEVEL")
+    {
+        return None;
+    }
+    match fourth {
+        Some(fourth) => isolation_level(text, &third, &fourth),
+        None if says(text, &third, b"SERIALIZABLE") => Some(Mode::Serializable),
+        None => None,
+    }
+}
+
+// `SESSION TRANSACTION` or `LOCAL TRANSACTION` and a mode.
+#[tactic(auto, unfolding(crate::specs::Transactions::transaction_mode))]
+pub(crate) fn transaction_mode(text: &[u8], tokens: &mut Statement) -> Option<Mode>
+    ensures { result ≡ transaction_mode text.now tokens.old }
+{
+    let scope = tokens.next()?;
+    let transaction = tokens.next()?;
+    if is_session_word(text, &scope) && says(text, &transaction, b"TRANSACTION") {
+        mode_of(text, tokens)
+    } else {
+        None
+    }
+}

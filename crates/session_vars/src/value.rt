@@ -1,0 +1,210 @@
+// The values that an assignment may give a setting.
+ghost use Rattle.std.specs.Prelude.{◌≡◌, ◌≤◌, ◌++◌, length, IfOk};
+ghost use Rattle.std.specs.List.{list_all, prefix_len, suffix_len};
+ghost use Rattle.sql_tokens.specs.Words.{inside};
+ghost use Rattle.session_vars.specs.Values.{kept, is_plain_byte, is_default, plain_value, is_character_set, is_reading_mode, is_blank, without_last_blanks, without_blanks, has_reading_mode, may_be_results, may_be_modes, may_be, value_of, takes_numbers, negative_value};
+
+use crate::statement::{behind, inside, same_text};
+use crate::{Slot, SlotValue};
+use mx_base::{Bytes, OutOfMemory};
+use sql_tokens::TokenKind;
+use std::alloc::Global;
+
+// The bytes of the longest value that is kept.
+const LONGEST_VALUE: usize = 1024;
+
+// A value in three parts, where it isn't too long.
+fn kept(
+    alloc: Global,
+    before: &[u8],
+    middle: &[u8],
+    after: &[u8],
+) -> Result<Option<SlotValue>, OutOfMemory>
+    requires before { length before.now ≤ 1 }
+    requires after { length after.now ≤ 1 }
+    ensures { IfOk result (λ value. value ≡ kept (before.now ++ middle.now ++ after.now)) }
+{
+    if middle.len() > LONGEST_VALUE - before.len() - after.len() {
+        return Ok(None);
+    }
+    let mut text = Vec::with_capacity(alloc, before.len() + middle.len() + after.len())?;
+    text.extend_from_slice(before)?;
+    text.extend_from_slice(middle)?;
+    text.extend_from_slice(after)?;
+    Ok(Some(SlotValue::Text(Bytes::from_vec(text))))
+}
+
+// Printable ASCII, but no quote and no backslash.
+fn is_plain_byte(byte: u8) -> bool
+    ensures { result ≡ is_plain_byte byte }
+{
+    32 <= byte && byte <= 126 && !(byte == b'\'' || byte == b'"' || byte == b'\\')
+}
+
+fn is_plain_text(bytes: &[u8]) -> bool
+    ensures { result ≡ list_all is_plain_byte bytes.now }
+{
+    bytes.iter().all(|byte| is_plain_byte(*byte))
+}
+
+fn is_default(word: &[u8]) -> bool
+    ensures { result ≡ is_default word.now }
+{
+    same_text(word, b"DEFAULT")
+}
+
+// A number, a word or a quoted text as it is kept.
+#[tactic(auto, unfolding(crate::specs::Values::plain_value))]
+fn plain_value(
+    alloc: Global,
+    kind: TokenKind,
+    bytes: &[u8],
+) -> Result<Option<SlotValue>, OutOfMemory>
+    ensures { IfOk result (λ value. value ≡ plain_value kind bytes.now) }
+{
+    match kind {
+        TokenKind::Number => kept(alloc, b"", bytes, b""),
+        TokenKind::Word if is_default(bytes) => Ok(Some(SlotValue::Default)),
+        TokenKind::Word => kept(alloc, b"", bytes, b""),
+        TokenKind::Quoted if is_plain_text(inside(bytes)) => {
+            kept(alloc, b"'", inside(bytes), b"'")
+        }
+        _ => Ok(None),
+    }
+}
+
+// The character sets that SET NAMES and character_set_results may name.
+#[tactic(auto, unfolding(crate::specs::Values::is_character_set))]
+pub(crate) fn is_character_set(word: &[u8]) -> bool
+    ensures { result ≡ is_character_set word.now }
+{
+    same_text(word, b"latin1")
+        || same_text(word, b"ascii")
+        || same_text(word, b"utf8")
+        || same_text(word, b"utf8mb3")
+        || same_text(word, b"utf8mb4")
+        || same_text(word, b"binary")
+}
+
+// The modes that change where tokens begin and end, and those that hold one of them.
+#[tactic(auto, unfolding(crate::specs::Values::is_reading_mode))]
+fn is_reading_mode(mode: &[u8]) -> bool
+    ensures { result ≡ is_reading_mode mode.now }
+{
+    same_text(mode, b"ANSI")
+        || same_text(mode, b"ANSI_QUOTES")
+        || same_text(mode, b"NO_BACKSLASH_ESCAPES")
+        || same_text(mode, b"DB2")
+        || same_text(mode, b"MAXDB")
+        || same_text(mode, b"MSSQL")
+        || same_text(mode, b"ORACLE")
+        || same_text(mode, b"POSTGRESQL")
+}
+
+fn first_blanks(bytes: &[u8]) -> usize
+    ensures { result ≡ prefix_len is_blank bytes.now }
+{
+    bytes.iter().take_while(|b| **b == b' ').count()
+}
+
+fn last_blanks(bytes: &[u8]) -> usize
+    ensures { result ≡ suffix_len is_blank bytes.now }
+{
+    bytes.iter().rev().take_while(|b| **b == b' ').count()
+}
+
+fn without_last_blanks(bytes: &[u8]) -> &[u8]
+    ensures { result.now ≡ without_last_blanks bytes.now }
+{
+    &bytes[..bytes.len().saturating_sub(last_blanks(bytes))]
+}
+
+fn without_blanks(bytes: &[u8]) -> &[u8]
+    ensures { result.now ≡ without_blanks bytes.now }
+{
+    without_last_blanks(behind(bytes, first_blanks(bytes)))
+}
+
+// Whether a list of modes has one that changes where tokens begin and end.
+#[tactic(auto, unfolding(crate::specs::Values::has_reading_mode))]
+fn has_reading_mode(modes: &[u8]) -> bool
+    ensures { result ≡ has_reading_mode modes.now }
+{
+    modes
+        .split(|byte| *byte == b',')
+        .any(|mode| is_reading_mode(without_blanks(mode)))
+}
+
+fn may_be_results(kind: TokenKind, bytes: &[u8]) -> bool
+    ensures { result ≡ may_be_results kind bytes.now }
+{
+    match kind {
+        TokenKind::Word => is_character_set(bytes) || same_text(bytes, b"NULL"),
+        TokenKind::Quoted => is_character_set(inside(bytes)),
+        _ => false,
+    }
+}
+
+fn may_be_modes(kind: TokenKind, bytes: &[u8]) -> bool
+    ensures { result ≡ may_be_modes kind bytes.now }
+{
+    match kind {
+        TokenKind::Word => is_default(bytes),
+        TokenKind::Quoted => !has_reading_mode(inside(bytes)),
+        _ => false,
+    }
+}
+
+// Whether a setting may get such a value.
+fn may_be(slot: Slot, kind: TokenKind, bytes: &[u8]) -> bool
+    ensures { result ≡ may_be slot kind bytes.now }
+{
+    match slot {
+        Slot::CharacterSetResults => may_be_results(kind, bytes),
+        Slot::SqlMode => may_be_modes(kind, bytes),
+        _ => true,
+    }
+}
+
+// The value that one token gives a setting.
+#[tactic(auto, unfolding(crate::specs::Values::value_of))]
+pub(crate) fn value_of(
+    alloc: Global,
+    slot: Slot,
+    kind: TokenKind,
+    bytes: &[u8],
+) -> Result<Option<SlotValue>, OutOfMemory>
+    ensures { IfOk result (λ value. value ≡ value_of slot kind bytes.now) }
+{
+    if may_be(slot, kind, bytes) {
+        plain_value(alloc, kind, bytes)
+    } else {
+        Ok(None)
+    }
+}
+
+fn takes_numbers(slot: Slot) -> bool
+    ensures { result ≡ takes_numbers slot }
+{
+    match slot {
+        Slot::CharacterSetResults | Slot::SqlMode => false,
+        _ => true,
+    }
+}
+
+// The value that a token behind `-` gives a setting.
+#[tactic(auto, unfolding(crate::specs::Values::negative_value))]
+pub(crate) fn negative_value(
+    alloc: Global,
+    slot: Slot,
+    kind: TokenKind,
+    bytes: &[u8],
+) -> Result<Option<SlotValue>, OutOfMemory>
+    ensures { IfOk result (λ value. value ≡ negative_value slot kind bytes.now) }
+{
+    if takes_numbers(slot) && kind == TokenKind::Number {
+        kept(alloc, b"-", bytes, b"")
+    } else {
+        Ok(None)
+    }
+}
