@@ -1,0 +1,5 @@
+pub mod Anywhere
+pub mod Backticks
+pub mod Firsts
+pub mod Sets
+pub mod Sightings

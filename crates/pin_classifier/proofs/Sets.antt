@@ -1,0 +1,30 @@
+-- Which statements have the shape of a SET statement.
+use Rattle.std.proofs.Common.{◌≡◌, ℕ, Bool, true, false, cond, List, [], ◌∷◌, slice_get, Option, Some, None, codes, refl, sym, ◌∙◌, ap, inl, inr}
+use Rattle.std.proofs.lemmas.Bool.{cond-true, cond-false, cases_Bool}
+use Rattle.sql_tokens.specs.declared.token.Token.{Token}
+use Rattle.session_vars.specs.Shapes.{set_shape, shape_by}
+use Rattle.session_vars.specs.Statement.{is_symbol, without_end}
+use Rattle.session_vars.specs.declared.shape.SetShape.TheVariants.{NotSet}
+use Rattle.pin_classifier.specs.Shapes.{asks_connection_id, is_there, set_in, shape_of, use_or_other, used_schema}
+use Rattle.pin_classifier.specs.Statement.{statement}
+use Rattle.pin_classifier.specs.declared.class.Shape.TheVariants.{ConnectionId}
+
+not_set_by : (text : List ℕ) (tokens : List Token) → is_there text (slice_get tokens 0) (codes "SET") ≡ false → shape_by text (without_end text tokens) ≡ NotSet
+not_set_by text [] h = refl
+not_set_by text (token ∷ []) h = elim (is_symbol text token 59) as (λ ends. shape_by text (cond ends [] (token ∷ [])) ≡ NotSet) [ true ↦ refl | false ↦ cond-false _ _ _ h ]
+not_set_by text (token ∷ next ∷ tokens) h = cond-false _ _ _ h
+
+no_set : (asks : Bool) (schema : Option (List ℕ)) → set_in (cond asks ConnectionId (use_or_other schema)) ≡ NotSet
+no_set true schema = refl
+no_set false None = refl
+no_set false (Some schema) = refl
+
+-- the shape of a statement, as a SET statement
+pub shape_of_set : (text : List ℕ) → set_in (shape_of text) ≡ set_shape text
+unfolding shape_of
+shape_of_set text =
+    let sets = is_there text (slice_get (statement text) 0) (codes "SET") in
+    elim (cases_Bool sets) [
+      | inl e ↦ ap set_in (cond-true sets _ _ e)
+      | inr e ↦ ap set_in (cond-false sets _ _ e) ∙ no_set (asks_connection_id text (statement text)) (used_schema text (statement text)) ∙ sym (not_set_by text (statement text) e)
+    ]

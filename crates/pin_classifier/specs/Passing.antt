@@ -1,0 +1,61 @@
+-- What one pass over a statement sees: its first tokens, and what stands anywhere in it.
+use Rattle.std.specs.Prelude.{ℕ, Bool, false, ◌||◌, is_none, List, [], ◌∷◌, slice_get, codes, Option, Some, None, if◌then◌else◌}
+use Rattle.sql_tokens.specs.Words.{word_of}
+use Rattle.sql_tokens.specs.declared.token.Token.{Token}
+use Rattle.session_vars.specs.Statement.{is_word, says, is_symbol}
+use Rattle.pin_classifier.specs.Statement.{statement, has_word, has_call, has_release, has_variable, has_hidden, is_hidden, is_part, releases, variable_of}
+use Rattle.pin_classifier.specs.declared.calls.Calls.{Calls}
+use Rattle.pin_classifier.specs.declared.opening.Opening.{Opening}
+use Rattle.pin_classifier.specs.declared.seen.Seen.{Seen}
+use Rattle.pin_classifier.specs.declared.variables.Variables.{Variables}
+
+-- the first six tokens
+abbrev pub opening_of : List Token → Opening
+opening_of tokens = record { first = slice_get tokens 0; second = slice_get tokens 1; third = slice_get tokens 2; fourth = slice_get tokens 3; fifth = slice_get tokens 4; sixth = slice_get tokens 5 }
+
+-- with one token more, where there is room
+abbrev pub with_token : Opening → Token → Opening
+with_token opening token =
+    if is_none opening.first then record opening { first = Some token }
+    else if is_none opening.second then record opening { second = Some token }
+    else if is_none opening.third then record opening { third = Some token }
+    else if is_none opening.fourth then record opening { fourth = Some token }
+    else if is_none opening.fifth then record opening { fifth = Some token }
+    else if is_none opening.sixth then record opening { sixth = Some token }
+    else opening
+
+-- the function that a `(` behind a token calls
+abbrev pub callee : (text : List ℕ) → (before : Option Token) → Token → Option (List ℕ)
+callee text None token = None
+callee text (Some before) token = if is_symbol text token 40 then word_of text before else None
+
+-- a RELEASE behind a token that isn't NO
+abbrev pub is_release : (text : List ℕ) → (before : Option Token) → Token → Bool
+is_release text None token = false
+is_release text (Some before) token = releases text (before, token)
+
+-- the functions that are called
+abbrev pub calls_of : (text : List ℕ) → List Token → Calls
+calls_of text tokens = record { get_lock = has_call text tokens (codes "GET_LOCK"); connection_id = has_call text tokens (codes "CONNECTION_ID"); last_insert_id = has_call text tokens (codes "LAST_INSERT_ID"); row_count = has_call text tokens (codes "ROW_COUNT"); found_rows = has_call text tokens (codes "FOUND_ROWS") }
+
+abbrev pub with_call : Calls → Option (List ℕ) → Calls
+with_call calls name = record { get_lock = calls.get_lock || is_word name (codes "GET_LOCK"); connection_id = calls.connection_id || is_word name (codes "CONNECTION_ID"); last_insert_id = calls.last_insert_id || is_word name (codes "LAST_INSERT_ID"); row_count = calls.row_count || is_word name (codes "ROW_COUNT"); found_rows = calls.found_rows || is_word name (codes "FOUND_ROWS") }
+
+-- the system variables that are named
+abbrev pub variables_of : (text : List ℕ) → List Token → Variables
+variables_of text tokens = record { last_insert_id = has_variable text tokens (codes "last_insert_id"); identity = has_variable text tokens (codes "identity"); warning_count = has_variable text tokens (codes "warning_count"); error_count = has_variable text tokens (codes "error_count"); pseudo_thread_id = has_variable text tokens (codes "pseudo_thread_id") }
+
+abbrev pub with_variable : Variables → Option (List ℕ) → Variables
+with_variable variables name = record { last_insert_id = variables.last_insert_id || is_part name (codes "last_insert_id"); identity = variables.identity || is_part name (codes "identity"); warning_count = variables.warning_count || is_part name (codes "warning_count"); error_count = variables.error_count || is_part name (codes "error_count"); pseudo_thread_id = variables.pseudo_thread_id || is_part name (codes "pseudo_thread_id") }
+
+-- what is seen of a statement
+abbrev pub seen_of : (text : List ℕ) → List Token → Seen
+seen_of text tokens = record { opening = opening_of tokens; hidden = has_hidden text tokens; calls = calls_of text tokens; variables = variables_of text tokens; temporary = has_word text tokens (codes "TEMPORARY"); release = has_release text tokens; calc_rows = has_word text tokens (codes "SQL_CALC_FOUND_ROWS") }
+
+-- what is seen once a token more went by, behind the one before it
+abbrev pub with_next : (text : List ℕ) → Seen → (before : Option Token) → Token → Seen
+with_next text seen before token = record { opening = with_token seen.opening token; hidden = seen.hidden || is_hidden text token; calls = with_call seen.calls (callee text before token); variables = with_variable seen.variables (variable_of text token); temporary = seen.temporary || says text token (codes "TEMPORARY"); release = seen.release || is_release text before token; calc_rows = seen.calc_rows || says text token (codes "SQL_CALC_FOUND_ROWS") }
+
+abbrev pub seen_behind : (text : List ℕ) → Seen → (before : Option Token) → List Token → Seen
+seen_behind text seen before [] = seen
+seen_behind text seen before (token ∷ tokens) = seen_behind text (with_next text seen before token) (Some token) tokens

@@ -1,0 +1,81 @@
+-- What stands in a statement: its tokens without comments, and among these words, calls of functions and system variables.
+use Rattle.std.specs.Prelude.{ℕ, Bool, true, false, not, ◌||◌, ◌&&◌, nat_eq, List, [], ◌∷◌, drop, codes, Option, Some, None, option_and_then, if◌then◌else◌}
+use Rattle.std.specs.List.{list_any, slice_split}
+use Rattle.sql_tokens.specs.Tokens.{tokens_of}
+use Rattle.sql_tokens.specs.Words.{bytes_of, word_of}
+use Rattle.sql_tokens.specs.declared.token.Token.{Token}
+use Rattle.sql_tokens.specs.declared.token.TokenKind.{TokenKind}
+use Rattle.sql_tokens.specs.declared.token.TokenKind.TheVariants.{UserVar, SysVar, Executed, Unclosed}
+use Rattle.session_vars.specs.Statement.{without_comments, same_text, is_word, says, is_symbol}
+
+-- the tokens of a text that count: all but its comments
+abbrev pub statement : (text : List ℕ) → List Token
+statement text = without_comments (tokens_of text)
+
+-- the word of a first token, where a `(` counts as SELECT
+abbrev pub opening_word : (text : List ℕ) → Token → Option (List ℕ)
+opening_word text token = if is_symbol text token 40 then Some (codes "SELECT") else word_of text token
+
+abbrev pub first_word : (text : List ℕ) → (first : Option Token) → Option (List ℕ)
+first_word text first = option_and_then (opening_word text) first
+
+abbrev pub next_word : (text : List ℕ) → (second : Option Token) → Option (List ℕ)
+next_word text second = option_and_then (word_of text) second
+
+-- this word stands somewhere
+abbrev pub has_word : (text : List ℕ) → List Token → (word : List ℕ) → Bool
+has_word text tokens word = list_any (λ token. says text token word) tokens
+
+-- the tokens but the first, each with the one before it
+abbrev pub neighbours : List Token → List (Token × Token)
+neighbours [] = []
+neighbours (a ∷ []) = []
+neighbours (a ∷ b ∷ tokens) = (a, b) ∷ neighbours (b ∷ tokens)
+
+-- a call of a function: a word whose next token is `(`
+abbrev pub calls : (text : List ℕ) → (name : List ℕ) → Token × Token → Bool
+calls text name pair = says text pair.0 name && is_symbol text pair.1 40
+
+abbrev pub has_call : (text : List ℕ) → List Token → (name : List ℕ) → Bool
+has_call text tokens name = list_any (calls text name) (neighbours tokens)
+
+-- a word RELEASE that doesn't follow NO, behind a first word
+abbrev pub releases : (text : List ℕ) → Token × Token → Bool
+releases text pair = says text pair.1 (codes "RELEASE") && not (says text pair.0 (codes "NO"))
+
+abbrev pub has_release : (text : List ℕ) → List Token → Bool
+has_release text tokens = list_any (releases text) (neighbours tokens)
+
+-- the name of a system variable, behind its `@@`
+abbrev pub variable_by : TokenKind → List ℕ → Option (List ℕ)
+variable_by SysVar bytes = Some (drop 2 bytes)
+variable_by _ bytes = None
+
+abbrev pub variable_of : (text : List ℕ) → Token → Option (List ℕ)
+variable_of text token = variable_by token.kind (bytes_of text token)
+
+-- one of its parts, which have dots between them
+unfoldable pub has_part : (name : List ℕ) → (part : List ℕ) → Bool
+has_part name part = list_any (λ one. same_text one part) (slice_split (λ b. nat_eq b 46) name)
+
+abbrev pub is_part : (name : Option (List ℕ)) → (part : List ℕ) → Bool
+is_part None part = false
+is_part (Some name) part = has_part name part
+
+-- a system variable with this part stands somewhere
+abbrev pub has_variable : (text : List ℕ) → List Token → (part : List ℕ) → Bool
+has_variable text tokens part = list_any (λ token. is_part (variable_of text token) part) tokens
+
+-- what lives in a session, or can't be read as a server does: a user variable, an executed comment, what isn't closed, and
+-- a NUL byte
+abbrev pub is_hidden_kind : TokenKind → Bool
+is_hidden_kind UserVar = true
+is_hidden_kind Executed = true
+is_hidden_kind Unclosed = true
+is_hidden_kind _ = false
+
+abbrev pub is_hidden : (text : List ℕ) → Token → Bool
+is_hidden text token = is_hidden_kind token.kind || is_symbol text token 0
+
+abbrev pub has_hidden : (text : List ℕ) → List Token → Bool
+has_hidden text tokens = list_any (is_hidden text) tokens

@@ -1,0 +1,20 @@
+//! The class of a statement: what it does to the session in which it runs, and what it reads there.
+#![tactic(auto)]
+
+mod calls;
+mod class;
+mod judge;
+mod laws;
+mod opening;
+mod seen;
+mod shape;
+mod starts;
+mod variables;
+mod words;
+
+pub use class::{Class, ClassName, Locking, Shape};
+pub use judge::classify;
+pub use laws::shape_of_set;
+
+#[cfg(test)]
+mod tests;

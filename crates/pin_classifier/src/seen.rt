@@ -1,0 +1,70 @@
+// What one pass over a statement sees.
+ghost use Rattle.std.specs.Prelude.{◌≡◌, []};
+ghost use Rattle.pin_classifier.specs.Passing.{seen_of, with_next};
+ghost use Rattle.pin_classifier.specs.Statement.{statement};
+
+use crate::calls::Calls;
+use crate::opening::Opening;
+use crate::variables::Variables;
+use crate::words::{callee, is_hidden, is_release, variable_of};
+use session_vars::says;
+use sql_tokens::{Token, TokenKind, Tokens};
+
+// The first tokens of a statement, and what stands anywhere in it.
+#[derive(Clone, Copy)]
+pub(crate) struct Seen {
+    pub opening: Opening,
+    // A user variable, an executed comment, what isn't closed, or a NUL byte.
+    pub hidden: bool,
+    pub calls: Calls,
+    pub variables: Variables,
+    // The words TEMPORARY, RELEASE but for NO RELEASE, and SQL_CALC_FOUND_ROWS.
+    pub temporary: bool,
+    pub release: bool,
+    pub calc_rows: bool,
+}
+
+impl Seen {
+    fn nothing() -> Self
+        ensures { result ≡ seen_of [] [] }
+    {
+        Seen {
+            opening: Opening::new(),
+            hidden: false,
+            calls: Calls::new(),
+            variables: Variables::new(),
+            temporary: false,
+            release: false,
+            calc_rows: false,
+        }
+    }
+
+    // Takes the next token, which stands behind this one.
+    fn take(&mut self, text: &[u8], before: Option<Token>, token: Token)
+        ensures { self.new ≡ with_next text.now self.old before token }
+    {
+        self.opening.take(token);
+        self.hidden |= is_hidden(text, &token);
+        self.calls.take(callee(text, before, &token));
+        self.variables.take(variable_of(text, &token));
+        self.temporary |= says(text, &token, b"TEMPORARY");
+        self.release |= is_release(text, before, &token);
+        self.calc_rows |= says(text, &token, b"SQL_CALC_FOUND_ROWS");
+    }
+
+    // What is seen of a statement. Takes no memory.
+    #[tactic(auto, using(crate::proofs::Sightings::seen_is))]
+    pub(crate) fn of(text: &[u8]) -> Self
+        ensures { result ≡ seen_of text.now (statement text.now) }
+    {
+        let mut seen = Seen::nothing();
+        let mut before = None;
+        for token in Tokens::of(text) {
+            if token.kind != TokenKind::Comment {
+                seen.take(text, before, token);
+                before = Some(token);
+            }
+        }
+        seen
+    }
+}

@@ -1,0 +1,138 @@
+// What the tokens of a statement say.
+ghost use Rattle.std.specs.Prelude.{◌≡◌, drop, nat_eq, slice_range, option_copied};
+ghost use Rattle.std.specs.List.{list_any, slice_split};
+ghost use Rattle.session_vars.specs.Statement.{is_word, same_text};
+ghost use Rattle.pin_classifier.specs.Passing.{callee, is_release};
+ghost use Rattle.pin_classifier.specs.Shapes.{is_there, is_byte};
+ghost use Rattle.pin_classifier.specs.Statement.{first_word, next_word, opening_word, has_part, is_part, is_hidden, is_hidden_kind, releases, variable_of};
+
+use session_vars::{is_symbol, same_text, says};
+use sql_tokens::{Token, TokenKind, bytes_of, word_of};
+
+// Whether a word that is there is this one.
+pub(crate) fn is_word(named: Option<&[u8]>, word: &[u8]) -> bool
+    ensures { result ≡ is_word (option_copied named.entry) word.now }
+{
+    match named {
+        Some(named) => same_text(named, word),
+        None => false,
+    }
+}
+
+// Whether a token that is there says this word.
+pub(crate) fn is_there(text: &[u8], token: Option<Token>, word: &[u8]) -> bool
+    ensures { result ≡ is_there text.now token word.now }
+{
+    match token {
+        Some(token) => says(text, &token, word),
+        None => false,
+    }
+}
+
+// Whether a token that is there is this one byte.
+pub(crate) fn is_byte(text: &[u8], token: Option<Token>, byte: u8) -> bool
+    ensures { result ≡ is_byte text.now token byte }
+{
+    match token {
+        Some(token) => is_symbol(text, &token, byte),
+        None => false,
+    }
+}
+
+// The word of a first token: a `(` counts as SELECT.
+pub(crate) fn opening_word<'a>(text: &'a [u8], token: &Token) -> Option<&'a [u8]>
+    ensures { option_copied result ≡ opening_word text.now token.now }
+{
+    if is_symbol(text, token, b'(') {
+        Some(b"SELECT")
+    } else {
+        word_of(text, token)
+    }
+}
+
+pub(crate) fn first_word<'a>(text: &'a [u8], first: Option<Token>) -> Option<&'a [u8]>
+    ensures { option_copied result ≡ first_word text.now first }
+{
+    let first = first?;
+    opening_word(text, &first)
+}
+
+pub(crate) fn next_word<'a>(text: &'a [u8], second: Option<Token>) -> Option<&'a [u8]>
+    ensures { option_copied result ≡ next_word text.now second }
+{
+    let second = second?;
+    word_of(text, &second)
+}
+
+// The function that is called where this token is a `(` behind a word.
+pub(crate) fn callee<'a>(text: &'a [u8], before: Option<Token>, token: &Token) -> Option<&'a [u8]>
+    ensures { option_copied result ≡ callee text.now before token.now }
+{
+    let before = before?;
+    if is_symbol(text, token, b'(') {
+        word_of(text, &before)
+    } else {
+        None
+    }
+}
+
+// Whether this token is the word RELEASE behind a token that isn't NO.
+pub(crate) fn is_release(text: &[u8], before: Option<Token>, token: &Token) -> bool
+    ensures { result ≡ is_release text.now before token.now }
+{
+    match before {
+        Some(before) => says(text, token, b"RELEASE") && !says(text, &before, b"NO"),
+        None => false,
+    }
+}
+
+// A user variable, an executed comment, or what isn't closed.
+fn is_hidden_kind(kind: TokenKind) -> bool
+    ensures { result ≡ is_hidden_kind kind }
+{
+    match kind {
+        TokenKind::UserVar | TokenKind::Executed | TokenKind::Unclosed => true,
+        _ => false,
+    }
+}
+
+// Whether this token lives in a session, or can't be read as a server does.
+pub(crate) fn is_hidden(text: &[u8], token: &Token) -> bool
+    ensures { result ≡ is_hidden text.now token.now }
+{
+    is_hidden_kind(token.kind) || is_symbol(text, token, b'\0')
+}
+
+// What follows so many bytes.
+fn behind(bytes: &[u8], count: usize) -> &[u8]
+    ensures { result.now ≡ drop count bytes.now }
+{
+    &bytes[count.min(bytes.len())..]
+}
+
+// The name of a system variable, behind its `@@`.
+pub(crate) fn variable_of<'a>(text: &'a [u8], token: &Token) -> Option<&'a [u8]>
+    ensures { option_copied result ≡ variable_of text.now token.now }
+{
+    match token.kind {
+        TokenKind::SysVar => Some(behind(bytes_of(text, token), 2)),
+        _ => None,
+    }
+}
+
+// Whether one of the parts of a name, between its dots, is this one.
+fn has_part(name: &[u8], part: &[u8]) -> bool
+    ensures { result ≡ has_part name.now part.now }
+{
+    name.split(|byte| *byte == b'.')
+        .any(|one| same_text(one, part))
+}
+
+pub(crate) fn is_part(name: Option<&[u8]>, part: &[u8]) -> bool
+    ensures { result ≡ is_part (option_copied name.entry) part.now }
+{
+    match name {
+        Some(name) => has_part(name, part),
+        None => false,
+    }
+}
