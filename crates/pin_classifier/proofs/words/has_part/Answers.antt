@@ -1,0 +1,11 @@
+use Rattle.std.proofs.Common.{nat_eq, rules}
+use Rattle.std.proofs.lemmas.Iterator.Search.{any_from_yields_List}
+use Rattle.std.proofs.lemmas.Iterator.Splits.{YieldsList-from_slice_split}
+use borrow.Author.Tests.{tests}
+use Rattle.session_vars.specs.Statement.{same_text}
+use Rattle.pin_classifier.specs.Statement.{has_part}
+use Rattle.pin_classifier.proofs.words.has_part.Goals as goal
+
+pub returns : goal.returns
+unfolding has_part
+returns c = any_from_yields_List (λ one. same_text one c.args.part.now) _ _ _ c.any.ensures.ran (YieldsList-from_slice_split _ (λ b. nat_eq b 46) c.args.name.now c.split.ensures.rest c.split.ensures.done c.split.ensures.closure (λ x b q k. search (rules, tests))) (λ x b q k. search (rules, tests))
