@@ -3,7 +3,7 @@ use Rattle.std.specs.Prelude.{ℕ, Bool, false, ◌||◌, is_none, List, [], ◌
 use Rattle.sql_tokens.specs.Words.{word_of}
 use Rattle.sql_tokens.specs.declared.token.Token.{Token}
 use Rattle.session_vars.specs.Statement.{is_word, says, is_symbol}
-use Rattle.pin_classifier.specs.Statement.{statement, has_word, has_call, has_release, has_variable, has_hidden, is_hidden, is_part, releases, variable_of}
+use Rattle.pin_classifier.specs.Statement.{has_word, has_call, has_release, has_variable, has_hidden, is_hidden, is_part, releases, variable_of}
 use Rattle.pin_classifier.specs.declared.calls.Calls.{Calls}
 use Rattle.pin_classifier.specs.declared.opening.Opening.{Opening}
 use Rattle.pin_classifier.specs.declared.seen.Seen.{Seen}

@@ -6,7 +6,7 @@ use Rattle.sql_tokens.specs.Words.{bytes_of, word_of}
 use Rattle.sql_tokens.specs.declared.token.Token.{Token}
 use Rattle.sql_tokens.specs.declared.token.TokenKind.{TokenKind}
 use Rattle.sql_tokens.specs.declared.token.TokenKind.TheVariants.{UserVar, SysVar, Executed, Unclosed}
-use Rattle.session_vars.specs.Statement.{without_comments, same_text, is_word, says, is_symbol}
+use Rattle.session_vars.specs.Statement.{without_comments, same_text, says, is_symbol}
 
 -- the tokens of a text that count: all but its comments
 abbrev pub statement : (text : List ℕ) → List Token

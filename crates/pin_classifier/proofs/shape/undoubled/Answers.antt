@@ -1,4 +1,4 @@
-use Rattle.std.proofs.Common.{◌≡◌, ◌+◌, ◌&&◌, ℕ, Bool, true, false, nat_eq, List, [], ◌∷◌, ◌++◌, drop, get_or, sym, ◌∙◌, ap, append_assoc, eq-eqb}
+use Rattle.std.proofs.Common.{◌≡◌, ◌+◌, ◌&&◌, ℕ, false, nat_eq, List, [], ◌∷◌, ◌++◌, drop, get_or, sym, ◌∙◌, ap, append_assoc, eq-eqb}
 use Rattle.std.proofs.lemmas.Bool.{and_left, and_right, ne_eqb}
 use Rattle.std.proofs.lemmas.List.{drop_more}
 use Rattle.pin_classifier.specs.Shapes.{undoubled}
