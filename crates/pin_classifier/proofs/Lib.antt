@@ -3,3 +3,5 @@ pub mod Backticks
 pub mod Firsts
 pub mod Sets
 pub mod Sightings
+pub mod Together
+pub mod Worked

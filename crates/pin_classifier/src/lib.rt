@@ -14,7 +14,7 @@ mod words;
 
 pub use class::{Class, ClassName, Locking, Shape};
 pub use judge::classify;
-pub use laws::shape_of_set;
+pub use laws::{call_stands, release_stands, shape_of_set};
 
 #[cfg(test)]
 mod tests;

@@ -9,5 +9,5 @@ returns c =
       identity = before.identity || c.is_part-2.ensures i;
       warning_count = before.warning_count || c.is_part-3.ensures i;
       error_count = before.error_count || c.is_part-4.ensures i;
-      pseudo_thread_id = before.pseudo_thread_id || c.is_part-5.ensures i
+      pseudo_thread_id = before.pseudo_thread_id || c.is_part-5.ensures i;
     }
