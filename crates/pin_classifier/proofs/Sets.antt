@@ -2,17 +2,16 @@
 use Rattle.std.proofs.Common.{◌≡◌, ℕ, Bool, true, false, cond, List, [], ◌∷◌, slice_get, Option, Some, None, codes, refl, sym, ◌∙◌, ap, inl, inr}
 use Rattle.std.proofs.lemmas.Bool.{cond-true, cond-false, cases_Bool}
 use Rattle.sql_tokens.specs.declared.token.Token.{Token}
-use Rattle.session_vars.specs.Shapes.{set_shape, shape_by}
-use Rattle.session_vars.specs.Statement.{is_symbol, without_end}
+use Rattle.session_vars.proofs.First.{other_statement}
+use Rattle.session_vars.specs.Shapes.{says_first, set_shape}
 use Rattle.session_vars.specs.declared.shape.SetShape.TheVariants.{NotSet}
 use Rattle.pin_classifier.specs.Shapes.{asks_connection_id, is_there, set_in, shape_of, use_or_other, used_schema}
 use Rattle.pin_classifier.specs.Statement.{statement}
 use Rattle.pin_classifier.specs.declared.class.Shape.TheVariants.{ConnectionId}
 
-not_set_by : (text : List ℕ) (tokens : List Token) → is_there text (slice_get tokens 0) (codes "SET") ≡ false → shape_by text (without_end text tokens) ≡ NotSet
-not_set_by text [] h = refl
-not_set_by text (token ∷ []) h = elim (is_symbol text token 59) as (λ ends. shape_by text (cond ends [] (token ∷ [])) ≡ NotSet) [ true ↦ refl | false ↦ cond-false _ _ _ h ]
-not_set_by text (token ∷ next ∷ tokens) h = cond-false _ _ _ h
+first_there : (text : List ℕ) (tokens : List Token) (word : List ℕ) → says_first text tokens word ≡ is_there text (slice_get tokens 0) word
+first_there text [] word = refl
+first_there text (token ∷ tokens) word = refl
 
 no_set : (asks : Bool) (schema : Option (List ℕ)) → set_in (cond asks ConnectionId (use_or_other schema)) ≡ NotSet
 no_set true schema = refl
@@ -26,5 +25,8 @@ shape_of_set text =
     let sets = is_there text (slice_get (statement text) 0) (codes "SET") in
     elim (cases_Bool sets) [
       | inl e ↦ ap set_in (cond-true sets _ _ e)
-      | inr e ↦ ap set_in (cond-false sets _ _ e) ∙ no_set (asks_connection_id text (statement text)) (used_schema text (statement text)) ∙ sym (not_set_by text (statement text) e)
+      | inr e ↦
+          ap set_in (cond-false sets _ _ e)
+          ∙ no_set (asks_connection_id text (statement text)) (used_schema text (statement text))
+          ∙ sym (other_statement text (first_there text (statement text) (codes "SET") ∙ e))
     ]
