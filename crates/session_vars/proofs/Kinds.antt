@@ -1,0 +1,190 @@
+-- What one token of a value is made of.
+use Rattle.std.proofs.Common.{◌≡◌, ◌⊎◌, ◌≤◌, ◌<◌, ℕ, suc, ◌+◌, Bool, true, false, not, cond, nat_eq, nat_le, List, [], ◌∷◌, ◌++◌, Option, Some, None, length, refl, sym, subst, ◌∙◌, ap, inl, inr, arith}
+use Rattle.std.specs.Char.{is_ascii_digit}
+use Rattle.std.specs.List.{prefix_len, list_all}
+use Rattle.std.proofs.lemmas.Bool.{cond-true, cond-false, cases_Bool, both_ways, false≢true, eqb-true, not-false, ne_eqb}
+use Rattle.sql_tokens.specs.Bytes.{has_byte, is_word_byte}
+use Rattle.sql_tokens.specs.Comments.{begins_line_comment, line_length, begins_block, block_length}
+use Rattle.sql_tokens.specs.Numbers.{number_length}
+use Rattle.sql_tokens.specs.Numerals.{IsNumeral}
+use Rattle.sql_tokens.specs.Quotes.{begins_quoted, begins_name, quoted_length}
+use Rattle.sql_tokens.specs.Tokens.{closed, plain_token_at, token_at}
+use Rattle.sql_tokens.specs.Variables.{system_variable_length, variable_name_length}
+use Rattle.sql_tokens.specs.Words.{inside}
+use Rattle.sql_tokens.specs.declared.token.TokenKind.{TokenKind}
+use Rattle.sql_tokens.specs.declared.token.TokenKind.TheVariants.{Word, Quoted, Name, Number, UserVar, SysVar, Symbol, Comment, Executed, Unclosed}
+use Rattle.sql_tokens.proofs.LongestNumbers.{longest_number}
+use Rattle.sql_tokens.proofs.Runs.{all_of_run}
+use Rattle.session_vars.specs.Texts.{value_text}
+use Rattle.session_vars.specs.Tracked.{IsOneToken}
+use Rattle.session_vars.specs.Values.{kept, is_plain_byte, plain_value, value_of, may_be}
+use Rattle.session_vars.specs.declared.change.SlotValue.{SlotValue}
+use Rattle.session_vars.specs.declared.change.SlotValue.TheVariants.{Text}
+use Rattle.session_vars.specs.declared.slot.Slot.{Slot}
+use Rattle.session_vars.proofs.Pieces.{Stops, IsPiece}
+use Rattle.session_vars.proofs.Rules.{IsWordText, IsNumberText, in_quotes, word_piece, number_piece, quoted_piece}
+
+-- a kind that needs no end
+abbrev is_word_or_number : TokenKind → Bool
+is_word_or_number Word = true
+is_word_or_number Number = true
+is_word_or_number _ = false
+
+abbrev is_word_kind : TokenKind → Bool
+is_word_kind Word = true
+is_word_kind _ = false
+
+-- a token is of no kind that a test refuses
+no_kind : (test : TokenKind → Bool) (a b : TokenKind × ℕ) → a ≡ b → test a.0 ≡ false → test b.0 ≡ true → ⊥
+no_kind test a b same refused passed = both_ways (test a.0) refused (ap (λ (t : TokenKind × ℕ). test t.0) same ∙ passed)
+
+closed_refused : (kind : TokenKind) (end : Option ℕ) (bytes : List ℕ) → is_word_or_number kind ≡ false → is_word_or_number (closed kind end bytes).0 ≡ false
+closed_refused kind None bytes refused = refl
+closed_refused kind (Some n) bytes refused = refused
+
+block_refused : (executed : Bool) → is_word_or_number (cond executed Executed Comment) ≡ false
+block_refused true = refl
+block_refused false = refl
+
+-- a word or a number comes of the rules that need no end
+plain_rule : (bytes : List ℕ) (found : TokenKind × ℕ) → is_word_or_number found.0 ≡ true → token_at bytes ≡ found → plain_token_at bytes ≡ found
+unfolding token_at
+plain_rule bytes found kind is =
+    let block = closed (cond (has_byte bytes 2 33) Executed Comment) (block_length bytes) bytes in
+    let quoted = closed Quoted (quoted_length bytes) bytes in
+    let name = closed Name (quoted_length bytes) bytes in
+    elim (cases_Bool (begins_line_comment bytes)) [
+      | inl e ↦ absurd (no_kind is_word_or_number (Comment, line_length bytes) found (sym (cond-true (begins_line_comment bytes) _ _ e) ∙ is) refl kind)
+      | inr no_comment ↦
+          let after_comment = sym (cond-false (begins_line_comment bytes) _ _ no_comment) ∙ is in
+          elim (cases_Bool (begins_block bytes)) [
+            | inl e ↦ absurd (no_kind is_word_or_number block found (sym (cond-true (begins_block bytes) _ _ e) ∙ after_comment) (closed_refused _ (block_length bytes) bytes (block_refused (has_byte bytes 2 33))) kind)
+            | inr no_block ↦
+                let after_block = sym (cond-false (begins_block bytes) _ _ no_block) ∙ after_comment in
+                elim (cases_Bool (begins_quoted bytes)) [
+                  | inl e ↦ absurd (no_kind is_word_or_number quoted found (sym (cond-true (begins_quoted bytes) _ _ e) ∙ after_block) (closed_refused Quoted (quoted_length bytes) bytes refl) kind)
+                  | inr no_quoted ↦
+                      let after_quoted = sym (cond-false (begins_quoted bytes) _ _ no_quoted) ∙ after_block in
+                      elim (cases_Bool (begins_name bytes)) [
+                        | inl e ↦ absurd (no_kind is_word_or_number name found (sym (cond-true (begins_name bytes) _ _ e) ∙ after_quoted) (closed_refused Name (quoted_length bytes) bytes refl) kind)
+                        | inr no_name ↦ sym (cond-false (begins_name bytes) _ _ no_name) ∙ after_quoted
+                      ]
+                ]
+          ]
+    ]
+
+-- and of those behind variables
+abbrev number_or_word : List ℕ → TokenKind × ℕ
+number_or_word bytes = cond (not (nat_eq (number_length bytes) 0)) (Number, number_length bytes) (cond (not (nat_eq (prefix_len is_word_byte bytes) 0)) (Word, prefix_len is_word_byte bytes) (Symbol, 1))
+
+no_variable_rule : (bytes : List ℕ) (found : TokenKind × ℕ) → is_word_or_number found.0 ≡ true → plain_token_at bytes ≡ found → number_or_word bytes ≡ found
+unfolding plain_token_at
+no_variable_rule bytes found kind is =
+    elim (cases_Bool (not (nat_eq (system_variable_length bytes) 0))) [
+      | inl e ↦ absurd (no_kind is_word_or_number (SysVar, system_variable_length bytes) found (sym (cond-true (not (nat_eq (system_variable_length bytes) 0)) _ _ e) ∙ is) refl kind)
+      | inr no_system ↦
+          let after_system = sym (cond-false (not (nat_eq (system_variable_length bytes) 0)) _ _ no_system) ∙ is in
+          elim (cases_Bool (has_byte bytes 0 64)) [
+            | inl e ↦ absurd (no_kind is_word_or_number _ found (sym (cond-true (has_byte bytes 0 64) _ _ e) ∙ after_system) refl kind)
+            | inr no_user ↦ sym (cond-false (has_byte bytes 0 64) _ _ no_user) ∙ after_system
+          ]
+    ]
+
+rule_of : (bytes : List ℕ) (found : TokenKind × ℕ) → is_word_or_number found.0 ≡ true → token_at bytes ≡ found → number_or_word bytes ≡ found
+rule_of bytes found kind is = no_variable_rule bytes found kind (plain_rule bytes found kind is)
+
+-- the whole is a number
+pub number_text : (bytes : List ℕ) → IsOneToken Number bytes → IsNumberText bytes
+number_text bytes one =
+    let is = rule_of bytes (Number, length bytes) refl one.1 in
+    elim (cases_Bool (not (nat_eq (number_length bytes) 0))) [
+      | inl e ↦ (one.0, ap (λ (t : TokenKind × ℕ). t.1) (sym (cond-true (not (nat_eq (number_length bytes) 0)) _ _ e) ∙ is))
+      | inr no_number ↦ absurd (no_number_kind (sym (cond-false (not (nat_eq (number_length bytes) 0)) _ _ no_number) ∙ is))
+    ]
+  where
+    no_number_kind : cond (not (nat_eq (prefix_len is_word_byte bytes) 0)) (Word, prefix_len is_word_byte bytes) (Symbol, 1) ≡ (Number, length bytes) → ⊥
+    no_number_kind same =
+        elim (cases_Bool (not (nat_eq (prefix_len is_word_byte bytes) 0))) [
+          | inl e ↦ let apart : (Word, prefix_len is_word_byte bytes) ≡ (Number, length bytes) = sym (cond-true (not (nat_eq (prefix_len is_word_byte bytes) 0)) _ _ e) ∙ same in absurd (cc)
+          | inr e ↦ let apart : (Symbol, 1) ≡ (Number, length bytes) = sym (cond-false (not (nat_eq (prefix_len is_word_byte bytes) 0)) _ _ e) ∙ same in absurd (cc)
+        ]
+
+-- the whole is a word
+begins_no_number : (b : ℕ) (bytes : List ℕ) → number_length (b ∷ bytes) ≡ 0 → is_ascii_digit b ≡ false
+begins_no_number b bytes none =
+    elim (cases_Bool (is_ascii_digit b)) [
+      | inl digit ↦
+          let is : IsNumeral (b ∷ []) = inr (record { integer = b ∷ []; fraction = []; exponent = []; parts = refl; is_integer = one_digit b digit; is_fraction = tt; is_exponent = tt; some = omega arith }) in
+          let long : 1 ≤ number_length (b ∷ bytes) = longest_number (b ∷ bytes) (b ∷ []) bytes refl is in
+          absurd (omega arith)
+      | inr no_digit ↦ no_digit
+    ]
+  where
+    one_digit : (b : ℕ) → is_ascii_digit b ≡ true → list_all is_ascii_digit (b ∷ []) ≡ true
+    one_digit b digit = cond-true (is_ascii_digit b) true false digit
+
+word_bytes : (bytes : List ℕ) → 0 < length bytes → number_length bytes ≡ 0 → prefix_len is_word_byte bytes ≡ length bytes → IsWordText bytes
+word_bytes [] some none all = absurd (omega arith)
+word_bytes (b ∷ bytes) some none all = (begins_no_number b bytes none, all_of_run is_word_byte (b ∷ bytes) (omega arith))
+
+pub word_text : (bytes : List ℕ) → IsOneToken Word bytes → IsWordText bytes
+word_text bytes one =
+    let is = rule_of bytes (Word, length bytes) refl one.1 in
+    let number = not (nat_eq (number_length bytes) 0) in
+    let word = not (nat_eq (prefix_len is_word_byte bytes) 0) in
+    elim (cases_Bool number) [
+      | inl e ↦ let apart : (Number, number_length bytes) ≡ (Word, length bytes) = sym (cond-true number _ _ e) ∙ is in absurd (cc)
+      | inr no_number ↦
+          let left : cond word (Word, prefix_len is_word_byte bytes) (Symbol, 1) ≡ (Word, length bytes) = sym (cond-false number _ _ no_number) ∙ is in
+          elim (cases_Bool word) [
+            | inl e ↦ word_bytes bytes one.0 (eqb-true _ 0 (not-false _ no_number)) (ap (λ (t : TokenKind × ℕ). t.1) (sym (cond-true word _ _ e) ∙ left))
+            | inr e ↦ let apart : (Symbol, 1) ≡ (Word, length bytes) = sym (cond-false word _ _ e) ∙ left in absurd (cc)
+          ]
+    ]
+
+-- what is there under a condition
+pub some_if : {A : Type 0} (b : Bool) (found : Option A) (value : A) → cond b found None ≡ Some value → (b ≡ true) × (found ≡ Some value)
+some_if b found value is =
+    elim (cases_Bool b) [
+      | inl e ↦ (e, sym (cond-true b found None e) ∙ is)
+      | inr e ↦ let none : None ≡ Some value = sym (cond-false b found None e) ∙ is in absurd (cc)
+    ]
+
+-- what is kept of a value is the value's text
+pub kept_is : (bytes : List ℕ) (value : SlotValue) → kept bytes ≡ Some value → value ≡ Text bytes
+kept_is bytes value is = let same = (some_if (nat_le (length bytes) 1024) (Some (Text bytes)) value is).1 in cc
+
+-- a quoted text that is a value is kept in `'`, and has no quote and no backslash
+pub quoted_value : (slot : Slot) (bytes : List ℕ) (value : SlotValue) → value_of slot Quoted bytes ≡ Some value → (value ≡ Text (in_quotes (inside bytes))) × (list_all is_plain_byte (inside bytes) ≡ true)
+unfolding value_of plain_value
+quoted_value slot bytes value is =
+    let plain = some_if (list_all is_plain_byte (inside bytes)) (kept (in_quotes (inside bytes))) value (some_if (may_be slot Quoted bytes) _ value is).1 in
+    (kept_is (in_quotes (inside bytes)) value plain.1, plain.0)
+
+-- the kinds of values
+abbrev pub IsValueKind : TokenKind → Type 0
+IsValueKind Word = Unit {0}
+IsValueKind Number = Unit {0}
+IsValueKind Quoted = Unit {0}
+IsValueKind _ = ⊥
+
+no_value : (slot : Slot) (kind : TokenKind) (bytes : List ℕ) (value : SlotValue) → plain_value kind bytes ≡ None → value_of slot kind bytes ≡ Some value → ⊥
+unfolding value_of
+no_value slot kind bytes value none is = let apart : None ≡ Some value = sym none ∙ (some_if (may_be slot kind bytes) (plain_value kind bytes) value is).1 in cc
+
+-- one token that gives a value is a piece
+pub value_piece : (slot : Slot) (value : SlotValue) (kind : TokenKind) (rest : List ℕ) → IsOneToken kind (value_text value) → value_of slot kind (value_text value) ≡ Some value → Stops rest → IsPiece kind (value_text value) rest
+unfolding plain_value
+value_piece slot value Word rest one gives stops = word_piece (value_text value) rest (word_text (value_text value) one) stops
+value_piece slot value Number rest one gives stops = number_piece (value_text value) rest (number_text (value_text value) one) stops
+value_piece slot value Quoted rest one gives stops =
+    let quoted = quoted_value slot (value_text value) value gives in
+    subst (λ (bytes : List ℕ). IsPiece Quoted bytes rest) (sym (ap value_text quoted.0)) (quoted_piece (inside (value_text value)) rest quoted.1 stops)
+value_piece slot value kind rest one gives stops = absurd (no_value slot kind (value_text value) value refl gives)
+
+pub value_kind : (slot : Slot) (kind : TokenKind) (bytes : List ℕ) (value : SlotValue) → value_of slot kind bytes ≡ Some value → IsValueKind kind
+unfolding plain_value
+value_kind slot Word bytes value gives = tt
+value_kind slot Number bytes value gives = tt
+value_kind slot Quoted bytes value gives = tt
+value_kind slot kind bytes value gives = no_value slot kind bytes value refl gives
