@@ -1,8 +1,8 @@
 -- The statements that make a difference, read again.
-use Rattle.std.proofs.Common.{◌≡◌, ◌≢◌, ◌⊎◌, ℕ, Bool, true, false, not, ◌&&◌, ◌||◌, cond, List, [], ◌∷◌, ◌++◌, Option, Some, None, length, codes, map, filter, find, reverse, refl, sym, subst, ◌∙◌, ap, inl, inr, arith, append_assoc}
+use Rattle.std.proofs.Common.{◌≡◌, ◌≢◌, ◌⊎◌, ℕ, ◌+◌, Bool, true, false, not, ◌&&◌, ◌||◌, cond, List, [], ◌∷◌, ◌++◌, Option, Some, None, length, codes, drop, refl, sym, subst, ◌∙◌, ap, inl, inr, arith, append_assoc}
 use Rattle.std.specs.Cmp.Lexicographic.{bytes_decides}
 use Rattle.std.specs.List.{list_all, flat_map}
-use Rattle.std.proofs.lemmas.Bool.{cond-true, cond-false, cases_Bool, and_parts, and_from, and_left, not-true, or_cases, or_from}
+use Rattle.std.proofs.lemmas.Bool.{cond-true, cond-false, cases_Bool, and_parts, and_from, and_left, and_right, not-true}
 use Rattle.std.proofs.lemmas.List.{append-nil}
 use Rattle.sql_tokens.specs.Tokens.{tokens_of, tokens_behind}
 use Rattle.sql_tokens.specs.Words.{bytes_of}
@@ -18,7 +18,9 @@ use Rattle.session_vars.specs.Transactions.{transaction_mode, mode_changes}
 use Rattle.session_vars.specs.declared.change.Change.{Change}
 use Rattle.session_vars.specs.declared.shape.SetShape.{SetShape}
 use Rattle.session_vars.specs.declared.shape.SetShape.TheVariants.{Tracked, Global, NextTransaction, Other, NotSet}
-use Rattle.session_vars.specs.Texts.{is_names, assignment_text, session_by}
+use Rattle.session_vars.specs.Texts.{assignment_text}
+use Rattle.session_vars.specs.declared.slot.Slot.{Slot}
+use Rattle.session_vars.specs.declared.slot.Slot.TheVariants.{Names}
 use Rattle.session_vars.proofs.Assigned.{IsNamed, IsAssignmentRead, IsListRead, AreAssignable, counts, named, scoped, list_read, stops_before}
 use Rattle.session_vars.proofs.Joining.{with_comma}
 use Rattle.session_vars.proofs.Pieces.{Stops, At, token_of, behind, scanned, said, behind_blank, past_blank, at_end}
@@ -69,10 +71,11 @@ assignments_shape text set scope token tokens changes statement is_set no_names_
     ∙ ap (tracked_or_other None None) gives
 
 name_no_transaction : (slot : Slot) → same_text (name_of slot) (codes "TRANSACTION") ≡ false
+name_no_transaction Names = refl
 name_no_transaction _ = refl
 
 -- SET SESSION and assignments
-session_again : (text : List ℕ) (change : Change) (changes : List Change) → text ≡ codes "SET SESSION " ++ (assignment_text change ++ flat_map with_comma changes) → AreAssignable (change ∷ changes) → set_shape text ≡ Tracked (change ∷ changes)
+pub session_again : (text : List ℕ) (change : Change) (changes : List Change) → text ≡ codes "SET SESSION " ++ (assignment_text change ++ flat_map with_comma changes) → AreAssignable (change ∷ changes) → set_shape text ≡ Tracked (change ∷ changes)
 session_again text change changes is assignable =
     let rest = flat_map with_comma changes in
     let there = assignment_text change ++ rest in

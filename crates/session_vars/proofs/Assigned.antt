@@ -21,7 +21,7 @@ use Rattle.session_vars.specs.declared.change.SlotValue.{SlotValue}
 use Rattle.session_vars.specs.declared.slot.Slot.{Slot}
 use Rattle.session_vars.specs.declared.slot.Slot.TheVariants.{Names}
 use Rattle.session_vars.proofs.Joining.{with_comma}
-use Rattle.session_vars.proofs.Kinds.{IsValueKind, value_kind, value_piece, number_text}
+use Rattle.session_vars.proofs.OneToken.{IsValueKind, value_kind, value_piece, number_text}
 use Rattle.session_vars.proofs.Parts.{last_assigned, next_assigned}
 use Rattle.session_vars.proofs.Pieces.{Stops, At, IsPiece, token_of, behind, scanned, said, behind_blank, past_blank, at_end}
 use Rattle.session_vars.proofs.Rules.{IsOrdinary, IsWordText, number_first, word_piece, symbol_piece, number_piece, minus_piece}
@@ -106,13 +106,16 @@ value_read text place slot value rest (inr minus) at stops = negative text place
 
 -- names of settings
 name_word : (slot : Slot) → IsWordText (name_of slot)
+name_word Names = (refl, refl)
 name_word _ = (refl, refl)
 
 no_session : (slot : Slot) → same_text (name_of slot) (codes "SESSION") || same_text (name_of slot) (codes "LOCAL") ≡ false
+no_session Names = refl
 no_session _ = refl
 
 pub no_server : (slot : Slot) → is_server_scope (name_of slot) ≡ false
 unfolding is_server_scope
+no_server Names = refl
 no_server _ = refl
 
 named_again : (slot : Slot) → is_names slot ≡ false → slot_named (name_of slot) ≡ Some slot

@@ -2,7 +2,7 @@ pub mod Again
 pub mod Assigned
 pub mod First
 pub mod Joining
-pub mod Kinds
+pub mod OneToken
 pub mod Leading
 pub mod NamesAgain
 pub mod Parts

@@ -109,10 +109,17 @@ abbrev pub IsWordText : List ℕ → Type 0
 IsWordText [] = ⊥
 IsWordText (b ∷ bytes) = (is_ascii_digit b ≡ false) × (list_all is_word_byte (b ∷ bytes) ≡ true)
 
+not_number : (b : ℕ) (bytes : List ℕ) → is_ascii_digit b ≡ false → nat_eq b 46 ≡ false → number_or_less (b ∷ bytes) ≡ word_or_symbol (b ∷ bytes)
+not_number b bytes no_digit no_point = cond-false (not (nat_eq (number_length (b ∷ bytes)) 0)) _ _ (ap (λ n. not (nat_eq n 0)) (no_number b bytes no_digit no_point))
+
+not_word : (b : ℕ) (bytes : List ℕ) → is_word_byte b ≡ false → word_or_symbol (b ∷ bytes) ≡ (Symbol, 1)
+not_word b bytes no_word =
+    let none : prefix_len is_word_byte (b ∷ bytes) ≡ 0 = cond-false (is_word_byte b) (1 + prefix_len is_word_byte bytes) 0 no_word in
+    cond-false (not (nat_eq (prefix_len is_word_byte (b ∷ bytes)) 0)) _ _ (ap (λ n. not (nat_eq n 0)) none)
+
 no_number_first : (b : ℕ) (bytes : List ℕ) → IsOrdinary b → is_ascii_digit b ≡ false → nat_eq b 46 ≡ false → token_at (b ∷ bytes) ≡ word_or_symbol (b ∷ bytes)
 no_number_first b bytes ordinary no_digit no_point =
-    ordinary_rule b bytes ordinary
-    ∙ cond-false (not (nat_eq (number_length (b ∷ bytes)) 0)) _ _ (ap (λ n. not (nat_eq n 0)) (no_number b bytes no_digit no_point))
+    ordinary_rule b bytes ordinary ∙ not_number b bytes no_digit no_point
 
 pub word_piece : (part rest : List ℕ) → IsWordText part → Stops rest → IsPiece Word part rest
 word_piece [] rest is stops = absurd is
@@ -131,12 +138,7 @@ word_piece (b ∷ bytes) rest is stops =
 -- `=` and `,`
 pub symbol_piece : (b : ℕ) (rest : List ℕ) → IsOrdinary b → is_ascii_digit b ≡ false → nat_eq b 46 ≡ false → is_word_byte b ≡ false → is_white b ≡ false → IsPiece Symbol (b ∷ []) rest
 symbol_piece b rest ordinary no_digit no_point no_word dark =
-    let none : prefix_len is_word_byte (b ∷ rest) ≡ 0 = cond-false (is_word_byte b) (1 + prefix_len is_word_byte rest) 0 no_word in
-    record {
-      some = omega arith;
-      dark = dark;
-      rule = no_number_first b rest ordinary no_digit no_point ∙ cond-false (not (nat_eq (prefix_len is_word_byte (b ∷ rest)) 0)) _ _ (ap (λ n. not (nat_eq n 0)) none);
-    }
+    record { some = omega arith; dark = dark; rule = no_number_first b rest ordinary no_digit no_point ∙ not_word b rest no_word }
 
 -- the bytes of numbers
 abbrev is_numeral_byte : ℕ → Bool
@@ -250,18 +252,17 @@ minus_piece [] rest begins = absurd begins
 minus_piece (b ∷ bytes) rest begins =
     let all = 45 ∷ b ∷ (bytes ++ rest) in
     let single : has_byte all 1 45 ≡ false = and_right (nat_lt 1 (length all)) (nat_eq b 45) (other is_numeral_first b 45 begins refl) in
-    let none : prefix_len is_word_byte all ≡ 0 = refl in
     record {
       some = omega arith;
       dark = refl;
       rule =
-          cond-false (begins_line_comment all) _ _ (or_from _ _ (not_first 45 35 (b ∷ (bytes ++ rest)) refl) (and_left _ _ (and_right (has_byte all 0 45) _ single)))
-          ∙ cond-false (begins_block all) _ _ (and_left _ _ (not_first 45 47 (b ∷ (bytes ++ rest)) refl))
+          cond-false (begins_line_comment all) _ _ (or_from _ _ (not_first 45 35 (b ∷ (bytes ++ rest)) refl) (and_left _ _ (and_right (has_byte all 0 45) (has_byte all 1 45) single)))
+          ∙ cond-false (begins_block all) _ _ (and_left (has_byte all 0 47) (has_byte all 1 42) (not_first 45 47 (b ∷ (bytes ++ rest)) refl))
           ∙ cond-false (begins_quoted all) _ _ (or_from _ _ (not_first 45 39 (b ∷ (bytes ++ rest)) refl) (not_first 45 34 (b ∷ (bytes ++ rest)) refl))
           ∙ cond-false (begins_name all) _ _ (not_first 45 96 (b ∷ (bytes ++ rest)) refl)
           ∙ no_variable 45 (b ∷ (bytes ++ rest)) refl
-          ∙ cond-false (not (nat_eq (number_length all) 0)) _ _ (ap (λ n. not (nat_eq n 0)) (no_number 45 (b ∷ (bytes ++ rest)) refl refl))
-          ∙ cond-false (not (nat_eq (prefix_len is_word_byte all) 0)) _ _ (ap (λ n. not (nat_eq n 0)) none);
+          ∙ not_number 45 (b ∷ (bytes ++ rest)) refl refl
+          ∙ not_word 45 (b ∷ (bytes ++ rest)) refl;
     }
 
 -- a text in `'` without quotes and backslashes

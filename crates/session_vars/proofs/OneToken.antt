@@ -1,8 +1,8 @@
--- What one token of a value is made of.
+-- Values of one token.
 use Rattle.std.proofs.Common.{◌≡◌, ◌⊎◌, ◌≤◌, ◌<◌, ℕ, suc, ◌+◌, Bool, true, false, not, cond, nat_eq, nat_le, List, [], ◌∷◌, ◌++◌, Option, Some, None, length, refl, sym, subst, ◌∙◌, ap, inl, inr, arith}
 use Rattle.std.specs.Char.{is_ascii_digit}
 use Rattle.std.specs.List.{prefix_len, list_all}
-use Rattle.std.proofs.lemmas.Bool.{cond-true, cond-false, cases_Bool, both_ways, false≢true, eqb-true, not-false, ne_eqb}
+use Rattle.std.proofs.lemmas.Bool.{cond-true, cond-false, cases_Bool, both_ways, and_from, eqb-true, not-false}
 use Rattle.sql_tokens.specs.Bytes.{has_byte, is_word_byte}
 use Rattle.sql_tokens.specs.Comments.{begins_line_comment, line_length, begins_block, block_length}
 use Rattle.sql_tokens.specs.Numbers.{number_length}
@@ -33,6 +33,10 @@ is_word_or_number _ = false
 abbrev is_word_kind : TokenKind → Bool
 is_word_kind Word = true
 is_word_kind _ = false
+
+abbrev is_number_kind : TokenKind → Bool
+is_number_kind Number = true
+is_number_kind _ = false
 
 -- a token is of no kind that a test refuses
 no_kind : (test : TokenKind → Bool) (a b : TokenKind × ℕ) → a ≡ b → test a.0 ≡ false → test b.0 ≡ true → ⊥
@@ -74,8 +78,11 @@ plain_rule bytes found kind is =
     ]
 
 -- and of those behind variables
+abbrev word_or_symbol : List ℕ → TokenKind × ℕ
+word_or_symbol bytes = cond (not (nat_eq (prefix_len is_word_byte bytes) 0)) (Word, prefix_len is_word_byte bytes) (Symbol, 1)
+
 abbrev number_or_word : List ℕ → TokenKind × ℕ
-number_or_word bytes = cond (not (nat_eq (number_length bytes) 0)) (Number, number_length bytes) (cond (not (nat_eq (prefix_len is_word_byte bytes) 0)) (Word, prefix_len is_word_byte bytes) (Symbol, 1))
+number_or_word bytes = cond (not (nat_eq (number_length bytes) 0)) (Number, number_length bytes) (word_or_symbol bytes)
 
 no_variable_rule : (bytes : List ℕ) (found : TokenKind × ℕ) → is_word_or_number found.0 ≡ true → plain_token_at bytes ≡ found → number_or_word bytes ≡ found
 unfolding plain_token_at
@@ -93,6 +100,9 @@ no_variable_rule bytes found kind is =
 rule_of : (bytes : List ℕ) (found : TokenKind × ℕ) → is_word_or_number found.0 ≡ true → token_at bytes ≡ found → number_or_word bytes ≡ found
 rule_of bytes found kind is = no_variable_rule bytes found kind (plain_rule bytes found kind is)
 
+abbrev number_of : List ℕ → TokenKind × ℕ
+number_of bytes = (Number, length bytes)
+
 -- the whole is a number
 pub number_text : (bytes : List ℕ) → IsOneToken Number bytes → IsNumberText bytes
 number_text bytes one =
@@ -102,11 +112,11 @@ number_text bytes one =
       | inr no_number ↦ absurd (no_number_kind (sym (cond-false (not (nat_eq (number_length bytes) 0)) _ _ no_number) ∙ is))
     ]
   where
-    no_number_kind : cond (not (nat_eq (prefix_len is_word_byte bytes) 0)) (Word, prefix_len is_word_byte bytes) (Symbol, 1) ≡ (Number, length bytes) → ⊥
+    no_number_kind : word_or_symbol bytes ≡ number_of bytes → ⊥
     no_number_kind same =
         elim (cases_Bool (not (nat_eq (prefix_len is_word_byte bytes) 0))) [
-          | inl e ↦ let apart : (Word, prefix_len is_word_byte bytes) ≡ (Number, length bytes) = sym (cond-true (not (nat_eq (prefix_len is_word_byte bytes) 0)) _ _ e) ∙ same in absurd (cc)
-          | inr e ↦ let apart : (Symbol, 1) ≡ (Number, length bytes) = sym (cond-false (not (nat_eq (prefix_len is_word_byte bytes) 0)) _ _ e) ∙ same in absurd (cc)
+          | inl e ↦ no_kind is_number_kind (Word, prefix_len is_word_byte bytes) (number_of bytes) (sym (cond-true (not (nat_eq (prefix_len is_word_byte bytes) 0)) _ _ e) ∙ same) refl refl
+          | inr e ↦ no_kind is_number_kind (Symbol, 1) (number_of bytes) (sym (cond-false (not (nat_eq (prefix_len is_word_byte bytes) 0)) _ _ e) ∙ same) refl refl
         ]
 
 -- the whole is a word
@@ -121,7 +131,7 @@ begins_no_number b bytes none =
     ]
   where
     one_digit : (b : ℕ) → is_ascii_digit b ≡ true → list_all is_ascii_digit (b ∷ []) ≡ true
-    one_digit b digit = cond-true (is_ascii_digit b) true false digit
+    one_digit b digit = and_from (is_ascii_digit b) true digit refl
 
 word_bytes : (bytes : List ℕ) → 0 < length bytes → number_length bytes ≡ 0 → prefix_len is_word_byte bytes ≡ length bytes → IsWordText bytes
 word_bytes [] some none all = absurd (omega arith)
@@ -129,16 +139,17 @@ word_bytes (b ∷ bytes) some none all = (begins_no_number b bytes none, all_of_
 
 pub word_text : (bytes : List ℕ) → IsOneToken Word bytes → IsWordText bytes
 word_text bytes one =
-    let is = rule_of bytes (Word, length bytes) refl one.1 in
+    let found : TokenKind × ℕ = (Word, length bytes) in
+    let is = rule_of bytes found refl one.1 in
     let number = not (nat_eq (number_length bytes) 0) in
     let word = not (nat_eq (prefix_len is_word_byte bytes) 0) in
     elim (cases_Bool number) [
-      | inl e ↦ let apart : (Number, number_length bytes) ≡ (Word, length bytes) = sym (cond-true number _ _ e) ∙ is in absurd (cc)
+      | inl e ↦ absurd (no_kind is_word_kind (Number, number_length bytes) found (sym (cond-true number _ _ e) ∙ is) refl refl)
       | inr no_number ↦
-          let left : cond word (Word, prefix_len is_word_byte bytes) (Symbol, 1) ≡ (Word, length bytes) = sym (cond-false number _ _ no_number) ∙ is in
+          let left : word_or_symbol bytes ≡ found = sym (cond-false number _ _ no_number) ∙ is in
           elim (cases_Bool word) [
             | inl e ↦ word_bytes bytes one.0 (eqb-true _ 0 (not-false _ no_number)) (ap (λ (t : TokenKind × ℕ). t.1) (sym (cond-true word _ _ e) ∙ left))
-            | inr e ↦ let apart : (Symbol, 1) ≡ (Word, length bytes) = sym (cond-false word _ _ e) ∙ left in absurd (cc)
+            | inr e ↦ absurd (no_kind is_word_kind (Symbol, 1) found (sym (cond-false word _ _ e) ∙ left) refl refl)
           ]
     ]
 
