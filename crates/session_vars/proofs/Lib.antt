@@ -1,8 +1,10 @@
 pub mod Again
 pub mod Assigned
 pub mod First
+pub mod Gives
 pub mod Joining
 pub mod OneToken
+pub mod Kept
 pub mod Leading
 pub mod NamesAgain
 pub mod Parts

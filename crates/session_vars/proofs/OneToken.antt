@@ -1,8 +1,10 @@
 -- Values of one token.
-use Rattle.std.proofs.Common.{◌≡◌, ◌⊎◌, ◌≤◌, ◌<◌, ℕ, suc, ◌+◌, Bool, true, false, not, cond, nat_eq, nat_le, List, [], ◌∷◌, ◌++◌, Option, Some, None, length, refl, sym, subst, ◌∙◌, ap, inl, inr, arith}
+use Rattle.std.proofs.Common.{◌≡◌, ◌⊎◌, ◌≤◌, ◌<◌, ℕ, zero, suc, ◌+◌, Bool, true, false, not, cond, nat_eq, nat_le, List, [], ◌∷◌, ◌++◌, Option, Some, None, length, take, refl, sym, subst, ◌∙◌, ap, inl, inr, arith}
 use Rattle.std.specs.Char.{is_ascii_digit}
 use Rattle.std.specs.List.{prefix_len, list_all}
-use Rattle.std.proofs.lemmas.Bool.{cond-true, cond-false, cases_Bool, both_ways, and_from, eqb-true, not-false}
+use Rattle.std.proofs.lemmas.Bool.{cond-true, cond-false, cases_Bool, both_ways, and_from, eqb-true, eqb-false, not-true, not-false}
+use Rattle.std.proofs.lemmas.List.{append-nil, length-take-le}
+use Rattle.std.proofs.Math.Seq.{take-length}
 use Rattle.sql_tokens.specs.Bytes.{has_byte, is_word_byte}
 use Rattle.sql_tokens.specs.Comments.{begins_line_comment, line_length, begins_block, block_length}
 use Rattle.sql_tokens.specs.Numbers.{number_length}
@@ -13,8 +15,9 @@ use Rattle.sql_tokens.specs.Variables.{system_variable_length, variable_name_len
 use Rattle.sql_tokens.specs.Words.{inside}
 use Rattle.sql_tokens.specs.declared.token.TokenKind.{TokenKind}
 use Rattle.sql_tokens.specs.declared.token.TokenKind.TheVariants.{Word, Quoted, Name, Number, UserVar, SysVar, Symbol, Comment, Executed, Unclosed}
-use Rattle.sql_tokens.proofs.LongestNumbers.{longest_number}
-use Rattle.sql_tokens.proofs.Runs.{all_of_run}
+use Rattle.sql_tokens.proofs.LongestNumbers.{number_found, longest_number}
+use Rattle.sql_tokens.proofs.Lengths.{number_length-le}
+use Rattle.sql_tokens.proofs.Runs.{all_in_run}
 use Rattle.session_vars.specs.Texts.{value_text}
 use Rattle.session_vars.specs.Tracked.{IsOneToken}
 use Rattle.session_vars.specs.Values.{kept, is_plain_byte, plain_value, value_of, may_be}
@@ -97,61 +100,85 @@ no_variable_rule bytes found kind is =
           ]
     ]
 
+abbrev found : TokenKind → ℕ → TokenKind × ℕ
+found kind n = (kind, n)
+
+abbrev rule_gives : List ℕ → TokenKind → ℕ → Type 0
+rule_gives bytes kind n = number_or_word bytes ≡ found kind n
+
 rule_of : (bytes : List ℕ) (found : TokenKind × ℕ) → is_word_or_number found.0 ≡ true → token_at bytes ≡ found → number_or_word bytes ≡ found
 rule_of bytes found kind is = no_variable_rule bytes found kind (plain_rule bytes found kind is)
 
-abbrev number_of : List ℕ → TokenKind × ℕ
-number_of bytes = (Number, length bytes)
-
--- the whole is a number
-pub number_text : (bytes : List ℕ) → IsOneToken Number bytes → IsNumberText bytes
-number_text bytes one =
-    let is = rule_of bytes (Number, length bytes) refl one.1 in
-    elim (cases_Bool (not (nat_eq (number_length bytes) 0))) [
-      | inl e ↦ (one.0, ap (λ (t : TokenKind × ℕ). t.1) (sym (cond-true (not (nat_eq (number_length bytes) 0)) _ _ e) ∙ is))
-      | inr no_number ↦ absurd (no_number_kind (sym (cond-false (not (nat_eq (number_length bytes) 0)) _ _ no_number) ∙ is))
+-- a number that was found, alone
+number_size : (bytes : List ℕ) (n : ℕ) → rule_gives bytes Number n → (0 < n) × (number_length bytes ≡ n)
+number_size bytes n is =
+    let number = not (nat_eq (number_length bytes) 0) in
+    let word = not (nat_eq (prefix_len is_word_byte bytes) 0) in
+    elim (cases_Bool number) [
+      | inl e ↦
+          let size : number_length bytes ≡ n = ap (λ (t : TokenKind × ℕ). t.1) (sym (cond-true number _ _ e) ∙ is) in
+          let some : number_length bytes ≡ 0 → ⊥ = eqb-false _ 0 (not-true _ e) in
+          (omega arith, size)
+      | inr no_number ↦
+          let left : word_or_symbol bytes ≡ found Number n = sym (cond-false number _ _ no_number) ∙ is in
+          elim (cases_Bool word) [
+            | inl e ↦ absurd (no_kind is_number_kind (Word, prefix_len is_word_byte bytes) (found Number n) (sym (cond-true word _ _ e) ∙ left) refl refl)
+            | inr e ↦ absurd (no_kind is_number_kind (Symbol, 1) (found Number n) (sym (cond-false word _ _ e) ∙ left) refl refl)
+          ]
     ]
-  where
-    no_number_kind : word_or_symbol bytes ≡ number_of bytes → ⊥
-    no_number_kind same =
-        elim (cases_Bool (not (nat_eq (prefix_len is_word_byte bytes) 0))) [
-          | inl e ↦ no_kind is_number_kind (Word, prefix_len is_word_byte bytes) (number_of bytes) (sym (cond-true (not (nat_eq (prefix_len is_word_byte bytes) 0)) _ _ e) ∙ same) refl refl
-          | inr e ↦ no_kind is_number_kind (Symbol, 1) (number_of bytes) (sym (cond-false (not (nat_eq (prefix_len is_word_byte bytes) 0)) _ _ e) ∙ same) refl refl
-        ]
 
--- the whole is a word
+pub number_front : (bytes : List ℕ) (n : ℕ) → token_at bytes ≡ found Number n → IsNumberText (take n bytes)
+number_front bytes n is =
+    let size = number_size bytes n (rule_of bytes (found Number n) refl is) in
+    let front = take n bytes in
+    let long : length front ≡ n = length-take-le n bytes (omega (arith, number_length-le bytes)) in
+    let numeral : IsNumeral front = subst (λ (k : ℕ). IsNumeral (take k bytes)) size.1 (number_found bytes (omega arith)) in
+    let least : length front ≤ number_length front = longest_number front front [] (sym (append-nil front)) numeral in
+    (omega arith, omega (arith, number_length-le front))
+
+pub number_text : (bytes : List ℕ) → IsOneToken Number bytes → IsNumberText bytes
+number_text bytes one = subst IsNumberText (take-length bytes) (number_front bytes (length bytes) one.1)
+
+-- and a word
 begins_no_number : (b : ℕ) (bytes : List ℕ) → number_length (b ∷ bytes) ≡ 0 → is_ascii_digit b ≡ false
 begins_no_number b bytes none =
     elim (cases_Bool (is_ascii_digit b)) [
       | inl digit ↦
-          let is : IsNumeral (b ∷ []) = inr (record { integer = b ∷ []; fraction = []; exponent = []; parts = refl; is_integer = one_digit b digit; is_fraction = tt; is_exponent = tt; some = omega arith }) in
+          let is : IsNumeral (b ∷ []) = inr (record { integer = b ∷ []; fraction = []; exponent = []; parts = refl; is_integer = and_from (is_ascii_digit b) true digit refl; is_fraction = tt; is_exponent = tt; some = omega arith }) in
           let long : 1 ≤ number_length (b ∷ bytes) = longest_number (b ∷ bytes) (b ∷ []) bytes refl is in
           absurd (omega arith)
       | inr no_digit ↦ no_digit
     ]
-  where
-    one_digit : (b : ℕ) → is_ascii_digit b ≡ true → list_all is_ascii_digit (b ∷ []) ≡ true
-    one_digit b digit = and_from (is_ascii_digit b) true digit refl
 
-word_bytes : (bytes : List ℕ) → 0 < length bytes → number_length bytes ≡ 0 → prefix_len is_word_byte bytes ≡ length bytes → IsWordText bytes
-word_bytes [] some none all = absurd (omega arith)
-word_bytes (b ∷ bytes) some none all = (begins_no_number b bytes none, all_of_run is_word_byte (b ∷ bytes) (omega arith))
+word_bytes : (bytes : List ℕ) (n : ℕ) → 0 < n → n ≤ prefix_len is_word_byte bytes → number_length bytes ≡ 0 → IsWordText (take n bytes)
+word_bytes bytes zero some run none = absurd (omega arith)
+word_bytes [] (suc n) some run none = absurd (omega arith)
+word_bytes (b ∷ bytes) (suc n) some run none = (begins_no_number b bytes none, all_in_run is_word_byte (b ∷ bytes) (suc n) run)
 
-pub word_text : (bytes : List ℕ) → IsOneToken Word bytes → IsWordText bytes
-word_text bytes one =
-    let found : TokenKind × ℕ = (Word, length bytes) in
-    let is = rule_of bytes found refl one.1 in
+pub word_front : (bytes : List ℕ) (n : ℕ) → token_at bytes ≡ found Word n → IsWordText (take n bytes)
+word_front bytes n is =
+    let rule = rule_of bytes (found Word n) refl is in
     let number = not (nat_eq (number_length bytes) 0) in
     let word = not (nat_eq (prefix_len is_word_byte bytes) 0) in
     elim (cases_Bool number) [
-      | inl e ↦ absurd (no_kind is_word_kind (Number, number_length bytes) found (sym (cond-true number _ _ e) ∙ is) refl refl)
+      | inl e ↦ absurd (no_kind is_word_kind (Number, number_length bytes) (found Word n) (sym (cond-true number _ _ e) ∙ rule) refl refl)
       | inr no_number ↦
-          let left : word_or_symbol bytes ≡ found = sym (cond-false number _ _ no_number) ∙ is in
+          let left : word_or_symbol bytes ≡ found Word n = sym (cond-false number _ _ no_number) ∙ rule in
           elim (cases_Bool word) [
-            | inl e ↦ word_bytes bytes one.0 (eqb-true _ 0 (not-false _ no_number)) (ap (λ (t : TokenKind × ℕ). t.1) (sym (cond-true word _ _ e) ∙ left))
-            | inr e ↦ absurd (no_kind is_word_kind (Symbol, 1) found (sym (cond-false word _ _ e) ∙ left) refl refl)
+            | inl e ↦
+                let size : prefix_len is_word_byte bytes ≡ n = ap (λ (t : TokenKind × ℕ). t.1) (sym (cond-true word _ _ e) ∙ left) in
+                let some : prefix_len is_word_byte bytes ≡ 0 → ⊥ = eqb-false _ 0 (not-true _ e) in
+                word_bytes bytes n (omega arith) (omega arith) (eqb-true _ 0 (not-false _ no_number))
+            | inr e ↦ absurd (no_kind is_word_kind (Symbol, 1) (found Word n) (sym (cond-false word _ _ e) ∙ left) refl refl)
           ]
     ]
+
+pub word_text : (bytes : List ℕ) → IsOneToken Word bytes → IsWordText bytes
+word_text bytes one = subst IsWordText (take-length bytes) (word_front bytes (length bytes) one.1)
+
+-- a piece at the end of a text is one token
+pub alone : (kind : TokenKind) (part : List ℕ) → IsPiece kind part [] → IsOneToken kind part
+alone kind part piece = (piece.some, ap token_at (sym (append-nil part)) ∙ piece.rule)
 
 -- what is there under a condition
 pub some_if : {A : Type 0} (b : Bool) (found : Option A) (value : A) → cond b found None ≡ Some value → (b ≡ true) × (found ≡ Some value)

@@ -1,11 +1,12 @@
 // Laws of settings, for whoever stands on this crate.
 ghost use Rattle.std.specs.Prelude.{◌≡◌, ◌≢◌, ℕ, true, false, List, [], ◌∷◌, Some, filter, codes};
 ghost use Rattle.sql_tokens.specs.Tokens.{tokens_of};
-ghost use Rattle.session_vars.specs.Settings.{AreSettings, applied, difference_of, is_text, value_at};
+ghost use Rattle.session_vars.specs.Settings.{AreSettings, applied, collation_settings, difference_of, is_text, value_at};
 ghost use Rattle.session_vars.specs.Shapes.{says_first, set_shape};
 ghost use Rattle.session_vars.specs.Statement.{without_comments};
 ghost use Rattle.session_vars.specs.Texts.{CanBeSet, is_assigned, names_text, session_text};
 ghost use Rattle.session_vars.specs.Tracked.{AreTracked};
+ghost use Rattle.session_vars.specs.declared.change.Change.{Change};
 ghost use Rattle.session_vars.specs.declared.change.SlotValue.{SlotValue};
 
 use crate::{SetShape, Slot, SlotValue};
@@ -31,4 +32,11 @@ pub fn difference_can_be_set()
 pub fn difference_read_again()
     ensures names { (from to : List SlotValue) (text : List ℕ) → AreTracked to → names_text (difference_of from to) ≡ Some text → set_shape text ≡ SetShape.Tracked (record { slot = Slot.Names; value = value_at to Slot.Names } ∷ record { slot = Slot.CharacterSetResults; value = SlotValue.Default } ∷ []) }
     ensures session { (from to : List SlotValue) (text : List ℕ) → AreTracked to → session_text (difference_of from to) ≡ Some text → set_shape text ≡ SetShape.Tracked (filter is_assigned (difference_of from to)) }
+{}
+
+/// What a SET statement gives is tracked, and so is what a collation gives: settings of which this holds stay so under
+/// the changes of a SET statement.
+pub fn settings_stay_tracked()
+    ensures collation { (number : ℕ) → AreTracked (collation_settings number) }
+    ensures applied { (text : List ℕ) (changes : List Change) (values : List SlotValue) → set_shape text ≡ SetShape.Tracked changes → AreTracked values → AreTracked (applied values changes) }
 {}
