@@ -6,7 +6,7 @@ use Rattle.std.proofs.lemmas.List.{append-nil}
 use Rattle.session_vars.specs.Texts.{assignment_text, is_assigned, session_by, session_text, with_assignment}
 use Rattle.session_vars.specs.declared.change.Change.{Change}
 
-abbrev with_comma : Change → List ℕ
+abbrev pub with_comma : Change → List ℕ
 with_comma change = codes ", " ++ assignment_text change
 
 -- behind a text that has one, each assignment stands behind a comma

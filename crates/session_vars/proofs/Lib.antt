@@ -1,5 +1,15 @@
+pub mod Again
+pub mod Assigned
+pub mod First
+pub mod Gives
 pub mod Joining
+pub mod OneToken
+pub mod Kept
 pub mod Leading
+pub mod NamesAgain
 pub mod Parts
+pub mod Pieces
+pub mod ReadAgain
+pub mod Rules
 pub mod Settable
 pub mod Sizes

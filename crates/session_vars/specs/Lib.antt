@@ -6,5 +6,6 @@ pub mod Shapes
 pub mod Slots
 pub mod Statement
 pub mod Texts
+pub mod Tracked
 pub mod Transactions
 pub mod Values

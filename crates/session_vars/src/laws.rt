@@ -1,10 +1,21 @@
 // Laws of settings, for whoever stands on this crate.
-ghost use Rattle.std.specs.Prelude.{◌≡◌, true, List};
-ghost use Rattle.session_vars.specs.Settings.{AreSettings, applied, difference_of, is_text, value_at};
-ghost use Rattle.session_vars.specs.Texts.{CanBeSet};
+ghost use Rattle.std.specs.Prelude.{◌≡◌, ◌≢◌, ℕ, true, false, List, [], ◌∷◌, Some, filter, codes};
+ghost use Rattle.sql_tokens.specs.Tokens.{tokens_of};
+ghost use Rattle.session_vars.specs.Settings.{AreSettings, applied, collation_settings, difference_of, is_text, value_at};
+ghost use Rattle.session_vars.specs.Shapes.{says_first, set_shape};
+ghost use Rattle.session_vars.specs.Statement.{without_comments};
+ghost use Rattle.session_vars.specs.Texts.{CanBeSet, is_assigned, names_text, session_text};
+ghost use Rattle.session_vars.specs.Tracked.{AreTracked};
+ghost use Rattle.session_vars.specs.declared.change.Change.{Change};
 ghost use Rattle.session_vars.specs.declared.change.SlotValue.{SlotValue};
 
-use crate::Slot;
+use crate::{SetShape, Slot, SlotValue};
+
+/// A statement is a SET statement exactly where its first word is SET; comments aren't looked at.
+pub fn first_word_decides()
+    ensures other { (text : List ℕ) → says_first text (without_comments (tokens_of text)) (codes "SET") ≡ false → set_shape text ≡ SetShape.NotSet }
+    ensures set { (text : List ℕ) → says_first text (without_comments (tokens_of text)) (codes "SET") ≡ true → set_shape text ≢ SetShape.NotSet }
+{}
 
 /// The changes that lead from settings to others do so, once they are made.
 pub fn difference_leads()
@@ -14,4 +25,18 @@ pub fn difference_leads()
 /// Two statements can make a difference, where `Names` is wanted as a text.
 pub fn difference_can_be_set()
     ensures { (from to : List SlotValue) → is_text (value_at to Slot.Names) ≡ true → CanBeSet (difference_of from to) }
+{}
+
+/// The two statements that make a difference are read as these very changes, where SET statements give the wanted
+/// values: SET NAMES as that of `Names`, with `CharacterSetResults` as default beside it, and SET SESSION as the others.
+pub fn difference_read_again()
+    ensures names { (from to : List SlotValue) (text : List ℕ) → AreTracked to → names_text (difference_of from to) ≡ Some text → set_shape text ≡ SetShape.Tracked (record { slot = Slot.Names; value = value_at to Slot.Names } ∷ record { slot = Slot.CharacterSetResults; value = SlotValue.Default } ∷ []) }
+    ensures session { (from to : List SlotValue) (text : List ℕ) → AreTracked to → session_text (difference_of from to) ≡ Some text → set_shape text ≡ SetShape.Tracked (filter is_assigned (difference_of from to)) }
+{}
+
+/// What a SET statement gives is tracked, and so is what a collation gives: settings of which this holds stay so under
+/// the changes of a SET statement.
+pub fn settings_stay_tracked()
+    ensures collation { (number : ℕ) → AreTracked (collation_settings number) }
+    ensures applied { (text : List ℕ) (changes : List Change) (values : List SlotValue) → set_shape text ≡ SetShape.Tracked changes → AreTracked values → AreTracked (applied values changes) }
 {}

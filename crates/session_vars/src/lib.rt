@@ -20,7 +20,10 @@ mod value;
 
 pub use change::{Change, Changes, SlotValue};
 pub use differences::difference;
-pub use laws::{difference_can_be_set, difference_leads};
+pub use laws::{
+    difference_can_be_set, difference_leads, difference_read_again, first_word_decides,
+    settings_stay_tracked,
+};
 pub use long_part::LongPart;
 pub use read::read_set;
 pub use settings::Settings;
