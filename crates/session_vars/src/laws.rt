@@ -2,8 +2,8 @@
 ghost use Rattle.std.specs.Prelude.{◌≡◌, ◌≢◌, ℕ, true, false, List, [], ◌∷◌, Some, filter, codes};
 ghost use Rattle.sql_tokens.specs.Tokens.{tokens_of};
 ghost use Rattle.session_vars.specs.Settings.{AreSettings, applied, collation_settings, difference_of, is_text, value_at};
-ghost use Rattle.session_vars.specs.Shapes.{says_first, set_shape};
-ghost use Rattle.session_vars.specs.Statement.{without_comments};
+ghost use Rattle.session_vars.specs.Shapes.{set_shape};
+ghost use Rattle.session_vars.specs.Statement.{says_first, without_comments};
 ghost use Rattle.session_vars.specs.Texts.{CanBeSet, is_assigned, names_text, session_text};
 ghost use Rattle.session_vars.specs.Tracked.{AreTracked};
 ghost use Rattle.session_vars.specs.declared.change.Change.{Change};
