@@ -35,3 +35,12 @@ shape_by text (token ∷ tokens) = if says text token (codes "SET") then shape_b
 -- the shape of a statement
 abbrev pub set_shape : (text : List ℕ) → SetShape
 set_shape text = shape_by text (statement_of text)
+
+-- the changes of a statement, where there is one and it is tracked
+abbrev pub changes_in : SetShape → List Change
+changes_in (Tracked changes) = changes
+changes_in _ = []
+
+abbrev pub changes_by : Option (List ℕ) → List Change
+changes_by None = []
+changes_by (Some text) = changes_in (set_shape text)
