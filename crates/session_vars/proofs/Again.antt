@@ -2,6 +2,7 @@
 use Rattle.std.proofs.Common.{◌≡◌, ◌≢◌, ◌⊎◌, ℕ, ◌+◌, Bool, true, false, not, ◌&&◌, ◌||◌, cond, List, [], ◌∷◌, ◌++◌, Option, Some, None, length, codes, drop, refl, sym, subst, ◌∙◌, ap, inl, inr, arith, append_assoc}
 use Rattle.std.specs.Cmp.Lexicographic.{bytes_decides}
 use Rattle.std.specs.List.{list_all, flat_map}
+use Rattle.std.specs.Option.{option_or}
 use Rattle.std.proofs.lemmas.Bool.{cond-true, cond-false, cases_Bool, and_parts, and_from, and_left, and_right, not-true}
 use Rattle.std.proofs.lemmas.List.{append-nil}
 use Rattle.sql_tokens.specs.Tokens.{tokens_of, tokens_behind}
@@ -11,9 +12,9 @@ use Rattle.sql_tokens.specs.declared.token.TokenKind.TheVariants.{Word}
 use Rattle.session_vars.specs.Assignments.{assignments}
 use Rattle.session_vars.specs.Names.{is_one_word, character_set, collation, lower_case, collated, names_value, names_changes}
 use Rattle.session_vars.specs.Scopes.{is_server_scope, sets_server}
-use Rattle.session_vars.specs.Shapes.{says_first, tracked_or_other, shape_behind, shape_by, set_shape}
+use Rattle.session_vars.specs.Shapes.{tracked_or_other, shape_behind, shape_by, set_shape}
 use Rattle.session_vars.specs.Slots.{name_of, all_slots}
-use Rattle.session_vars.specs.Statement.{is_comment, is_symbol, same_text, says, without_comments, without_end, statement_of}
+use Rattle.session_vars.specs.Statement.{says_first, is_comment, is_symbol, same_text, says, without_comments, without_end, statement_of}
 use Rattle.session_vars.specs.Transactions.{transaction_mode, mode_changes}
 use Rattle.session_vars.specs.declared.change.Change.{Change}
 use Rattle.session_vars.specs.declared.shape.SetShape.{SetShape}
@@ -22,6 +23,7 @@ use Rattle.session_vars.specs.Texts.{assignment_text}
 use Rattle.session_vars.specs.declared.slot.Slot.{Slot}
 use Rattle.session_vars.specs.declared.slot.Slot.TheVariants.{Names}
 use Rattle.session_vars.proofs.Assigned.{IsNamed, IsAssignmentRead, IsListRead, AreAssignable, counts, named, scoped, list_read, stops_before}
+use Rattle.session_vars.proofs.Dispatch.{no_names, no_mode}
 use Rattle.session_vars.proofs.Joining.{with_comma}
 use Rattle.session_vars.proofs.Pieces.{Stops, At, token_of, behind, scanned, said, behind_blank, past_blank, at_end}
 use Rattle.session_vars.proofs.Rules.{word_piece}
@@ -44,19 +46,6 @@ none_ends text (token ∷ next ∷ tokens) counting = ap (λ (rest : List Token)
 statement_is : (text : List ℕ) (tokens : List Token) → tokens_of text ≡ tokens → list_all (counts text) tokens ≡ true → statement_of text ≡ tokens
 statement_is text tokens scan counting = ap (λ (all : List Token). without_end text (without_comments all)) scan ∙ ap (without_end text) (all_count text tokens counting) ∙ none_ends text tokens counting
 
--- what doesn't begin with NAMES is no SET NAMES
-no_names : (text : List ℕ) (token : Token) (tokens : List Token) → says text token (codes "NAMES") ≡ false → names_value text (token ∷ tokens) ≡ None
-unfolding names_value
-no_names text token [] other = refl
-no_names text token (a ∷ []) other = cond-false (says text token (codes "NAMES")) _ _ other
-no_names text token (a ∷ b ∷ []) other = refl
-no_names text token (a ∷ b ∷ c ∷ []) other = cond-false (says text token (codes "NAMES") && says text b (codes "COLLATE")) _ _ (and_left _ _ other)
-no_names text token (a ∷ b ∷ c ∷ d ∷ tokens) other = refl
-
-no_mode : (text : List ℕ) (scope token : Token) (tokens : List Token) → says text token (codes "TRANSACTION") ≡ false → transaction_mode text (scope ∷ token ∷ tokens) ≡ None
-unfolding transaction_mode
-no_mode text scope token tokens other = cond-false _ _ _ (and_right _ (says text token (codes "TRANSACTION")) other)
-
 -- a statement of assignments
 assignments_shape : (text : List ℕ) (set scope token : Token) (tokens : List Token) (changes : List Change) → statement_of text ≡ set ∷ scope ∷ token ∷ tokens → says text set (codes "SET") ≡ true → says text scope (codes "NAMES") ≡ false → says text scope (codes "TRANSACTION") ≡ false → says text token (codes "TRANSACTION") ≡ false → sets_server text 0 true (scope ∷ token ∷ tokens) ≡ false → assignments text (scope ∷ token ∷ tokens) ≡ Some changes → set_shape text ≡ Tracked changes
 unfolding shape_behind
@@ -66,9 +55,10 @@ assignments_shape text set scope token tokens changes statement is_set no_names_
     ∙ cond-true (says text set (codes "SET")) _ _ is_set
     ∙ cond-false (sets_server text 0 true behind) _ _ unscoped
     ∙ cond-false (says text scope (codes "TRANSACTION")) _ _ no_transaction
-    ∙ ap (λ value. tracked_or_other (names_changes value) (mode_changes (transaction_mode text behind)) (assignments text behind)) (no_names text scope (token ∷ tokens) no_names_word)
-    ∙ ap (λ mode. tracked_or_other None (mode_changes mode) (assignments text behind)) (no_mode text scope token tokens no_mode_word)
-    ∙ ap (tracked_or_other None None) gives
+    ∙ ap tracked_or_other
+    (ap (λ value. option_or (names_changes value) (option_or (mode_changes (transaction_mode text behind)) (assignments text behind))) (no_names text scope (token ∷ tokens) no_names_word)
+    ∙ ap (λ mode. option_or (mode_changes mode) (assignments text behind)) (no_mode text scope token tokens no_mode_word)
+    ∙ gives)
 
 name_no_transaction : (slot : Slot) → same_text (name_of slot) (codes "TRANSACTION") ≡ false
 name_no_transaction Names = refl

@@ -6,12 +6,9 @@ use Rattle.sql_tokens.specs.Words.{bytes_of, word_by}
 use Rattle.sql_tokens.specs.declared.token.Token.{Token}
 use Rattle.sql_tokens.specs.declared.token.TokenKind.{TokenKind}
 use Rattle.sql_tokens.specs.declared.token.TokenKind.TheVariants.{Symbol}
-use Rattle.session_vars.specs.Shapes.{says_first, tracked_or_other, shape_behind, shape_by, set_shape}
-use Rattle.session_vars.specs.Statement.{is_symbol_kind, is_symbol, is_word, says, without_comments, without_end}
-use Rattle.session_vars.specs.Assignments.{assignments}
-use Rattle.session_vars.specs.Names.{names_value, names_changes}
+use Rattle.session_vars.specs.Shapes.{own_changes, own_shape, tracked_or_other, shape_behind, shape_by, set_shape}
+use Rattle.session_vars.specs.Statement.{says_first, is_symbol_kind, is_symbol, is_word, says, without_comments, without_end}
 use Rattle.session_vars.specs.Scopes.{sets_server}
-use Rattle.session_vars.specs.Transactions.{transaction_mode, mode_changes}
 use Rattle.session_vars.specs.declared.change.Change.{Change}
 use Rattle.session_vars.specs.declared.shape.SetShape.{SetShape}
 use Rattle.session_vars.specs.declared.shape.SetShape.TheVariants.{Tracked, Global, NextTransaction, Other, NotSet}
@@ -33,22 +30,20 @@ abbrev is_set_shape : SetShape → Bool
 is_set_shape NotSet = false
 is_set_shape _ = true
 
-tracked_is_set : (names mode assigned : Option (List Change)) → is_set_shape (tracked_or_other names mode assigned) ≡ true
-tracked_is_set (Some changes) mode assigned = refl
-tracked_is_set None (Some changes) assigned = refl
-tracked_is_set None None (Some changes) = refl
-tracked_is_set None None None = refl
+tracked_is_set : (changes : Option (List Change)) → is_set_shape (tracked_or_other changes) ≡ true
+tracked_is_set (Some changes) = refl
+tracked_is_set None = refl
 
 behind_is_set : (text : List ℕ) (tokens : List Token) → is_set_shape (shape_behind text tokens) ≡ true
 unfolding shape_behind
 behind_is_set text tokens =
-    let tracked = tracked_or_other (names_changes (names_value text tokens)) (mode_changes (transaction_mode text tokens)) (assignments text tokens) in
-    let transaction = says_first text tokens (codes "TRANSACTION") in
-    cond_both (sets_server text 0 true tokens) Global (cond transaction NextTransaction tracked) (λ (shape : SetShape). is_set_shape shape ≡ true) (λ _. refl)
-    (λ _. cond_both transaction NextTransaction tracked (λ (shape : SetShape). is_set_shape shape ≡ true) (λ _. refl) (λ _. tracked_is_set (names_changes (names_value text tokens)) (mode_changes (transaction_mode text tokens)) (assignments text tokens)))
+    let IsSet : SetShape → Type 0 = λ shape. is_set_shape shape ≡ true in
+    let changes = own_changes text tokens in
+    cond_both (sets_server text 0 true tokens) Global (own_shape text tokens) IsSet (λ _. refl)
+    (λ _. cond_both (says_first text tokens (codes "TRANSACTION")) NextTransaction (tracked_or_other changes) IsSet (λ _. refl) (λ _. tracked_is_set changes))
 
 -- a word is no symbol
-no_symbol : (kind : TokenKind) (bytes word : List ℕ) → is_word (word_by kind bytes) word ≡ true → is_symbol_kind kind ≡ false
+pub no_symbol : (kind : TokenKind) (bytes word : List ℕ) → is_word (word_by kind bytes) word ≡ true → is_symbol_kind kind ≡ false
 no_symbol Symbol bytes word says = absurd (cc)
 no_symbol _ bytes word says = refl
 

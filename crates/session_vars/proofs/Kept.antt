@@ -1,6 +1,7 @@
 -- Settings that SET statements change stay tracked.
 use Rattle.std.proofs.Common.{◌≡◌, ◌⊎◌, ◌≤◌, ◌<◌, ℕ, ◌+◌, Bool, true, false, not, ◌&&◌, ◌||◌, cond, nat_eq, nat_lt, bytes_eq, List, [], ◌∷◌, ◌++◌, Option, Some, None, length, set, get_or, take, drop, map, codes, find, option_map, option_and_then, refl, sym, subst, ◌∙◌, ap, inl, inr, arith}
 use Rattle.std.specs.Char.{to_ascii_lowercase, is_ascii_digit}
+use Rattle.std.specs.Option.{option_or}
 use Rattle.std.specs.List.{list_all, slice_split, onto_first, slice_get}
 use Rattle.std.proofs.lemmas.Bool.{cond-true, cond-false, cond_both, cases_Bool, cases_eq, cases_lt, and_parts, and_from, eq-eqb, lt-ltb, le-ltb, agree_below_at}
 use Rattle.std.proofs.lemmas.Grind.{get_or-set_at}
@@ -16,9 +17,9 @@ use Rattle.session_vars.specs.Assignments.{slot_of_variable, slot_of_name, slot_
 use Rattle.session_vars.specs.Names.{is_one_word_by, is_one_word, character_set, collation, lower_case, collated, names_value, names_changes}
 use Rattle.session_vars.specs.Scopes.{sets_server}
 use Rattle.session_vars.specs.Settings.{AreSettings, value_at, changed, applied, defaults, collation_names, collation_settings}
-use Rattle.session_vars.specs.Shapes.{says_first, tracked_or_other, shape_behind, shape_by, set_shape}
+use Rattle.session_vars.specs.Shapes.{own_changes, own_shape, tracked_or_other, shape_behind, shape_by, set_shape}
 use Rattle.session_vars.specs.Slots.{name_of, all_slots, assigned_slots, place_of, slot_named, unless_transaction}
-use Rattle.session_vars.specs.Statement.{is_symbol, is_comma, is_session_word, same_text, says, spoken_by, statement_of}
+use Rattle.session_vars.specs.Statement.{says_first, is_symbol, is_comma, is_session_word, same_text, says, spoken_by, statement_of}
 use Rattle.session_vars.specs.Texts.{is_names}
 use Rattle.session_vars.specs.Tracked.{IsCharacterSet, IsCollated, IsTrackedValue, AreTracked}
 use Rattle.session_vars.specs.Transactions.{slot_of, value_of as mode_value, transaction_mode, mode_changes}
@@ -290,22 +291,28 @@ names_changes_tracked (Some value) changes tracked is =
     subst AreTrackedChanges same (tracked value refl, (tt, tt))
 
 -- so all that a SET statement gives is tracked
-three_tracked : (names mode assigned : Option (List Change)) (changes : List Change) → ((found : List Change) → names ≡ Some found → AreTrackedChanges found) → ((found : List Change) → mode ≡ Some found → AreTrackedChanges found) → ((found : List Change) → assigned ≡ Some found → AreTrackedChanges found) → tracked_or_other names mode assigned ≡ Tracked changes → AreTrackedChanges changes
-three_tracked (Some found) mode assigned changes one two three is = let same : found ≡ changes = cc in subst AreTrackedChanges same (one found refl)
-three_tracked None (Some found) assigned changes one two three is = let same : found ≡ changes = cc in subst AreTrackedChanges same (two found refl)
-three_tracked None None (Some found) changes one two three is = let same : found ≡ changes = cc in subst AreTrackedChanges same (three found refl)
-three_tracked None None None changes one two three is = absurd (cc)
+abbrev AllTracked : Option (List Change) → Type 0
+AllTracked found = (changes : List Change) → found ≡ Some changes → AreTrackedChanges changes
+
+or_tracked : (first second : Option (List Change)) → AllTracked first → AllTracked second → AllTracked (option_or first second)
+or_tracked (Some found) second one other changes is = one changes is
+or_tracked None second one other changes is = other changes is
+
+given_tracked : (found : Option (List Change)) (changes : List Change) → AllTracked found → tracked_or_other found ≡ Tracked changes → AreTrackedChanges changes
+given_tracked None changes all is = absurd (cc)
+given_tracked (Some found) changes all is = let same : found ≡ changes = cc in subst AreTrackedChanges same (all found refl)
 
 behind_tracked : (text : List ℕ) (tokens : List Token) (changes : List Change) → AreFound text tokens → shape_behind text tokens ≡ Tracked changes → AreTrackedChanges changes
 unfolding shape_behind
 behind_tracked text tokens changes are is =
     let Gives : SetShape → Type 0 = λ shape. shape ≡ Tracked changes → AreTrackedChanges changes in
-    cond_both (sets_server text 0 true tokens) Global _ Gives (λ _ apart. absurd (cc))
-    (λ _. cond_both (says_first text tokens (codes "TRANSACTION")) NextTransaction _ Gives (λ _ apart. absurd (cc))
-    (λ _. three_tracked (names_changes (names_value text tokens)) (mode_changes (transaction_mode text tokens)) (assignments text tokens) changes
-    (λ found. names_changes_tracked (names_value text tokens) found (names_tracked text tokens))
-    (mode_tracked (transaction_mode text tokens))
-    (λ found. assignments_tracked text tokens found are))) is
+    let mode = mode_changes (transaction_mode text tokens) in
+    let all = or_tracked (names_changes (names_value text tokens)) (option_or mode (assignments text tokens))
+        (λ found. names_changes_tracked (names_value text tokens) found (names_tracked text tokens))
+        (or_tracked mode (assignments text tokens) (mode_tracked (transaction_mode text tokens)) (λ found. assignments_tracked text tokens found are)) in
+    cond_both (sets_server text 0 true tokens) Global (own_shape text tokens) Gives (λ _ apart. absurd (cc))
+    (λ _. cond_both (says_first text tokens (codes "TRANSACTION")) NextTransaction (tracked_or_other (own_changes text tokens)) Gives (λ _ apart. absurd (cc))
+    (λ _. given_tracked (own_changes text tokens) changes all)) is
 
 shape_tracked : (text : List ℕ) (tokens : List Token) (changes : List Change) → AreFound text tokens → shape_by text tokens ≡ Tracked changes → AreTrackedChanges changes
 shape_tracked text [] changes are is = absurd (cc)

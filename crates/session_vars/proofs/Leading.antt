@@ -17,14 +17,14 @@ same_value_is (Text a) Default h = absurd (cc)
 same_value_is (Text a) (Text b) h = ap (λ (bytes : List ℕ). Text bytes) ((bytes_decides a b).0 h)
 
 -- what hasn't to change is the same
-unchanged_is : (from to : List SlotValue) (slot : Slot) → has_to_change from to slot ≡ false → value_at from slot ≡ value_at to slot
+pub unchanged_is : (from to : List SlotValue) (slot : Slot) → has_to_change from to slot ≡ false → value_at from slot ≡ value_at to slot
 unfolding names_differ results_differ
 unchanged_is from to Names h = same_value_is _ _ (not-false _ (or_parts (differs from to Names) (is_text (value_at from CharacterSetResults) && not (is_text (value_at to CharacterSetResults))) h).0)
 unchanged_is from to CharacterSetResults h = same_value_is _ _ (not-false _ (or_parts (differs from to CharacterSetResults) (names_differ from to && is_text (value_at to CharacterSetResults)) h).0)
 unchanged_is from to slot h = same_value_is _ _ (not-false _ h)
 
 -- these slots stand at the places from one on to the last
-IsRun : (place : ℕ) → List Slot → Type 0
+pub IsRun : (place : ℕ) → List Slot → Type 0
 IsRun place [] = place ≡ 20
 IsRun place (slot ∷ slots) = (place_of slot ≡ place) × IsRun (suc place) slots
 
@@ -34,7 +34,7 @@ run_within place [] run = omega (arith, run)
 run_within place (slot ∷ slots) run = omega (arith, run_within (suc place) slots run.1)
 
 -- settings that are the wanted ones up to a place
-abbrev partly : (from to : List SlotValue) → ℕ → List SlotValue
+abbrev pub partly : (from to : List SlotValue) → ℕ → List SlotValue
 partly from to place = take place to ++ drop place from
 
 wanted_next : (from to : List SlotValue) (place : ℕ) → place < length to → take place to ++ (get_or to place Default ∷ drop (suc place) from) ≡ partly from to (suc place)
@@ -55,7 +55,7 @@ keep_next from to place in_from in_to same =
     ap (λ (rest : List SlotValue). take place to ++ rest) (drop_more from place Default in_from ∙ ap (λ n. get_or from place Default ∷ drop n from) (add-one place) ∙ ap (λ (value : SlotValue). value ∷ drop (suc place) from) same)
     ∙ wanted_next from to place in_to
 
-lead : (from to : List SlotValue) (place : ℕ) (slots : List Slot) → IsRun place slots → length from ≡ 20 → length to ≡ 20 → applied (partly from to place) (changes_of from to slots) ≡ to
+pub lead : (from to : List SlotValue) (place : ℕ) (slots : List Slot) → IsRun place slots → length from ≡ 20 → length to ≡ 20 → applied (partly from to place) (changes_of from to slots) ≡ to
 unfolding IsRun
 lead from to place [] run in_from in_to =
     ap (λ (front : List SlotValue). front ++ drop place from) (take_all place to (omega (arith, run)))
@@ -80,6 +80,14 @@ lead from to place (slot ∷ slots) run in_from in_to =
 all_run : IsRun 0 all_slots
 unfolding IsRun
 all_run = (refl, (refl, (refl, (refl, (refl, (refl, (refl, (refl, (refl, (refl, (refl, (refl, (refl, (refl, (refl, (refl, (refl, (refl, (refl, (refl, refl))))))))))))))))))))
+
+-- the slots behind `names` and character_set_results
+abbrev pub others : List Slot
+others = drop 2 all_slots
+
+pub others_run : IsRun 2 others
+unfolding IsRun
+others_run = all_run.1.1
 
 pub difference_leads : (from to : List SlotValue) → AreSettings from → AreSettings to → applied from (difference_of from to) ≡ to
 difference_leads from to in_from in_to = lead from to 0 all_slots all_run in_from in_to

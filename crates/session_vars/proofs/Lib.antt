@@ -1,5 +1,7 @@
 pub mod Again
 pub mod Assigned
+pub mod BothLead
+pub mod Dispatch
 pub mod First
 pub mod Gives
 pub mod Joining

@@ -1,6 +1,7 @@
 -- SET NAMES that is written for a value, read again.
 use Rattle.std.proofs.Common.{◌≡◌, ◌⊎◌, ℕ, ◌+◌, ◌-◌, true, false, ◌&&◌, ◌||◌, cond, nat_eq, List, [], ◌∷◌, ◌++◌, Option, Some, None, length, drop, codes, option_map, option_and_then, refl, sym, subst, ◌∙◌, ap, inl, inr, arith, append_assoc}
 use Rattle.std.specs.Cmp.Lexicographic.{bytes_decides}
+use Rattle.std.specs.Option.{option_or}
 use Rattle.std.proofs.lemmas.Bool.{cond-true, cond-false, and_parts, and_from, or_cases, eqb-true}
 use Rattle.std.proofs.lemmas.List.{append-nil}
 use Rattle.sql_tokens.specs.Spans.{AreTokens}
@@ -120,7 +121,7 @@ names_shape text rest value tokens read statement unscoped gives =
     ∙ cond-true (says text (token_of Word 0 (codes "SET")) (codes "SET")) _ _ (ap (λ word. same_text word (codes "SET")) read.set)
     ∙ cond-false (sets_server text 0 true behind) _ _ no_scope
     ∙ cond-false (says text names (codes "TRANSACTION")) _ _ (ap (λ word. same_text word (codes "TRANSACTION")) read.names)
-    ∙ ap (λ value. tracked_or_other (names_changes value) (mode_changes (transaction_mode text behind)) (assignments text behind)) gives
+    ∙ ap (λ value. tracked_or_other (option_or (names_changes value) (option_or (mode_changes (transaction_mode text behind)) (assignments text behind)))) gives
 
 -- what a word says of the character set and the collation
 set_said : (text set : List ℕ) (place : ℕ) → bytes_of text (token_of Word place set) ≡ set → is_character_set set ≡ true → character_set text (token_of Word place set) ≡ Some set

@@ -3,7 +3,7 @@ use Rattle.std.proofs.Common.{◌≡◌, ℕ, List, [], ◌∷◌, ◌++◌, Opt
 use Rattle.std.specs.List.{slice_split, onto_first}
 use Rattle.std.proofs.lemmas.Bool.{cond-true, cond-false, cases_Bool}
 use Rattle.sql_tokens.specs.declared.token.Token.{Token}
-use Rattle.session_vars.specs.Assignments.{assignment, assignments, all_assigned, with_change}
+use Rattle.session_vars.specs.Assignments.{assignment, assignments, all_assigned, assigned_behind, with_change}
 use Rattle.session_vars.specs.Statement.{is_comma, before_comma, behind_comma}
 use Rattle.session_vars.specs.declared.change.Change.{Change}
 
@@ -26,18 +26,13 @@ parts_from text (token ∷ tokens) =
           ∙ sym (ap (λ (part : List Token). part ∷ parts_behind text (behind_comma text (token ∷ tokens))) (cond-false (is_comma text token) _ _ e) ∙ ap (λ (rest : Option (List Token)). (token ∷ before_comma text tokens) ∷ parts_behind text rest) (cond-false (is_comma text token) _ _ e))
     ]
 
--- the changes of the parts behind a comma
-abbrev pub assigned_behind : (text : List ℕ) → Option (List Token) → Option (List Change)
-assigned_behind text None = Some []
-assigned_behind text (Some tokens) = assignments text tokens
-
 behind : (text : List ℕ) (part : List Token) (rest : Option (List Token)) → all_assigned text (part ∷ parts_behind text rest) ≡ with_change (assignment text part) (assigned_behind text rest)
 unfolding assignments
 behind text part None = refl
 behind text part (Some more) = refl
 
 -- the first assignment, and the others
-assignments_from : (text : List ℕ) (tokens : List Token) → assignments text tokens ≡ with_change (assignment text (before_comma text tokens)) (assigned_behind text (behind_comma text tokens))
+pub assignments_from : (text : List ℕ) (tokens : List Token) → assignments text tokens ≡ with_change (assignment text (before_comma text tokens)) (assigned_behind text (behind_comma text tokens))
 unfolding assignments
 assignments_from text tokens = ap (all_assigned text) (parts_from text tokens) ∙ behind text (before_comma text tokens) (behind_comma text tokens)
 

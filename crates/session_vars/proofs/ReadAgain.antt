@@ -20,7 +20,7 @@ use Rattle.session_vars.proofs.Again.{session_again}
 use Rattle.session_vars.proofs.Assigned.{AreAssignable}
 use Rattle.session_vars.proofs.NamesAgain.{names_again}
 
-abbrev change_of : Slot → SlotValue → Change
+abbrev pub change_of : Slot → SlotValue → Change
 change_of slot value = record { slot = slot; value = value }
 
 -- what SET SESSION makes of tracked settings can be assigned
@@ -30,7 +30,7 @@ tracked_assignable CharacterSetResults Default tracked assigned = absurd (cc)
 tracked_assignable CharacterSetResults (Text bytes) tracked assigned = (refl, tracked)
 tracked_assignable _ value tracked assigned = (refl, tracked)
 
-assignable : (from to : List SlotValue) (slots : List Slot) → AreTracked to → AreAssignable (filter is_assigned (changes_of from to slots))
+pub assignable : (from to : List SlotValue) (slots : List Slot) → AreTracked to → AreAssignable (filter is_assigned (changes_of from to slots))
 assignable from to [] tracked = tt
 assignable from to (slot ∷ slots) tracked =
     let change = change_of slot (value_at to slot) in
@@ -45,7 +45,7 @@ assignable from to (slot ∷ slots) tracked =
       | inr e ↦ subst AreAssignable (sym (ap (filter is_assigned) (cond-false (has_to_change from to slot) _ _ e))) rest
     ]
 
-written_again : (changes : List Change) (text : List ℕ) → AreAssignable changes → session_by changes ≡ Some text → set_shape text ≡ Tracked changes
+pub written_again : (changes : List Change) (text : List ℕ) → AreAssignable changes → session_by changes ≡ Some text → set_shape text ≡ Tracked changes
 written_again [] text assignable is = absurd (cc)
 written_again (change ∷ changes) text assignable is = session_again text change changes (cc) assignable
 
@@ -53,10 +53,10 @@ pub session_read_again : (from to : List SlotValue) (text : List ℕ) → AreTra
 session_read_again from to text tracked is = written_again (filter is_assigned (difference_of from to)) text (assignable from to all_slots tracked) is
 
 -- the change of `names` is the first of a difference, where it is one of it
-abbrev is_names_change : Change → Bool
+abbrev pub is_names_change : Change → Bool
 is_names_change change = is_names change.slot
 
-no_names_of : (from to : List SlotValue) (slots : List Slot) → list_any is_names slots ≡ false → list_any is_names_change (changes_of from to slots) ≡ false
+pub no_names_of : (from to : List SlotValue) (slots : List Slot) → list_any is_names slots ≡ false → list_any is_names_change (changes_of from to slots) ≡ false
 no_names_of from to [] none = refl
 no_names_of from to (slot ∷ slots) none =
     let parts = or_parts (is_names slot) (list_any is_names slots) none in
@@ -69,7 +69,7 @@ no_names_of from to (slot ∷ slots) none =
 find_last : (change : Change) (changes : List Change) → find is_names_change (reverse (change ∷ changes)) ≡ option_or (find is_names_change (reverse changes)) (find is_names_change (change ∷ []))
 find_last change changes = ap (find is_names_change) (reverse-append (change ∷ []) changes) ∙ find-append is_names_change (reverse changes) (change ∷ [])
 
-none_found : (changes : List Change) → list_any is_names_change changes ≡ false → find is_names_change (reverse changes) ≡ None
+pub none_found : (changes : List Change) → list_any is_names_change changes ≡ false → find is_names_change (reverse changes) ≡ None
 none_found [] none = refl
 none_found (change ∷ changes) none =
     let parts = or_parts (is_names change.slot) (list_any is_names_change changes) none in
@@ -81,18 +81,25 @@ names_said : (value : SlotValue) (text : List ℕ) → IsTrackedValue Names valu
 names_said Default text tracked is = absurd tracked
 names_said (Text bytes) text tracked is = names_again text bytes is tracked
 
+-- SET NAMES is written for a difference where `names` has to change, and only there
+abbrev statement_of_last : List Change → Option (List ℕ)
+statement_of_last changes = option_map names_statement (find is_names_change (reverse changes))
+
+no_others : (from to : List SlotValue) → find is_names_change (reverse (changes_of from to assigned_slots)) ≡ None
+no_others from to = none_found (changes_of from to assigned_slots) (no_names_of from to assigned_slots refl)
+
+pub names_written : (from to : List SlotValue) → has_to_change from to Names ≡ true → names_text (difference_of from to) ≡ Some (names_statement (change_of Names (value_at to Names)))
+names_written from to changed =
+    let change = change_of Names (value_at to Names) in
+    ap statement_of_last (cond-true (has_to_change from to Names) _ _ changed)
+    ∙ ap (option_map names_statement) (find_last change (changes_of from to assigned_slots) ∙ ap (λ (last : Option Change). option_or last (find is_names_change (change ∷ []))) (no_others from to))
+
+pub names_unwritten : (from to : List SlotValue) → has_to_change from to Names ≡ false → names_text (difference_of from to) ≡ None
+names_unwritten from to same = ap statement_of_last (cond-false (has_to_change from to Names) _ _ same) ∙ ap (option_map names_statement) (no_others from to)
+
 pub names_read_again : (from to : List SlotValue) (text : List ℕ) → AreTracked to → names_text (difference_of from to) ≡ Some text → set_shape text ≡ Tracked (change_of Names (value_at to Names) ∷ change_of CharacterSetResults Default ∷ [])
 names_read_again from to text tracked is =
-    let others = changes_of from to assigned_slots in
-    let none = none_found others (no_names_of from to assigned_slots refl) in
-    let change = change_of Names (value_at to Names) in
-    let statement : List Change → Option (List ℕ) = λ changes. option_map names_statement (find is_names_change (reverse changes)) in
     elim (cases_Bool (has_to_change from to Names)) [
-      | inl e ↦
-          let found : statement (change ∷ others) ≡ Some (names_statement change) = ap (option_map names_statement) (find_last change others ∙ ap (λ (last : Option Change). option_or last (find is_names_change (change ∷ []))) none) in
-          let same : Some (names_statement change) ≡ Some text = sym found ∙ sym (ap statement (cond-true (has_to_change from to Names) _ _ e)) ∙ is in
-          names_said (value_at to Names) text (tracked.1 Names) (cc)
-      | inr e ↦
-          let apart : None ≡ Some text = sym (ap (option_map names_statement) none) ∙ sym (ap statement (cond-false (has_to_change from to Names) _ _ e)) ∙ is in
-          absurd (cc)
+      | inl e ↦ let same = sym (names_written from to e) ∙ is in names_said (value_at to Names) text (tracked.1 Names) (cc)
+      | inr e ↦ let apart : None ≡ Some text = sym (names_unwritten from to e) ∙ is in absurd (cc)
     ]

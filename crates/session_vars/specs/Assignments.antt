@@ -78,3 +78,8 @@ all_assigned text (part ∷ parts) = with_change (assignment text part) (all_ass
 -- assignments with commas between them
 unfoldable pub assignments : (text : List ℕ) → List Token → Option (List Change)
 assignments text tokens = all_assigned text (slice_split (is_comma text) tokens)
+
+-- and those behind a comma, where there is one
+abbrev pub assigned_behind : (text : List ℕ) → Option (List Token) → Option (List Change)
+assigned_behind text None = Some []
+assigned_behind text (Some tokens) = assignments text tokens

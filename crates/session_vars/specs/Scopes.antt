@@ -6,6 +6,7 @@ use Rattle.sql_tokens.specs.declared.token.Token.{Token}
 use Rattle.sql_tokens.specs.declared.token.TokenKind.{TokenKind}
 use Rattle.sql_tokens.specs.declared.token.TokenKind.TheVariants.{Word, Name, SysVar}
 use Rattle.session_vars.specs.Statement.{same_text, is_symbol}
+use Rattle.session_vars.specs.declared.set_tokens.SetTokens.{SetTokens}
 
 unfoldable pub is_server_scope : List ℕ → Bool
 is_server_scope word = same_text word (codes "GLOBAL") || same_text word (codes "PERSIST") || same_text word (codes "PERSIST_ONLY")
@@ -30,3 +31,7 @@ abbrev pub sets_server : (text : List ℕ) → (depth : ℕ) → (first : Bool) 
 sets_server text depth first [] = false
 sets_server text depth first (token ∷ tokens) =
     (first && names_server token.kind (bytes_of text token)) || sets_server text (deeper text token depth) (is_symbol text token 44 && nat_eq depth 0) tokens
+
+-- whether one of these tokens does, of which some were taken
+abbrev pub server_set : (text : List ℕ) → SetTokens → Bool
+server_set text tokens = tokens.sets_server || sets_server text tokens.depth tokens.is_due tokens.left

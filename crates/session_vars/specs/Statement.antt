@@ -45,6 +45,18 @@ is_session_word text token = says text token (codes "SESSION") || says text toke
 abbrev pub is_comma : (text : List ℕ) → Token → Bool
 is_comma text token = is_symbol text token 44
 
+abbrev pub begins_with_comma : (text : List ℕ) → List Token → Bool
+begins_with_comma text [] = false
+begins_with_comma text (token ∷ tokens) = is_comma text token
+
+-- whether the first of these tokens is this word
+abbrev pub says_first : (text : List ℕ) → List Token → (word : List ℕ) → Bool
+says_first text [] word = false
+says_first text (token ∷ tokens) word = says text token word
+
+abbrev pub begins_with_session : (text : List ℕ) → List Token → Bool
+begins_with_session text tokens = says_first text tokens (codes "SESSION") || says_first text tokens (codes "LOCAL")
+
 -- the tokens before the first comma, and those behind it, where there is one
 abbrev pub before_comma : (text : List ℕ) → List Token → List Token
 before_comma text [] = []

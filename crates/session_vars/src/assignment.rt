@@ -1,9 +1,12 @@
 // Assignments of a SET statement, behind its SET.
 ghost use Rattle.std.specs.Prelude.{◌≡◌, ◌≤◌, ◌<◌, true, false, [], ◌∷◌, Some, None, length, take, IfOk, IfSome};
-ghost use Rattle.session_vars.specs.Assignments.{slot_of_variable, slot_of_name, slot_by, change_to, written, behind_colon, assigned, assignment, assignments};
-ghost use Rattle.session_vars.specs.Statement.{before_comma, behind_comma};
+ghost use Rattle.session_vars.specs.Assignments.{slot_of_variable, slot_of_name, slot_by, change_to, written, behind_colon, assigned, assignment, assignments, assigned_behind, with_change};
+ghost use Rattle.session_vars.specs.Statement.{is_session_word, before_comma, behind_comma};
+ghost use Rattle.session_vars.specs.Scopes.{server_set};
+ghost use Rattle.sql_tokens.specs.declared.token.Token.{Token};
 
-use crate::statement::{Statement, behind, inside, is_session_word, is_symbol, same_text};
+use crate::set_tokens::SetTokens;
+use crate::statement::{behind, inside, is_session_word, is_symbol, same_text};
 use crate::value::{negative_value, value_of};
 use crate::{Change, Changes, Slot, SlotValue};
 use mx_base::OutOfMemory;
@@ -65,12 +68,13 @@ fn written(
     alloc: Global,
     text: &[u8],
     slot: Slot,
-    tokens: &mut Statement,
+    tokens: &mut SetTokens,
 ) -> Result<Option<Change>, OutOfMemory>
-    ensures value { IfOk result (λ change. change ≡ written text.now slot (before_comma text.now tokens.old)) }
-    ensures end { IfOk result (λ change. IfSome change (λ _. before_comma text.now tokens.new ≡ [])) }
-    ensures rest { behind_comma text.now tokens.new ≡ behind_comma text.now tokens.old }
-    ensures shorter { length tokens.new ≤ length tokens.old }
+    ensures value { IfOk result (λ change. change ≡ written text.now slot (before_comma text.now tokens.old.left)) }
+    ensures end { IfOk result (λ change. IfSome change (λ _. before_comma text.now tokens.new.left ≡ [])) }
+    ensures rest { behind_comma text.now tokens.new.left ≡ behind_comma text.now tokens.old.left }
+    ensures shorter { length tokens.new.left ≤ length tokens.old.left }
+    ensures scope { server_set text.now tokens.new ≡ server_set text.now tokens.old }
 {
     let Some(first) = tokens.next_before_comma(text) else {
         return Ok(None);
@@ -93,12 +97,13 @@ fn behind_colon(
     text: &[u8],
     slot: Slot,
     colon: &Token,
-    tokens: &mut Statement,
+    tokens: &mut SetTokens,
 ) -> Result<Option<Change>, OutOfMemory>
-    ensures value { IfOk result (λ change. change ≡ behind_colon text.now slot colon.now (before_comma text.now tokens.old)) }
-    ensures end { IfOk result (λ change. IfSome change (λ _. before_comma text.now tokens.new ≡ [])) }
-    ensures rest { behind_comma text.now tokens.new ≡ behind_comma text.now tokens.old }
-    ensures shorter { length tokens.new ≤ length tokens.old }
+    ensures value { IfOk result (λ change. change ≡ behind_colon text.now slot colon.now (before_comma text.now tokens.old.left)) }
+    ensures end { IfOk result (λ change. IfSome change (λ _. before_comma text.now tokens.new.left ≡ [])) }
+    ensures rest { behind_comma text.now tokens.new.left ≡ behind_comma text.now tokens.old.left }
+    ensures shorter { length tokens.new.left ≤ length tokens.old.left }
+    ensures scope { server_set text.now tokens.new ≡ server_set text.now tokens.old }
 {
     let Some(equals) = tokens.next_before_comma(text) else {
         return Ok(None);
@@ -117,12 +122,13 @@ fn assigned(
     text: &[u8],
     slot: Slot,
     equals: &Token,
-    tokens: &mut Statement,
+    tokens: &mut SetTokens,
 ) -> Result<Option<Change>, OutOfMemory>
-    ensures value { IfOk result (λ change. change ≡ assigned text.now (Some slot) (equals.now ∷ before_comma text.now tokens.old)) }
-    ensures end { IfOk result (λ change. IfSome change (λ _. before_comma text.now tokens.new ≡ [])) }
-    ensures rest { behind_comma text.now tokens.new ≡ behind_comma text.now tokens.old }
-    ensures shorter { length tokens.new ≤ length tokens.old }
+    ensures value { IfOk result (λ change. change ≡ assigned text.now (Some slot) (equals.now ∷ before_comma text.now tokens.old.left)) }
+    ensures end { IfOk result (λ change. IfSome change (λ _. before_comma text.now tokens.new.left ≡ [])) }
+    ensures rest { behind_comma text.now tokens.new.left ≡ behind_comma text.now tokens.old.left }
+    ensures shorter { length tokens.new.left ≤ length tokens.old.left }
+    ensures scope { server_set text.now tokens.new ≡ server_set text.now tokens.old }
 {
     if is_symbol(text, equals, b'=') {
         written(alloc, text, slot, tokens)
@@ -133,20 +139,21 @@ fn assigned(
     }
 }
 
-// A bare name behind SESSION or LOCAL, and what is assigned.
+// The `=` or `:=` and the value, where there is a setting.
 #[tactic(auto, unfolding(crate::specs::Assignments::assigned))]
-fn assigned_by_name(
+fn assigned_to(
     alloc: Global,
     text: &[u8],
-    name: &Token,
-    tokens: &mut Statement,
+    slot: Option<Slot>,
+    tokens: &mut SetTokens,
 ) -> Result<Option<Change>, OutOfMemory>
-    ensures value { IfOk result (λ change. change ≡ assigned text.now (slot_of_name text.now name.now) (before_comma text.now tokens.old)) }
-    ensures end { IfOk result (λ change. IfSome change (λ _. before_comma text.now tokens.new ≡ [])) }
-    ensures rest { behind_comma text.now tokens.new ≡ behind_comma text.now tokens.old }
-    ensures shorter { length tokens.new ≤ length tokens.old }
+    ensures value { IfOk result (λ change. change ≡ assigned text.now slot (before_comma text.now tokens.old.left)) }
+    ensures end { IfOk result (λ change. IfSome change (λ _. before_comma text.now tokens.new.left ≡ [])) }
+    ensures rest { behind_comma text.now tokens.new.left ≡ behind_comma text.now tokens.old.left }
+    ensures shorter { length tokens.new.left ≤ length tokens.old.left }
+    ensures scope { server_set text.now tokens.new ≡ server_set text.now tokens.old }
 {
-    let Some(slot) = slot_of_name(text, name) else {
+    let Some(slot) = slot else {
         return Ok(None);
     };
     let Some(equals) = tokens.next_before_comma(text) else {
@@ -155,59 +162,106 @@ fn assigned_by_name(
     assigned(alloc, text, slot, &equals, tokens)
 }
 
+// A bare name behind SESSION or LOCAL, which was taken, and what is assigned.
+#[tactic(auto, unfolding(crate::specs::Assignments::assigned, crate::specs::Assignments::assignment))]
+fn assigned_behind_scope(
+    alloc: Global,
+    text: &[u8],
+    tokens: &mut SetTokens,
+) -> Result<Option<Change>, OutOfMemory>
+    ensures value { (scope : Token) → is_session_word text.now scope ≡ true → IfOk result (λ change. change ≡ assignment text.now (scope ∷ before_comma text.now tokens.old.left)) }
+    ensures end { IfOk result (λ change. IfSome change (λ _. before_comma text.now tokens.new.left ≡ [])) }
+    ensures rest { behind_comma text.now tokens.new.left ≡ behind_comma text.now tokens.old.left }
+    ensures shorter { length tokens.new.left ≤ length tokens.old.left }
+    ensures scope { server_set text.now tokens.new ≡ server_set text.now tokens.old }
+{
+    let Some(name) = tokens.next_before_comma(text) else {
+        return Ok(None);
+    };
+    assigned_to(alloc, text, slot_of_name(text, &name), tokens)
+}
+
 // One assignment, to a comma or the end.
 #[tactic(auto, unfolding(crate::specs::Assignments::assignment, crate::specs::Assignments::assigned))]
 fn assignment(
     alloc: Global,
     text: &[u8],
-    tokens: &mut Statement,
+    tokens: &mut SetTokens,
 ) -> Result<Option<Change>, OutOfMemory>
-    ensures value { IfOk result (λ change. change ≡ assignment text.now (before_comma text.now tokens.old)) }
-    ensures end { IfOk result (λ change. IfSome change (λ _. before_comma text.now tokens.new ≡ [])) }
-    ensures rest { behind_comma text.now tokens.new ≡ behind_comma text.now tokens.old }
-    ensures shorter { length tokens.new ≤ length tokens.old }
+    ensures value { IfOk result (λ change. change ≡ assignment text.now (before_comma text.now tokens.old.left)) }
+    ensures end { IfOk result (λ change. IfSome change (λ _. before_comma text.now tokens.new.left ≡ [])) }
+    ensures rest { behind_comma text.now tokens.new.left ≡ behind_comma text.now tokens.old.left }
+    ensures shorter { length tokens.new.left ≤ length tokens.old.left }
+    ensures scope { server_set text.now tokens.new ≡ server_set text.now tokens.old }
 {
     let Some(first) = tokens.next_before_comma(text) else {
         return Ok(None);
     };
-    let Some(second) = tokens.next_before_comma(text) else {
-        return Ok(None);
-    };
     if is_session_word(text, &first) {
-        return assigned_by_name(alloc, text, &second, tokens);
+        return assigned_behind_scope(alloc, text, tokens);
     }
-    let Some(slot) = slot_by(first.kind, bytes_of(text, &first)) else {
-        return Ok(None);
-    };
-    assigned(alloc, text, slot, &second, tokens)
+    let slot = slot_by(first.kind, bytes_of(text, &first));
+    assigned_to(alloc, text, slot, tokens)
 }
 
 // Takes the comma behind an assignment. False where none is left.
-fn take_comma(text: &[u8], tokens: &mut Statement) -> bool
-    requires { before_comma text.now tokens.old ≡ [] }
-    ensures more { result ≡ true → behind_comma text.now tokens.old ≡ Some tokens.new }
-    ensures end { result ≡ false → behind_comma text.now tokens.old ≡ None }
-    ensures shorter { result ≡ true → length tokens.new < length tokens.old }
+fn take_comma(text: &[u8], tokens: &mut SetTokens) -> bool
+    requires { before_comma text.now tokens.old.left ≡ [] }
+    ensures more { result ≡ true → behind_comma text.now tokens.old.left ≡ Some tokens.new.left }
+    ensures end { result ≡ false → behind_comma text.now tokens.old.left ≡ None }
+    ensures shorter { result ≡ true → length tokens.new.left < length tokens.old.left }
+    ensures scope { server_set text.now tokens.new ≡ server_set text.now tokens.old }
 {
-    tokens.next().is_some()
+    tokens.next(text).is_some()
+}
+
+// The assignments behind a first one, each behind a comma, to the end.
+fn assignments_behind(
+    alloc: Global,
+    text: &[u8],
+    first: Option<Change>,
+    tokens: &mut SetTokens,
+) -> Result<Option<Changes>, OutOfMemory>
+    requires { IfSome first (λ _. before_comma text.now tokens.old.left ≡ []) }
+    ensures changes { IfOk result (λ changes. changes ≡ with_change first (assigned_behind text.now (behind_comma text.now tokens.old.left))) }
+    ensures scope { server_set text.now tokens.new ≡ server_set text.now tokens.old }
+{
+    let Some(first) = first else {
+        return Ok(None);
+    };
+    let mut changes = Changes::new(alloc);
+    changes.push(first)?;
+    'parts: while take_comma(text, tokens) {
+        let Some(change) = assignment(alloc, text, tokens)? else {
+            return Ok(None);
+        };
+        changes.push(change)?;
+    }
+    Ok(Some(changes))
 }
 
 // Assignments with commas between them, to the end.
 pub(crate) fn assignments(
     alloc: Global,
     text: &[u8],
-    tokens: &mut Statement,
+    tokens: &mut SetTokens,
 ) -> Result<Option<Changes>, OutOfMemory>
-    ensures { IfOk result (λ changes. changes ≡ assignments text.now tokens.old) }
+    ensures changes { IfOk result (λ changes. changes ≡ assignments text.now tokens.old.left) }
+    ensures scope { server_set text.now tokens.new ≡ server_set text.now tokens.old }
 {
-    let mut changes = Changes::new(alloc);
-    'parts: loop {
-        let Some(change) = assignment(alloc, text, tokens)? else {
-            return Ok(None);
-        };
-        changes.push(change)?;
-        if !take_comma(text, tokens) {
-            return Ok(Some(changes));
-        }
-    }
+    let first = assignment(alloc, text, tokens)?;
+    assignments_behind(alloc, text, first, tokens)
+}
+
+// The same where SESSION or LOCAL, which stood before the first one, was taken.
+pub(crate) fn assignments_behind_scope(
+    alloc: Global,
+    text: &[u8],
+    tokens: &mut SetTokens,
+) -> Result<Option<Changes>, OutOfMemory>
+    ensures changes { (scope : Token) → is_session_word text.now scope ≡ true → IfOk result (λ changes. changes ≡ assignments text.now (scope ∷ tokens.old.left)) }
+    ensures scope { server_set text.now tokens.new ≡ server_set text.now tokens.old }
+{
+    let first = assigned_behind_scope(alloc, text, tokens)?;
+    assignments_behind(alloc, text, first, tokens)
 }

@@ -2,8 +2,8 @@
 ghost use Rattle.std.specs.Prelude.{◌≡◌, ◌≢◌, ℕ, true, false, List, [], ◌∷◌, Some, filter, codes};
 ghost use Rattle.sql_tokens.specs.Tokens.{tokens_of};
 ghost use Rattle.session_vars.specs.Settings.{AreSettings, applied, collation_settings, difference_of, is_text, value_at};
-ghost use Rattle.session_vars.specs.Shapes.{says_first, set_shape};
-ghost use Rattle.session_vars.specs.Statement.{without_comments};
+ghost use Rattle.session_vars.specs.Shapes.{changes_by, set_shape};
+ghost use Rattle.session_vars.specs.Statement.{says_first, without_comments};
 ghost use Rattle.session_vars.specs.Texts.{CanBeSet, is_assigned, names_text, session_text};
 ghost use Rattle.session_vars.specs.Tracked.{AreTracked};
 ghost use Rattle.session_vars.specs.declared.change.Change.{Change};
@@ -29,9 +29,11 @@ pub fn difference_can_be_set()
 
 /// The two statements that make a difference are read as these very changes, where SET statements give the wanted
 /// values: SET NAMES as that of `Names`, with `CharacterSetResults` as default beside it, and SET SESSION as the others.
+/// So the one statement and then the other lead to the wanted settings.
 pub fn difference_read_again()
     ensures names { (from to : List SlotValue) (text : List ℕ) → AreTracked to → names_text (difference_of from to) ≡ Some text → set_shape text ≡ SetShape.Tracked (record { slot = Slot.Names; value = value_at to Slot.Names } ∷ record { slot = Slot.CharacterSetResults; value = SlotValue.Default } ∷ []) }
     ensures session { (from to : List SlotValue) (text : List ℕ) → AreTracked to → session_text (difference_of from to) ≡ Some text → set_shape text ≡ SetShape.Tracked (filter is_assigned (difference_of from to)) }
+    ensures leads { (from to : List SlotValue) → AreSettings from → AreTracked to → applied (applied from (changes_by (names_text (difference_of from to)))) (changes_by (session_text (difference_of from to))) ≡ to }
 {}
 
 /// What a SET statement gives is tracked, and so is what a collation gives: settings of which this holds stay so under

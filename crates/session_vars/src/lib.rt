@@ -10,6 +10,7 @@ mod long_part;
 mod names;
 mod read;
 mod scope;
+mod set_tokens;
 mod settings;
 mod shape;
 mod slot;

@@ -1,9 +1,11 @@
 // SET NAMES, behind its SET.
 ghost use Rattle.std.specs.Prelude.{◌≡◌, [], ◌∷◌, ◌++◌, IfOk, codes};
 ghost use Rattle.std.specs.Option.{option_copied};
+ghost use Rattle.session_vars.specs.Scopes.{server_set};
 ghost use Rattle.session_vars.specs.Names.{is_one_word, character_set, collation, lower_case, collated, names_value};
 
-use crate::statement::{Statement, says, spoken};
+use crate::set_tokens::SetTokens;
+use crate::statement::{says, spoken};
 use crate::value::is_character_set;
 use mx_base::{Bytes, OutOfMemory};
 use sql_tokens::{Token, TokenKind, Tokens};
@@ -117,23 +119,24 @@ fn collated_names(
 pub(crate) fn names_value(
     alloc: Global,
     text: &[u8],
-    tokens: &mut Statement,
+    tokens: &mut SetTokens,
 ) -> Result<Option<Bytes>, OutOfMemory>
-    ensures { IfOk result (λ value. value ≡ names_value text.now tokens.old) }
+    ensures value { IfOk result (λ value. value ≡ names_value text.now tokens.old.left) }
+    ensures scope { server_set text.now tokens.new ≡ server_set text.now tokens.old }
 {
-    let Some(names) = tokens.next() else {
+    let Some(names) = tokens.next(text) else {
         return Ok(None);
     };
-    let Some(set) = tokens.next() else {
+    let Some(set) = tokens.next(text) else {
         return Ok(None);
     };
-    let Some(collate) = tokens.next() else {
+    let Some(collate) = tokens.next(text) else {
         return plain_names(alloc, text, &names, &set);
     };
-    let Some(name) = tokens.next() else {
+    let Some(name) = tokens.next(text) else {
         return Ok(None);
     };
-    match tokens.next() {
+    match tokens.next(text) {
         None => collated_names(alloc, text, &names, &set, &collate, &name),
         Some(_) => Ok(None),
     }

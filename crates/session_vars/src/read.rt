@@ -1,15 +1,15 @@
 // SET statements that are read.
-ghost use Rattle.std.specs.Prelude.{◌≡◌, ◌<◌, ◌^◌, [], length, drop, IfOk};
+ghost use Rattle.std.specs.Prelude.{◌≡◌, true, IfOk};
 ghost use Rattle.session_vars.specs.Names.{names_changes};
-ghost use Rattle.session_vars.specs.Shapes.{says_first, tracked_or_other, shape_behind, set_shape};
-ghost use Rattle.session_vars.specs.Statement.{statement_of};
+ghost use Rattle.session_vars.specs.Scopes.{server_set};
+ghost use Rattle.session_vars.specs.Shapes.{own_changes, own_shape, set_shape};
+ghost use Rattle.session_vars.specs.Statement.{begins_with_session};
 ghost use Rattle.session_vars.specs.Transactions.{mode_changes};
 
-use crate::assignment::assignments;
+use crate::assignment::{assignments, assignments_behind_scope};
 use crate::names::names_value;
-use crate::scope::sets_server;
-use crate::statement::{Statement, says};
-use crate::transaction::{Mode, transaction_mode};
+use crate::set_tokens::SetTokens;
+use crate::transaction::{Mode, mode_of};
 use crate::{Change, Changes, SetShape, Slot, SlotValue};
 use mx_base::{Bytes, OutOfMemory};
 use std::alloc::Global;
@@ -47,63 +47,56 @@ fn mode_changes(alloc: Global, mode: Option<Mode>) -> Result<Option<Changes>, Ou
     Ok(Some(changes))
 }
 
-// The tokens of a statement behind the first one.
-#[tactic(auto, using(crate::proofs::Sizes::statement_size))]
-fn behind_first<'a>(text: &'a [u8]) -> Statement<'a>
-    ensures rest { result ≡ drop 1 (statement_of text.now) }
-    ensures small { length result < 2 ^ 64 }
+// The changes of SET SESSION TRANSACTION, or of assignments the first of which is scoped.
+fn scoped_changes(
+    alloc: Global,
+    text: &[u8],
+    tokens: &mut SetTokens,
+) -> Result<Option<Changes>, OutOfMemory>
+    requires { begins_with_session text.now tokens.old.left ≡ true }
+    ensures changes { IfOk result (λ changes. changes ≡ own_changes text.now tokens.old.left) }
+    ensures scope { server_set text.now tokens.new ≡ server_set text.now tokens.old }
 {
-    let mut tokens = Statement::of(text);
-    let _ = tokens.next();
-    tokens
-}
-
-// Whether the first of these tokens is this word.
-fn says_first(text: &[u8], mut tokens: Statement, word: &[u8]) -> bool
-    ensures { result ≡ says_first text.now tokens.entry word.now }
-{
-    match tokens.next() {
-        Some(token) => says(text, &token, word),
-        None => false,
-    }
-}
-
-// The first of three that is there.
-fn tracked_or_other(
-    names: Option<Changes>,
-    mode: Option<Changes>,
-    assigned: Option<Changes>,
-) -> SetShape
-    ensures { result ≡ tracked_or_other names mode assigned }
-{
-    if let Some(changes) = names {
-        return SetShape::Tracked(changes);
-    }
-    if let Some(changes) = mode {
-        return SetShape::Tracked(changes);
-    }
-    match assigned {
-        Some(changes) => SetShape::Tracked(changes),
-        None => SetShape::Other,
+    let _scope = tokens.next(text);
+    if tokens.begins_with(text, b"TRANSACTION") {
+        let _transaction = tokens.next(text);
+        mode_changes(alloc, mode_of(text, tokens))
+    } else {
+        assignments_behind_scope(alloc, text, tokens)
     }
 }
 
-// The shape of a statement whose first word is SET.
-#[tactic(auto, unfolding(crate::specs::Shapes::shape_behind))]
-fn shape_behind(alloc: Global, text: &[u8]) -> Result<SetShape, OutOfMemory>
-    ensures { IfOk result (λ shape. shape ≡ shape_behind text.now (drop 1 (statement_of text.now))) }
+// The changes of SET NAMES, SET SESSION TRANSACTION or assignments, by the tokens behind SET.
+fn own_changes(
+    alloc: Global,
+    text: &[u8],
+    tokens: &mut SetTokens,
+) -> Result<Option<Changes>, OutOfMemory>
+    ensures changes { IfOk result (λ changes. changes ≡ own_changes text.now tokens.old.left) }
+    ensures scope { server_set text.now tokens.new ≡ server_set text.now tokens.old }
 {
-    if sets_server(text, behind_first(text)) {
-        return Ok(SetShape::Global);
+    if tokens.begins_with(text, b"NAMES") {
+        let value = names_value(alloc, text, tokens)?;
+        return names_changes(alloc, value);
     }
-    if says_first(text, behind_first(text), b"TRANSACTION") {
+    if tokens.begins_with(text, b"SESSION") || tokens.begins_with(text, b"LOCAL") {
+        return scoped_changes(alloc, text, tokens);
+    }
+    assignments(alloc, text, tokens)
+}
+
+// The shape, by the tokens behind SET, where nothing is set of the whole server.
+fn own_shape(alloc: Global, text: &[u8], tokens: &mut SetTokens) -> Result<SetShape, OutOfMemory>
+    ensures shape { IfOk result (λ shape. shape ≡ own_shape text.now tokens.old.left) }
+    ensures scope { server_set text.now tokens.new ≡ server_set text.now tokens.old }
+{
+    if tokens.begins_with(text, b"TRANSACTION") {
         return Ok(SetShape::NextTransaction);
     }
-    let value = names_value(alloc, text, &mut behind_first(text))?;
-    let names = names_changes(alloc, value)?;
-    let mode = mode_changes(alloc, transaction_mode(text, &mut behind_first(text)))?;
-    let assigned = assignments(alloc, text, &mut behind_first(text))?;
-    Ok(tracked_or_other(names, mode, assigned))
+    match own_changes(alloc, text, tokens)? {
+        Some(changes) => Ok(SetShape::Tracked(changes)),
+        None => Ok(SetShape::Other),
+    }
 }
 
 /// What a statement is, as a SET statement (MySQL Reference Manual, "SET Syntax for Variable Assignment" and "SET
@@ -112,9 +105,13 @@ fn shape_behind(alloc: Global, text: &[u8]) -> Result<SetShape, OutOfMemory>
 pub fn read_set(alloc: Global, text: &[u8]) -> Result<SetShape, OutOfMemory>
     ensures { IfOk result (λ shape. shape ≡ set_shape text.now) }
 {
-    if says_first(text, Statement::of(text), b"SET") {
-        shape_behind(alloc, text)
+    let Some(mut tokens) = SetTokens::of(text) else {
+        return Ok(SetShape::NotSet);
+    };
+    let shape = own_shape(alloc, text, &mut tokens)?;
+    if tokens.sets_server(text) {
+        Ok(SetShape::Global)
     } else {
-        Ok(SetShape::NotSet)
+        Ok(shape)
     }
 }

@@ -1,9 +1,9 @@
-// Whether a SET statement sets anything of the whole server.
-ghost use Rattle.std.specs.Prelude.{◌≡◌, ◌+◌, ◌<◌, ◌^◌, true, not, nat_eq, length};
+// Scopes of the whole server.
+ghost use Rattle.std.specs.Prelude.{◌≡◌, ◌+◌, ◌<◌, ◌^◌, not, nat_eq};
 ghost use Rattle.std.specs.List.{prefix_len};
-ghost use Rattle.session_vars.specs.Scopes.{is_server_scope, before_dot, names_server, deeper, sets_server};
+ghost use Rattle.session_vars.specs.Scopes.{is_server_scope, before_dot, names_server, deeper};
 
-use crate::statement::{Statement, behind, inside, is_symbol, same_text};
+use crate::statement::{behind, inside, is_symbol, same_text};
 use sql_tokens::{Token, TokenKind, bytes_of};
 
 #[tactic(auto, unfolding(crate::specs::Scopes::is_server_scope))]
@@ -28,7 +28,7 @@ fn before_dot(bytes: &[u8]) -> &[u8]
 }
 
 // The word GLOBAL, PERSIST or PERSIST_ONLY, or a system variable whose first part is one of them.
-fn names_server(kind: TokenKind, bytes: &[u8]) -> bool
+pub(crate) fn names_server(kind: TokenKind, bytes: &[u8]) -> bool
     ensures { result ≡ names_server kind bytes.now }
 {
     match kind {
@@ -40,7 +40,7 @@ fn names_server(kind: TokenKind, bytes: &[u8]) -> bool
 }
 
 // How many brackets are open behind a token; one that closes nothing is passed over.
-fn deeper(text: &[u8], token: &Token, depth: usize) -> usize
+pub(crate) fn deeper(text: &[u8], token: &Token, depth: usize) -> usize
     requires { depth + 1 < 2 ^ 64 }
     ensures { result ≡ deeper text.now token.now depth }
 {
@@ -51,21 +51,4 @@ fn deeper(text: &[u8], token: &Token, depth: usize) -> usize
     } else {
         depth
     }
-}
-
-// Whether a SET statement sets anything of the whole server, by its tokens behind SET.
-pub(crate) fn sets_server(text: &[u8], tokens: Statement) -> bool
-    requires { length tokens < 2 ^ 64 }
-    ensures { result ≡ sets_server text.now 0 true tokens.entry }
-{
-    let mut depth = 0usize;
-    let mut first = true;
-    for token in tokens {
-        if first && names_server(token.kind, bytes_of(text, &token)) {
-            return true;
-        }
-        first = is_symbol(text, &token, b',') && depth == 0;
-        depth = deeper(text, &token, depth);
-    }
-    false
 }

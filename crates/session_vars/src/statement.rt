@@ -1,8 +1,8 @@
 // The tokens of a statement that count.
 ghost use Rattle.std.specs.Prelude.{◌≡◌};
 ghost use Rattle.std.specs.Iterator.{YieldsFirst, item_count};
-ghost use Rattle.std.specs.Prelude.{◌<◌, [], ◌∷◌, length, drop, slice_range, MatchOption, option_copied};
-ghost use Rattle.session_vars.specs.Statement.{statement_of, without_comments, same_text, says, is_symbol, is_session_word, spoken_by, before_comma, behind_comma};
+ghost use Rattle.std.specs.Prelude.{true, false, [], ◌∷◌, drop, MatchOption, option_copied};
+ghost use Rattle.session_vars.specs.Statement.{statement_of, without_comments, same_text, says, says_first, is_symbol, is_session_word, spoken_by, before_comma, begins_with_comma};
 ghost use Rattle.sql_tokens.specs.Words.{bytes_of as bytes_at, inside};
 
 use sql_tokens::{Token, TokenKind, Tokens, bytes_of, word_of};
@@ -42,15 +42,25 @@ impl<'a> Statement<'a> {
         }
     }
 
-    // The next token, where it is no comma of this text; a comma stays.
-    pub(crate) fn next_before_comma(&mut self, text: &[u8]) -> Option<Token>
-        ensures { MatchOption result ((before_comma text.now self.old ≡ []) × (self.new ≡ self.old)) (λ token. (before_comma text.now self.old ≡ token ∷ before_comma text.now self.new) × (behind_comma text.now self.new ≡ behind_comma text.now self.old) × (length self.new < length self.old)) }
+    // Whether the next token is this word in this text.
+    pub(crate) fn begins_with(&self, text: &[u8], word: &[u8]) -> bool
+        ensures { result ≡ says_first text.now self.now word.now }
     {
-        let token = self.ahead?;
-        if is_symbol(text, &token, b',') {
-            return None;
+        match &self.ahead {
+            Some(token) => says(text, token, word),
+            None => false,
         }
-        self.next()
+    }
+
+    // Whether no token is before the next comma of this text, by what is next.
+    pub(crate) fn is_at_comma(&self, text: &[u8]) -> bool
+        ensures comma { result ≡ true → before_comma text.now self.now ≡ [] }
+        ensures other { result ≡ false → begins_with_comma text.now self.now ≡ false }
+    {
+        match &self.ahead {
+            Some(token) => is_symbol(text, token, b','),
+            None => false,
+        }
     }
 }
 

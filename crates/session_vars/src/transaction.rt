@@ -1,9 +1,11 @@
-// SET SESSION TRANSACTION, behind its SET.
+// SET SESSION TRANSACTION, behind these words.
 ghost use Rattle.std.specs.Prelude.{◌≡◌};
-ghost use Rattle.session_vars.specs.Transactions.{slot_of, value_of, access_mode, isolation_level, mode_of, transaction_mode};
+ghost use Rattle.session_vars.specs.Scopes.{server_set};
+ghost use Rattle.session_vars.specs.Transactions.{slot_of, value_of, access_mode, isolation_level, mode_of};
 
 use crate::Slot;
-use crate::statement::{Statement, is_session_word, says};
+use crate::set_tokens::SetTokens;
+use crate::statement::says;
 use sql_tokens::Token;
 
 // What SET SESSION TRANSACTION gives the session's transactions.
@@ -73,19 +75,20 @@ fn isolation_level(text: &[u8], first: &Token, second: &Token) -> Option<Mode>
 
 // `READ ONLY`, `READ WRITE`, or `ISOLATION LEVEL` and a level, and nothing behind.
 #[tactic(auto, unfolding(crate::specs::Transactions::mode_of))]
-fn mode_of(text: &[u8], tokens: &mut Statement) -> Option<Mode>
-    ensures { result ≡ mode_of text.now tokens.old }
+pub(crate) fn mode_of(text: &[u8], tokens: &mut SetTokens) -> Option<Mode>
+    ensures mode { result ≡ mode_of text.now tokens.old.left }
+    ensures scope { server_set text.now tokens.new ≡ server_set text.now tokens.old }
 {
-    let first = tokens.next()?;
-    let second = tokens.next()?;
-    let Some(third) = tokens.next() else {
+    let first = tokens.next(text)?;
+    let second = tokens.next(text)?;
+    let Some(third) = tokens.next(text) else {
         if says(text, &first, b"READ") {
             return access_mode(text, &second);
         }
         return None;
     };
-    let fourth = tokens.next();
-    if tokens.next().is_some()
+    let fourth = tokens.next(text);
+    if tokens.next(text).is_some()
         || !says(text, &first, b"ISOLATION")
         || !says(text, &second, b"LEVEL")
     {
@@ -95,19 +98,5 @@ fn mode_of(text: &[u8], tokens: &mut Statement) -> Option<Mode>
         Some(fourth) => isolation_level(text, &third, &fourth),
         None if says(text, &third, b"SERIALIZABLE") => Some(Mode::Serializable),
         None => None,
-    }
-}
-
-// `SESSION TRANSACTION` or `LOCAL TRANSACTION` and a mode.
-#[tactic(auto, unfolding(crate::specs::Transactions::transaction_mode))]
-pub(crate) fn transaction_mode(text: &[u8], tokens: &mut Statement) -> Option<Mode>
-    ensures { result ≡ transaction_mode text.now tokens.old }
-{
-    let scope = tokens.next()?;
-    let transaction = tokens.next()?;
-    if is_session_word(text, &scope) && says(text, &transaction, b"TRANSACTION") {
-        mode_of(text, tokens)
-    } else {
-        None
     }
 }

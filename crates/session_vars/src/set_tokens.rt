@@ -1,0 +1,88 @@
+// The tokens behind SET, as they are taken.
+ghost use Rattle.std.specs.Prelude.{◌≡◌, ◌+◌, ◌≤◌, ◌<◌, ◌^◌, true, false, [], ◌∷◌, length, codes, MatchOption, IfSome, IfNone, if◌then◌else◌};
+
+use crate::SetShape;
+use crate::scope::{deeper, names_server};
+use crate::statement::{Statement, is_symbol, says};
+use sql_tokens::{Token, bytes_of};
+
+// The tokens behind SET that are left. Those that are taken are watched, so that in the end it is known whether one of
+// them sets anything of the whole server.
+#[derive(Drop)]
+pub(crate) struct SetTokens<'a> {
+    pub(crate) left: Statement<'a>,
+    // How many brackets are open.
+    pub(crate) depth: usize,
+    // Whether the scope of an assignment may stand next.
+    pub(crate) is_due: bool,
+    // Whether a scope of the whole server was taken.
+    pub(crate) sets_server: bool,
+    ghost shallow: { depth + length left < 2 ^ 64 },
+}
+
+impl<'a> SetTokens<'a> {
+    ghost use Rattle.session_vars.specs.Scopes.{server_set};
+    ghost use Rattle.session_vars.specs.Shapes.{own_shape, set_shape};
+    ghost use Rattle.session_vars.specs.Statement.{says_first, before_comma, behind_comma};
+
+    // The tokens behind SET. None where the statement isn't a SET statement.
+    #[tactic(auto, using(crate::proofs::Sizes::statement_size), unfolding(crate::specs::Shapes::shape_behind))]
+    pub(crate) fn of(text: &'a [u8]) -> Option<Self>
+        ensures none { IfNone result (set_shape text.now ≡ SetShape.NotSet) }
+        ensures some { IfSome result (λ tokens. set_shape text.now ≡ (if server_set text.now tokens then SetShape.Global else own_shape text.now tokens.left)) }
+    {
+        let mut left = Statement::of(text);
+        let first = left.next()?;
+        if !says(text, &first, b"SET") {
+            return None;
+        }
+        Some(SetTokens {
+            left,
+            depth: 0,
+            is_due: true,
+            sets_server: false,
+        })
+    }
+
+    // Whether the next token is this word.
+    pub(crate) fn begins_with(&self, text: &[u8], word: &[u8]) -> bool
+        ensures { result ≡ says_first text.now self.now.left word.now }
+    {
+        self.left.begins_with(text, word)
+    }
+
+    // The next token.
+    pub(crate) fn next(&mut self, text: &[u8]) -> Option<Token>
+        ensures token { MatchOption result ((self.old.left ≡ []) × (self.new.left ≡ [])) (λ token. self.old.left ≡ token ∷ self.new.left) }
+        ensures scope { server_set text.now self.new ≡ server_set text.now self.old }
+    {
+        let token = self.left.next()?;
+        let is_server = self.is_due && names_server(token.kind, bytes_of(text, &token));
+        self.sets_server = self.sets_server || is_server;
+        self.is_due = is_symbol(text, &token, b',') && self.depth == 0;
+        self.depth = deeper(text, &token, self.depth);
+        Some(token)
+    }
+
+    // The next token, where it is no comma; a comma stays.
+    pub(crate) fn next_before_comma(&mut self, text: &[u8]) -> Option<Token>
+        ensures token { MatchOption result (before_comma text.now self.old.left ≡ []) (λ token. (before_comma text.now self.old.left ≡ token ∷ before_comma text.now self.new.left) × (length self.new.left < length self.old.left)) }
+        ensures shorter { length self.new.left ≤ length self.old.left }
+        ensures rest { behind_comma text.now self.new.left ≡ behind_comma text.now self.old.left }
+        ensures end { IfNone result (before_comma text.now self.new.left ≡ []) }
+        ensures scope { server_set text.now self.new ≡ server_set text.now self.old }
+    {
+        if self.left.is_at_comma(text) {
+            return None;
+        }
+        self.next(text)
+    }
+
+    // Whether a token, of those that were taken or are left, sets anything of the whole server.
+    pub(crate) fn sets_server(mut self, text: &[u8]) -> bool
+        ensures { result ≡ server_set text.now self.entry }
+    {
+        while self.next(text).is_some() {}
+        self.sets_server
+    }
+}
