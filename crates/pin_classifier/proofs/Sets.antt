@@ -3,7 +3,8 @@ use Rattle.std.proofs.Common.{◌≡◌, ℕ, Bool, true, false, cond, List, [],
 use Rattle.std.proofs.lemmas.Bool.{cond-true, cond-false, cases_Bool}
 use Rattle.sql_tokens.specs.declared.token.Token.{Token}
 use Rattle.session_vars.proofs.First.{other_statement}
-use Rattle.session_vars.specs.Shapes.{says_first, set_shape}
+use Rattle.session_vars.specs.Shapes.{set_shape}
+use Rattle.session_vars.specs.Statement.{says_first}
 use Rattle.session_vars.specs.declared.shape.SetShape.TheVariants.{NotSet}
 use Rattle.pin_classifier.specs.Shapes.{asks_connection_id, is_there, set_in, shape_of, use_or_other, used_schema}
 use Rattle.pin_classifier.specs.Statement.{statement}
