@@ -1,31 +1,28 @@
 -- The statements that make a difference, read again.
-use Rattle.std.proofs.Common.{◌≡◌, ◌≢◌, ◌⊎◌, ℕ, ◌+◌, Bool, true, false, not, ◌&&◌, ◌||◌, cond, List, [], ◌∷◌, ◌++◌, Option, Some, None, length, codes, drop, refl, sym, subst, ◌∙◌, ap, inl, inr, arith, append_assoc}
-use Rattle.std.specs.Cmp.Lexicographic.{bytes_decides}
+use Rattle.std.proofs.Common.{◌≡◌, ℕ, ◌+◌, true, false, not, List, [], ◌∷◌, ◌++◌, Some, length, codes, drop, refl, ◌∙◌, ap, inl, arith}
 use Rattle.std.specs.List.{list_all, flat_map}
 use Rattle.std.specs.Option.{option_or}
-use Rattle.std.proofs.lemmas.Bool.{cond-true, cond-false, cases_Bool, and_parts, and_from, and_left, and_right, not-true}
-use Rattle.std.proofs.lemmas.List.{append-nil}
-use Rattle.sql_tokens.specs.Tokens.{tokens_of, tokens_behind}
+use Rattle.std.proofs.lemmas.Bool.{cond-true, cond-false, and_parts, not-true}
+use Rattle.sql_tokens.specs.Tokens.{tokens_of}
 use Rattle.sql_tokens.specs.Words.{bytes_of}
 use Rattle.sql_tokens.specs.declared.token.Token.{Token}
 use Rattle.sql_tokens.specs.declared.token.TokenKind.TheVariants.{Word}
 use Rattle.session_vars.specs.Assignments.{assignments}
-use Rattle.session_vars.specs.Names.{is_one_word, character_set, collation, lower_case, collated, names_value, names_changes}
-use Rattle.session_vars.specs.Scopes.{is_server_scope, sets_server}
+use Rattle.session_vars.specs.Names.{names_changes}
+use Rattle.session_vars.specs.Scopes.{sets_server}
 use Rattle.session_vars.specs.Shapes.{tracked_or_other, shape_behind, shape_by, set_shape}
-use Rattle.session_vars.specs.Slots.{name_of, all_slots}
-use Rattle.session_vars.specs.Statement.{says_first, is_comment, is_symbol, same_text, says, without_comments, without_end, statement_of}
+use Rattle.session_vars.specs.Slots.{name_of}
+use Rattle.session_vars.specs.Statement.{is_comment, is_symbol, same_text, says, without_comments, without_end, statement_of}
 use Rattle.session_vars.specs.Transactions.{transaction_mode, mode_changes}
 use Rattle.session_vars.specs.declared.change.Change.{Change}
-use Rattle.session_vars.specs.declared.shape.SetShape.{SetShape}
-use Rattle.session_vars.specs.declared.shape.SetShape.TheVariants.{Tracked, Global, NextTransaction, Other, NotSet}
+use Rattle.session_vars.specs.declared.shape.SetShape.TheVariants.{Tracked}
 use Rattle.session_vars.specs.Texts.{assignment_text}
 use Rattle.session_vars.specs.declared.slot.Slot.{Slot}
 use Rattle.session_vars.specs.declared.slot.Slot.TheVariants.{Names}
-use Rattle.session_vars.proofs.Assigned.{IsNamed, IsAssignmentRead, IsListRead, AreAssignable, counts, named, scoped, list_read, stops_before}
+use Rattle.session_vars.proofs.Assigned.{IsNamed, AreAssignable, counts, named, scoped, list_read, stops_before}
 use Rattle.session_vars.proofs.Dispatch.{no_names, no_mode}
 use Rattle.session_vars.proofs.Joining.{with_comma}
-use Rattle.session_vars.proofs.Pieces.{Stops, At, token_of, behind, scanned, said, behind_blank, past_blank, at_end}
+use Rattle.session_vars.proofs.Pieces.{At, token_of, behind, scanned, said, behind_blank, past_blank}
 use Rattle.session_vars.proofs.Rules.{word_piece}
 
 -- tokens that count stay
@@ -83,8 +80,8 @@ session_again text change changes is assignable =
     let set_is : bytes_of text set ≡ codes "SET" = said text 0 Word (codes "SET") (32 ∷ (codes "SESSION " ++ there)) at_set in
     let session_is : bytes_of text session ≡ codes "SESSION" = said text 4 Word (codes "SESSION") (32 ∷ there) at_session in
     let scan : tokens_of text ≡ set ∷ session ∷ name ∷ n.equals ∷ n.values ++ read.0 =
-        scanned text 0 Word (codes "SET") (32 ∷ (codes "SESSION " ++ there)) at_set (word_piece (codes "SET") (32 ∷ (codes "SESSION " ++ there)) (refl, refl) (inl refl))
-        ∙ ap (λ (tokens : List Token). set ∷ tokens) (past_blank text 3 (codes "SESSION " ++ there) at_blank ∙ read.1.scan) in
+    scanned text 0 Word (codes "SET") (32 ∷ (codes "SESSION " ++ there)) at_set (word_piece (codes "SET") (32 ∷ (codes "SESSION " ++ there)) (refl, refl) (inl refl))
+    ∙ ap (λ (tokens : List Token). set ∷ tokens) (past_blank text 3 (codes "SESSION " ++ there) at_blank ∙ read.1.scan) in
     assignments_shape text set session name (n.equals ∷ n.values ++ read.0) (change ∷ changes)
     (statement_is text (set ∷ session ∷ name ∷ n.equals ∷ n.values ++ read.0) scan read.1.counting)
     (ap (λ word. same_text word (codes "SET")) set_is)

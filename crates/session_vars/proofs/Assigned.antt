@@ -1,7 +1,7 @@
 -- Assignments that are written for changes, and read again.
-use Rattle.std.proofs.Common.{◌≡◌, ◌⊎◌, ◌<◌, ℕ, suc, ◌+◌, Bool, true, false, not, ◌&&◌, ◌||◌, nat_eq, bytes_eq, List, [], ◌∷◌, ◌++◌, Option, Some, None, length, codes, filter, refl, sym, subst, ◌∙◌, ap, inl, inr, arith, append_assoc, length-append}
+use Rattle.std.proofs.Common.{◌≡◌, ℕ, ◌+◌, Bool, true, false, not, ◌&&◌, ◌||◌, bytes_eq, List, [], ◌∷◌, ◌++◌, Some, length, codes, refl, ◌∙◌, ap, inl, inr, arith, append_assoc, length-append}
 use Rattle.std.specs.List.{list_all, flat_map}
-use Rattle.std.proofs.lemmas.Bool.{cond-true, cond-false, cases_Bool, and_parts, and_from, and_left, not-true, not_from_false}
+use Rattle.std.proofs.lemmas.Bool.{cond-true, cond-false, and_parts, and_from, and_left, not-true, not_from_false}
 use Rattle.std.proofs.lemmas.List.{append-nil}
 use Rattle.std.proofs.lemmas.List.Folds.{list_all-append}
 use Rattle.sql_tokens.specs.Tokens.{tokens_behind}
@@ -9,10 +9,10 @@ use Rattle.sql_tokens.specs.Words.{bytes_of}
 use Rattle.sql_tokens.specs.declared.token.Token.{Token}
 use Rattle.sql_tokens.specs.declared.token.TokenKind.{TokenKind}
 use Rattle.sql_tokens.specs.declared.token.TokenKind.TheVariants.{Word, Quoted, Number, Symbol}
-use Rattle.session_vars.specs.Assignments.{change_to, written, assigned, assignment, assignments, slot_of_name, slot_by, with_change}
+use Rattle.session_vars.specs.Assignments.{change_to, written, assigned, assignment, assignments, with_change}
 use Rattle.session_vars.specs.Scopes.{is_server_scope, names_server, deeper, sets_server}
 use Rattle.session_vars.specs.Slots.{name_of, slot_named}
-use Rattle.session_vars.specs.Statement.{is_comment, is_symbol_kind, is_symbol, is_comma, is_session_word, same_text, before_comma, behind_comma, without_comments, without_end}
+use Rattle.session_vars.specs.Statement.{is_comment, is_symbol_kind, is_symbol, is_comma, is_session_word, same_text, before_comma, behind_comma}
 use Rattle.session_vars.specs.Texts.{is_names, value_text, assignment_text}
 use Rattle.session_vars.specs.Tracked.{IsOneValue, IsNegative, IsAssignable}
 use Rattle.session_vars.specs.Values.{value_of, negative_value}
@@ -24,7 +24,7 @@ use Rattle.session_vars.proofs.Joining.{with_comma}
 use Rattle.session_vars.proofs.OneToken.{IsValueKind, value_kind, value_piece, number_text}
 use Rattle.session_vars.proofs.Parts.{last_assigned, next_assigned}
 use Rattle.session_vars.proofs.Pieces.{Stops, At, IsPiece, token_of, behind, scanned, said, behind_blank, past_blank, at_end}
-use Rattle.session_vars.proofs.Rules.{IsOrdinary, IsWordText, number_first, word_piece, symbol_piece, number_piece, minus_piece}
+use Rattle.session_vars.proofs.Rules.{IsWordText, number_first, word_piece, symbol_piece, number_piece, minus_piece}
 
 -- a token within an assignment: no comment, comma, bracket or `;`
 abbrev quiet_by : TokenKind → List ℕ → Bool
@@ -275,13 +275,15 @@ stops_before (change ∷ changes) = inr refl
 
 -- the tokens of the assignments behind the first, each behind a comma
 pub list_read : (text : List ℕ) (place size : ℕ) (change : Change) (tokens : List Token) (changes : List Change) → IsAssignmentRead text place size change tokens → AreAssignable changes → At text (place + size) (flat_map with_comma changes) → (more : List Token) × IsListRead text place (change ∷ changes) (tokens ++ more)
-list_read text place size change tokens [] first assignable at =
-    ([], record {
-      scan = first.scan ∙ ap (λ (rest : List Token). tokens ++ rest) (at_end text (place + size) at);
-      gives = last_assigned text (tokens ++ []) change (ap (assignment text) (before_quiet text tokens [] first.quiet ∙ append-nil tokens) ∙ first.gives) (behind_quiet text tokens [] first.quiet);
-      counting = list_all-append (counts text) tokens [] ∙ and_from _ true (counts_quiet text tokens first.quiet) refl;
-      unscoped = calm_first text tokens [] first.unscoped first.quiet;
-    })
+list_read text place size change tokens [] first assignable at = (
+  [],
+  record {
+    scan = first.scan ∙ ap (λ (rest : List Token). tokens ++ rest) (at_end text (place + size) at);
+    gives = last_assigned text (tokens ++ []) change (ap (assignment text) (before_quiet text tokens [] first.quiet ∙ append-nil tokens) ∙ first.gives) (behind_quiet text tokens [] first.quiet);
+    counting = list_all-append (counts text) tokens [] ∙ and_from _ true (counts_quiet text tokens first.quiet) refl;
+    unscoped = calm_first text tokens [] first.unscoped first.quiet;
+  },
+)
 list_read text place size change tokens (next ∷ changes) first assignable at =
     let rest = flat_map with_comma changes in
     let there = assignment_text next ++ rest in
@@ -298,20 +300,22 @@ list_read text place size change tokens (next ∷ changes) first assignable at =
     let no_opening : is_symbol text comma 40 ≡ false = ap (λ bytes. bytes_eq bytes (40 ∷ [])) comma_is in
     let no_closing : is_symbol text comma 41 ≡ false = ap (λ bytes. bytes_eq bytes (41 ∷ [])) comma_is in
     let no_end : is_symbol text comma 59 ≡ false = ap (λ bytes. bytes_eq bytes (59 ∷ [])) comma_is in
-    let depth : deeper text comma 0 ≡ 0 = cond-false (is_symbol text comma 40) _ _ no_opening ∙ cond-false (is_symbol text comma 41) _ _ no_closing in
-    (comma ∷ others, record {
-      scan = first.scan ∙ ap (λ (tail : List Token). tokens ++ tail)
-          (scanned text (place + size) Symbol (44 ∷ []) (32 ∷ there) at_comma (comma_piece (32 ∷ there))
-          ∙ ap (λ (tail : List Token). comma ∷ tail) (past_blank text (place + size + 1) there at_gap ∙ following.1.scan));
-      gives =
-          next_assigned text (tokens ++ comma ∷ others) others change
-          (ap (assignment text) (before_quiet text tokens (comma ∷ others) first.quiet ∙ ap (λ (tail : List Token). tokens ++ tail) (cond-true (is_comma text comma) _ _ is_comma_here) ∙ append-nil tokens) ∙ first.gives)
-          (behind_quiet text tokens (comma ∷ others) first.quiet ∙ cond-true (is_comma text comma) _ _ is_comma_here)
-          ∙ ap (with_change (Some change)) following.1.gives;
-      counting = list_all-append (counts text) tokens (comma ∷ others) ∙ and_from _ _ (counts_quiet text tokens first.quiet) (and_from (counts text comma) _ (and_from true _ refl (not_from_false _ no_end)) following.1.counting);
-      unscoped =
-          calm_first text tokens (comma ∷ others) first.unscoped first.quiet
-          ∙ ap (λ n. sets_server text n (is_symbol text comma 44 && true) others) depth
-          ∙ ap (λ test. sets_server text 0 (test && true) others) is_comma_here
-          ∙ following.1.unscoped;
-    })
+    let depth : deeper text comma 0 ≡ 0 = cond-false (is_symbol text comma 40) _ _ no_opening ∙ cond-false (is_symbol text comma 41) _ _ no_closing in (
+      comma ∷ others,
+      record {
+        scan = first.scan ∙ ap (λ (tail : List Token). tokens ++ tail)
+            (scanned text (place + size) Symbol (44 ∷ []) (32 ∷ there) at_comma (comma_piece (32 ∷ there))
+            ∙ ap (λ (tail : List Token). comma ∷ tail) (past_blank text (place + size + 1) there at_gap ∙ following.1.scan));
+        gives =
+            next_assigned text (tokens ++ comma ∷ others) others change
+            (ap (assignment text) (before_quiet text tokens (comma ∷ others) first.quiet ∙ ap (λ (tail : List Token). tokens ++ tail) (cond-true (is_comma text comma) _ _ is_comma_here) ∙ append-nil tokens) ∙ first.gives)
+            (behind_quiet text tokens (comma ∷ others) first.quiet ∙ cond-true (is_comma text comma) _ _ is_comma_here)
+            ∙ ap (with_change (Some change)) following.1.gives;
+        counting = list_all-append (counts text) tokens (comma ∷ others) ∙ and_from _ _ (counts_quiet text tokens first.quiet) (and_from (counts text comma) _ (and_from true _ refl (not_from_false _ no_end)) following.1.counting);
+        unscoped =
+            calm_first text tokens (comma ∷ others) first.unscoped first.quiet
+            ∙ ap (λ n. sets_server text n (is_symbol text comma 44 && true) others) depth
+            ∙ ap (λ test. sets_server text 0 (test && true) others) is_comma_here
+            ∙ following.1.unscoped;
+      },
+    )

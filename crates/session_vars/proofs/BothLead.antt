@@ -1,11 +1,11 @@
 -- The two statements that make a difference lead to the wanted settings.
-use Rattle.std.proofs.Common.{◌≡◌, ℕ, Bool, true, false, not, ◌&&◌, ◌||◌, cond, List, [], ◌∷◌, ◌++◌, Option, Some, None, length, filter, refl, sym, ◌∙◌, ap, inl, inr, arith}
+use Rattle.std.proofs.Common.{◌≡◌, Bool, true, false, not, ◌&&◌, cond, List, [], ◌∷◌, ◌++◌, filter, refl, sym, ◌∙◌, ap, inl, inr, arith}
 use Rattle.std.specs.List.{list_all}
 use Rattle.std.proofs.lemmas.Bool.{cond-true, cond-false, cases_Bool, and_parts, and_from, or_parts, or_right}
-use Rattle.session_vars.specs.Settings.{AreSettings, value_at, applied, same_value, is_text, differs, names_differ, results_differ, has_to_change, changes_of, difference_of}
-use Rattle.session_vars.specs.Shapes.{set_shape, changes_in, changes_by}
+use Rattle.session_vars.specs.Settings.{AreSettings, value_at, applied, is_text, differs, names_differ, results_differ, has_to_change, changes_of, difference_of}
+use Rattle.session_vars.specs.Shapes.{changes_in, changes_by}
 use Rattle.session_vars.specs.Slots.{all_slots}
-use Rattle.session_vars.specs.Texts.{is_names, is_assigned, names_statement, names_text, session_by, session_text}
+use Rattle.session_vars.specs.Texts.{is_assigned, names_statement, names_text, session_by, session_text}
 use Rattle.session_vars.specs.Tracked.{AreTracked}
 use Rattle.session_vars.specs.declared.change.Change.{Change}
 use Rattle.session_vars.specs.declared.change.SlotValue.{SlotValue}

@@ -1,19 +1,19 @@
 -- The first words behind SET tell what a statement can be.
-use Rattle.std.proofs.Common.{◌≡◌, ℕ, Bool, true, false, ◌&&◌, ◌||◌, bytes_eq, List, [], ◌∷◌, Option, Some, None, Result, IfOk, map, find, codes, option_and_then, MatchOption, refl, sym, ◌∙◌, ap, inl, inr}
+use Rattle.std.proofs.Common.{◌≡◌, ℕ, true, false, ◌&&◌, bytes_eq, List, [], ◌∷◌, Option, Some, None, Result, IfOk, map, find, codes, option_and_then, MatchOption, refl, sym, ◌∙◌, ap, inl, inr}
 use Rattle.std.specs.Char.{to_ascii_lowercase}
 use Rattle.std.specs.Cmp.Lexicographic.{bytes_decides}
 use Rattle.std.specs.Option.{option_or}
-use Rattle.std.proofs.lemmas.Bool.{cond-true, cond-false, and_from, and_left, and_right, or_cases, or_parts, or_from}
+use Rattle.std.proofs.lemmas.Bool.{cond-true, cond-false, and_from, and_left, and_right, or_cases, or_from}
 use Rattle.std.proofs.lemmas.Result.{IfOk-weaker}
 use Rattle.sql_tokens.specs.Words.{bytes_of, inside, word_by, word_of}
 use Rattle.sql_tokens.specs.declared.token.Token.{Token}
 use Rattle.sql_tokens.specs.declared.token.TokenKind.{TokenKind}
 use Rattle.sql_tokens.specs.declared.token.TokenKind.TheVariants.{Word, Name}
-use Rattle.session_vars.specs.Assignments.{slot_of_name, slot_by, assigned, assignment, assignments, assigned_behind, with_change}
+use Rattle.session_vars.specs.Assignments.{slot_by, assigned, assignment, assignments, assigned_behind, with_change}
 use Rattle.session_vars.specs.Names.{names_value, names_changes}
 use Rattle.session_vars.specs.Shapes.{own_changes}
 use Rattle.session_vars.specs.Slots.{name_of, assigned_slots, slot_named}
-use Rattle.session_vars.specs.Statement.{is_word, says, says_first, is_symbol, is_comma, is_session_word, begins_with_session, same_text, before_comma, behind_comma}
+use Rattle.session_vars.specs.Statement.{is_word, says, says_first, is_comma, is_session_word, begins_with_session, same_text, before_comma, behind_comma}
 use Rattle.session_vars.specs.Transactions.{mode_of, transaction_mode, mode_changes}
 use Rattle.session_vars.specs.declared.change.Change.{Change}
 use Rattle.session_vars.specs.declared.slot.Slot.{Slot}
@@ -129,7 +129,7 @@ transaction_unassigned : (text : List ℕ) (scope token : Token) (tokens : List 
 unfolding slot_in assignment assigned
 transaction_unassigned text scope token tokens is transaction =
     let front : before_comma text (scope ∷ token ∷ tokens) ≡ scope ∷ token ∷ before_comma text tokens =
-        cond-false (is_comma text scope) _ _ (session_no_comma text scope is) ∙ ap (λ (rest : List Token). scope ∷ rest) (cond-false (is_comma text token) _ _ (no_comma text token (codes "TRANSACTION") transaction)) in
+    cond-false (is_comma text scope) _ _ (session_no_comma text scope is) ∙ ap (λ (rest : List Token). scope ∷ rest) (cond-false (is_comma text token) _ _ (no_comma text token (codes "TRANSACTION") transaction)) in
     none_assigned text (scope ∷ token ∷ tokens)
     (ap (assignment text) front
     ∙ cond-true (is_session_word text scope) _ _ is
@@ -166,9 +166,9 @@ scoped_alone text tokens left None read is first other gives = let none : false 
 scoped_alone text tokens left (Some scope) read is first other gives =
     let session : is_session_word text scope ≡ true = sym (ap (begins_with_session text) first) ∙ is in
     let same : own_changes text tokens ≡ assignments text (scope ∷ left) =
-        ap (own_changes text) first
-        ∙ mode_or_assigned text (scope ∷ left) (session_no_names text (scope ∷ left) session)
-        ∙ ap (λ mode. option_or (mode_changes mode) (assignments text (scope ∷ left))) (not_mode text scope left other) in
+    ap (own_changes text) first
+    ∙ mode_or_assigned text (scope ∷ left) (session_no_names text (scope ∷ left) session)
+    ∙ ap (λ mode. option_or (mode_changes mode) (assignments text (scope ∷ left))) (not_mode text scope left other) in
     ok_is read (assignments text (scope ∷ left)) (own_changes text tokens) (sym same) (gives scope session)
 
 -- assignments the first of which is scoped

@@ -1,5 +1,5 @@
 -- The first word decides whether a statement is a SET statement.
-use Rattle.std.proofs.Common.{◌≡◌, ◌≢◌, ℕ, Bool, true, false, cond, List, [], ◌∷◌, Option, Some, None, codes, refl, sym, ◌∙◌, ap, inl, inr}
+use Rattle.std.proofs.Common.{◌≡◌, ◌≢◌, ℕ, Bool, true, false, List, [], ◌∷◌, Option, Some, None, codes, refl, sym, ◌∙◌, ap, inl, inr}
 use Rattle.std.proofs.lemmas.Bool.{cond-true, cond-false, cond_both, cases_Bool, and_left, false≢true}
 use Rattle.sql_tokens.specs.Tokens.{tokens_of}
 use Rattle.sql_tokens.specs.Words.{bytes_of, word_by}
@@ -11,7 +11,7 @@ use Rattle.session_vars.specs.Statement.{says_first, is_symbol_kind, is_symbol, 
 use Rattle.session_vars.specs.Scopes.{sets_server}
 use Rattle.session_vars.specs.declared.change.Change.{Change}
 use Rattle.session_vars.specs.declared.shape.SetShape.{SetShape}
-use Rattle.session_vars.specs.declared.shape.SetShape.TheVariants.{Tracked, Global, NextTransaction, Other, NotSet}
+use Rattle.session_vars.specs.declared.shape.SetShape.TheVariants.{Global, NextTransaction, NotSet}
 
 other_first : (text : List ℕ) (tokens : List Token) → says_first text tokens (codes "SET") ≡ false → shape_by text (without_end text tokens) ≡ NotSet
 other_first text [] other = refl

@@ -1,27 +1,24 @@
 -- What SET statements give are tracked values.
-use Rattle.std.proofs.Common.{◌≡◌, ◌⊎◌, ◌<◌, ◌≤◌, ℕ, ◌+◌, ◌-◌, Bool, true, false, not, ◌&&◌, ◌||◌, cond, nat_eq, nat_lt, List, [], ◌∷◌, ◌++◌, Option, Some, None, length, take, drop, map, codes, find, option_and_then, filter, refl, sym, subst, ◌∙◌, ap, inl, inr, arith, length-append}
-use Rattle.std.specs.List.{list_all, slice_split, onto_first}
-use Rattle.std.proofs.lemmas.Bool.{cond-true, cond-false, cases_Bool, and_parts, and_from}
+use Rattle.std.proofs.Common.{◌≡◌, ℕ, ◌-◌, Bool, true, false, not, ◌&&◌, cond, List, [], ◌∷◌, ◌++◌, Option, Some, None, length, take, drop, codes, refl, sym, subst, ◌∙◌, ap, inl, inr, arith, length-append}
+use Rattle.std.specs.List.{list_all}
+use Rattle.std.proofs.lemmas.Bool.{cond-true, cond-false, cases_Bool, and_parts}
 use Rattle.std.proofs.lemmas.List.{append-nil}
 use Rattle.std.proofs.Math.Seq.{take-append_seam}
 use Rattle.sql_tokens.specs.Spans.{AreTokens}
 use Rattle.sql_tokens.specs.Tokens.{token_at, tokens_of}
-use Rattle.sql_tokens.specs.Words.{bytes_of, inside, word_of}
+use Rattle.sql_tokens.specs.Words.{bytes_of, inside}
 use Rattle.sql_tokens.specs.declared.token.Token.{Token}
 use Rattle.sql_tokens.specs.declared.token.TokenKind.{TokenKind}
-use Rattle.sql_tokens.specs.declared.token.TokenKind.TheVariants.{Word, Quoted, Name, Number, SysVar}
+use Rattle.sql_tokens.specs.declared.token.TokenKind.TheVariants.{Word, Quoted, Number}
 use Rattle.sql_tokens.proofs.OneList.{are_tokens}
-use Rattle.session_vars.specs.Assignments.{slot_of_variable, slot_of_name, slot_by, change_to, written, behind_colon, assigned, assignment, all_assigned, assignments, with_change}
-use Rattle.session_vars.specs.Slots.{assigned_slots, slot_named, unless_transaction, name_of}
-use Rattle.session_vars.specs.Statement.{is_symbol, is_comma, is_session_word, is_comment, same_text, without_comments, without_end, statement_of}
+use Rattle.session_vars.specs.Statement.{is_symbol, is_comment, without_comments, without_end, statement_of}
 use Rattle.session_vars.specs.Texts.{is_names, value_text}
-use Rattle.session_vars.specs.Tracked.{IsOneToken, IsOneValue, IsNegative, IsAssignable, IsTrackedValue}
-use Rattle.session_vars.specs.Values.{kept, is_plain_byte, is_default, plain_value, is_character_set, has_reading_mode, may_be, value_of, takes_numbers, is_number, negative_value}
-use Rattle.session_vars.specs.declared.change.Change.{Change}
+use Rattle.session_vars.specs.Tracked.{IsOneToken, IsAssignable, IsTrackedValue}
+use Rattle.session_vars.specs.Values.{kept, is_plain_byte, is_default, plain_value, is_character_set, has_reading_mode, may_be, value_of, takes_numbers, negative_value}
 use Rattle.session_vars.specs.declared.change.SlotValue.{SlotValue}
 use Rattle.session_vars.specs.declared.change.SlotValue.TheVariants.{Default, Text}
 use Rattle.session_vars.specs.declared.slot.Slot.{Slot}
-use Rattle.session_vars.specs.declared.slot.Slot.TheVariants.{Names, CharacterSetResults, SqlMode, TransactionIsolation, TransactionReadOnly}
+use Rattle.session_vars.specs.declared.slot.Slot.TheVariants.{Names, CharacterSetResults, SqlMode}
 use Rattle.session_vars.proofs.OneToken.{word_front, number_front, alone, some_if, kept_is, quoted_value}
 use Rattle.session_vars.proofs.Rules.{IsWordText, IsNumberText, in_quotes, word_piece, number_piece, quoted_piece}
 

@@ -1,5 +1,5 @@
 -- Settings that SET statements change stay tracked.
-use Rattle.std.proofs.Common.{◌≡◌, ◌⊎◌, ◌≤◌, ◌<◌, ℕ, ◌+◌, Bool, true, false, not, ◌&&◌, ◌||◌, cond, nat_eq, nat_lt, bytes_eq, List, [], ◌∷◌, ◌++◌, Option, Some, None, length, set, get_or, take, drop, map, codes, find, option_map, option_and_then, refl, sym, subst, ◌∙◌, ap, inl, inr, arith}
+use Rattle.std.proofs.Common.{◌≡◌, ◌≤◌, ◌<◌, ℕ, ◌+◌, Bool, true, false, not, ◌&&◌, ◌||◌, cond, nat_eq, nat_lt, bytes_eq, List, [], ◌∷◌, ◌++◌, Option, Some, None, length, set, take, drop, codes, find, option_map, option_and_then, refl, sym, subst, ◌∙◌, ap, inl, inr, arith}
 use Rattle.std.specs.Char.{to_ascii_lowercase, is_ascii_digit}
 use Rattle.std.specs.Option.{option_or}
 use Rattle.std.specs.List.{list_all, slice_split, onto_first, slice_get}
@@ -9,26 +9,25 @@ use Rattle.std.proofs.lemmas.List.{append-nil, length-set, get_or-set_other}
 use Rattle.sql_tokens.specs.Bytes.{is_word_byte}
 use Rattle.sql_tokens.specs.Numbers.{hexadecimal_length, fraction_length, sign_length, exponent_length, decimal_length, number_length}
 use Rattle.sql_tokens.specs.Words.{bytes_of, inside, word_of}
-use Rattle.sql_tokens.specs.Tokens.{tokens_of, tokens_behind}
 use Rattle.sql_tokens.specs.declared.token.Token.{Token}
 use Rattle.sql_tokens.specs.declared.token.TokenKind.{TokenKind}
 use Rattle.sql_tokens.specs.declared.token.TokenKind.TheVariants.{Word, Quoted, Name, Number, SysVar}
 use Rattle.session_vars.specs.Assignments.{slot_of_variable, slot_of_name, slot_by, change_to, written, behind_colon, assigned, assignment, all_assigned, assignments, with_change}
 use Rattle.session_vars.specs.Names.{is_one_word_by, is_one_word, character_set, collation, lower_case, collated, names_value, names_changes}
 use Rattle.session_vars.specs.Scopes.{sets_server}
-use Rattle.session_vars.specs.Settings.{AreSettings, value_at, changed, applied, defaults, collation_names, collation_settings}
+use Rattle.session_vars.specs.Settings.{value_at, changed, applied, collation_names, collation_settings}
 use Rattle.session_vars.specs.Shapes.{own_changes, own_shape, tracked_or_other, shape_behind, shape_by, set_shape}
 use Rattle.session_vars.specs.Slots.{name_of, all_slots, assigned_slots, place_of, slot_named, unless_transaction}
 use Rattle.session_vars.specs.Statement.{says_first, is_symbol, is_comma, is_session_word, same_text, says, spoken_by, statement_of}
 use Rattle.session_vars.specs.Texts.{is_names}
-use Rattle.session_vars.specs.Tracked.{IsCharacterSet, IsCollated, IsTrackedValue, AreTracked}
+use Rattle.session_vars.specs.Tracked.{IsCharacterSet, IsTrackedValue, AreTracked}
 use Rattle.session_vars.specs.Transactions.{slot_of, value_of as mode_value, transaction_mode, mode_changes}
 use Rattle.session_vars.specs.Values.{is_character_set, value_of, negative_value, plain_value}
 use Rattle.session_vars.specs.declared.change.Change.{Change}
 use Rattle.session_vars.specs.declared.change.SlotValue.{SlotValue}
 use Rattle.session_vars.specs.declared.change.SlotValue.TheVariants.{Default, Text}
 use Rattle.session_vars.specs.declared.shape.SetShape.{SetShape}
-use Rattle.session_vars.specs.declared.shape.SetShape.TheVariants.{Tracked, Global, NextTransaction, Other, NotSet}
+use Rattle.session_vars.specs.declared.shape.SetShape.TheVariants.{Tracked, Global, NextTransaction, NotSet}
 use Rattle.session_vars.specs.declared.slot.Slot.{Slot}
 use Rattle.session_vars.specs.declared.slot.Slot.TheVariants.{Names, CharacterSetResults, TransactionIsolation, TransactionReadOnly}
 use Rattle.session_vars.specs.declared.transaction.Mode.{Mode}
@@ -36,7 +35,7 @@ use Rattle.session_vars.specs.declared.transaction.Mode.TheVariants.{ReadUncommi
 use Rattle.session_vars.proofs.Gives.{AreFound, statement_found, value_tracked, negative_tracked, default_tracked}
 use Rattle.session_vars.proofs.NamesAgain.{one_word}
 use Rattle.session_vars.proofs.OneToken.{alone, some_if, word_text}
-use Rattle.session_vars.proofs.Pieces.{At, token_of, scanned}
+use Rattle.session_vars.proofs.Pieces.{At, scanned}
 use Rattle.session_vars.proofs.Rules.{IsWordText, IsNumberText, word_piece, number_piece, quoted_piece}
 
 -- changes to tracked values
@@ -308,8 +307,8 @@ behind_tracked text tokens changes are is =
     let Gives : SetShape → Type 0 = λ shape. shape ≡ Tracked changes → AreTrackedChanges changes in
     let mode = mode_changes (transaction_mode text tokens) in
     let all = or_tracked (names_changes (names_value text tokens)) (option_or mode (assignments text tokens))
-        (λ found. names_changes_tracked (names_value text tokens) found (names_tracked text tokens))
-        (or_tracked mode (assignments text tokens) (mode_tracked (transaction_mode text tokens)) (λ found. assignments_tracked text tokens found are)) in
+    (λ found. names_changes_tracked (names_value text tokens) found (names_tracked text tokens))
+    (or_tracked mode (assignments text tokens) (mode_tracked (transaction_mode text tokens)) (λ found. assignments_tracked text tokens found are)) in
     cond_both (sets_server text 0 true tokens) Global (own_shape text tokens) Gives (λ _ apart. absurd (cc))
     (λ _. cond_both (says_first text tokens (codes "TRANSACTION")) NextTransaction (tracked_or_other (own_changes text tokens)) Gives (λ _ apart. absurd (cc))
     (λ _. given_tracked (own_changes text tokens) changes all)) is
@@ -333,13 +332,13 @@ within _ = omega arith
 
 changed_tracked : (values : List SlotValue) (change : Change) → AreTracked values → IsTrackedChange change → AreTracked (changed values change)
 changed_tracked values change are is = (
-      length-set values (place_of change.slot) change.value ∙ are.0,
-      λ slot.
+  length-set values (place_of change.slot) change.value ∙ are.0,
+  λ slot.
       elim (cases_eq (place_of change.slot) (place_of slot)) [
         | inl same ↦ subst (IsTrackedValue slot) (sym (get_or-set_at values (place_of change.slot) (place_of slot) change.value Default (sym same) (omega (arith, within change.slot, are.0)))) (subst (λ (s : Slot). IsTrackedValue s change.value) (one_slot change.slot slot same) is)
         | inr other ↦ subst (IsTrackedValue slot) (sym (get_or-set_other values (place_of change.slot) (place_of slot) change.value Default (λ same. other (sym same)))) (are.1 slot)
       ],
-    )
+)
 
 applied_tracked : (values : List SlotValue) (changes : List Change) → AreTracked values → AreTrackedChanges changes → AreTracked (applied values changes)
 applied_tracked values [] are all = are

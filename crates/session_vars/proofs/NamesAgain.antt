@@ -1,5 +1,5 @@
 -- SET NAMES that is written for a value, read again.
-use Rattle.std.proofs.Common.{◌≡◌, ◌⊎◌, ℕ, ◌+◌, ◌-◌, true, false, ◌&&◌, ◌||◌, cond, nat_eq, List, [], ◌∷◌, ◌++◌, Option, Some, None, length, drop, codes, option_map, option_and_then, refl, sym, subst, ◌∙◌, ap, inl, inr, arith, append_assoc}
+use Rattle.std.proofs.Common.{◌≡◌, ◌⊎◌, ℕ, ◌+◌, ◌-◌, true, false, ◌&&◌, ◌||◌, cond, nat_eq, List, [], ◌∷◌, ◌++◌, Some, None, length, drop, codes, option_map, refl, sym, subst, ◌∙◌, ap, inl, inr, arith, append_assoc}
 use Rattle.std.specs.Cmp.Lexicographic.{bytes_decides}
 use Rattle.std.specs.Option.{option_or}
 use Rattle.std.proofs.lemmas.Bool.{cond-true, cond-false, and_parts, and_from, or_cases, eqb-true}
@@ -22,8 +22,7 @@ use Rattle.session_vars.specs.Values.{is_character_set}
 use Rattle.session_vars.specs.declared.change.Change.{Change}
 use Rattle.session_vars.specs.declared.change.SlotValue.TheVariants.{Default, Text}
 use Rattle.session_vars.specs.declared.slot.Slot.TheVariants.{Names, CharacterSetResults}
-use Rattle.session_vars.specs.declared.shape.SetShape.{SetShape}
-use Rattle.session_vars.specs.declared.shape.SetShape.TheVariants.{Tracked, Global, NextTransaction, Other, NotSet}
+use Rattle.session_vars.specs.declared.shape.SetShape.TheVariants.{Tracked}
 use Rattle.session_vars.proofs.OneToken.{word_text}
 use Rattle.session_vars.proofs.Pieces.{At, token_of, behind, scanned, said, behind_blank, past_blank, at_end}
 use Rattle.session_vars.proofs.Rules.{IsWordText, word_piece}
@@ -141,9 +140,9 @@ plain_again text set is known =
     let front : List Token → List Token = λ tokens. token_of Word 0 (codes "SET") ∷ names ∷ tokens in
     let scan : tokens_of text ≡ front (token ∷ []) = read.scan ∙ ap front (scanned text 10 Word set [] at (word_piece set [] (set_word set known) tt) ∙ ap (λ (tokens : List Token). token ∷ tokens) (at_end text (10 + length set) (behind text 10 set [] at))) in
     let gives : names_value text (names ∷ token ∷ []) ≡ Some set =
-        cond-true (says text names (codes "NAMES")) _ _ (ap (λ word. same_text word (codes "NAMES")) read.names)
-        ∙ ap (option_map lower_case) (set_said text set 10 (said text 10 Word set [] at) known.0)
-        ∙ ap (λ (name : List ℕ). Some name) known.1 in
+    cond-true (says text names (codes "NAMES")) _ _ (ap (λ word. same_text word (codes "NAMES")) read.names)
+    ∙ ap (option_map lower_case) (set_said text set 10 (said text 10 Word set [] at) known.0)
+    ∙ ap (λ (name : List ℕ). Some name) known.1 in
     names_shape text set set (token ∷ []) read (ap (λ (all : List Token). without_end text (without_comments all)) scan) refl gives
 
 -- `SET NAMES c COLLATE k`
@@ -168,24 +167,24 @@ collated_again text value is collated_value =
     let token = token_of Word start name in
     let front : List Token → List Token = λ tokens. token_of Word 0 (codes "SET") ∷ names ∷ tokens in
     let scan : tokens_of text ≡ front (set_token ∷ collate ∷ token ∷ []) =
-        read.scan ∙ ap front
-        (scanned text 10 Word set (32 ∷ (codes "COLLATE" ++ tail)) at_set (word_piece set (32 ∷ (codes "COLLATE" ++ tail)) (set_word set collated_value.is_set) (inl refl))
-        ∙ ap (λ (tokens : List Token). set_token ∷ tokens)
-        (past_blank text behind_set (codes "COLLATE" ++ tail) at_blank
-        ∙ scanned text (behind_set + 1) Word (codes "COLLATE") tail at_collate (word_piece (codes "COLLATE") tail (refl, refl) (inl refl))
-        ∙ ap (λ (tokens : List Token). collate ∷ tokens)
-        (past_blank text behind_collate (name ++ []) at_gap
-        ∙ scanned text start Word name [] at_name (word_piece name [] (word_text name (one_word name collated_value.is_word)) tt)
-        ∙ ap (λ (tokens : List Token). token ∷ tokens) (at_end text (start + length name) (behind text start name [] at_name))))) in
+    read.scan ∙ ap front
+    (scanned text 10 Word set (32 ∷ (codes "COLLATE" ++ tail)) at_set (word_piece set (32 ∷ (codes "COLLATE" ++ tail)) (set_word set collated_value.is_set) (inl refl))
+    ∙ ap (λ (tokens : List Token). set_token ∷ tokens)
+    (past_blank text behind_set (codes "COLLATE" ++ tail) at_blank
+    ∙ scanned text (behind_set + 1) Word (codes "COLLATE") tail at_collate (word_piece (codes "COLLATE") tail (refl, refl) (inl refl))
+    ∙ ap (λ (tokens : List Token). collate ∷ tokens)
+    (past_blank text behind_collate (name ++ []) at_gap
+    ∙ scanned text start Word name [] at_name (word_piece name [] (word_text name (one_word name collated_value.is_word)) tt)
+    ∙ ap (λ (tokens : List Token). token ∷ tokens) (at_end text (start + length name) (behind text start name [] at_name))))) in
     let is_names : says text names (codes "NAMES") ≡ true = ap (λ word. same_text word (codes "NAMES")) read.names in
     let is_collate : says text collate (codes "COLLATE") ≡ true = ap (λ word. same_text word (codes "COLLATE")) (said text (behind_set + 1) Word (codes "COLLATE") tail at_collate) in
     let gives : names_value text (names ∷ set_token ∷ collate ∷ token ∷ []) ≡ Some value =
-        cond-true (says text names (codes "NAMES") && says text collate (codes "COLLATE")) _ _ (and_from _ _ is_names is_collate)
-        ∙ ap (λ known. collated known (collation text token)) (set_said text set 10 (said text 10 Word set (32 ∷ (codes "COLLATE" ++ tail)) at_set) collated_value.is_set.0)
-        ∙ ap (collated (Some set)) (name_said text name start (said text start Word name [] at_name) collated_value.is_word)
-        ∙ ap (λ (lower : List ℕ). Some (lower ++ codes " COLLATE " ++ lower_case name)) collated_value.is_set.1
-        ∙ ap (λ (lower : List ℕ). Some (set ++ codes " COLLATE " ++ lower)) collated_value.is_lower
-        ∙ ap (λ (bytes : List ℕ). Some bytes) (sym collated_value.parts) in
+    cond-true (says text names (codes "NAMES") && says text collate (codes "COLLATE")) _ _ (and_from _ _ is_names is_collate)
+    ∙ ap (λ known. collated known (collation text token)) (set_said text set 10 (said text 10 Word set (32 ∷ (codes "COLLATE" ++ tail)) at_set) collated_value.is_set.0)
+    ∙ ap (collated (Some set)) (name_said text name start (said text start Word name [] at_name) collated_value.is_word)
+    ∙ ap (λ (lower : List ℕ). Some (lower ++ codes " COLLATE " ++ lower_case name)) collated_value.is_set.1
+    ∙ ap (λ (lower : List ℕ). Some (set ++ codes " COLLATE " ++ lower)) collated_value.is_lower
+    ∙ ap (λ (bytes : List ℕ). Some bytes) (sym collated_value.parts) in
     names_shape text value value (set_token ∷ collate ∷ token ∷ []) read (ap (λ (all : List Token). without_end text (without_comments all)) scan) refl gives
 
 pub names_again : (text value : List ℕ) → text ≡ codes "SET NAMES " ++ value → IsCharacterSet value ⊎ IsCollated value → set_shape text ≡ Tracked (changes_to value)

@@ -1,5 +1,5 @@
 -- Values of one token.
-use Rattle.std.proofs.Common.{◌≡◌, ◌⊎◌, ◌≤◌, ◌<◌, ℕ, zero, suc, ◌+◌, Bool, true, false, not, cond, nat_eq, nat_le, List, [], ◌∷◌, ◌++◌, Option, Some, None, length, take, refl, sym, subst, ◌∙◌, ap, inl, inr, arith}
+use Rattle.std.proofs.Common.{◌≡◌, ◌≤◌, ◌<◌, ℕ, zero, suc, Bool, true, false, not, cond, nat_eq, nat_le, List, [], ◌∷◌, Option, Some, None, length, take, refl, sym, subst, ◌∙◌, ap, inl, inr, arith}
 use Rattle.std.specs.Char.{is_ascii_digit}
 use Rattle.std.specs.List.{prefix_len, list_all}
 use Rattle.std.proofs.lemmas.Bool.{cond-true, cond-false, cases_Bool, both_ways, and_from, eqb-true, eqb-false, not-true, not-false}
@@ -11,10 +11,10 @@ use Rattle.sql_tokens.specs.Numbers.{number_length}
 use Rattle.sql_tokens.specs.Numerals.{IsNumeral}
 use Rattle.sql_tokens.specs.Quotes.{begins_quoted, begins_name, quoted_length}
 use Rattle.sql_tokens.specs.Tokens.{closed, plain_token_at, token_at}
-use Rattle.sql_tokens.specs.Variables.{system_variable_length, variable_name_length}
+use Rattle.sql_tokens.specs.Variables.{system_variable_length}
 use Rattle.sql_tokens.specs.Words.{inside}
 use Rattle.sql_tokens.specs.declared.token.TokenKind.{TokenKind}
-use Rattle.sql_tokens.specs.declared.token.TokenKind.TheVariants.{Word, Quoted, Name, Number, UserVar, SysVar, Symbol, Comment, Executed, Unclosed}
+use Rattle.sql_tokens.specs.declared.token.TokenKind.TheVariants.{Word, Quoted, Name, Number, SysVar, Symbol, Comment, Executed}
 use Rattle.sql_tokens.proofs.LongestNumbers.{number_found, longest_number}
 use Rattle.sql_tokens.proofs.Lengths.{number_length-le}
 use Rattle.sql_tokens.proofs.Runs.{all_in_run}

@@ -1,15 +1,15 @@
 -- Which token a word, a number, a quoted text and a symbol are, where a piece ends behind them.
-use Rattle.std.proofs.Common.{◌≡◌, ◌⊎◌, ◌≤◌, ◌<◌, ℕ, suc, ◌+◌, ◌-◌, Bool, true, false, ◌&&◌, ◌||◌, not, cond, nat_eq, nat_lt, nat_le, List, [], ◌∷◌, ◌++◌, length, get_or, take, drop, Some, refl, sym, subst, ◌∙◌, ap, inl, inr, arith, append_assoc, length-append, eq-eqb}
+use Rattle.std.proofs.Common.{◌≡◌, ◌≤◌, ◌<◌, ℕ, suc, ◌+◌, ◌-◌, Bool, true, false, ◌&&◌, ◌||◌, not, cond, nat_eq, nat_lt, nat_le, List, [], ◌∷◌, ◌++◌, length, get_or, take, drop, Some, refl, sym, subst, ◌∙◌, ap, inl, inr, arith, append_assoc, length-append, eq-eqb}
 use Rattle.std.specs.Char.{is_ascii_digit, is_ascii_hexdigit}
 use Rattle.std.specs.List.{prefix_len, list_all}
-use Rattle.std.proofs.lemmas.Bool.{cond-true, cond-false, cases_lt, cases_Bool, both_ways, and_parts, and_from, and_left, and_right, or_cases, or_left, or_right, or_from, eqb-true, leb-true, ne_eqb, lt-ltb, not_from_false, agree_below, agree_below_at}
+use Rattle.std.proofs.lemmas.Bool.{cond-true, cond-false, cases_lt, cases_Bool, both_ways, and_parts, and_from, and_left, and_right, or_cases, or_left, or_from, eqb-true, leb-true, ne_eqb, lt-ltb, not_from_false, agree_below, agree_below_at}
 use Rattle.std.proofs.lemmas.List.Folds.{list_all-append}
 use Rattle.std.proofs.Math.Seq.{take-append-add, take-length}
 use Rattle.sql_tokens.specs.Bytes.{has_byte, is_white, is_word_byte, later}
 use Rattle.sql_tokens.specs.Comments.{begins_line_comment, begins_block}
 use Rattle.sql_tokens.specs.Marks.{IsPlain, IsInside}
 use Rattle.sql_tokens.specs.Numbers.{digits_length, hexadecimal_length, fraction_length, decimal_length, number_length}
-use Rattle.sql_tokens.specs.Numerals.{AreSome, IsFraction, AreSigned, IsExponent, IsDecimal, IsNumeral}
+use Rattle.sql_tokens.specs.Numerals.{IsFraction, AreSigned, IsExponent, IsNumeral}
 use Rattle.sql_tokens.specs.Quotes.{begins_quoted, begins_name, quoted_length, to_closing}
 use Rattle.sql_tokens.specs.Tokens.{closed, plain_token_at, token_at}
 use Rattle.sql_tokens.specs.Variables.{system_variable_length}

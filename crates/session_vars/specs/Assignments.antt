@@ -36,11 +36,10 @@ change_to slot (Some value) = Some (record { slot = slot; value = value })
 
 -- the value, to the end
 unfoldable pub written : (text : List ℕ) → Slot → List Token → Option Change
-written text slot [] = None
 written text slot (value ∷ []) = change_to slot (value_of slot value.kind (bytes_of text value))
 written text slot (minus ∷ value ∷ []) =
     if is_symbol text minus 45 then change_to slot (negative_value slot value.kind (bytes_of text value)) else None
-written text slot (minus ∷ value ∷ more ∷ tokens) = None
+written text slot _ = None
 
 -- the `=` of a `:=`, between whose bytes nothing stands
 unfoldable pub behind_colon : (text : List ℕ) → Slot → (colon : Token) → List Token → Option Change
@@ -59,11 +58,10 @@ assigned text (Some slot) (equals ∷ tokens) =
 
 -- one assignment: SESSION or LOCAL and a name, or a name or variable alone; and what is assigned
 unfoldable pub assignment : (text : List ℕ) → List Token → Option Change
-assignment text [] = None
-assignment text (scope ∷ []) = None
 assignment text (scope ∷ name ∷ tokens) =
     if is_session_word text scope then assigned text (slot_of_name text name) tokens
     else assigned text (slot_by scope.kind (bytes_of text scope)) (name ∷ tokens)
+assignment text _ = None
 
 abbrev pub with_change : Option Change → Option (List Change) → Option (List Change)
 with_change None changes = None

@@ -41,13 +41,10 @@ collated (Some set) (Some name) = Some (lower_case set ++ codes " COLLATE " ++ l
 
 -- `NAMES c` or `NAMES c COLLATE k`: what the setting `names` becomes
 unfoldable pub names_value : (text : List ℕ) → List Token → Option (List ℕ)
-names_value text [] = None
-names_value text (names ∷ []) = None
 names_value text (names ∷ set ∷ []) = if says text names (codes "NAMES") then option_map lower_case (character_set text set) else None
-names_value text (names ∷ set ∷ collate ∷ []) = None
 names_value text (names ∷ set ∷ collate ∷ name ∷ []) =
     if says text names (codes "NAMES") && says text collate (codes "COLLATE") then collated (character_set text set) (collation text name) else None
-names_value text (names ∷ set ∷ collate ∷ name ∷ more ∷ tokens) = None
+names_value text _ = None
 
 -- SET NAMES sets character_set_results too
 abbrev pub names_changes : Option (List ℕ) → Option (List Change)

@@ -40,21 +40,18 @@ isolation_level text first second =
 
 -- `READ ONLY`, `READ WRITE`, or `ISOLATION LEVEL` and a level
 unfoldable pub mode_of : (text : List ℕ) → List Token → Option Mode
-mode_of text [] = None
-mode_of text (only ∷ []) = None
 mode_of text (read ∷ access ∷ []) = if says text read (codes "READ") then access_mode text access else None
 mode_of text (isolation ∷ level ∷ name ∷ []) =
     if says text isolation (codes "ISOLATION") && says text level (codes "LEVEL") && says text name (codes "SERIALIZABLE") then Some Serializable else None
 mode_of text (isolation ∷ level ∷ first ∷ second ∷ []) =
     if says text isolation (codes "ISOLATION") && says text level (codes "LEVEL") then isolation_level text first second else None
-mode_of text (isolation ∷ level ∷ first ∷ second ∷ more ∷ tokens) = None
+mode_of text _ = None
 
 -- `SESSION TRANSACTION` or `LOCAL TRANSACTION` and a mode
 unfoldable pub transaction_mode : (text : List ℕ) → List Token → Option Mode
-transaction_mode text [] = None
-transaction_mode text (scope ∷ []) = None
 transaction_mode text (scope ∷ transaction ∷ tokens) =
     if is_session_word text scope && says text transaction (codes "TRANSACTION") then mode_of text tokens else None
+transaction_mode text _ = None
 
 abbrev pub mode_changes : Option Mode → Option (List Change)
 mode_changes None = None

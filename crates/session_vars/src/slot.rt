@@ -55,29 +55,6 @@ pub static SLOTS: [Slot; 20] = [
     Slot::MaxExecutionTime,
 ];
 
-// All but `Names`, which no assignment sets.
-static ASSIGNED: [Slot; 19] = [
-    Slot::CharacterSetResults,
-    Slot::Autocommit,
-    Slot::SqlMode,
-    Slot::TimeZone,
-    Slot::TransactionIsolation,
-    Slot::TransactionReadOnly,
-    Slot::SqlSafeUpdates,
-    Slot::ForeignKeyChecks,
-    Slot::UniqueChecks,
-    Slot::SqlSelectLimit,
-    Slot::GroupConcatMaxLen,
-    Slot::LcTimeNames,
-    Slot::LcMessages,
-    Slot::WaitTimeout,
-    Slot::NetReadTimeout,
-    Slot::NetWriteTimeout,
-    Slot::InnodbLockWaitTimeout,
-    Slot::LockWaitTimeout,
-    Slot::MaxExecutionTime,
-];
-
 impl Slot {
     /// The name of the system variable. Takes no memory.
     pub fn name(self) -> &'static [u8]
@@ -114,11 +91,11 @@ impl Slot {
         self as usize
     }
 
-    // The setting that a name assigns, in any ASCII case.
+    // The setting that a name assigns, in any ASCII case. No assignment sets `Names`, the first.
     pub(crate) fn named(name: &[u8]) -> Option<Slot>
         ensures { result ≡ slot_named name.now }
     {
-        ASSIGNED
+        SLOTS[1..]
             .iter()
             .copied()
             .find(|slot| same_text(name, slot.name()))

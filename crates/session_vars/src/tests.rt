@@ -4,8 +4,9 @@ use crate::Slot::{
     SqlSafeUpdates, TimeZone, TransactionIsolation, TransactionReadOnly, WaitTimeout,
 };
 use crate::{
-    Change, Changes, SLOTS, SetShape, Settings, Slot, SlotValue, can_be_set, difference, read_set,
-    set_texts,
+    Change, Changes, SLOTS, SetShape, Settings, Slot, SlotValue, can_be_set, difference,
+    difference_can_be_set, difference_leads, difference_read_again, first_word_decides, read_set,
+    set_texts, settings_stay_tracked,
 };
 use mx_base::{Bytes, OutOfMemory};
 use std::alloc::Global;
@@ -75,9 +76,17 @@ fn tracked_names(rt: HostRuntime) -> Result<(), Fail> {
     Ok(())
 }
 
+// Each of these statements makes one change and nothing else.
+fn track_one_each(rt: &impl Abort, alloc: Global, cases: &[(&[u8], Short)]) -> Result<(), Fail> {
+    for (text, want) in cases {
+        tracks(rt, alloc, text, &[*want])?;
+    }
+    Ok(())
+}
+
 #[test]
-fn tracked_one(rt: HostRuntime) -> Result<(), Fail> {
-    let cases: [(&[u8], Short); 42] = [
+fn tracked_transactions(rt: HostRuntime) -> Result<(), Fail> {
+    let cases: [(&[u8], Short); 9] = [
         (
             b"SET SESSION TRANSACTION ISOLATION LEVEL READ UNCOMMITTED",
             (TransactionIsolation, Some(b"'READ-UNCOMMITTED'")),
@@ -102,26 +111,6 @@ fn tracked_one(rt: HostRuntime) -> Result<(), Fail> {
             b"SET LOCAL TRANSACTION READ WRITE",
             (TransactionReadOnly, Some(b"0")),
         ),
-        (b"SET autocommit=1", (Autocommit, Some(b"1"))),
-        (b"SET autocommit := 0", (Autocommit, Some(b"0"))),
-        (b"SET `autocommit` = ON;", (Autocommit, Some(b"ON"))),
-        (b"SET SESSION autocommit = off", (Autocommit, Some(b"off"))),
-        (b"SET LOCAL AutoCommit = 1", (Autocommit, Some(b"1"))),
-        (b"SET @@autocommit = 1", (Autocommit, Some(b"1"))),
-        (b"SET @@session.autocommit = 1", (Autocommit, Some(b"1"))),
-        (b"SET @@LOCAL.Autocommit = 1", (Autocommit, Some(b"1"))),
-        (b"SET autocommit = DEFAULT", (Autocommit, None)),
-        (b"SET autocommit = default;", (Autocommit, None)),
-        (b"SET sql_mode = ''", (SqlMode, Some(b"''"))),
-        (b"SET sql_mode = \"a`b\"", (SqlMode, Some(b"'a`b'"))),
-        (
-            b"SET sql_mode='STRICT_ALL_TABLES,NO_ZERO_DATE'",
-            (SqlMode, Some(b"'STRICT_ALL_TABLES,NO_ZERO_DATE'")),
-        ),
-        (b"SET sql_mode='ANSI_'", (SqlMode, Some(b"'ANSI_'"))),
-        (b"SET sql_mode = DEFAULT", (SqlMode, None)),
-        (b"SET time_zone = '+00:00'", (TimeZone, Some(b"'+00:00'"))),
-        (b"SET time_zone = SYSTEM", (TimeZone, Some(b"SYSTEM"))),
         (
             b"SET transaction_isolation = 'SERIALIZABLE'",
             (TransactionIsolation, Some(b"'SERIALIZABLE'")),
@@ -134,6 +123,55 @@ fn tracked_one(rt: HostRuntime) -> Result<(), Fail> {
             b"SET SESSION transaction_read_only = 1",
             (TransactionReadOnly, Some(b"1")),
         ),
+    ];
+    track_one_each(&rt, rt.alloc(), &cases)
+}
+
+#[test]
+fn tracked_forms(rt: HostRuntime) -> Result<(), Fail> {
+    let cases: [(&[u8], Short); 10] = [
+        (b"SET autocommit=1", (Autocommit, Some(b"1"))),
+        (b"SET autocommit := 0", (Autocommit, Some(b"0"))),
+        (b"SET `autocommit` = ON;", (Autocommit, Some(b"ON"))),
+        (b"SET SESSION autocommit = off", (Autocommit, Some(b"off"))),
+        (b"SET LOCAL AutoCommit = 1", (Autocommit, Some(b"1"))),
+        (b"SET @@autocommit = 1", (Autocommit, Some(b"1"))),
+        (b"SET @@session.autocommit = 1", (Autocommit, Some(b"1"))),
+        (b"SET @@LOCAL.Autocommit = 1", (Autocommit, Some(b"1"))),
+        (b"SET autocommit = DEFAULT", (Autocommit, None)),
+        (b"SET autocommit = default;", (Autocommit, None)),
+    ];
+    track_one_each(&rt, rt.alloc(), &cases)
+}
+
+#[test]
+fn tracked_modes_and_results(rt: HostRuntime) -> Result<(), Fail> {
+    let cases: [(&[u8], Short); 7] = [
+        (b"SET sql_mode = ''", (SqlMode, Some(b"''"))),
+        (b"SET sql_mode = \"a`b\"", (SqlMode, Some(b"'a`b'"))),
+        (
+            b"SET sql_mode='STRICT_ALL_TABLES,NO_ZERO_DATE'",
+            (SqlMode, Some(b"'STRICT_ALL_TABLES,NO_ZERO_DATE'")),
+        ),
+        (b"SET sql_mode='ANSI_'", (SqlMode, Some(b"'ANSI_'"))),
+        (b"SET sql_mode = DEFAULT", (SqlMode, None)),
+        (
+            b"SET character_set_results = NULL",
+            (CharacterSetResults, Some(b"NULL")),
+        ),
+        (
+            b"SET character_set_results = 'Utf8'",
+            (CharacterSetResults, Some(b"'Utf8'")),
+        ),
+    ];
+    track_one_each(&rt, rt.alloc(), &cases)
+}
+
+#[test]
+fn tracked_values(rt: HostRuntime) -> Result<(), Fail> {
+    let cases: [(&[u8], Short); 16] = [
+        (b"SET time_zone = '+00:00'", (TimeZone, Some(b"'+00:00'"))),
+        (b"SET time_zone = SYSTEM", (TimeZone, Some(b"SYSTEM"))),
         (b"SET sql_safe_updates = 1", (SqlSafeUpdates, Some(b"1"))),
         (
             b"SET foreign_key_checks = 0",
@@ -178,19 +216,8 @@ fn tracked_one(rt: HostRuntime) -> Result<(), Fail> {
             b"SET @@max_execution_time = 9",
             (MaxExecutionTime, Some(b"9")),
         ),
-        (
-            b"SET character_set_results = NULL",
-            (CharacterSetResults, Some(b"NULL")),
-        ),
-        (
-            b"SET character_set_results = 'Utf8'",
-            (CharacterSetResults, Some(b"'Utf8'")),
-        ),
     ];
-    for (text, want) in cases {
-        tracks(&rt, rt.alloc(), text, &[want])?;
-    }
-    Ok(())
+    track_one_each(&rt, rt.alloc(), &cases)
 }
 
 #[test]
@@ -228,15 +255,30 @@ fn shape_of(rt: &impl Abort, shape: SetShape) -> Untracked {
     }
 }
 
+fn have_shapes(rt: &impl Abort, alloc: Global, cases: &[(&[u8], Untracked)]) -> Result<(), Fail> {
+    for (text, want) in cases {
+        let found = shape_of(rt, read_set(alloc, text)?);
+        assert_eq!(rt; found, *want, "{text:?}");
+    }
+    Ok(())
+}
+
 #[test]
-fn not_tracked(rt: HostRuntime) -> Result<(), Fail> {
-    let cases: [(&[u8], Untracked); 74] = [
+fn no_set_statements(rt: HostRuntime) -> Result<(), Fail> {
+    let cases: [(&[u8], Untracked); 6] = [
         (b"", Untracked::NotSet),
         (b";", Untracked::NotSet),
         (b"SELECT 1", Untracked::NotSet),
         (b"(SET autocommit = 1)", Untracked::NotSet),
         (b"'SET' autocommit = 1", Untracked::NotSet),
         (b"SETS autocommit = 1", Untracked::NotSet),
+    ];
+    have_shapes(&rt, rt.alloc(), &cases)
+}
+
+#[test]
+fn server_scopes(rt: HostRuntime) -> Result<(), Fail> {
+    let cases: [(&[u8], Untracked); 18] = [
         (b"SET GLOBAL autocommit = 1", Untracked::Global),
         (b"SET persist x = 1", Untracked::Global),
         (b"SET PERSIST_ONLY x = 1", Untracked::Global),
@@ -246,6 +288,7 @@ fn not_tracked(rt: HostRuntime) -> Result<(), Fail> {
         (b"SET @@persist_only.x = 1", Untracked::Global),
         (b"SET @@global = 1", Untracked::Global),
         (b"SET autocommit = 1, GLOBAL x = 2", Untracked::Global),
+        (b"SET NAMES utf8, PERSIST_ONLY x = 2", Untracked::Global),
         (b"SET x = (1), @@global.x = 2", Untracked::Global),
         (b"SET x = ), GLOBAL y = 2", Untracked::Global),
         (b"SET x = f(1, global)", Untracked::Other),
@@ -254,12 +297,26 @@ fn not_tracked(rt: HostRuntime) -> Result<(), Fail> {
         (b"SET x = GLOBAL", Untracked::Other),
         (b"SET @@globals.x = 1", Untracked::Other),
         (b"SET GLOBAL TRANSACTION READ ONLY", Untracked::Global),
+    ];
+    have_shapes(&rt, rt.alloc(), &cases)
+}
+
+#[test]
+fn next_transaction(rt: HostRuntime) -> Result<(), Fail> {
+    let cases: [(&[u8], Untracked); 3] = [
         (b"SET TRANSACTION READ ONLY", Untracked::NextTransaction),
         (b"SET transaction", Untracked::NextTransaction),
         (
             b"SET TRANSACTION ISOLATION LEVEL SERIALIZABLE;",
             Untracked::NextTransaction,
         ),
+    ];
+    have_shapes(&rt, rt.alloc(), &cases)
+}
+
+#[test]
+fn other_names(rt: HostRuntime) -> Result<(), Fail> {
+    let cases: [(&[u8], Untracked); 16] = [
         (b"SET", Untracked::Other),
         (b"SET;", Untracked::Other),
         (b"SET ;;", Untracked::Other),
@@ -270,11 +327,19 @@ fn not_tracked(rt: HostRuntime) -> Result<(), Fail> {
         (b"SET NAMES utf8 COLLATE", Untracked::Other),
         (b"SET NAMES utf8 COLLATE a b", Untracked::Other),
         (b"SET NAMES utf8 COLLATE 'a b'", Untracked::Other),
+        (b"SET NAMES utf8 COLLATE `a b`", Untracked::Other),
         (b"SET NAMES utf8 COLLATE ''", Untracked::Other),
         (b"SET NAMES utf8 COLLATE '1a'", Untracked::Other),
         (b"SET NAMES utf8, autocommit = 1", Untracked::Other),
         (b"SET names = utf8", Untracked::Other),
         (b"SET CHARACTER SET utf8", Untracked::Other),
+    ];
+    have_shapes(&rt, rt.alloc(), &cases)
+}
+
+#[test]
+fn other_transactions(rt: HostRuntime) -> Result<(), Fail> {
+    let cases: [(&[u8], Untracked); 8] = [
         (b"SET SESSION TRANSACTION", Untracked::Other),
         (b"SET SESSION TRANSACTION READ", Untracked::Other),
         (
@@ -298,6 +363,13 @@ fn not_tracked(rt: HostRuntime) -> Result<(), Fail> {
             Untracked::Other,
         ),
         (b"SET @@transaction_read_only = 1", Untracked::Other),
+    ];
+    have_shapes(&rt, rt.alloc(), &cases)
+}
+
+#[test]
+fn other_assignments(rt: HostRuntime) -> Result<(), Fail> {
+    let cases: [(&[u8], Untracked); 11] = [
         (b"SET SESSION @@autocommit = 1", Untracked::Other),
         (b"SET SESSION SESSION autocommit = 1", Untracked::Other),
         (b"SET @@session. autocommit = 1", Untracked::Other),
@@ -307,12 +379,19 @@ fn not_tracked(rt: HostRuntime) -> Result<(), Fail> {
         (b"SET autocommit : = 1", Untracked::Other),
         (b"SET autocommit :/**/= 1", Untracked::Other),
         (b"SET autocommit == 1", Untracked::Other),
+        (b"SET autocommit = 1,", Untracked::Other),
+        (b"SET autocommit = 1;;", Untracked::Other),
+    ];
+    have_shapes(&rt, rt.alloc(), &cases)
+}
+
+#[test]
+fn other_values(rt: HostRuntime) -> Result<(), Fail> {
+    let cases: [(&[u8], Untracked); 15] = [
         (b"SET autocommit = 1 + 1", Untracked::Other),
         (b"SET autocommit = --1", Untracked::Other),
         (b"SET autocommit = +1", Untracked::Other),
-        (b"SET autocommit = 1,", Untracked::Other),
         (b"SET autocommit = `ON`", Untracked::Other),
-        (b"SET autocommit = 1;;", Untracked::Other),
         (b"SET time_zone = 'a''b'", Untracked::Other),
         (b"SET time_zone = 'a\\nb'", Untracked::Other),
         (b"SET time_zone = '\xC3\xA4'", Untracked::Other),
@@ -322,13 +401,10 @@ fn not_tracked(rt: HostRuntime) -> Result<(), Fail> {
         (b"SET sql_mode = \"ANSI\"", Untracked::Other),
         (b"SET sql_mode = 'NO_BACKSLASH_ESCAPES'", Untracked::Other),
         (b"SET character_set_results = DEFAULT", Untracked::Other),
+        (b"SET character_set_results = big5", Untracked::Other),
         (b"SET character_set_results = 'NULL'", Untracked::Other),
     ];
-    for (text, want) in cases {
-        let found = shape_of(&rt, read_set(rt.alloc(), text)?);
-        assert_eq!(rt; found, want, "{text:?}");
-    }
-    Ok(())
+    have_shapes(&rt, rt.alloc(), &cases)
 }
 
 // An assignment whose value, with its quotes, has so many bytes.
@@ -492,5 +568,26 @@ fn opening(rt: HostRuntime) -> Result<(), Fail> {
     assert_eq!(rt; settings.value(Names), &value_of(alloc, Some(b"utf8mb4"))?);
     assert_eq!(rt; settings.value(Autocommit), &value_of(alloc, Some(b"1"))?);
     assert_eq!(rt; settings.value(SqlMode), &SlotValue::Default);
+    Ok(())
+}
+
+#[test]
+fn copies(rt: HostRuntime) -> Result<(), Fail> {
+    let alloc = rt.alloc();
+    for value in [Some(b"'a'".as_slice()), None] {
+        let value = value_of(alloc, value)?;
+        assert_eq!(rt; value.copy(alloc)?, value);
+    }
+    Ok(())
+}
+
+// Whoever stands on the crate can have its laws.
+#[test]
+fn laws() -> Result<(), Fail> {
+    first_word_decides();
+    difference_leads();
+    difference_can_be_set();
+    difference_read_again();
+    settings_stay_tracked();
     Ok(())
 }

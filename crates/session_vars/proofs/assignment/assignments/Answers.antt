@@ -1,4 +1,4 @@
-use Rattle.std.proofs.Common.{◌≡◌, List, Option, sym, ◌∙◌, ap}
+use Rattle.std.proofs.Common.{List, Option, sym, ◌∙◌, ap}
 use Rattle.sql_tokens.specs.declared.token.Token.{Token}
 use Rattle.session_vars.specs.Assignments.{assignment, assigned_behind, with_change}
 use Rattle.session_vars.specs.Statement.{before_comma, behind_comma}
