@@ -51,7 +51,7 @@ numbered-more n [] (p ∷ places) k at all link spot = absurd all
 numbered-more n (l ∷ links) [] k at all link spot = absurd all
 numbered-more n (l ∷ links) (p ∷ places) k at all link spot = (all.0, all.1, numbered-more (n + 1) links places k at all.2 (link ∙ ap numbered (let e : n + suc (length places) ≡ (n + 1) + length places = omega arith in e)) spot)
 
-get-cases : (xs : List ℕ) (x i y : ℕ) → slice_get (xs ++ x ∷ []) i ≡ Some y → (slice_get xs i ≡ Some y) ⊎ ((i ≡ length xs) × (x ≡ y))
+pub get-cases : (xs : List ℕ) (x i y : ℕ) → slice_get (xs ++ x ∷ []) i ≡ Some y → (slice_get xs i ≡ Some y) ⊎ ((i ≡ length xs) × (x ≡ y))
 get-cases [] x zero y is = inr (refl, let e : x ≡ y = cc in e)
 get-cases [] x (suc i) y is = cc
 get-cases (z ∷ xs) x zero y is = inl is
