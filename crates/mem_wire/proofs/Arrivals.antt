@@ -40,14 +40,11 @@ use Rattle.mem_wire.specs.CameLaws.{accepted-more, opens-more}
 use Rattle.mem_wire.proofs.Sound.{sound-late, no-late}
 use Rattle.mem_wire.proofs.CutLaws.{moment-is, cut-next, last-lines, cut-released}
 use Rattle.mem_wire.proofs.Standing.{client-is}
-use Rattle.mem_wire.proofs.StandEnters.{stands-enters}
+use Rattle.mem_wire.proofs.StandEnters.{none_some, stands-enters}
 use Rattle.mem_wire.proofs.StandWakes.{stands-wakes}
 use Rattle.mem_wire.proofs.Distinct.{client-fresh, server-fresh}
 use Rattle.mem_wire.proofs.Playing.{stands-after, stands-marked, follows-plain, follows-entry, none-late, late-after}
 use Rattle.mem_wire.proofs.Following.{sound-accepts, sound-opens, sound-wakes, wake-marks, marks_are}
-
-none_owner : (link : LinkId) → None ≡ Some link → ⊥
-none_owner link is = cc
 
 clients-same : (old new : Stage) (port : Port) → new.traffic ≡ old.traffic → new.admin ≡ old.admin → clients_of port new ≡ clients_of port old
 clients-same old new Traffic traffic admin = ap (λ v. v.items) traffic
@@ -225,7 +222,7 @@ first-accepted s Traffic first = first.traffic_accepted
 first-accepted s Admin first = first.admin_accepted
 
 no-owner : (s : Stage) (at : ℕ) (link : LinkId) → IsFirst s → (track_at s.tracks.items at).link ≡ Some link → ⊥
-no-owner s at link first is = none_owner link (sym (ap (λ t. t.link) (blank-at s at first)) ∙ is)
+no-owner s at link first is = none_some link (sym (ap (λ t. t.link) (blank-at s at first)) ∙ is)
 
 none_at : (at : ℕ) → None ≡ Some at → ⊥
 none_at at is = cc

@@ -16,16 +16,18 @@ use Rattle.mx_wire.specs.declared.wire.Took.TheVariants as took
 use Rattle.mem_wire.specs.declared.ending.Ending.{Ending}
 use Rattle.mem_wire.specs.declared.ending.Ending.TheVariants as ending
 use Rattle.mem_wire.specs.declared.room.Room.{Room}
-use Rattle.mx_wire.specs.Tells.{IsOpen, OpenFor}
+use Rattle.mx_wire.specs.Tells.{IsOpen, OpenFor, Tells}
+use Rattle.mx_wire.specs.Tells.{Fits as FitsLog}
 use Rattle.mx_wire.specs.Growth.{same_number}
 use Rattle.mx_wire.specs.declared.entry.Entry.{Entry}
 use Rattle.mx_wire.specs.declared.entry.Entry.TheVariants as entry
 use Rattle.recording.specs.declared.entry.RecordLink.{RecordLink}
 use Rattle.recording.specs.declared.entry.RecordEntry.{RecordEntry}
+use Rattle.mem_wire.specs.declared.late.Late.{Late}
 use Rattle.mem_wire.specs.declared.naming.ToName.{ToName}
 use Rattle.mem_wire.specs.declared.track.Track.{Track}
 use Rattle.mem_wire.specs.declared.stage.Stage.{Stage}
-use Rattle.mem_wire.specs.Adds.{late_entries, Calls}
+use Rattle.mem_wire.specs.Adds.{late_entries, Adds, IsBounded, Calls}
 use Rattle.mem_wire.specs.Lines.{bytes_for, ending_for, is_refused}
 use Rattle.mem_wire.specs.Came.{is_open_call, room_left, known, with_link, known_ending, known_room}
 use Rattle.mem_wire.specs.CameLaws.{opens-more}
@@ -37,10 +39,10 @@ use Rattle.mem_wire.specs.Naming.{is_named, named_at, may_turn_ready}
 use Rattle.mem_wire.specs.Turns.{Searches, AllInTurn}
 use Rattle.mem_wire.specs.Stands.{read_by, Fits, Stands}
 use Rattle.mem_wire.specs.Follows.{Follows, IsTape}
-use Rattle.mem_wire.proofs.Links.{is_below, open-below}
+use Rattle.mem_wire.proofs.Links.{is_below, open-below, late_are}
 use Rattle.mem_wire.proofs.Scenes.{IsIdle, alike-idle, opens-same}
 use Rattle.mem_wire.proofs.Sound.{KeepsCourse, sound-call, sound-late}
-use Rattle.mem_wire.proofs.Courses.{Moved, moved-moves}
+use Rattle.mem_wire.proofs.Courses.{Moved, moved-moves, within-moves}
 use Rattle.mem_wire.proofs.LineLaws.{name_of, place-name_of}
 use Rattle.mem_wire.proofs.Standing.{stands-alike, Has, has-is}
 use Rattle.mem_wire.proofs.StandSteps.{but-entry, stands-stay}
@@ -48,8 +50,8 @@ use Rattle.mem_wire.proofs.StandMoves.{Brings_nothing, present, stands-moves, le
 use Rattle.mem_wire.proofs.Nameable.{named-link, names-at, names-some}
 use Rattle.mem_wire.proofs.InTurn.{Calms, calms-same, in-search, in-change}
 use Rattle.mem_wire.proofs.Playing.{IsPlain, stands-marked, follows-plain, none-late}
-use Rattle.mem_wire.proofs.Telling.{goes_on}
-use Rattle.mem_wire.proofs.Following.{sound-moved}
+use Rattle.mem_wire.proofs.Telling.{tells, goes_on, calls_after}
+use Rattle.mem_wire.proofs.Following.{sound-moved, open-if-open}
 
 -- Entries that a play doesn't look at.
 
@@ -450,3 +452,19 @@ stays-search found old mid new looks frame late = record {
       ∙ ap (λ turns. record old { late = new.late; turns = turns }) (sym (ap (λ s. s.turns) frame));
   late = late;
 }
+
+-- a read or a write that leaves an entry behind the late marks
+pub tape-read : (recording : List RecordEntry) (old new : Stage) (told shown mid after : Option Log) (link : LinkId) (before into : List ℕ) (g : Got) → IsTape recording old told → told ≡ shown → OpenFor shown link → Moves link (read_change g) old new → ReadsAtMost (length into) g → ((at : ℕ) → place_in old link ≡ Some at → at < length old.tracks.items → ReadsTrack (track_at old.tracks.items at) before into g) → Adds told (late_entries old.late) mid → Adds mid (got_entry link into g ∷ []) after → IsBounded after → IsTape recording new after
+tape-read recording old new told shown mid after link before into g tape same opened moves most reads first last bounded =
+    goes_on recording old new told after (late_entries old.late) (got_entry link into g) tape (within-moves recording old new tape.within moves.frame) (calls_after told mid after (late_entries old.late) (got_entry link into g) first last bounded)
+    (λ log is follows. follows-read recording old new log link before into g tape.within follows (open-in told shown link log same opened is) moves most reads)
+
+pub tape-wrote : (recording : List RecordEntry) (old new : Stage) (told shown mid after : Option Log) (link : LinkId) (tag : Tag) (piece : List ℕ) (k : Took) → IsTape recording old told → told ≡ shown → OpenFor shown link → Moves link (write_change k) old new → ((at : ℕ) → place_in old link ≡ Some at → at < length old.tracks.items → WritesTrack old.last (track_at old.tracks.items at) (length piece) k) → Adds told (late_entries old.late) mid → Adds mid (took_entry link tag piece k ∷ []) after → IsBounded after → IsTape recording new after
+tape-wrote recording old new told shown mid after link tag piece k tape same opened moves writes first last bounded =
+    goes_on recording old new told after (late_entries old.late) (took_entry link tag piece k) tape (within-moves recording old new tape.within moves.frame) (calls_after told mid after (late_entries old.late) (took_entry link tag piece k) first last bounded)
+    (λ log is follows. follows-wrote recording old new log link tag piece k tape.within follows (open-in told shown link log same opened is) moves writes)
+
+pub tells-open : (told shown mid after : Option Log) (late : Late) (link : LinkId) (e : Entry) → told ≡ shown → OpenFor shown link → Adds told (late_entries late) mid → Adds mid (e ∷ []) after → IsBounded after → ((log : Log) → IsOpen link log → FitsLog log e) → Tells told e after
+tells-open told shown mid after late link e same opened first last bounded fits =
+    tells told (late_entries late) e after (calls_after told mid after (late_entries late) e first last bounded) (late_are late)
+    (λ log is. fits (log ++ late_entries late) (open-if-open told shown link late same opened log is))

@@ -15,28 +15,23 @@ use Rattle.mem_wire.specs.Tracks.{place, room_given}
 use Rattle.mem_wire.specs.Naming.{names, first_from}
 use Rattle.mem_wire.proofs.LineLaws.{same_place}
 
-pub first-least : (at from i : ℕ) (lines : List RecordEntry) → first_from at from lines ≡ Some i → from ≤ i
-first-least at from i [] is = cc
-first-least at from i (l ∷ lines) is = elim (bool_cases (names at l)) [
-  | inl here ↦
-      let now : Some from ≡ Some i = sym (ap (λ b. if b then Some from else first_from at (from + 1) lines) here) ∙ is in
-      let same : from ≡ i = cc in
-      omega arith
-  | inr other ↦
-      let later : from + 1 ≤ i = first-least at (from + 1) i lines (sym (ap (λ b. if b then Some from else first_from at (from + 1) lines) other) ∙ is) in
-      omega arith
-]
+-- the number of such a line is one of theirs
+pub record IsNumber (from size i : ℕ) : Type 0 where
+  pub least : from ≤ i
+  pub below : i < from + size
 
-pub first-below : (at from i : ℕ) (lines : List RecordEntry) → first_from at from lines ≡ Some i → i < from + length lines
-first-below at from i [] is = cc
-first-below at from i (l ∷ lines) is = elim (bool_cases (names at l)) [
+pub first-number : (at from i : ℕ) (lines : List RecordEntry) → first_from at from lines ≡ Some i → IsNumber from (length lines) i
+first-number at from i [] is = cc
+first-number at from i (l ∷ lines) is = elim (bool_cases (names at l)) [
   | inl here ↦
       let now : Some from ≡ Some i = sym (ap (λ b. if b then Some from else first_from at (from + 1) lines) here) ∙ is in
       let same : from ≡ i = cc in
-      omega arith
+      record { least = omega arith; below = omega arith }
   | inr other ↦
-      let later : i < (from + 1) + length lines = first-below at (from + 1) i lines (sym (ap (λ b. if b then Some from else first_from at (from + 1) lines) other) ∙ is) in
-      omega arith
+      let later = first-number at (from + 1) i lines (sym (ap (λ b. if b then Some from else first_from at (from + 1) lines) other) ∙ is) in
+      let least : from + 1 ≤ i = later.least in
+      let below : i < (from + 1) + length lines = later.below in
+      record { least = omega arith; below = omega arith }
 ]
 
 -- with one more line
@@ -59,11 +54,11 @@ first-one a b from i (l ∷ lines) p q = of (names a l) (names b l) (λ p2 q2. f
   of true true later here too p2 q2 = one-name a b (name_at l) here too
   of true false later here other p2 q2 =
       let same : from ≡ i = cc in
-      let low : from + 1 ≤ i = first-least b (from + 1) i lines q2 in
+      let low : from + 1 ≤ i = (first-number b (from + 1) i lines q2).least in
       absurd (omega arith)
   of false true later other here p2 q2 =
       let same : from ≡ i = cc in
-      let low : from + 1 ≤ i = first-least a (from + 1) i lines p2 in
+      let low : from + 1 ≤ i = (first-number a (from + 1) i lines p2).least in
       absurd (omega arith)
   of false false later other too p2 q2 = later p2 q2
 

@@ -23,9 +23,10 @@ use Rattle.mem_wire.specs.Naming.{is_named, named_by, named_at, may_turn_ready, 
 use Rattle.mem_wire.specs.Turns.{HasNone, Sees, Seen, PassesLines, StopsAtLine, PassesLinks, StopsAtLink, Searches, SearchesOn, InTurn, AllInTurn}
 use Rattle.mem_wire.proofs.Links.{low_or_high}
 use Rattle.mem_wire.proofs.LineLaws.{name_of, place-name_of}
-use Rattle.mem_wire.proofs.StandEnters.{get-cases}
+use Rattle.mem_wire.proofs.StandSteps.{not_apart}
+use Rattle.mem_wire.proofs.StandEnters.{get-cases, none_some}
 use Rattle.mem_wire.proofs.StandWakes.{old-room}
-use Rattle.mem_wire.proofs.FirstLines.{first-below, first-append, first-one, gives-nothing}
+use Rattle.mem_wire.proofs.FirstLines.{first-number, first-append, first-one, gives-nothing}
 
 -- A wake, a line at a time.
 
@@ -75,7 +76,7 @@ seen-more tracks from lines l number old mid new size seen sees = record {
       ∙ ap (λ (n : ℕ). option_or (first_from at from lines) (if names at l then Some n else None)) size ∙ sym (first-append at from lines l);
   lines = λ at i is. elim (which at from i lines l is) [
     | Before before ↦
-        let below : i < from + length lines = first-below at from i lines before in
+        let below : i < from + length lines = (first-number at from i lines before).below in
         sees.others i (λ same. absurd (omega arith)) ∙ seen.lines at i before
     | Last none here place_is ↦
         subst (λ (k : ℕ). get nat_cmp new.lines k ≡ Some at) (size ∙ place_is) (sees.counts at here (seen.firsts at ∙ none))
@@ -87,11 +88,9 @@ seen-more tracks from lines l number old mid new size seen sees = record {
           | inl before ↦ found-append at from i lines l (seen.queued i at (subst (λ (k : ℕ). get nat_cmp mid.lines k ≡ Some at) (sym here) before))
           | inr now ↦ new-append at from lines l (sym (seen.firsts at) ∙ now.1) now.0 ∙ ap Some (sym (here ∙ size))
         ]
-    | inr apart ↦ found-append at from i lines l (seen.queued i at (sym (sees.others i (apart-from i number apart)) ∙ is))
+    | inr apart ↦ found-append at from i lines l (seen.queued i at (sym (sees.others i (λ here. not_apart i number here apart)) ∙ is))
   ];
-} where
-  apart-from : (a b : ℕ) → (a == b) ≡ false → a ≡ b → ⊥
-  apart-from a b apart same = grind arith
+}
 
 -- A search.
 
@@ -111,7 +110,7 @@ ready-may true ready named more is = cc
 ready-may false true named more is = refl
 ready-may false false named more is = cc
 
-test-true : (b : Bool) (o : Option LinkId) (link : LinkId) → (if b then o else None) ≡ Some link → b ≡ true
+pub test-true : (b : Bool) (o : Option LinkId) (link : LinkId) → (if b then o else None) ≡ Some link → b ≡ true
 test-true true o link is = refl
 test-true false o link is = cc
 
@@ -196,9 +195,6 @@ in-late recording s late turns = turns
 
 -- A link comes.
 
-none_owner : (link : LinkId) → None ≡ Some link → ⊥
-none_owner link is = cc
-
 pub in-enters : (recording : List RecordEntry) (old new : Stage) (at : ℕ) → ((number spot : ℕ) → slice_get old.places.items number ≡ Some spot → (track_at old.tracks.items spot).link ≡ Some (numbered number)) → AllInTurn recording old → Enters at old new → new.last ≡ old.last → new.cut ≡ old.cut → (track_at old.tracks.items at).link ≡ None → AllInTurn recording new
 in-enters recording old new at placed turns enters last cut none =
     subst (λ (l : ℕ). InTurn (lines_between l new.cut recording) l new.tracks.items new.places.items new.turns) (sym last)
@@ -209,7 +205,7 @@ in-enters recording old new at placed turns enters last cut none =
             let same : spot ≡ at = eqb-true spot at here in
             subst (λ (p : ℕ). get nat_cmp new.turns.lines i ≡ Some p) (sym same) (enters.turns.line i (subst (λ (p : ℕ). get nat_cmp old.turns.firsts p ≡ Some i) same (turns.firsts spot ∙ is)))
         | inr other ↦
-            enters.turns.others i (λ mine. apart-from spot at other (first-one spot at old.last i lines is (sym (turns.firsts at) ∙ mine)))
+            enters.turns.others i (λ mine. not_apart spot at (first-one spot at old.last i lines is (sym (turns.firsts at) ∙ mine)) other)
             ∙ turns.lines spot i link (sym (ap (named_by old.last) (elsewhere spot other)) ∙ named) is
       ];
       queued = λ i spot is. elim (line-cases (get nat_cmp old.turns.firsts at) i refl) [
@@ -238,15 +234,12 @@ in-enters recording old new at placed turns enters last cut none =
     lines : List RecordEntry
     lines = lines_between old.last old.cut recording
 
-    apart-from : (a b : ℕ) → (a == b) ≡ false → a ≡ b → ⊥
-    apart-from a b apart same = grind arith
-
     elsewhere : (spot : ℕ) → (spot == at) ≡ false → track_at new.tracks.items spot ≡ track_at old.tracks.items spot
     elsewhere spot other = enters.tracks spot ∙ ap (λ b. if b then record (track_at old.tracks.items spot) { link = Some (next_link old) } else track_at old.tracks.items spot) other
 
     not-at : (number spot : ℕ) → slice_get old.places.items number ≡ Some spot → (spot == at) ≡ false
     not-at number spot was = elim (bool_cases (spot == at)) [
-      | inl same ↦ absurd (none_owner (numbered number) (sym none ∙ ap (λ (p : ℕ). (track_at old.tracks.items p).link) (sym (eqb-true spot at same)) ∙ placed number spot was))
+      | inl same ↦ absurd (none_some (numbered number) (sym none ∙ ap (λ (p : ℕ). (track_at old.tracks.items p).link) (sym (eqb-true spot at same)) ∙ placed number spot was))
       | inr apart ↦ apart
     ]
 
@@ -254,7 +247,7 @@ in-enters recording old new at placed turns enters last cut none =
     line-cases None i is = inr (λ some. let e : None ≡ Some i = sym is ∙ some in cc)
     line-cases (Some j) i is = elim (bool_cases (j == i)) [
       | inl same ↦ inl (is ∙ ap Some (eqb-true j i same))
-      | inr apart ↦ inr (λ some. apart-from j i apart (let e : Some j ≡ Some i = sym is ∙ some in cc))
+      | inr apart ↦ inr (λ some. not_apart j i (let e : Some j ≡ Some i = sym is ∙ some in cc) apart)
     ]
 
 -- A wake begins.
@@ -305,9 +298,6 @@ passes-line wake tracks first old lines line at passes here none gone = record {
   kept : (q spot : ℕ) (b : Bool) → cond b None (get nat_cmp old.lines q) ≡ Some spot → get nat_cmp old.lines q ≡ Some spot
   kept q spot true is = cc
   kept q spot false is = is
-
-  none_some : (link : LinkId) → None ≡ Some link → ⊥
-  none_some link is = cc
 
   same-key : (a b : ℕ) → is_at (nat_cmp a) b ≡ true → a ≡ b
   same-key a b same = grind arith

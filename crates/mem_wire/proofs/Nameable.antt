@@ -27,8 +27,8 @@ use Rattle.mem_wire.specs.Stands.{Numbered, is_in, Stands}
 use Rattle.mem_wire.proofs.Links.{low_or_high}
 use Rattle.mem_wire.proofs.LineLaws.{same_place}
 use Rattle.mem_wire.proofs.CutLaws.{cut-released, last-drop, last-lines}
-use Rattle.mem_wire.proofs.FirstLines.{first-least, none-names}
-use Rattle.mem_wire.proofs.InTurn.{none-unless-pending, in-lines, in-links}
+use Rattle.mem_wire.proofs.FirstLines.{first-number, none-names}
+use Rattle.mem_wire.proofs.InTurn.{test-true, none-unless-pending, in-lines, in-links}
 use Rattle.mem_wire.proofs.Standing.{has-track}
 use Rattle.mem_wire.proofs.StandMoves.{if-own}
 
@@ -77,10 +77,6 @@ test-no : (b : Bool) (link : LinkId) (o : Option LinkId) → o ≡ Some link →
 test-no true link o owner none = absurd (let e : Some link ≡ None = sym owner ∙ none in cc)
 test-no false link o owner none = refl
 
-test-yes : (b : Bool) (link : LinkId) (o : Option LinkId) → (if b then o else None) ≡ Some link → b ≡ true
-test-yes true link o some = refl
-test-yes false link o some = cc
-
 pub record Found (link : LinkId) (found : Option Known) : Type 0 where
   pub k : Known
   pub is : found ≡ Some k
@@ -107,7 +103,7 @@ some-links p last tracks n zero (k ∷ links) (at ∷ places) t tests owned all 
     let x = track_at tracks (place k.name) in
     let same : at ≡ t.at = cc in
     let by : named_by last x ≡ Some t.link = ap (named_at last tracks) (all.1 ∙ same) ∙ named in
-    let yes : p k ≡ true = tests k owned.0 ∙ test-yes (test last x) t.link x.link by in
+    let yes : p k ≡ true = tests k owned.0 ∙ test-true (test last x) x.link t.link by in
     record { k = k; is = ap (λ b. if b then Some k else find p links) yes; link_is = let e : Some k.link ≡ Some t.link = sym owned.0 ∙ named-link last x t.link by in cc }
 some-links p last tracks n (suc i) (k ∷ links) (at ∷ places) t tests owned all none here named =
     let x = track_at tracks (place k.name) in
@@ -172,7 +168,7 @@ some-name tracks last links places p name (Some k) later link all is some =
     let owner : (track_at tracks (place k.name)).link ≡ Some k.link = ap (λ (at : ℕ). (track_at tracks at).link) owns.place_is ∙ owns.owner in
     let t = track_at tracks (place k.name) in
     let named : named_by last t ≡ Some link = ap (named_at last tracks) owns.place_is ∙ some in
-    let yes : p k ≡ true = all.tests k owner ∙ test-yes (test last t) link t.link named in
+    let yes : p k ≡ true = all.tests k owner ∙ test-true (test last t) t.link link named in
     record { k = k; is = ap (λ b. if b then Some k else find p later) yes; link_is = let e : Some k.link ≡ Some link = sym owner ∙ named-link last t link named in cc }
 
 -- a line that may name a link
@@ -228,7 +224,7 @@ some-lines tracks last links places p from i (l ∷ lines) t all named is least 
   | inl here ↦ some-line tracks last links places p (name_at l) (filter_map (known_at links) lines) t.link all (line-some last tracks t.at t.link (name_at l) here named)
   | inr apart ↦
       let later : first_from t.at (from + 1) lines ≡ Some i = sym (ap (λ b. if b then Some from else first_from t.at (from + 1) lines) apart) ∙ is in
-      let behind : from + 1 ≤ i = first-least t.at (from + 1) i lines later in
+      let behind : from + 1 ≤ i = (first-number t.at (from + 1) i lines later).least in
       let here : (at : ℕ) (link : LinkId) → named_at last tracks at ≡ Some link → names at l ≡ true → i ≤ from = λ at link is_named named_here. least at from link is_named (ap (λ b. if b then Some from else first_from at (from + 1) lines) named_here) in
       subst (Found t.link) (sym (none-line tracks last links places p (name_at l) (filter_map (known_at links) lines) all (line-before last tracks from i (name_at l) (omega arith) here)))
       (some-lines tracks last links places p (from + 1) i lines t all named later (λ at j link is_named found. elim (bool_cases (names at l)) [
@@ -245,8 +241,14 @@ lines-of recording s log within st linked = record {
   linked = linked;
 }
 
--- the first that is to be named, in the stage's lines and then among its links
-order-is : (recording : List RecordEntry) (s : Stage) (log : Log) → Stands recording s log → IsWithin recording s → next_named recording log ≡ option_or (find (is_to_name recording log) (filter_map (known_at (known recording log)) (lines_between s.last s.cut recording))) (find (is_to_name recording log) (known recording log))
+-- the first that is to be named of the stage's lines, and of its links
+abbrev of_lines : List RecordEntry → Stage → Log → Option Known
+of_lines recording s log = find (is_to_name recording log) (filter_map (known_at (known recording log)) (lines_between s.last s.cut recording))
+
+abbrev of_links : List RecordEntry → Log → Option Known
+of_links recording log = find (is_to_name recording log) (known recording log)
+
+order-is : (recording : List RecordEntry) (s : Stage) (log : Log) → Stands recording s log → IsWithin recording s → next_named recording log ≡ option_or (of_lines recording s log) (of_links recording log)
 order-is recording s log st within =
     let le : s.last ≤ s.cut = within.last in
     let p = is_to_name recording log in
@@ -260,38 +262,48 @@ no-turn recorded last tracks places turns in_turn none at link named = of (first
   of None is = refl
   of (Some i) is = absurd (let e : None ≡ Some at = sym (none i) ∙ in_turn.lines at i link named is in cc)
 
+-- what a search knows: how links stand to tracks, and how its turns stand to both before the links are looked at
+record Knows (recording : List RecordEntry) (s : Stage) (log : Log) (mid : Turns) : Type 0 where
+  pub all : Lines s.tracks.items s.last (known recording log) s.places.items (is_to_name recording log)
+  pub turns : InTurn (lines_between s.last s.cut recording) s.last s.tracks.items s.places.items mid
+
+knows-all : (recording : List RecordEntry) (found : Option ToName) (old new : Stage) (log : Log) → Stands recording old log → IsWithin recording old → ((spot : ℕ) (link : LinkId) → (track_at old.tracks.items spot).link ≡ Some link → slice_get old.places.items link.0 ≡ Some spot) → AllInTurn recording old → (looks : Searches found old new) → Knows recording old log looks.mid
+knows-all recording found old new log st within linked turns looks = record {
+  all = lines-of recording old log within st linked;
+  turns = in-lines (lines_between old.last old.cut recording) old.last old.tracks.items old.places.items old.turns looks.mid turns looks.passes;
+}
+
+no-lines : (recording : List RecordEntry) (s : Stage) (log : Log) (mid : Turns) → Knows recording s log mid → ((line : ℕ) → get nat_cmp mid.lines line ≡ None) → of_lines recording s log ≡ None
+no-lines recording s log mid knows none =
+    none-lines s.tracks.items s.last (known recording log) s.places.items (is_to_name recording log) s.last (lines_between s.last s.cut recording) knows.all
+    (no-turn (lines_between s.last s.cut recording) s.last s.tracks.items s.places.items mid knows.turns none)
+
+after-links : (recording : List RecordEntry) (found : Option ToName) (s : Stage) (log : Log) (mid new : Turns) → Knows recording s log mid → SearchesLinks found s mid new → InTurn (lines_between s.last s.cut recording) s.last s.tracks.items s.places.items new
+after-links recording found s log mid new knows stops = in-links (lines_between s.last s.cut recording) s.last s.tracks.items s.places.items mid new knows.turns stops.passes
+
+no-links : (recording : List RecordEntry) (s : Stage) (log : Log) (mid new : Turns) → Knows recording s log mid → SearchesLinks None s mid new → of_links recording log ≡ None
+no-links recording s log mid new knows stops =
+    none-links (is_to_name recording log) s.last s.tracks.items 0 (known recording log) s.places.items knows.all.tests knows.all.owned knows.all.all
+    (λ i at here. elim (low_or_high i new.link) [
+      | inl low ↦ after.passed i at low here
+      | inr high ↦ none-unless-pending (lines_between s.last s.cut recording) s.last s.tracks.items s.places.items new i at after here (stops.none i at high here)
+    ])
+  where
+    after : InTurn (lines_between s.last s.cut recording) s.last s.tracks.items s.places.items new
+    after = after-links recording None s log mid new knows stops
+
 some_none : (t : ToName) → None ≡ Some t → ⊥
 some_none t is = cc
 
 pub names-none : (recording : List RecordEntry) (old new : Stage) (log : Log) → Stands recording old log → IsWithin recording old → ((spot : ℕ) (link : LinkId) → (track_at old.tracks.items spot).link ≡ Some link → slice_get old.places.items link.0 ≡ Some spot) → AllInTurn recording old → Searches None old new → next_named recording log ≡ None
-names-none recording old new log st within linked turns looks = on looks.of_lines looks.on where
-  p : Known → Bool
-  p = is_to_name recording log
-
-  lines : List RecordEntry
-  lines = lines_between old.last old.cut recording
-
-  links : List Known
-  links = known recording log
-
-  mid : InTurn lines old.last old.tracks.items old.places.items looks.mid
-  mid = in-lines lines old.last old.tracks.items old.places.items old.turns looks.mid turns looks.passes
-
-  later : InTurn lines old.last old.tracks.items old.places.items looks.mid → SearchesLinks None old looks.mid new.turns → (i at : ℕ) → slice_get old.places.items i ≡ Some at → named_at old.last old.tracks.items at ≡ None
-  later in_mid stops i at here =
-      let after = in-links lines old.last old.tracks.items old.places.items looks.mid new.turns in_mid stops.passes in
-      elim (low_or_high i new.turns.link) [
-        | inl low ↦ after.passed i at low here
-        | inr high ↦ none-unless-pending lines old.last old.tracks.items old.places.items new.turns i at after here (stops.none i at high here)
-      ]
-
-  on : (of_lines : Option ToName) → SearchesOn of_lines None old looks.mid new.turns → next_named recording log ≡ None
-  on (Some t) stops = absurd (some_none t stops.0)
-  on None stops =
-      let all = lines-of recording old log within st linked in
-      order-is recording old log st within
-      ∙ ap (λ o. option_or o (find p links)) (none-lines old.tracks.items old.last links old.places.items p old.last lines all (no-turn lines old.last old.tracks.items old.places.items looks.mid mid stops.no_line))
-      ∙ none-links p old.last old.tracks.items 0 links old.places.items all.tests all.owned all.all (later mid stops)
+names-none recording old new log st within linked turns looks =
+    order-is recording old log st within ∙ on looks.of_lines looks.on (knows-all recording None old new log st within linked turns looks)
+  where
+    on : (o : Option ToName) → SearchesOn o None old looks.mid new.turns → Knows recording old log looks.mid → option_or (of_lines recording old log) (of_links recording log) ≡ None
+    on (Some t) stops knows = absurd (some_none t stops.0)
+    on None stops knows =
+        ap (λ o. option_or o (of_links recording log)) (no-lines recording old log looks.mid knows stops.no_line)
+        ∙ no-links recording old log looks.mid new.turns knows stops
 
 first-found : (a b : Option Known) (link : LinkId) → Found link a → Found link (option_or a b)
 first-found a b link found = record { k = found.k; is = ap (λ o. option_or o b) found.is; link_is = found.link_is }
@@ -299,48 +311,32 @@ first-found a b link found = record { k = found.k; is = ap (λ o. option_or o b)
 then-found : (a b : Option Known) (link : LinkId) → a ≡ None → Found link b → Found link (option_or a b)
 then-found a b link none found = record { k = found.k; is = ap (λ o. option_or o b) none ∙ found.is; link_is = found.link_is }
 
+at-line : (recording : List RecordEntry) (s : Stage) (log : Log) (mid : Turns) (t : ToName) → Knows recording s log mid → StopsAtLine s.last s.tracks.items mid t → Found t.link (of_lines recording s log)
+at-line recording s log mid t knows stops =
+    some-lines s.tracks.items s.last (known recording log) s.places.items (is_to_name recording log) s.last stops.line (lines_between s.last s.cut recording) t knows.all stops.named (knows.turns.queued stops.line t.at stops.first.has)
+    (λ at j link named is. stops.first.least j at (knows.turns.lines at j link named is))
+
+at-link : (recording : List RecordEntry) (s : Stage) (log : Log) (mid new : Turns) (t : ToName) → Knows recording s log mid → SearchesLinks (Some t) s mid new → Found t.link (of_links recording log)
+at-link recording s log mid new t knows stops =
+    some-links (is_to_name recording log) s.last s.tracks.items 0 new.link (known recording log) s.places.items t knows.all.tests knows.all.owned knows.all.all
+    (after-links recording (Some t) s log mid new knows stops).passed stops.some.here stops.some.named
+
+-- a search of the lines that has found a link has found this one
+found-at : (old new : Stage) (t x : ToName) (mid : Turns) → SearchesOn (Some x) (Some t) old mid new.turns → StopsAtLine old.last old.tracks.items mid t
+found-at old new t x mid stops = let same : x ≡ t = let e : Some t ≡ Some x = stops.0 in cc in subst (StopsAtLine old.last old.tracks.items mid) same stops.2
+
 pub names-some : (recording : List RecordEntry) (old new : Stage) (log : Log) (t : ToName) → Stands recording old log → IsWithin recording old → ((spot : ℕ) (link : LinkId) → (track_at old.tracks.items spot).link ≡ Some link → slice_get old.places.items link.0 ≡ Some spot) → AllInTurn recording old → Searches (Some t) old new → Names (next_named recording log) t.link
 names-some recording old new log t st within linked turns looks =
-    let found = on looks.of_lines looks.on in
+    let found = on looks.of_lines looks.on (knows-all recording (Some t) old new log st within linked turns looks) in
     record { named = found.k; is = order-is recording old log st within ∙ found.is; link_is = found.link_is }
   where
-    p : Known → Bool
-    p = is_to_name recording log
-
-    lines : List RecordEntry
-    lines = lines_between old.last old.cut recording
-
-    links : List Known
-    links = known recording log
-
-    of_lines : Option Known
-    of_lines = find p (filter_map (known_at links) lines)
-
-    mid : InTurn lines old.last old.tracks.items old.places.items looks.mid
-    mid = in-lines lines old.last old.tracks.items old.places.items old.turns looks.mid turns looks.passes
-
-    all : Lines old.tracks.items old.last links old.places.items p
-    all = lines-of recording old log within st linked
-
-    at-line : StopsAtLine old.last old.tracks.items looks.mid t → Found t.link (option_or of_lines (find p links))
-    at-line stops = first-found of_lines (find p links) t.link
-        (some-lines old.tracks.items old.last links old.places.items p old.last stops.line lines t all stops.named (mid.queued stops.line t.at stops.first.has)
-        (λ at j link named is. stops.first.least j at (mid.lines at j link named is)))
-
-    at-link : SearchesLinks (Some t) old looks.mid new.turns → Found t.link (option_or of_lines (find p links))
-    at-link stops =
-        let after = in-links lines old.last old.tracks.items old.places.items looks.mid new.turns mid stops.passes in
-        then-found of_lines (find p links) t.link
-        (none-lines old.tracks.items old.last links old.places.items p old.last lines all (no-turn lines old.last old.tracks.items old.places.items looks.mid mid stops.no_line))
-        (some-links p old.last old.tracks.items 0 new.turns.link links old.places.items t all.tests all.owned all.all after.passed stops.some.here stops.some.named)
-
-    on : (of : Option ToName) → SearchesOn of (Some t) old looks.mid new.turns → Found t.link (option_or of_lines (find p links))
-    on (Some x) stops = let same : x ≡ t = let e : Some t ≡ Some x = stops.0 in cc in at-line (subst (StopsAtLine old.last old.tracks.items looks.mid) same stops.2)
-    on None stops = at-link stops
+    on : (o : Option ToName) → SearchesOn o (Some t) old looks.mid new.turns → Knows recording old log looks.mid → Found t.link (option_or (of_lines recording old log) (of_links recording log))
+    on (Some x) stops knows = first-found (of_lines recording old log) (of_links recording log) t.link (at-line recording old log looks.mid t knows (found-at old new t x looks.mid stops))
+    on None stops knows = then-found (of_lines recording old log) (of_links recording log) t.link (no-lines recording old log looks.mid knows stops.no_line) (at-link recording old log looks.mid new.turns t knows stops)
 
 -- what a search has found is to be named
 pub names-at : (old new : Stage) (t : ToName) → Searches (Some t) old new → named_at old.last old.tracks.items t.at ≡ Some t.link
 names-at old new t looks = on looks.of_lines looks.on where
-  on : (of : Option ToName) → SearchesOn of (Some t) old looks.mid new.turns → named_at old.last old.tracks.items t.at ≡ Some t.link
-  on (Some x) stops = let same : x ≡ t = let e : Some t ≡ Some x = stops.0 in cc in (subst (StopsAtLine old.last old.tracks.items looks.mid) same stops.2).named
+  on : (o : Option ToName) → SearchesOn o (Some t) old looks.mid new.turns → named_at old.last old.tracks.items t.at ≡ Some t.link
+  on (Some x) stops = (found-at old new t x looks.mid stops).named
   on None stops = stops.some.named

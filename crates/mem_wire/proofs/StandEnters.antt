@@ -113,7 +113,7 @@ mine-enters lines last cut n log e name t below brings none fits =
       woken = fits.woken;
     }
 
-none_some : (link : LinkId) → None ≡ Some link → ⊥
+pub none_some : (link : LinkId) → None ≡ Some link → ⊥
 none_some link is = cc
 
 pub stands-enters : (recording : List RecordEntry) (old new : Stage) (log : Log) (e : Entry) (at : ℕ) (name : RecordLink) → Stands recording old log → ((spot : ℕ) (link : LinkId) → (track_at old.tracks.items spot).link ≡ Some link → slice_get old.places.items link.0 ≡ Some spot) → all_below (length old.places.items) log ≡ true → Enters at old new → new.cut ≡ old.cut → new.last ≡ old.last → ((port : Port) → clients_of port new ≡ clients_of port old) → ((port : Port) → accepted_of port new ≡ accepted_at port (log ++ e ∷ [])) → opened_links (log ++ e ∷ []) ≡ new.opened.items → new.opens ≡ opens (log ++ e ∷ []) → place name ≡ at → (track_at old.tracks.items at).link ≡ None → known_by recording log e ≡ record { link = next_link old; name = name } ∷ [] → ((spot : ℕ) → Entered old spot → Entered new spot) → Entered new at → Brings_link (next_link old) e → Stands recording new (log ++ e ∷ [])

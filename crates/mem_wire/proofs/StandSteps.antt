@@ -64,7 +64,7 @@ stands-stay recording s log late turns st = record {
   tracks = st.tracks;
 }
 
-not_apart : (a b : ℕ) → a ≡ b → (a == b) ≡ false → ⊥
+pub not_apart : (a b : ℕ) → a ≡ b → (a == b) ≡ false → ⊥
 not_apart a b same apart = grind arith
 
 -- a track that changes, and the others
