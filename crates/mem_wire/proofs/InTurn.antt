@@ -316,16 +316,22 @@ passes-here wake tracks places first old number passes later within least = reco
   within = λ low. omega arith;
   passed = λ n at from before here had. elim (low_or_high n old.link) [
     | inl low ↦ passes.passed n at from low here had
-    | inr high ↦ elim (bool_cases (contains nat_cmp old.pending n)) [
-      | inl is_in ↦ absurd (let most : number ≤ n = least n high is_in in omega arith)
-      | inr out ↦ none-if-out (named_at wake tracks at) (contains nat_cmp old.pending n) (λ link named. passes.left n at here (named-may wake (track_at tracks at) link named) had) out
-    ]
+    | inr high ↦ none-if-out (named_at wake tracks at) (contains nat_cmp old.pending n) (λ link named. passes.left n at here (named-may wake (track_at tracks at) link named) had) (out n high before)
   ];
   left = passes.left;
-}
+  gone = λ n at from before here calm. elim (low_or_high n old.link) [
+    | inl low ↦ passes.gone n at from low here calm
+    | inr high ↦ out n high before
+  ];
+} where
+  out : (n : ℕ) → old.link ≤ n → n < number → contains nat_cmp old.pending n ≡ false
+  out n high before = elim (bool_cases (contains nat_cmp old.pending n)) [
+    | inl is_in ↦ absurd (let most : number ≤ n = least n high is_in in omega arith)
+    | inr is_out ↦ is_out
+  ]
 
-pub passes-link : (wake : ℕ) (tracks : List Track) (places : List ℕ) (first old new : Turns) (number at : ℕ) → PassesLinks wake tracks places first (record old { link = number }) → number < length places → slice_get places number ≡ Some at → named_at wake tracks at ≡ None → new ≡ record old { pending = new.pending; link = number + 1 } → ((n : ℕ) → (n ≡ number → may_be_ready wake (track_at tracks at) ≡ true) → contains nat_cmp old.pending n ≡ true → contains nat_cmp new.pending n ≡ true) → PassesLinks wake tracks places first new
-passes-link wake tracks places first old new number at passes within here none frame kept =
+pub passes-link : (wake : ℕ) (tracks : List Track) (places : List ℕ) (first old new : Turns) (number at : ℕ) → PassesLinks wake tracks places first (record old { link = number }) → number < length places → slice_get places number ≡ Some at → named_at wake tracks at ≡ None → new ≡ record old { pending = new.pending; link = number + 1 } → ((n : ℕ) → contains nat_cmp new.pending n ≡ (if n == number then may_be_ready wake (track_at tracks at) && contains nat_cmp old.pending n else contains nat_cmp old.pending n)) → PassesLinks wake tracks places first new
+passes-link wake tracks places first old new number at passes within here none frame stays =
     let now : new.link ≡ number + 1 = ap (λ (t : Turns). t.link) frame in
     record {
       frame = frame ∙ ap (λ (t : Turns). record t { pending = new.pending; link = number + 1 }) passes.frame ∙ ap (λ (l : ℕ). record first { pending = new.pending; link = l }) (sym now);
@@ -335,11 +341,26 @@ passes-link wake tracks places first old new number at passes within here none f
         | inl low ↦ passes.passed n spot from low there had
         | inr high ↦ ap (named_at wake tracks) (sym (same-place n spot (omega arith) there)) ∙ none
       ];
-      left = λ n spot there may had. kept n (λ same. ap (λ (p : ℕ). may_be_ready wake (track_at tracks p)) (same-place n spot same there) ∙ may) (passes.left n spot there may had);
+      left = λ n spot there may had. stays n ∙ kept n spot there may (passes.left n spot there may had) (n == number) refl;
+      gone = λ n spot from before there calm. stays n ∙ went n spot from (omega arith) there calm (n == number) refl;
     }
   where
     same-place : (n spot : ℕ) → n ≡ number → slice_get places n ≡ Some spot → at ≡ spot
     same-place n spot same there = let e : Some at ≡ Some spot = sym here ∙ ap (slice_get places) (sym same) ∙ there in cc
+
+    ready-is : (n spot : ℕ) → (n == number) ≡ true → slice_get places n ≡ Some spot → may_be_ready wake (track_at tracks at) ≡ may_be_ready wake (track_at tracks spot)
+    ready-is n spot same there = ap (λ (p : ℕ). may_be_ready wake (track_at tracks p)) (same-place n spot (eqb-true n number same) there)
+
+    kept : (n spot : ℕ) → slice_get places n ≡ Some spot → may_be_ready wake (track_at tracks spot) ≡ true → contains nat_cmp old.pending n ≡ true → (b : Bool) → (n == number) ≡ b → (if b then may_be_ready wake (track_at tracks at) && contains nat_cmp old.pending n else contains nat_cmp old.pending n) ≡ true
+    kept n spot there may had false apart = had
+    kept n spot there may had true same = ap (λ b. b && contains nat_cmp old.pending n) (ready-is n spot same there ∙ may) ∙ had
+
+    went : (n spot : ℕ) → first.link ≤ n → n ≤ number → slice_get places n ≡ Some spot → may_be_ready wake (track_at tracks spot) ≡ false → (b : Bool) → (n == number) ≡ b → (if b then may_be_ready wake (track_at tracks at) && contains nat_cmp old.pending n else contains nat_cmp old.pending n) ≡ false
+    went n spot from most there calm true same = ap (λ b. b && contains nat_cmp old.pending n) (ready-is n spot same there ∙ calm)
+    went n spot from most there calm false apart = elim (low_or_high n number) [
+      | inl low ↦ passes.gone n spot from low there calm
+      | inr high ↦ absurd (let same : n ≡ number = omega arith in not_apart n number same apart)
+    ]
 
 -- What a search of the lines, and then of the links, has found.
 

@@ -64,13 +64,14 @@ pub record StopsAtLine (wake : ℕ) (tracks : List Track) (turns : Turns) (t : T
   pub line : ℕ
   pub first : IsFirstLine turns line t.at
 
--- no link was passed that is to be named, and none went that may be ready later
+-- no link was passed that is to be named; of those that were, the ones stay that may be ready later
 pub record PassesLinks (wake : ℕ) (tracks : List Track) (places : List ℕ) (old new : Turns) : Type 0 where
   pub frame : new ≡ record old { pending = new.pending; link = new.link }
   pub later : old.link ≤ new.link
   pub within : old.link ≤ length places → new.link ≤ length places
   pub passed : (n at : ℕ) → old.link ≤ n → n < new.link → slice_get places n ≡ Some at → contains nat_cmp old.pending n ≡ true → named_at wake tracks at ≡ None
   pub left : (n at : ℕ) → slice_get places n ≡ Some at → may_be_ready wake (track_at tracks at) ≡ true → contains nat_cmp old.pending n ≡ true → contains nat_cmp new.pending n ≡ true
+  pub gone : (n at : ℕ) → old.link ≤ n → n < new.link → slice_get places n ≡ Some at → may_be_ready wake (track_at tracks at) ≡ false → contains nat_cmp new.pending n ≡ false
 
 -- the link where the search stands is to be named
 pub record StopsAtLink (wake : ℕ) (tracks : List Track) (places : List ℕ) (turns : Turns) (t : ToName) : Type 0 where

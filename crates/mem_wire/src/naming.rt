@@ -38,7 +38,7 @@ fn link_to_name(tracks: &[Track], wake: usize, at: usize) -> Option<LinkId>
     track.link
 }
 
-/// Looks for the earliest line whose link is to be named.
+// Looks for the earliest line whose link is to be named.
 fn search_lines(turns: &mut Turns, tracks: &[Track], wake: usize) -> Option<ToName>
     ensures passes { PassesLines wake tracks.now turns.old turns.new }
     ensures some { IfSome result (λ t. StopsAtLine wake tracks.now turns.new t) }
@@ -53,7 +53,7 @@ fn search_lines(turns: &mut Turns, tracks: &[Track], wake: usize) -> Option<ToNa
     None
 }
 
-/// Looks for the first link that is to be named.
+// Looks for the first link that is to be named.
 fn search_links(
     turns: &mut Turns,
     tracks: &[Track],

@@ -133,11 +133,11 @@ impl Turns {
         self.pending.range(self.link..).next().copied()
     }
 
-    /// The search goes on behind the link, which is kept where it may be ready later.
+    /// The search goes on behind the link, which stays only where it may be ready later.
     pub fn pass(&mut self, number: u64, keep: bool)
         requires { number + 1 < 2 ^ 64 }
         ensures frame { self.new ≡ record self.old { pending = self.new.pending; link = number + 1 } }
-        ensures kept { (n : ℕ) → (n ≡ number → keep ≡ true) → contains nat_cmp self.old.pending n ≡ true → contains nat_cmp self.new.pending n ≡ true }
+        ensures pending { (n : ℕ) → contains nat_cmp self.new.pending n ≡ (if n == number then keep && contains nat_cmp self.old.pending n else contains nat_cmp self.old.pending n) }
     {
         self.link = number + 1;
         if !keep {

@@ -1,5 +1,7 @@
-use Rattle.std.proofs.Common.{◌≡◌, ◌<◌, length, slice_index_or, Some, sym, ◌∙◌, arith}
-use Rattle.std.specs.Prelude.{slice_get}
+use Rattle.std.proofs.Common.{◌==◌, if◌then◌else◌, ◌≡◌, ◌<◌, length, slice_index_or, Some, sym, ◌∙◌, ap, arith}
+use Rattle.std.specs.Prelude.{slice_get, ◌&&◌}
+use Rattle.std.specs.Ordering.{nat_cmp}
+use Rattle.std.specs.BTreeSet.{contains}
 use Rattle.std.proofs.lemmas.Option.{slice_get-get_or}
 use Rattle.mem_wire.proofs.InTurn.{passes-here, passes-link}
 use Rattle.mem_wire.proofs.naming.search_links.Goals as goal
@@ -24,4 +26,4 @@ loop-number-preserved c =
     passes-link c.args.wake c.args.tracks.now places c.args.turns.now c.loop-number.turns c.pass.new.self number (slice_index_or places number 0)
     (passes-here c.args.wake c.args.tracks.now places c.args.turns.now c.loop-number.turns number c.loop-number.invariant c.in-Some.ensures.later within c.in-Some.ensures.least)
     within here (sym c.link_to_name.ensures ∙ c.in_default-link_to_name.is) c.pass.ensures.frame
-    (λ n keep had. c.pass.ensures.kept n (λ same. c.may_be_ready.ensures ∙ keep same) had)
+    (λ n. c.pass.ensures.pending n ∙ ap (λ b. if n == number then b && contains nat_cmp c.loop-number.turns.pending n else contains nat_cmp c.loop-number.turns.pending n) c.may_be_ready.ensures)
