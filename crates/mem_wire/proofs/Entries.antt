@@ -31,7 +31,7 @@ use Rattle.mem_wire.specs.Adds.{late_entries, Adds, IsBounded, Calls}
 use Rattle.mem_wire.specs.Lines.{bytes_for, ending_for, is_refused}
 use Rattle.mem_wire.specs.Came.{is_open_call, room_left, known, with_link, known_ending, known_room}
 use Rattle.mem_wire.specs.CameLaws.{opens-more}
-use Rattle.mem_wire.specs.Play.{is_empty, is_ready, has_room, has_failed, FitsRoom, IsBehind, MayWrite, named_step, Answers}
+use Rattle.mem_wire.specs.Play.{is_ready, has_room, has_failed, FitsRoom, IsBehind, MayWrite, named_step, Answers}
 use Rattle.mem_wire.specs.Below.{link_below}
 use Rattle.mem_wire.specs.Tracks.{track_at, room_in, read_change, spent, write_change, ChangesTrack}
 use Rattle.mem_wire.specs.Steps.{place_in, EndsBy, ReadsTrack, WritesTrack, Moves, MovesAt, IsWithin}
@@ -48,7 +48,7 @@ use Rattle.mem_wire.proofs.Standing.{stands-alike, Has, has-is}
 use Rattle.mem_wire.proofs.StandSteps.{but-entry, stands-stay}
 use Rattle.mem_wire.proofs.StandMoves.{Brings_nothing, present, stands-moves, left-whole, Leaves, mine-changes, mine-closed, mine-named}
 use Rattle.mem_wire.proofs.Nameable.{named-link, names-at, names-some}
-use Rattle.mem_wire.proofs.InTurn.{Calms, calms-same, in-search, in-change}
+use Rattle.mem_wire.proofs.InTurn.{or-true, Calms, calms-same, in-search, in-change}
 use Rattle.mem_wire.proofs.Playing.{IsPlain, stands-marked, follows-plain, none-late}
 use Rattle.mem_wire.proofs.Telling.{tells, goes_on, calls_after}
 use Rattle.mem_wire.proofs.Following.{sound-moved, open-if-open}
@@ -126,20 +126,14 @@ still-told [] (Some how) false blocked room may = refl
 
 still-wrote : (unread : List ℕ) (ends : Option Ending) (told blocked : Bool) (room left : Option ℕ) → is_some left ≡ is_some room → may_turn_ready unread ends told false left ≡ true → may_turn_ready unread ends told blocked room ≡ true
 still-wrote (b ∷ unread) ends told blocked room left same may = refl
-still-wrote [] ends told blocked room left same may = of (is_some ends && not told) blocked (has_room room) (is_some room) (ap (λ b. ((is_some ends && not told) || false) || b) (sym same) ∙ may) where
-  of : (untold was some limited : Bool) → ((untold || false) || limited) ≡ true → ((untold || (was && some)) || (was || limited)) ≡ true
-  of true was some limited is = refl
-  of false true true limited is = refl
-  of false true false limited is = refl
-  of false false some limited is = is
+still-wrote [] ends told blocked room left same may = of (is_some ends && not told) (blocked && has_room room) (is_some room) (ap (λ b. ((is_some ends && not told) || false) || b) (sym same) ∙ may) where
+  of : (untold now limited : Bool) → ((untold || false) || limited) ≡ true → ((untold || now) || limited) ≡ true
+  of true now limited is = refl
+  of false now true is = or-true now
+  of false now false is = cc
 
 still-full : (unread : List ℕ) (ends : Option Ending) (told blocked : Bool) (room : Option ℕ) → room ≡ Some 0 → may_turn_ready unread ends told blocked room ≡ true
-still-full unread ends told blocked room full = ap (may_turn_ready unread ends told blocked) full ∙ of (not (is_empty unread)) (is_some ends && not told) blocked where
-  of : (full ends was : Bool) → ((full || (ends || (was && false))) || (was || true)) ≡ true
-  of true ends was = refl
-  of false true was = refl
-  of false false true = refl
-  of false false false = refl
+still-full unread ends told blocked room full = ap (may_turn_ready unread ends told blocked) full ∙ or-true (is_ready unread ends told blocked (Some 0))
 
 still-may : (closed now was : Bool) → (now ≡ true → was ≡ true) → (not closed && now) ≡ true → (not closed && was) ≡ true
 still-may true now was still may = cc

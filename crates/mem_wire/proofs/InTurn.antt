@@ -116,7 +116,7 @@ test-true false o link is = cc
 
 pub named-may : (last : ℕ) (t : Track) (link : LinkId) → named_by last t ≡ Some link → may_be_ready last t ≡ true
 named-may last t link named =
-    ready-may t.closed (is_ready t.unread t.ending t.told t.blocked (room_in last t.room)) (not (is_named t.named last)) (t.blocked || is_some (room_in last t.room))
+    ready-may t.closed (is_ready t.unread t.ending t.told t.blocked (room_in last t.room)) (not (is_named t.named last)) (is_some (room_in last t.room))
     (test-true (not t.closed && (is_ready t.unread t.ending t.told t.blocked (room_in last t.room) && not (is_named t.named last))) t.link link named)
 
 -- where a link that is to be named would be in a set, it isn't to be named if it isn't there
@@ -252,20 +252,24 @@ in-enters recording old new at placed turns enters last cut none =
 
 -- A wake begins.
 
-more-may : (closed full ends blocked room limited : Bool) → (not closed && ((full || (ends || (blocked && true))) || (blocked || false))) ≡ true → (not closed && ((full || (ends || (blocked && room))) || (blocked || limited))) ≡ true
-more-may true full ends blocked room limited is = cc
-more-may false true ends blocked room limited is = refl
-more-may false false true blocked room limited is = refl
-more-may false false false true true limited is = refl
-more-may false false false true false limited is = refl
-more-may false false false false room limited is = cc
+pub or-true : (b : Bool) → (b || true) ≡ true
+or-true true = refl
+or-true false = refl
+
+more-may : (closed full ends blocked : Bool) (room : Option ℕ) → (not closed && ((full || (ends || (blocked && true))) || false)) ≡ true → (not closed && ((full || (ends || (blocked && has_room room))) || is_some room)) ≡ true
+more-may true full ends blocked room is = cc
+more-may false true ends blocked room is = refl
+more-may false false true blocked room is = refl
+more-may false false false true None is = refl
+more-may false false false true (Some n) is = or-true (has_room (Some n))
+more-may false false false false room is = cc
 
 -- a link that no line of the wake names may be ready only if it might before
 still-may : (wake last from : ℕ) (lines : List RecordEntry) (at : ℕ) (t : Track) → first_from at from lines ≡ None → IfSome t.room (λ r. r.wake < wake) → may_be_ready wake (given wake (name_of at) lines t) ≡ true → may_be_ready last t ≡ true
 still-may wake last from lines at t none dated may =
     let name = name_of at in
     let nothing = gives-nothing wake name from lines (ap (λ (p : ℕ). first_from p from lines) (place-name_of at) ∙ none) in
-    more-may t.closed (not (is_empty t.unread)) (is_some t.ending && not t.told) t.blocked (has_room (room_in last t.room)) (is_some (room_in last t.room))
+    more-may t.closed (not (is_empty t.unread)) (is_some t.ending && not t.told) t.blocked (room_in last t.room)
     (sym (ap (λ bs. not t.closed && may_turn_ready (t.unread ++ bs) (fold (ending_step name) t.ending lines) t.told t.blocked (room_in wake (fold (room_given wake name) t.room lines))) nothing.bytes
     ∙ ap (λ bs. not t.closed && may_turn_ready bs (fold (ending_step name) t.ending lines) t.told t.blocked (room_in wake (fold (room_given wake name) t.room lines))) (append-nil t.unread)
     ∙ ap (λ o. not t.closed && may_turn_ready t.unread o t.told t.blocked (room_in wake (fold (room_given wake name) t.room lines))) (nothing.ending t.ending)

@@ -19,10 +19,10 @@ named_by last t = if not t.closed && (is_ready t.unread t.ending t.told t.blocke
 abbrev pub named_at : ℕ → List Track → ℕ → Option LinkId
 named_at last tracks at = named_by last (track_at tracks at)
 
--- A link is ready, or may turn ready without a line of it: once there is room, or where a write finds that what this wake
--- has left for it is none.
+-- A link is ready, or may be so in the next wake without a line of it: this wake limits its writes, and one may find no
+-- room.
 abbrev pub may_turn_ready : (unread : List ℕ) (ending : Option Ending) (told blocked : Bool) (room : Option ℕ) → Bool
-may_turn_ready unread ending told blocked room = is_ready unread ending told blocked room || (blocked || is_some room)
+may_turn_ready unread ending told blocked room = is_ready unread ending told blocked room || is_some room
 
 abbrev pub may_be_ready : ℕ → Track → Bool
 may_be_ready last t = not t.closed && may_turn_ready t.unread t.ending t.told t.blocked (room_in last t.room)

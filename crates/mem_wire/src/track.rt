@@ -113,7 +113,7 @@ impl Track {
     pub fn may_be_ready(&self, wake: usize) -> bool
         ensures { result ≡ may_be_ready wake self.now }
     {
-        !self.closed && (self.is_ready(wake) || self.blocked || self.room_in(wake).is_some())
+        !self.closed && (self.is_ready(wake) || self.room_in(wake).is_some())
     }
 
     /// Takes a front of so many bytes in the wake of this line.
