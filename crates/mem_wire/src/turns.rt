@@ -126,6 +126,7 @@ impl Turns {
 
     /// The first link from where the search stands that may be ready.
     pub fn next_pending(&self) -> Option<u64>
+        ensures some { IfSome result (λ n. contains nat_cmp self.now.pending n ≡ true) }
         ensures later { IfSome result (λ n. self.now.link ≤ n) }
         ensures least { IfSome result (λ n. (q : ℕ) → self.now.link ≤ q → contains nat_cmp self.now.pending q ≡ true → n ≤ q) }
         ensures none { IfNone result ((q : ℕ) → self.now.link ≤ q → contains nat_cmp self.now.pending q ≡ false) }
