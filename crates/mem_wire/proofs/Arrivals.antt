@@ -1,17 +1,15 @@
 -- The stage follows the log where links come and where it wakes.
-use Rattle.std.proofs.Common.{◌≡◌, ℕ, zero, suc, ◌<◌, ◌≤◌, ◌+◌, ◌-◌, ◌*◌, ◌==◌, Bool, true, false, List, [], ◌∷◌, ◌++◌, length, take, drop, if◌then◌else◌, Option, Some, None, refl, sym, ◌∙◌, ap, subst, arith, append-nil, length-append, add-zero, inl, inr}
+use Rattle.std.proofs.Common.{◌≡◌, ℕ, zero, suc, ◌<◌, ◌≤◌, ◌+◌, ◌-◌, ◌*◌, ◌==◌, Bool, true, false, List, [], ◌∷◌, ◌++◌, length, take, drop, if◌then◌else◌, Option, Some, None, refl, sym, ◌∙◌, ap, subst, arith, append-nil, length-append, add-zero}
 use Rattle.std.specs.Prelude.{slice_get, IfSome, nat_eq}
 use Rattle.std.specs.HashSet.{contains}
 use Rattle.std.specs.List.{filter_map}
-use Rattle.std.proofs.lemmas.List.{length-take-le, drop-drop, take-append-le}
-use Rattle.std.proofs.lemmas.Bool.{eqb-true}
+use Rattle.std.proofs.lemmas.List.{length-take-le, drop-drop}
 use Rattle.mx_base.specs.declared.names.LinkId.{LinkId}
 use Rattle.mx_base.specs.declared.names.ServerId.{ServerId}
 use Rattle.mx_base.specs.declared.names.Address.{Address}
 use Rattle.mx_base.specs.declared.names.Port.{Port}
 use Rattle.mx_base.specs.declared.names.Port.TheVariants.{Traffic, Admin}
 use Rattle.mx_wire.specs.Log.{Log, opened_links}
-use Rattle.mx_wire.specs.Growth.{bool_cases}
 use Rattle.mx_wire.specs.declared.entry.Entry.{Entry}
 use Rattle.mx_wire.specs.declared.entry.Entry.TheVariants as entry
 use Rattle.recording.specs.declared.entry.RecordLink.TheVariants.{Client, Server}
@@ -28,51 +26,25 @@ use Rattle.mem_wire.specs.Cuts.{NoMoment, EndsAtMoment, first_moment}
 use Rattle.mem_wire.specs.Came.{wakes, room_left, accepted_at, next_client, as_client}
 use Rattle.mem_wire.specs.Play.{mark_at, late_marks, due_marks}
 use Rattle.mem_wire.specs.Below.{links_below}
-use Rattle.mem_wire.specs.Tracks.{blank, track_at, place}
-use Rattle.mem_wire.specs.Steps.{numbered, next_link, clients_of, accepted_of, Enters, Accepts, Opens, Wakes, IsFirst, IsWithin}
-use Rattle.mem_wire.specs.Naming.{named_by, named_at, NoneIn, NoneAt, lines_between}
-use Rattle.mem_wire.specs.Stands.{Numbered, CutsAt, Fits, Stands, Passed, Entered, client, server}
+use Rattle.mem_wire.specs.Tracks.{blank, track_at, place, given}
+use Rattle.mem_wire.specs.Steps.{next_link, clients_of, accepted_of, Accepts, Opens, Wakes, IsFirst, IsWithin}
+use Rattle.mem_wire.specs.Naming.{lines_between}
+use Rattle.mem_wire.specs.Turns.{Joins, InTurn, AllInTurn}
+use Rattle.mem_wire.specs.Stands.{Numbered, CutsAt, Fits, Stands, Entered, client, server}
 use Rattle.mem_wire.specs.Follows.{Follows, IsTape, Continues, HaveSalts}
 use Rattle.mem_wire.proofs.Links.{all_below-append}
+use Rattle.mem_wire.proofs.LineLaws.{name_of, place-name_of}
+use Rattle.mem_wire.proofs.InTurn.{in-enters, in-wake}
 use Rattle.mem_wire.proofs.Scenes.{opened-more, opens-same, just-more}
 use Rattle.mem_wire.specs.CameLaws.{accepted-more, opens-more}
 use Rattle.mem_wire.proofs.Sound.{sound-late, no-late}
 use Rattle.mem_wire.proofs.CutLaws.{moment-is, cut-next, last-lines, cut-released}
 use Rattle.mem_wire.proofs.Standing.{client-is}
-use Rattle.mem_wire.proofs.StandEnters.{stands-enters}
+use Rattle.mem_wire.proofs.StandEnters.{none_some, stands-enters}
 use Rattle.mem_wire.proofs.StandWakes.{stands-wakes}
 use Rattle.mem_wire.proofs.Distinct.{client-fresh, server-fresh}
 use Rattle.mem_wire.proofs.Playing.{stands-after, stands-marked, follows-plain, follows-entry, none-late, late-after}
 use Rattle.mem_wire.proofs.Following.{sound-accepts, sound-opens, sound-wakes, wake-marks, marks_are}
-
--- What a search has passed stays passed where a link comes: its own track is looked for behind them.
-none_at-kept : (last : ℕ) (old new : List Track) (places : List ℕ) → ((i spot : ℕ) → slice_get places i ≡ Some spot → named_at last old spot ≡ None → named_at last new spot ≡ None) → NoneAt last old places → NoneAt last new places
-none_at-kept last old new [] keeps none = tt
-none_at-kept last old new (at ∷ places) keeps none = (keeps 0 at refl none.0, none_at-kept last old new places (λ i spot is. keeps (suc i) spot is) none.1)
-
-get-take : (k : ℕ) (xs : List ℕ) (i x : ℕ) → slice_get (take k xs) i ≡ Some x → slice_get xs i ≡ Some x
-get-take zero xs i x is = cc
-get-take (suc k) [] i x is = cc
-get-take (suc k) (y ∷ xs) zero x is = is
-get-take (suc k) (y ∷ xs) (suc i) x is = get-take k xs i x is
-
-no-lines : (last : ℕ) (tracks : List Track) (at : ℕ) (recording : List RecordEntry) → NoneIn last tracks (lines_between at at recording)
-no-lines last tracks at recording = subst (λ (n : ℕ). NoneIn last tracks (take n (drop at recording))) (let e : 0 ≡ at - at = omega arith in e) tt
-
-none_owner : (link : LinkId) → None ≡ Some link → ⊥
-none_owner link is = cc
-
-passed-enters : (recording : List RecordEntry) (old new : Stage) (log : Log) (at : ℕ) → Stands recording old log → Passed recording old → IsWithin recording old → Enters at old new → new.last ≡ old.last → new.link ≡ old.link → (track_at old.tracks.items at).link ≡ None → Passed recording new
-passed-enters recording old new log at st passed within enters last link none =
-    let kept : NoneAt old.last new.tracks.items (take old.link old.places.items) = none_at-kept old.last old.tracks.items new.tracks.items (take old.link old.places.items) (λ i spot is before. elim (bool_cases (spot == at)) [
-      | inl same ↦ absurd (none_owner (numbered i) (sym none ∙ ap (λ (p : ℕ). (track_at old.tracks.items p).link) (sym (eqb-true spot at same)) ∙ st.placed i spot (get-take old.link old.places.items i spot is)))
-      | inr other ↦ ap (named_by old.last) (enters.tracks spot ∙ ap (λ b. if b then record (track_at old.tracks.items spot) { link = Some (next_link old) } else track_at old.tracks.items spot) other) ∙ before
-    ]) passed.places in
-    record {
-      lines = subst (λ (l : ℕ). NoneIn new.last new.tracks.items (lines_between new.last l recording)) (last ∙ sym enters.line) (no-lines new.last new.tracks.items new.last recording);
-      places = subst (λ (l : ℕ). NoneAt l new.tracks.items (take new.link new.places.items)) (sym last)
-          (subst (NoneAt old.last new.tracks.items) (sym (ap (λ (k : ℕ). take k new.places.items) link ∙ ap (take old.link) enters.places ∙ take-append-le old.link old.places.items (at ∷ []) within.link)) kept);
-    }
 
 clients-same : (old new : Stage) (port : Port) → new.traffic ≡ old.traffic → new.admin ≡ old.admin → clients_of port new ≡ clients_of port old
 clients-same old new Traffic traffic admin = ap (λ v. v.items) traffic
@@ -117,7 +89,7 @@ follows-accepted recording old new log port c within follows next accepts =
     (λ spot was. entered-more old new spot clients (λ p. let more : accepted_of p new ≡ accepted_of p old + (if is_port port p then 1 else 0) = accepts.accepted p in omega arith) (let same : length new.opened.items ≡ length old.opened.items = ap (λ s. length s.opened.items) accepts.frame in omega arith) was)
     (client port (accepted_of port old) c (let more : accepted_of port new ≡ accepted_of port old + 1 = accepts.accepted port ∙ ap (λ b. accepted_of port old + (if b then 1 else 0)) (port-self port) in omega arith) (ap (λ cs. slice_get cs (accepted_of port old)) (clients port) ∙ next) refl)
     (record { woke = refl; of = refl; got = refl; opens = λ was. refl; names = λ links. refl; told = λ was. refl; blocked = λ was. refl; wrote = refl }))
-    (passed-enters recording old new log1 (2 * c.number) st follows.passed within accepts.enters (ap (λ s. s.last) accepts.frame) (ap (λ s. s.link) accepts.frame) fresh)
+    (in-enters recording old new (2 * c.number) st.placed follows.turns accepts.enters (ap (λ s. s.last) accepts.frame) (ap (λ s. s.cut) accepts.frame) fresh)
     (none-late recording log1 e new.late refl refl accepts.late)
 
 accepted-frame : (old new : Stage) (port : Port) → new.traffic_accepted ≡ old.traffic_accepted → new.admin_accepted ≡ old.admin_accepted → accepted_of port new ≡ accepted_of port old
@@ -146,13 +118,13 @@ pub opens-asked : (old mid new : Stage) → mid ≡ record old { opens = mid.ope
 opens-asked old mid new asked opens =
     let at = 2 * length new.opened.items + 1 in
     record {
-      frame = opens.frame ∙ ap {A = Stage} (λ s. record s { tracks = new.tracks; places = new.places; opened = new.opened; opens = new.opens; refusals = new.refusals; line = s.last; late = new.late }) asked;
+      frame = opens.frame ∙ ap {A = Stage} (λ s. record s { tracks = new.tracks; places = new.places; opened = new.opened; opens = new.opens; refusals = new.refusals; turns = new.turns; late = new.late }) asked;
       opened = opens.opened ∙ ap {A = Stage} (λ s. s.opened.items ++ next_link s ∷ []) asked;
       late = opens.late ∙ ap {A = Stage} (λ s. record { link = next_link s; marks = (track_at s.tracks.items at).marks }) asked;
       enters = record {
         places = opens.enters.places ∙ ap {A = Stage} (λ s. s.places.items ++ at ∷ []) asked;
         tracks = λ spot. opens.enters.tracks spot ∙ ap {A = Stage} (λ s. if spot == at then record (track_at s.tracks.items spot) { link = Some (next_link s) } else track_at s.tracks.items spot) asked;
-        line = opens.enters.line ∙ ap {A = Stage} (λ s. s.last) asked;
+        turns = subst (λ (s : Stage). Joins (length s.places.items) at s.turns new.turns) asked opens.enters.turns;
       };
     }
 
@@ -178,8 +150,22 @@ follows-opened recording old new log at_server address within follows opens_now 
     (record { woke = refl; of = refl; got = refl; opens = λ was. refl; names = λ links. refl; told = λ was. refl; blocked = λ was. refl; wrote = refl }) in
     follows-plain recording old new log e follows (record { call = record { unmarked = refl; judge = λ l x. x }; due = λ l. refl })
     (ap (λ (n : ℕ). is_refused (n + 1) recording) (sym st.opens) ∙ wanted) (sound-opens recording old new at_server address log follows opens_now) stands
-    (passed-enters recording old new log1 (2 * length new.opened.items + 1) st follows.passed within opens_now.enters (ap (λ s. s.last) opens_now.frame) (ap (λ s. s.link) opens_now.frame) fresh)
+    (in-enters recording old new (2 * length new.opened.items + 1) st.placed follows.turns opens_now.enters (ap (λ s. s.last) opens_now.frame) (ap (λ s. s.cut) opens_now.frame) fresh)
     (late-opened recording old new log1 at_server address opens_now stands opened_is)
+
+dated-at : (recording : List RecordEntry) (s : Stage) (log : Log) → Stands recording s log → (at : ℕ) → IfSome (track_at s.tracks.items at).room (λ r. r.wake < s.cut)
+dated-at recording s log st at = subst (λ (p : ℕ). IfSome (track_at s.tracks.items p).room (λ r. r.wake < s.cut)) (place-name_of at) (st.tracks (name_of at)).dated
+
+turns-woken : (recording : List RecordEntry) (old new : Stage) (log : Log) (lines : List RecordEntry) (count : ℕ) → Stands recording old log → AllInTurn recording old → new.last ≡ old.cut → new.cut ≡ old.cut + count → lines_between old.cut (old.cut + count) recording ≡ lines → Wakes lines (old.cut + length lines) old new → AllInTurn recording new
+turns-woken recording old new log lines count st turns last cut is step =
+    let places : new.places.items ≡ old.places.items = ap (λ s. s.places.items) step.frame in
+    let released : (at : ℕ) → track_at new.tracks.items at ≡ given old.cut (name_of at) lines (track_at old.tracks.items at) = λ at.
+    subst (λ (p : ℕ). track_at new.tracks.items p ≡ given old.cut (name_of at) lines (track_at old.tracks.items p)) (place-name_of at) (step.tracks (name_of at)) in
+    subst (λ (c : ℕ). InTurn (lines_between new.last c recording) new.last new.tracks.items new.places.items new.turns) (sym cut)
+    (subst (λ (l : ℕ). InTurn (lines_between l (old.cut + count) recording) l new.tracks.items new.places.items new.turns) (sym last)
+    (subst (λ (ps : List ℕ). InTurn (lines_between old.cut (old.cut + count) recording) old.cut new.tracks.items ps new.turns) (sym places)
+    (in-wake lines old.last old.cut (lines_between old.last old.cut recording) (lines_between old.cut (old.cut + count) recording) old.tracks.items new.tracks.items old.places.items old.turns new.turns turns is
+    (λ number spot here. ap (λ t. t.link) (released spot) ∙ st.placed number spot here) released (dated-at recording old log st) step.turns)))
 
 pub follows-woken : (recording : List RecordEntry) (old new : Stage) (ms count until_ms : ℕ) (rest : List RecordEntry) (log : Log) → IsWithin recording old → Follows recording old log → rest ≡ drop old.cut recording → first_moment rest ≡ Some ms → 0 < count → count ≤ length rest → old.cut + length (take count rest) ≤ length recording → NoMoment (drop 1 (take count rest)) → EndsAtMoment (drop count rest) → Wakes (take count rest) (old.cut + length (take count rest)) old new → Follows recording new ((log ++ wake-marks old (take count rest)) ++ entry.Woke until_ms ms ∷ [])
 follows-woken recording old new ms count until_ms rest log within follows is first some most end none ends step =
@@ -191,14 +177,15 @@ follows-woken recording old new ms count until_ms rest log within follows is fir
     let st = stands-after recording old log marks are follows.stands in
     let size : length lines ≡ count = length-take-le count rest most in
     let last : new.last ≡ old.cut = ap (λ s. s.last) step.frame in
-    let line_is : new.line ≡ old.cut = ap (λ s. s.line) step.frame in
-    let link_is : new.link ≡ 0 = ap (λ s. s.link) step.frame in
     let left : drop count rest ≡ drop (old.cut + count) recording = ap (drop count) is ∙ drop-drop count old.cut recording in
     let cut_now : CutsAt recording old.cut ((wakes log1 + 1) - 1) = subst (CutsAt recording old.cut) (let same : wakes log1 ≡ (wakes log1 + 1) - 1 = omega arith in same) st.cut in
     let cut_then = cut-next recording rest old.cut (wakes log1) ms count st.cut is first some none (subst EndsAtMoment left ends) in
+    let rest_is : lines_between old.cut (old.cut + count) recording ≡ lines =
+    ap (λ (n : ℕ). take n (drop old.cut recording)) (let n : (old.cut + count) - old.cut ≡ count = omega arith in n) ∙ ap (take count) (sym is) in
     let lines_are : released_last (wakes log1 + 1) recording ≡ lines =
     last-lines recording old.cut (old.cut + count) (wakes log1 + 1) cut_now cut_then (omega arith) (omega arith)
-    ∙ ap (λ (n : ℕ). take n (drop old.cut recording)) (let n : (old.cut + count) - old.cut ≡ count = omega arith in n) ∙ ap (take count) (sym is) in
+    ∙ rest_is in
+    let cut_is : new.cut ≡ old.cut + count = ap (λ s. s.cut) step.frame ∙ ap (λ (n : ℕ). old.cut + n) size in
     let due : due_marks recording log1 e ≡ marks =
     ap (λ (l : Log). l ++ filter_map (mark_at (opened_links log1)) (released_last (wakes log1 + 1) recording)) (late-after recording log marks are ∙ follows.late)
     ∙ ap (λ (links : List LinkId). late_entries old.late ++ filter_map (mark_at links) (released_last (wakes log1 + 1) recording)) st.opened
@@ -207,10 +194,7 @@ follows-woken recording old new ms count until_ms rest log within follows is fir
     (moment-is recording rest old.cut (wakes log1) ms st.cut is first)
     (sound-wakes recording old new ms count until_ms rest log follows is first some most none ends step)
     (stands-wakes recording old new log1 ms count until_ms rest within.cut st is first some most none ends step)
-    (record {
-      lines = subst (λ (l : ℕ). NoneIn new.last new.tracks.items (lines_between new.last l recording)) (last ∙ sym line_is) (no-lines new.last new.tracks.items new.last recording);
-      places = subst (λ (k : ℕ). NoneAt new.last new.tracks.items (take k new.places.items)) (sym link_is) tt;
-    })
+    (turns-woken recording old new log1 lines count st follows.turns last cut_is rest_is step)
     (none-late recording log1 e new.late refl refl step.late)
 
 -- The first stage follows the empty log.
@@ -238,7 +222,7 @@ first-accepted s Traffic first = first.traffic_accepted
 first-accepted s Admin first = first.admin_accepted
 
 no-owner : (s : Stage) (at : ℕ) (link : LinkId) → IsFirst s → (track_at s.tracks.items at).link ≡ Some link → ⊥
-no-owner s at link first is = none_owner link (sym (ap (λ t. t.link) (blank-at s at first)) ∙ is)
+no-owner s at link first is = none_some link (sym (ap (λ t. t.link) (blank-at s at first)) ∙ is)
 
 none_at : (at : ℕ) → None ≡ Some at → ⊥
 none_at at is = cc
@@ -280,6 +264,19 @@ first-stands recording s playable first =
       });
     }
 
+first-turns : (recording : List RecordEntry) (s : Stage) → IsFirst s → AllInTurn recording s
+first-turns recording s first =
+    let no_place : (number at : ℕ) → slice_get s.places.items number ≡ Some at → ⊥ = λ number at is. none_at at (ap (λ (ps : List ℕ). slice_get ps number) (sym first.places) ∙ is) in
+    subst (λ (c : ℕ). InTurn (lines_between s.last c recording) s.last s.tracks.items s.places.items s.turns) (sym first.cut)
+    (subst (λ (n : ℕ). InTurn (take n (drop s.last recording)) s.last s.tracks.items s.places.items s.turns) (let e : 0 ≡ 0 - s.last = omega arith in e) (record {
+      firsts = first.turns.firsts;
+      lines = λ at i link named is. cc;
+      queued = λ i at is. absurd (none_at at (sym (first.turns.lines i) ∙ is));
+      within = let start : s.turns.link ≡ 0 = first.turns.link in omega arith;
+      passed = λ number at before here. absurd (no_place number at here);
+      pending = λ number at here may. absurd (no_place number at here);
+    }))
+
 -- the first stage follows the empty log
 pub follows-first : (recording : List RecordEntry) (s : Stage) → IsPlayable recording → IsFirst s → Follows recording s []
 follows-first recording s playable first = record {
@@ -294,10 +291,7 @@ follows-first recording s playable first = record {
     admin = subst HaveSalts (sym first.admin) tt;
   };
   stands = first-stands recording s playable first;
-  passed = record {
-    lines = subst (λ (l : ℕ). NoneIn s.last s.tracks.items (lines_between s.last l recording)) (first.last ∙ sym first.line) (no-lines s.last s.tracks.items s.last recording);
-    places = subst (λ (k : ℕ). NoneAt s.last s.tracks.items (take k s.places.items)) (sym first.link) tt;
-  };
+  turns = first-turns recording s first;
   late = sym (ap (entries_of s.late.link) first.late);
   unmarked = refl;
   played = tt;
@@ -308,8 +302,6 @@ tape-first recording s told playable first is = record {
   within = record {
     cut = let e : s.cut ≡ 0 = first.cut in omega arith;
     last = let e : s.last ≡ 0 = first.last in omega arith;
-    line = let e : s.line ≡ 0 = first.line in omega arith;
-    link = let e : s.link ≡ 0 = first.link in omega arith;
     refusals = subst (λ (o : Option _). IfSome o (λ found. (k : ℕ) → contains nat_eq found k ≡ is_refused k recording)) (sym first.refusals) tt;
   };
   follows = λ log told_is. let same : [] ≡ log = cc in subst (Follows recording s) same (follows-first recording s playable first);

@@ -1,7 +1,6 @@
 -- The stage follows the log, entry by entry.
 use Rattle.std.proofs.Common.{◌≡◌, ◌⊎◌, ℕ, zero, suc, ◌<◌, ◌+◌, ◌-◌, ◌==◌, Bool, true, false, nat_lt, List, [], ◌∷◌, ◌++◌, length, take, drop, if◌then◌else◌, Option, Some, None, refl, sym, ◌∙◌, ap, subst, arith, inl, inr, get_or}
-use Rattle.std.specs.Prelude.{IfSome, slice_get, not, ◌&&◌}
-use Rattle.std.proofs.lemmas.Bool.{eqb-true}
+use Rattle.std.specs.Prelude.{IfSome, slice_get, is_some, not, ◌&&◌, ◌||◌}
 use Rattle.std.proofs.lemmas.Option.{slice_get-get_or, slice_get_within}
 use Rattle.std.proofs.lemmas.List.{take-append-drop, length-take-le}
 use Rattle.mx_base.specs.declared.names.LinkId.{LinkId}
@@ -17,8 +16,9 @@ use Rattle.mx_wire.specs.declared.wire.Took.TheVariants as took
 use Rattle.mem_wire.specs.declared.ending.Ending.{Ending}
 use Rattle.mem_wire.specs.declared.ending.Ending.TheVariants as ending
 use Rattle.mem_wire.specs.declared.room.Room.{Room}
-use Rattle.mx_wire.specs.Tells.{IsOpen, OpenFor}
-use Rattle.mx_wire.specs.Growth.{bool_cases, same_number}
+use Rattle.mx_wire.specs.Tells.{IsOpen, OpenFor, Tells}
+use Rattle.mx_wire.specs.Tells.{Fits as FitsLog}
+use Rattle.mx_wire.specs.Growth.{same_number}
 use Rattle.mx_wire.specs.declared.entry.Entry.{Entry}
 use Rattle.mx_wire.specs.declared.entry.Entry.TheVariants as entry
 use Rattle.recording.specs.declared.entry.RecordLink.{RecordLink}
@@ -27,92 +27,58 @@ use Rattle.mem_wire.specs.declared.late.Late.{Late}
 use Rattle.mem_wire.specs.declared.naming.ToName.{ToName}
 use Rattle.mem_wire.specs.declared.track.Track.{Track}
 use Rattle.mem_wire.specs.declared.stage.Stage.{Stage}
-use Rattle.mem_wire.specs.Adds.{late_entries, Calls}
-use Rattle.mem_wire.specs.Lines.{bytes_for, ending_for, is_refused, name_at}
+use Rattle.mem_wire.specs.Adds.{late_entries, Adds, IsBounded, Calls}
+use Rattle.mem_wire.specs.Lines.{bytes_for, ending_for, is_refused}
 use Rattle.mem_wire.specs.Came.{is_open_call, room_left, known, with_link, known_ending, known_room}
 use Rattle.mem_wire.specs.CameLaws.{opens-more}
 use Rattle.mem_wire.specs.Play.{is_ready, has_room, has_failed, FitsRoom, IsBehind, MayWrite, named_step, Answers}
 use Rattle.mem_wire.specs.Below.{link_below}
-use Rattle.mem_wire.specs.Tracks.{track_at, place, room_in, read_change, spent, write_change, ChangesTrack}
+use Rattle.mem_wire.specs.Tracks.{track_at, room_in, read_change, spent, write_change, ChangesTrack}
 use Rattle.mem_wire.specs.Steps.{place_in, EndsBy, ReadsTrack, WritesTrack, Moves, MovesAt, IsWithin}
-use Rattle.mem_wire.specs.Naming.{is_named, named_by, named_at, NoneIn, NoneAt, lines_between, Searches}
-use Rattle.mem_wire.specs.Stands.{read_by, Fits, Stands, Passed}
+use Rattle.mem_wire.specs.Naming.{is_named, named_at, may_turn_ready}
+use Rattle.mem_wire.specs.Turns.{Searches, AllInTurn}
+use Rattle.mem_wire.specs.Stands.{read_by, Fits, Stands}
 use Rattle.mem_wire.specs.Follows.{Follows, IsTape}
-use Rattle.mem_wire.proofs.Links.{is_below, open-below}
+use Rattle.mem_wire.proofs.Links.{is_below, open-below, late_are}
 use Rattle.mem_wire.proofs.Scenes.{IsIdle, alike-idle, opens-same}
 use Rattle.mem_wire.proofs.Sound.{KeepsCourse, sound-call, sound-late}
-use Rattle.mem_wire.proofs.Courses.{Moved, moved-moves}
+use Rattle.mem_wire.proofs.Courses.{Moved, moved-moves, within-moves}
 use Rattle.mem_wire.proofs.LineLaws.{name_of, place-name_of}
-use Rattle.mem_wire.proofs.NamingLaws.{named-link}
 use Rattle.mem_wire.proofs.Standing.{stands-alike, Has, has-is}
 use Rattle.mem_wire.proofs.StandSteps.{but-entry, stands-stay}
 use Rattle.mem_wire.proofs.StandMoves.{Brings_nothing, present, stands-moves, left-whole, Leaves, mine-changes, mine-closed, mine-named}
-use Rattle.mem_wire.proofs.Nameable.{passed-more, names-some}
+use Rattle.mem_wire.proofs.Nameable.{named-link, names-at, names-some}
+use Rattle.mem_wire.proofs.InTurn.{or-true, Calms, calms-same, in-search, in-change}
 use Rattle.mem_wire.proofs.Playing.{IsPlain, stands-marked, follows-plain, none-late}
-use Rattle.mem_wire.proofs.Telling.{goes_on}
-use Rattle.mem_wire.proofs.Following.{sound-moved}
+use Rattle.mem_wire.proofs.Telling.{tells, goes_on, calls_after}
+use Rattle.mem_wire.proofs.Following.{sound-moved, open-if-open}
 
 -- Entries that a play doesn't look at.
 
 pub record Stays (old new : Stage) : Type 0 where
-  pub frame : new ≡ record old { late = new.late; line = new.line; link = new.link }
+  pub frame : new ≡ record old { late = new.late; turns = new.turns }
   pub late : new.late.marks ≡ []
 
 stays-moved : (old new : Stage) → Stays old new → Moved old new
 stays-moved old new stays = record {
-  frame = stays.frame ∙ ap (λ tracks. record old { tracks = tracks; late = new.late; line = new.line; link = new.link }) (sym (ap (λ s. s.tracks) stays.frame));
+  frame = stays.frame ∙ ap (λ tracks. record old { tracks = tracks; late = new.late; turns = new.turns }) (sym (ap (λ s. s.tracks) stays.frame));
   late = stays.late;
   links = λ at. ap (λ s. (track_at s.tracks.items at).link) stays.frame;
 }
 
-pub passed-late : (recording : List RecordEntry) (s : Stage) (late : Late) → Passed recording s → Passed recording (record s { late = late })
-passed-late recording s late passed = record { lines = passed.lines; places = passed.places }
-
 stands-idle : (recording : List RecordEntry) (s : Stage) (log : Log) (e : Entry) → IsIdle e → is_open_call e ≡ false → Stands recording s log → Stands recording s (log ++ e ∷ [])
 stands-idle recording s log e idle unopened st = stands-alike recording s s.opens s.refusals s.late log (log ++ e ∷ []) (alike-idle recording log e idle) (st.opens ∙ sym (opens-same log e unopened)) st
 
-pub follows-stays : (recording : List RecordEntry) (old new : Stage) (log : Log) (e : Entry) → Follows recording old log → Stays old new → link_below (length old.places.items) (link_of e) ≡ true → ((m : ℕ) → moment_step m e ≡ m) → IsIdle e → IsPlain recording e → is_open_call e ≡ false → Answers recording (log ++ late_entries old.late) e → Passed recording new → Follows recording new ((log ++ late_entries old.late) ++ e ∷ [])
-follows-stays recording old new log e follows stays low idle_moment idle plain unopened answer passed =
+pub follows-stays : (recording : List RecordEntry) (old new : Stage) (log : Log) (e : Entry) → Follows recording old log → Stays old new → link_below (length old.places.items) (link_of e) ≡ true → ((m : ℕ) → moment_step m e ≡ m) → IsIdle e → IsPlain recording e → is_open_call e ≡ false → Answers recording (log ++ late_entries old.late) e → AllInTurn recording new → Follows recording new ((log ++ late_entries old.late) ++ e ∷ [])
+follows-stays recording old new log e follows stays low idle_moment idle plain unopened answer turns =
     let log1 = log ++ late_entries old.late in
     follows-plain recording old new log e follows plain answer
     (sound-moved recording old new log e follows (stays-moved old new stays) low idle_moment)
     (subst (λ (s : Stage). Stands recording s (log1 ++ e ∷ [])) (sym stays.frame)
-    (stands-stay recording old (log1 ++ e ∷ []) new.late new.line new.link (stands-idle recording old log1 e idle unopened (stands-marked recording old log follows))))
-    passed (none-late recording log1 e new.late plain.call.unmarked idle.opened stays.late)
+    (stands-stay recording old (log1 ++ e ∷ []) new.late new.turns (stands-idle recording old log1 e idle unopened (stands-marked recording old log follows))))
+    turns (none-late recording log1 e new.late plain.call.unmarked idle.opened stays.late)
 
 -- Where an entry changes the track of its link.
-
-abbrev named_of : ℕ → List Track → Option RecordLink → Option LinkId
-named_of last tracks o = elim o [ Some name ↦ named_at last tracks (place name) | None ↦ None ]
-
-none-of : (last : ℕ) (old new : List Track) (o : Option RecordLink) → ((at : ℕ) → named_at last old at ≡ None → named_at last new at ≡ None) → named_of last old o ≡ None → named_of last new o ≡ None
-none-of last old new None keeps none = refl
-none-of last old new (Some name) keeps none = keeps (place name) none
-
-none_in-change : (last : ℕ) (old new : List Track) (lines : List RecordEntry) → ((at : ℕ) → named_at last old at ≡ None → named_at last new at ≡ None) → NoneIn last old lines → NoneIn last new lines
-none_in-change last old new [] keeps none = tt
-none_in-change last old new (l ∷ lines) keeps none = (none-of last old new (name_at l) keeps none.0, none_in-change last old new lines keeps none.1)
-
-none_at-change : (last : ℕ) (old new : List Track) (places : List ℕ) → ((at : ℕ) → named_at last old at ≡ None → named_at last new at ≡ None) → NoneAt last old places → NoneAt last new places
-none_at-change last old new [] keeps none = tt
-none_at-change last old new (at ∷ places) keeps none = (keeps at none.0, none_at-change last old new places keeps none.1)
-
-keeps-none : (last at : ℕ) (change : Track → Track) (old new : List Track) → ChangesTrack at change old new → (named_at last old at ≡ None → named_by last (change (track_at old at)) ≡ None) → (spot : ℕ) → named_at last old spot ≡ None → named_at last new spot ≡ None
-keeps-none last at change old new changes keeps spot none = elim (bool_cases (spot == at)) [
-  | inl here ↦
-      let same : spot ≡ at = eqb-true spot at here in
-      ap (named_by last) (changes spot ∙ ap (λ b. if b then change (track_at old spot) else track_at old spot) here)
-      ∙ subst (λ (p : ℕ). named_by last (change (track_at old p)) ≡ None) (sym same) (keeps (subst (λ (p : ℕ). named_at last old p ≡ None) same none))
-  | inr other ↦ ap (named_by last) (changes spot ∙ ap (λ b. if b then change (track_at old spot) else track_at old spot) other) ∙ none
-]
-
-pub passed-change : (recording : List RecordEntry) (mid new : Stage) (at : ℕ) (change : Track → Track) → Passed recording mid → new ≡ record mid { tracks = new.tracks; late = new.late } → ChangesTrack at change mid.tracks.items new.tracks.items → (named_at mid.last mid.tracks.items at ≡ None → named_by mid.last (change (track_at mid.tracks.items at)) ≡ None) → Passed recording new
-passed-change recording mid new at change passed frame changes keeps =
-    let none = keeps-none mid.last at change mid.tracks.items new.tracks.items changes keeps in
-    subst (Passed recording) (sym frame) (record {
-      lines = none_in-change mid.last mid.tracks.items new.tracks.items (lines_between mid.last mid.line recording) none passed.lines;
-      places = none_at-change mid.last mid.tracks.items new.tracks.items (take mid.link mid.places.items) none passed.places;
-    })
 
 -- Where a track isn't to be named, no call makes it so within a wake.
 
@@ -145,38 +111,91 @@ less-full [] None told blocked room full none = ap has_room full
 less-full [] (Some how) true blocked room full none = ap has_room full
 less-full [] (Some how) false blocked room full none = cc
 
-read-keeps : (last : ℕ) (g : Got) (t : Track) → named_by last t ≡ None → named_by last (read_change g t) ≡ None
-read-keeps last (got.Got n) t none = less-named t.closed (is_ready t.unread t.ending t.told t.blocked (room_in last t.room)) (is_ready (drop n t.unread) t.ending t.told t.blocked (room_in last t.room)) (is_named t.named last) t.link (less-read n t.unread t.ending t.told t.blocked (room_in last t.room)) none
-read-keeps last got.NotReady t none = none
-read-keeps last got.End t none = less-named t.closed (is_ready t.unread t.ending t.told t.blocked (room_in last t.room)) (is_ready t.unread t.ending true t.blocked (room_in last t.room)) (is_named t.named last) t.link (less-told t.unread t.ending t.told t.blocked (room_in last t.room)) none
-read-keeps last got.Failed t none = less-named t.closed (is_ready t.unread t.ending t.told t.blocked (room_in last t.room)) (is_ready t.unread t.ending true t.blocked (room_in last t.room)) (is_named t.named last) t.link (less-told t.unread t.ending t.told t.blocked (room_in last t.room)) none
+-- Where a track's link can't be ready, no call makes it so within a wake.
 
-write-keeps : (last size : ℕ) (k : Took) (t : Track) → WritesTrack last t size k → named_by last t ≡ None → named_by last (write_change k t) ≡ None
-write-keeps last size (took.Took n) t writes none = less-named t.closed (is_ready t.unread t.ending t.told t.blocked (room_in last t.room)) (is_ready t.unread t.ending t.told false (room_in last (spent n t.room))) (is_named t.named last) t.link (less-wrote t.unread t.ending t.told t.blocked (room_in last t.room) (room_in last (spent n t.room))) none
-write-keeps last size took.NotReady t writes none = less-named t.closed (is_ready t.unread t.ending t.told t.blocked (room_in last t.room)) (is_ready t.unread t.ending t.told true (room_in last t.room)) (is_named t.named last) t.link (less-full t.unread t.ending t.told t.blocked (room_in last t.room) writes.full) none
-write-keeps last size took.Failed t writes none = less-named t.closed (is_ready t.unread t.ending t.told t.blocked (room_in last t.room)) (is_ready t.unread t.ending true t.blocked (room_in last t.room)) (is_named t.named last) t.link (less-told t.unread t.ending t.told t.blocked (room_in last t.room)) none
+still-read : (n : ℕ) (unread : List ℕ) (ends : Option Ending) (told blocked : Bool) (room : Option ℕ) → may_turn_ready (drop n unread) ends told blocked room ≡ true → may_turn_ready unread ends told blocked room ≡ true
+still-read zero unread ends told blocked room may = may
+still-read (suc n) [] ends told blocked room may = may
+still-read (suc n) (b ∷ unread) ends told blocked room may = refl
 
-closed-keeps : (last : ℕ) (t : Track) → named_by last t ≡ None → named_by last (record t { closed = true }) ≡ None
-closed-keeps last t none = refl
+still-told : (unread : List ℕ) (ends : Option Ending) (told blocked : Bool) (room : Option ℕ) → may_turn_ready unread ends true blocked room ≡ true → may_turn_ready unread ends told blocked room ≡ true
+still-told (b ∷ unread) ends told blocked room may = refl
+still-told [] None told blocked room may = may
+still-told [] (Some how) true blocked room may = may
+still-told [] (Some how) false blocked room may = refl
+
+still-wrote : (unread : List ℕ) (ends : Option Ending) (told blocked : Bool) (room left : Option ℕ) → is_some left ≡ is_some room → may_turn_ready unread ends told false left ≡ true → may_turn_ready unread ends told blocked room ≡ true
+still-wrote (b ∷ unread) ends told blocked room left same may = refl
+still-wrote [] ends told blocked room left same may = of (is_some ends && not told) (blocked && has_room room) (is_some room) (ap (λ b. ((is_some ends && not told) || false) || b) (sym same) ∙ may) where
+  of : (untold now limited : Bool) → ((untold || false) || limited) ≡ true → ((untold || now) || limited) ≡ true
+  of true now limited is = refl
+  of false now true is = or-true now
+  of false now false is = cc
+
+still-full : (unread : List ℕ) (ends : Option Ending) (told blocked : Bool) (room : Option ℕ) → room ≡ Some 0 → may_turn_ready unread ends told blocked room ≡ true
+still-full unread ends told blocked room full = ap (may_turn_ready unread ends told blocked) full ∙ or-true (is_ready unread ends told blocked (Some 0))
+
+still-may : (closed now was : Bool) → (now ≡ true → was ≡ true) → (not closed && now) ≡ true → (not closed && was) ≡ true
+still-may true now was still may = cc
+still-may false now was still may = still may
+
+left-some : (last n : ℕ) (room : Option Room) → is_some (room_in last (spent n room)) ≡ is_some (room_in last room)
+left-some last n None = refl
+left-some last n (Some room) = of (room.wake == last) where
+  of : (here : Bool) → is_some (if here then Some (room.left - n) else None) ≡ is_some (if here then Some room.left else None)
+  of true = refl
+  of false = refl
+
+told-calms : (last : ℕ) (t : Track) → Calms last t (record t { told = true })
+told-calms last t = record {
+  named = less-named t.closed (is_ready t.unread t.ending t.told t.blocked (room_in last t.room)) (is_ready t.unread t.ending true t.blocked (room_in last t.room)) (is_named t.named last) t.link (less-told t.unread t.ending t.told t.blocked (room_in last t.room));
+  may = still-may t.closed (may_turn_ready t.unread t.ending true t.blocked (room_in last t.room)) (may_turn_ready t.unread t.ending t.told t.blocked (room_in last t.room)) (still-told t.unread t.ending t.told t.blocked (room_in last t.room));
+}
+
+read-calms : (last : ℕ) (g : Got) (t : Track) → Calms last t (read_change g t)
+read-calms last (got.Got n) t = record {
+  named = less-named t.closed (is_ready t.unread t.ending t.told t.blocked (room_in last t.room)) (is_ready (drop n t.unread) t.ending t.told t.blocked (room_in last t.room)) (is_named t.named last) t.link (less-read n t.unread t.ending t.told t.blocked (room_in last t.room));
+  may = still-may t.closed (may_turn_ready (drop n t.unread) t.ending t.told t.blocked (room_in last t.room)) (may_turn_ready t.unread t.ending t.told t.blocked (room_in last t.room)) (still-read n t.unread t.ending t.told t.blocked (room_in last t.room));
+}
+read-calms last got.NotReady t = calms-same last t
+read-calms last got.End t = told-calms last t
+read-calms last got.Failed t = told-calms last t
+
+write-calms : (last size : ℕ) (k : Took) (t : Track) → WritesTrack last t size k → Calms last t (write_change k t)
+write-calms last size (took.Took n) t writes = record {
+  named = less-named t.closed (is_ready t.unread t.ending t.told t.blocked (room_in last t.room)) (is_ready t.unread t.ending t.told false (room_in last (spent n t.room))) (is_named t.named last) t.link (less-wrote t.unread t.ending t.told t.blocked (room_in last t.room) (room_in last (spent n t.room)));
+  may = still-may t.closed (may_turn_ready t.unread t.ending t.told false (room_in last (spent n t.room))) (may_turn_ready t.unread t.ending t.told t.blocked (room_in last t.room)) (still-wrote t.unread t.ending t.told t.blocked (room_in last t.room) (room_in last (spent n t.room)) (left-some last n t.room));
+}
+write-calms last size took.NotReady t writes = record {
+  named = less-named t.closed (is_ready t.unread t.ending t.told t.blocked (room_in last t.room)) (is_ready t.unread t.ending t.told true (room_in last t.room)) (is_named t.named last) t.link (less-full t.unread t.ending t.told t.blocked (room_in last t.room) writes.full);
+  may = still-may t.closed (may_turn_ready t.unread t.ending t.told true (room_in last t.room)) (may_turn_ready t.unread t.ending t.told t.blocked (room_in last t.room)) (λ may. still-full t.unread t.ending t.told t.blocked (room_in last t.room) writes.full);
+}
+write-calms last size took.Failed t writes = told-calms last t
+
+closed-calms : (last : ℕ) (t : Track) → Calms last t (record t { closed = true })
+closed-calms last t = record { named = λ none. refl; may = λ may. cc }
 
 now-named : (closed ready : Bool) (o : Option LinkId) → (if not closed && (ready && false) then o else None) ≡ None
 now-named true ready o = refl
 now-named false true o = refl
 now-named false false o = refl
 
-named-keeps : (last : ℕ) (t : Track) → named_by last t ≡ None → named_by last (record t { named = Some last }) ≡ None
-named-keeps last t none =
-    ap (λ b. if not t.closed && (is_ready t.unread t.ending t.told t.blocked (room_in last t.room) && not b) then t.link else None) (same_number last)
-    ∙ now-named t.closed (is_ready t.unread t.ending t.told t.blocked (room_in last t.room)) t.link
+named-calms : (last : ℕ) (t : Track) → Calms last t (record t { named = Some last })
+named-calms last t = record {
+  named = λ none.
+      ap (λ b. if not t.closed && (is_ready t.unread t.ending t.told t.blocked (room_in last t.room) && not b) then t.link else None) (same_number last)
+      ∙ now-named t.closed (is_ready t.unread t.ending t.told t.blocked (room_in last t.room)) t.link;
+  may = λ may. may;
+}
 
-pub follows-moves : (recording : List RecordEntry) (old new : Stage) (log : Log) (e : Entry) (but : LinkId) (at : ℕ) (change : Track → Track) → Follows recording old log → Moved old new → ChangesTrack at change old.tracks.items new.tracks.items → slice_get old.places.items but.0 ≡ Some at → link_of e ≡ Some but → nat_lt but.0 (length old.places.items) ≡ true → ((m : ℕ) → moment_step m e ≡ m) → Brings_nothing e → ((links : List LinkId) → (named_step links e ≡ links) ⊎ (named_step links e ≡ links ++ but ∷ [])) → IsPlain recording e → is_open_call e ≡ false → Answers recording (log ++ late_entries old.late) e → ((name : RecordLink) → Fits (take old.cut recording) old.last old.cut (log ++ late_entries old.late) name (track_at old.tracks.items at) → Fits (take old.cut recording) old.last old.cut ((log ++ late_entries old.late) ++ e ∷ []) name (change (track_at old.tracks.items at))) → Passed recording new → Follows recording new ((log ++ late_entries old.late) ++ e ∷ [])
-follows-moves recording old new log e but at change follows moved changes here of low idle_moment brings names plain unopened answer mine passed =
+pub follows-moves : (recording : List RecordEntry) (old new : Stage) (log : Log) (e : Entry) (but : LinkId) (at : ℕ) (change : Track → Track) → Follows recording old log → Moved old new → ChangesTrack at change old.tracks.items new.tracks.items → slice_get old.places.items but.0 ≡ Some at → link_of e ≡ Some but → nat_lt but.0 (length old.places.items) ≡ true → ((m : ℕ) → moment_step m e ≡ m) → Brings_nothing e → ((links : List LinkId) → (named_step links e ≡ links) ⊎ (named_step links e ≡ links ++ but ∷ [])) → IsPlain recording e → is_open_call e ≡ false → Answers recording (log ++ late_entries old.late) e → ((name : RecordLink) → Fits (take old.cut recording) old.last old.cut (log ++ late_entries old.late) name (track_at old.tracks.items at) → Fits (take old.cut recording) old.last old.cut ((log ++ late_entries old.late) ++ e ∷ []) name (change (track_at old.tracks.items at))) → AllInTurn recording new → Follows recording new ((log ++ late_entries old.late) ++ e ∷ [])
+follows-moves recording old new log e but at change follows moved changes here of low idle_moment brings names plain unopened answer mine turns =
     let log1 = log ++ late_entries old.late in
     follows-plain recording old new log e follows plain answer
     (sound-moved recording old new log e follows moved (ap (link_below (length old.places.items)) of ∙ low) idle_moment)
     (stands-moves recording old new log1 e but at change (stands-marked recording old log follows) follows.sound.linked moved.frame changes moved.links here brings unopened (but-entry but log1 e of brings.woke names)
     (λ name spot. subst (λ (p : ℕ). Fits (take old.cut recording) old.last old.cut log1 name (track_at old.tracks.items p) → Fits (take old.cut recording) old.last old.cut (log1 ++ e ∷ []) name (change (track_at old.tracks.items p))) (sym spot) (mine name)))
-    passed (none-late recording log1 e new.late plain.call.unmarked brings.opened moved.late)
+    turns (none-late recording log1 e new.late plain.call.unmarked brings.opened moved.late)
 
 -- where an open link's track is
 pub record IsAt (s : Stage) (link : LinkId) : Type 0 where
@@ -308,7 +327,7 @@ follows-read recording old new log link before into g within follows opened move
     calm.brings (λ links. inl (calm.leaves.named links)) calm.plain calm.unopened
     (read-answers recording old.last log1 link before into g t (has-is recording old log1 link it.at within (stands-marked recording old log follows) it.here) most read)
     (λ name. mine-read (take old.cut recording) old.last old.cut log1 link before into g name t it.owner read)
-    (passed-change recording old new it.at (read_change g) follows.passed moves.frame (moves.track it.at it.here it.within) (read-keeps old.last g t))
+    (in-change recording old new it.at (read_change g) follows.turns moves.frame (moves.track it.at it.here it.within) (read-calms old.last g t))
 
 pub follows-wrote : (recording : List RecordEntry) (old new : Stage) (log : Log) (link : LinkId) (tag : Tag) (piece : List ℕ) (k : Took) → IsWithin recording old → Follows recording old log → IsOpen link log → Moves link (write_change k) old new → ((at : ℕ) → place_in old link ≡ Some at → at < length old.tracks.items → WritesTrack old.last (track_at old.tracks.items at) (length piece) k) → Follows recording new ((log ++ late_entries old.late) ++ took_entry link tag piece k ∷ [])
 follows-wrote recording old new log link tag piece k within follows opened moves writes =
@@ -321,7 +340,7 @@ follows-wrote recording old new log link tag piece k within follows opened moves
     calm.brings (λ links. inl (calm.leaves.named links)) calm.plain calm.unopened
     (write-answers recording old.last log1 link tag piece k t (has-is recording old log1 link it.at within (stands-marked recording old log follows) it.here) wrote)
     (λ name. mine-wrote (take old.cut recording) old.last old.cut log1 link tag piece k name t it.owner wrote)
-    (passed-change recording old new it.at (write_change k) follows.passed moves.frame (moves.track it.at it.here it.within) (write-keeps old.last (length piece) k t wrote))
+    (in-change recording old new it.at (write_change k) follows.turns moves.frame (moves.track it.at it.here it.within) (write-calms old.last (length piece) k t wrote))
 
 pub follows-closed : (recording : List RecordEntry) (old new : Stage) (log : Log) (link : LinkId) → Follows recording old log → IsOpen link log → Moves link (λ t. record t { closed = true }) old new → Follows recording new ((log ++ late_entries old.late) ++ entry.Closed link ∷ [])
 follows-closed recording old new log link follows opened moves =
@@ -329,7 +348,7 @@ follows-closed recording old new log link follows opened moves =
     follows-moves recording old new log (entry.Closed link) link it.at (λ t. record t { closed = true }) follows (moved-of link (λ t. record t { closed = true }) old new moves) (moves.track it.at it.here it.within) it.here refl it.low (λ m. refl)
     (record { woke = refl; accepted = λ port. refl; opened = refl; known = λ r l. refl }) (λ links. inl refl) (record { call = record { unmarked = refl; judge = λ l c. c }; due = λ l. refl }) refl tt
     (λ name. mine-closed (take old.cut recording) old.last old.cut (log ++ late_entries old.late) link name (track_at old.tracks.items it.at) it.owner)
-    (passed-change recording old new it.at (λ t. record t { closed = true }) follows.passed moves.frame (moves.track it.at it.here it.within) (closed-keeps old.last (track_at old.tracks.items it.at)))
+    (in-change recording old new it.at (λ t. record t { closed = true }) follows.turns moves.frame (moves.track it.at it.here it.within) (closed-calms old.last (track_at old.tracks.items it.at)))
 
 positive-or : (n : ℕ) → (n ≡ 0 → ⊥) → 0 < n
 positive-or zero not = absurd (not refl)
@@ -363,25 +382,26 @@ some-cut recording s log t st named =
 
 -- The link that a search has found.
 
-pub follows-named : (recording : List RecordEntry) (old mid new : Stage) (log : Log) (t : ToName) → IsWithin recording old → Follows recording old log → Searches recording (Some t) old mid → MovesAt t.at (λ x. record x { named = Some mid.last }) mid new → Moved old new → Follows recording new ((log ++ late_entries old.late) ++ entry.Named t.link ∷ [])
+pub follows-named : (recording : List RecordEntry) (old mid new : Stage) (log : Log) (t : ToName) → IsWithin recording old → Follows recording old log → Searches (Some t) old mid → MovesAt t.at (λ x. record x { named = Some mid.last }) mid new → Moved old new → Follows recording new ((log ++ late_entries old.late) ++ entry.Named t.link ∷ [])
 follows-named recording old mid new log t within follows looks moves moved =
     let log1 = log ++ late_entries old.late in
     let last_is : mid.last ≡ old.last = ap (λ s. s.last) looks.frame in
     let tracks_are : mid.tracks ≡ old.tracks = ap (λ s. s.tracks) looks.frame in
     let x = track_at old.tracks.items t.at in
-    let owner : x.link ≡ Some t.link = named-link old.last x t.link looks.stopped.0 in
+    let named = names-at old mid t looks in
+    let owner : x.link ≡ Some t.link = named-link old.last x t.link named in
     let here : slice_get old.places.items t.link.0 ≡ Some t.at = follows.sound.linked t.at t.link owner in
     let inside : t.at < length mid.tracks.items = subst (λ ts. t.at < length ts.items) (sym tracks_are) (present old.tracks.items t.at t.link owner) in
     let changes : ChangesTrack t.at (λ y. record y { named = Some mid.last }) mid.tracks.items new.tracks.items = moves.track inside in
     let changes_old : ChangesTrack t.at (λ y. record y { named = Some old.last }) old.tracks.items new.tracks.items =
     subst (λ (l : ℕ). ChangesTrack t.at (λ y. record y { named = Some l }) old.tracks.items new.tracks.items) last_is
     (subst (λ ts. ChangesTrack t.at (λ y. record y { named = Some mid.last }) ts.items new.tracks.items) tracks_are changes) in
-    let positive : 0 < old.cut = some-cut recording old log1 t (stands-marked recording old log follows) looks.stopped.0 in
+    let positive : 0 < old.cut = some-cut recording old log1 t (stands-marked recording old log follows) named in
     follows-moves recording old new log (entry.Named t.link) t.link t.at (λ y. record y { named = Some old.last }) follows moved changes_old here refl (is_below t.link.0 (length old.places.items) (slice_get_within old.places.items t.link.0 t.at here)) (λ m. refl)
     (record { woke = refl; accepted = λ port. refl; opened = refl; known = λ r l. refl }) (λ links. inr refl) (record { call = record { unmarked = refl; judge = λ l c. c }; due = λ l. refl }) refl
-    (names-some recording old mid log1 t (stands-marked recording old log follows) within follows.sound.linked follows.passed looks)
+    (names-some recording old mid log1 t (stands-marked recording old log follows) within follows.sound.linked follows.turns looks)
     (λ name. mine-named (take old.cut recording) old.last old.cut log1 t.link name x (follows.stands.wake positive) owner)
-    (passed-change recording mid new t.at (λ y. record y { named = Some mid.last }) (passed-more recording (Some t) old mid within follows.passed looks) moves.frame changes (named-keeps mid.last (track_at mid.tracks.items t.at)))
+    (in-change recording mid new t.at (λ y. record y { named = Some mid.last }) (in-search recording (Some t) old mid follows.turns looks) moves.frame changes (named-calms mid.last (track_at mid.tracks.items t.at)))
 
 -- An open that is refused.
 
@@ -406,24 +426,39 @@ follows-refused recording old new log at_server address follows frame late refus
     (stands-alike recording old (old.opens + 1) new.refusals new.late log1 (log1 ++ e ∷ [])
     (alike-idle recording log1 e (record { woke = refl; accepted = λ port. refl; opened = refl; known = λ r l. refl; named = λ links. refl; got = refl; open_is = λ was. refl; told = λ was. refl; blocked = λ was. refl; wrote = refl }))
     (ap (λ (n : ℕ). n + 1) st.opens ∙ sym (opens-more log1 e)) st))
-    (subst (Passed recording) (sym frame) (record { lines = follows.passed.lines; places = follows.passed.places }))
+    (subst (AllInTurn recording) (sym frame) follows.turns)
     (none-late recording log1 e new.late refl refl late)
 
 -- The same of a tape.
 
-pub tape-stays : (recording : List RecordEntry) (old new : Stage) (before after : Option Log) (e : Entry) → IsTape recording old before → IsWithin recording new → Stays old new → Calls before (late_entries old.late) e after → ((log : Log) → before ≡ Some log → Follows recording old log → link_below (length old.places.items) (link_of e) ≡ true) → ((m : ℕ) → moment_step m e ≡ m) → IsIdle e → IsPlain recording e → is_open_call e ≡ false → ((log : Log) → Follows recording old log → Stands recording old (log ++ late_entries old.late) → Answers recording (log ++ late_entries old.late) e) → ((log : Log) → Follows recording old log → Passed recording new) → IsTape recording new after
-tape-stays recording old new before after e tape within stays call low moment idle plain unopened answer passed =
+pub tape-stays : (recording : List RecordEntry) (old new : Stage) (before after : Option Log) (e : Entry) → IsTape recording old before → IsWithin recording new → Stays old new → Calls before (late_entries old.late) e after → ((log : Log) → before ≡ Some log → Follows recording old log → link_below (length old.places.items) (link_of e) ≡ true) → ((m : ℕ) → moment_step m e ≡ m) → IsIdle e → IsPlain recording e → is_open_call e ≡ false → ((log : Log) → Follows recording old log → Stands recording old (log ++ late_entries old.late) → Answers recording (log ++ late_entries old.late) e) → ((log : Log) → Follows recording old log → AllInTurn recording new) → IsTape recording new after
+tape-stays recording old new before after e tape within stays call low moment idle plain unopened answer turns =
     goes_on recording old new before after (late_entries old.late) e tape within call (λ log is follows.
-    follows-stays recording old new log e follows stays (low log is follows) moment idle plain unopened (answer log follows (stands-marked recording old log follows)) (passed log follows))
+    follows-stays recording old new log e follows stays (low log is follows) moment idle plain unopened (answer log follows (stands-marked recording old log follows)) (turns log follows))
 
 pub open-in : (told shown : Option Log) (link : LinkId) (log : Log) → told ≡ shown → OpenFor shown link → told ≡ Some log → IsOpen link log
 open-in told shown link log same opened is = opened.holds log (sym same ∙ is)
 
 -- a search, and then the late marks are told
-pub stays-search : (recording : List RecordEntry) (found : Option ToName) (old mid new : Stage) → Searches recording found old mid → new ≡ record mid { late = new.late } → new.late.marks ≡ [] → Stays old new
-stays-search recording found old mid new looks frame late = record {
+pub stays-search : (found : Option ToName) (old mid new : Stage) → Searches found old mid → new ≡ record mid { late = new.late } → new.late.marks ≡ [] → Stays old new
+stays-search found old mid new looks frame late = record {
   frame = frame ∙ ap {A = Stage} (λ s. record s { late = new.late }) looks.frame
-      ∙ ap (λ line. record old { late = new.late; line = line; link = mid.link }) (sym (ap (λ s. s.line) frame))
-      ∙ ap (λ link. record old { late = new.late; line = new.line; link = link }) (sym (ap (λ s. s.link) frame));
+      ∙ ap (λ turns. record old { late = new.late; turns = turns }) (sym (ap (λ s. s.turns) frame));
   late = late;
 }
+
+-- a read or a write that leaves an entry behind the late marks
+pub tape-read : (recording : List RecordEntry) (old new : Stage) (told shown mid after : Option Log) (link : LinkId) (before into : List ℕ) (g : Got) → IsTape recording old told → told ≡ shown → OpenFor shown link → Moves link (read_change g) old new → ReadsAtMost (length into) g → ((at : ℕ) → place_in old link ≡ Some at → at < length old.tracks.items → ReadsTrack (track_at old.tracks.items at) before into g) → Adds told (late_entries old.late) mid → Adds mid (got_entry link into g ∷ []) after → IsBounded after → IsTape recording new after
+tape-read recording old new told shown mid after link before into g tape same opened moves most reads first last bounded =
+    goes_on recording old new told after (late_entries old.late) (got_entry link into g) tape (within-moves recording old new tape.within moves.frame) (calls_after told mid after (late_entries old.late) (got_entry link into g) first last bounded)
+    (λ log is follows. follows-read recording old new log link before into g tape.within follows (open-in told shown link log same opened is) moves most reads)
+
+pub tape-wrote : (recording : List RecordEntry) (old new : Stage) (told shown mid after : Option Log) (link : LinkId) (tag : Tag) (piece : List ℕ) (k : Took) → IsTape recording old told → told ≡ shown → OpenFor shown link → Moves link (write_change k) old new → ((at : ℕ) → place_in old link ≡ Some at → at < length old.tracks.items → WritesTrack old.last (track_at old.tracks.items at) (length piece) k) → Adds told (late_entries old.late) mid → Adds mid (took_entry link tag piece k ∷ []) after → IsBounded after → IsTape recording new after
+tape-wrote recording old new told shown mid after link tag piece k tape same opened moves writes first last bounded =
+    goes_on recording old new told after (late_entries old.late) (took_entry link tag piece k) tape (within-moves recording old new tape.within moves.frame) (calls_after told mid after (late_entries old.late) (took_entry link tag piece k) first last bounded)
+    (λ log is follows. follows-wrote recording old new log link tag piece k tape.within follows (open-in told shown link log same opened is) moves writes)
+
+pub tells-open : (told shown mid after : Option Log) (late : Late) (link : LinkId) (e : Entry) → told ≡ shown → OpenFor shown link → Adds told (late_entries late) mid → Adds mid (e ∷ []) after → IsBounded after → ((log : Log) → IsOpen link log → FitsLog log e) → Tells told e after
+tells-open told shown mid after late link e same opened first last bounded fits =
+    tells told (late_entries late) e after (calls_after told mid after (late_entries late) e first last bounded) (late_are late)
+    (λ log is. fits (log ++ late_entries late) (open-if-open told shown link late same opened log is))

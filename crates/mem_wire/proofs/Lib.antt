@@ -1,6 +1,7 @@
 pub mod LineLaws
 pub mod Growth
-pub mod NamingLaws
+pub mod FirstLines
+pub mod InTurn
 pub mod Links
 pub mod Quiet
 pub mod Telling

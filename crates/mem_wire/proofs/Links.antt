@@ -63,7 +63,7 @@ pub is_below : (a n : ℕ) → a < n → nat_lt a n ≡ true
 is_below a n h = grind arith
 
 -- an open link is below
-low_or_high : (a n : ℕ) → (a < n) ⊎ (n ≤ a)
+pub low_or_high : (a n : ℕ) → (a < n) ⊎ (n ≤ a)
 low_or_high a n = search arith
 
 true_false : true ≡ false → ⊥

@@ -1,13 +1,12 @@
 -- The link that a search finds is the one that a play names.
-use Rattle.std.proofs.Common.{◌≡◌, ℕ, zero, suc, ◌≤◌, ◌+◌, ◌-◌, ◌==◌, Bool, true, false, List, [], ◌∷◌, ◌++◌, length, take, drop, if◌then◌else◌, Option, Some, None, refl, sym, ◌∙◌, ap, subst, arith, inl, inr}
+use Rattle.std.proofs.Common.{◌≡◌, ℕ, zero, suc, ◌<◌, ◌≤◌, ◌+◌, ◌==◌, Bool, true, false, List, [], ◌∷◌, ◌++◌, if◌then◌else◌, Option, Some, None, refl, sym, ◌∙◌, ap, subst, arith, inl, inr}
 use Rattle.std.specs.Prelude.{slice_get, not, ◌&&◌}
 use Rattle.std.specs.Option.{option_or}
+use Rattle.std.specs.Ordering.{nat_cmp}
+use Rattle.std.specs.BTreeMap.{get}
 use Rattle.std.specs.List.{filter_map, cons_option, find}
-use Rattle.std.proofs.lemmas.List.{take-append-drop, drop-drop, take_rest}
-use Rattle.std.proofs.lemmas.List.Elements.{filter_map-append}
 use Rattle.std.proofs.lemmas.List.Folds.{find-append}
 use Rattle.std.proofs.lemmas.Bool.{eqb-true}
-use Rattle.std.proofs.Math.Seq.{take-add}
 use Rattle.mx_base.specs.declared.names.LinkId.{LinkId}
 use Rattle.mx_wire.specs.Log.{Log, is_open}
 use Rattle.mx_wire.specs.Growth.{bool_cases, same_number}
@@ -15,19 +14,30 @@ use Rattle.recording.specs.declared.entry.RecordLink.{RecordLink}
 use Rattle.recording.specs.declared.entry.RecordEntry.{RecordEntry}
 use Rattle.mem_wire.specs.declared.naming.ToName.{ToName}
 use Rattle.mem_wire.specs.declared.track.Track.{Track}
+use Rattle.mem_wire.specs.declared.turns.Turns.{Turns}
 use Rattle.mem_wire.specs.declared.stage.Stage.{Stage}
 use Rattle.mem_wire.specs.Lines.{same_name, name_at}
 use Rattle.mem_wire.specs.Came.{wakes, is_told, is_blocked, Known, known, with_name, unread_of, ending_of, room_of}
-use Rattle.mem_wire.specs.Play.{named_since, is_ready, is_to_name, known_at, naming_order, next_named, Names}
+use Rattle.mem_wire.specs.Play.{named_since, is_ready, is_to_name, known_at, next_named, Names}
 use Rattle.mem_wire.specs.Tracks.{track_at, place, room_in}
 use Rattle.mem_wire.specs.Steps.{numbered, IsWithin}
-use Rattle.mem_wire.specs.Naming.{is_named, named_by, named_at, NoneIn, NoneAt, BeginsIn, BeginsAt, lines_between, Searches}
-use Rattle.mem_wire.specs.Stands.{Numbered, is_in, Stands, Passed}
+use Rattle.mem_wire.specs.Naming.{is_named, named_by, named_at, names, first_from, lines_between}
+use Rattle.mem_wire.specs.Turns.{StopsAtLine, SearchesLinks, Searches, SearchesOn, InTurn, AllInTurn}
+use Rattle.mem_wire.specs.Stands.{Numbered, is_in, Stands}
+use Rattle.mem_wire.proofs.Links.{low_or_high}
 use Rattle.mem_wire.proofs.LineLaws.{same_place}
 use Rattle.mem_wire.proofs.CutLaws.{cut-released, last-drop, last-lines}
-use Rattle.mem_wire.proofs.NamingLaws.{named-link}
+use Rattle.mem_wire.proofs.FirstLines.{first-number, none-names}
+use Rattle.mem_wire.proofs.InTurn.{test-true, none-unless-pending, in-lines, in-links}
 use Rattle.mem_wire.proofs.Standing.{has-track}
 use Rattle.mem_wire.proofs.StandMoves.{if-own}
+
+if-some : (b : Bool) (o : Option LinkId) (link : LinkId) → (if b then o else None) ≡ Some link → o ≡ Some link
+if-some true o link is = is
+if-some false o link is = cc
+
+pub named-link : (last : ℕ) (t : Track) (link : LinkId) → named_by last t ≡ Some link → t.link ≡ Some link
+named-link last t link is = if-some (not t.closed && (is_ready t.unread t.ending t.told t.blocked (room_in last t.room) && not (is_named t.named last))) t.link link is
 
 -- whether the track's link is to be named
 abbrev test : ℕ → Track → Bool
@@ -52,7 +62,7 @@ pub to-name : (recording : List RecordEntry) (s : Stage) (log : Log) (k : Known)
 to-name recording s log k within st owner =
     let t = track_at s.tracks.items (place k.name) in
     let fits = st.tracks k.name in
-    let le1 : s.last ≤ s.line = within.last in let le2 : s.line ≤ s.cut = within.line in
+    let le : s.last ≤ s.cut = within.last in
     let has = has-track recording s.last s.cut log k t (cut-released recording s.cut (wakes log) st.cut) (last-drop recording s.last s.cut (wakes log) st.last st.cut (omega arith) within.cut) owner fits in
     ap (λ b. b && (is_ready (unread_of recording log k) (ending_of recording log k) (is_told k.link log) (is_blocked k.link log) (room_of recording log k) && not (is_in k.link (named_since log)))) (if-own t.link (λ l. is_open l log ≡ not t.closed) k.link owner fits.opened)
     ∙ ap (λ bs. not t.closed && (is_ready bs (ending_of recording log k) (is_told k.link log) (is_blocked k.link log) (room_of recording log k) && not (is_in k.link (named_since log)))) has.unread
@@ -67,10 +77,6 @@ test-no : (b : Bool) (link : LinkId) (o : Option LinkId) → o ≡ Some link →
 test-no true link o owner none = absurd (let e : Some link ≡ None = sym owner ∙ none in cc)
 test-no false link o owner none = refl
 
-test-yes : (b : Bool) (link : LinkId) (o : Option LinkId) → (if b then o else None) ≡ Some link → b ≡ true
-test-yes true link o some = refl
-test-yes false link o some = cc
-
 pub record Found (link : LinkId) (found : Option Known) : Type 0 where
   pub k : Known
   pub is : found ≡ Some k
@@ -80,29 +86,30 @@ abbrev Tests : (Known → Bool) → ℕ → List Track → Type 0
 Tests p last tracks = (k : Known) → (track_at tracks (place k.name)).link ≡ Some k.link → p k ≡ test last (track_at tracks (place k.name))
 
 -- among the links
-none-links : (p : Known → Bool) (last : ℕ) (tracks : List Track) (n : ℕ) (links : List Known) (places : List ℕ) → Tests p last tracks → Owned tracks links → Numbered n links places → NoneAt last tracks places → find p links ≡ None
+none-links : (p : Known → Bool) (last : ℕ) (tracks : List Track) (n : ℕ) (links : List Known) (places : List ℕ) → Tests p last tracks → Owned tracks links → Numbered n links places → ((i at : ℕ) → slice_get places i ≡ Some at → named_at last tracks at ≡ None) → find p links ≡ None
 none-links p last tracks n [] [] tests owned all none = refl
 none-links p last tracks n [] (at ∷ places) tests owned all none = absurd all
 none-links p last tracks n (k ∷ links) [] tests owned all none = absurd all
 none-links p last tracks n (k ∷ links) (at ∷ places) tests owned all none =
     let t = track_at tracks (place k.name) in
-    let no : p k ≡ false = tests k owned.0 ∙ test-no (test last t) k.link t.link owned.0 (ap (named_at last tracks) all.1 ∙ none.0) in
-    ap (λ b. if b then Some k else find p links) no ∙ none-links p last tracks (n + 1) links places tests owned.1 all.2 none.1
+    let no : p k ≡ false = tests k owned.0 ∙ test-no (test last t) k.link t.link owned.0 (ap (named_at last tracks) all.1 ∙ none 0 at refl) in
+    ap (λ b. if b then Some k else find p links) no ∙ none-links p last tracks (n + 1) links places tests owned.1 all.2 (λ i spot is. none (suc i) spot is)
 
-some-links : (p : Known → Bool) (last : ℕ) (tracks : List Track) (n i : ℕ) (link : LinkId) (links : List Known) (places : List ℕ) → Tests p last tracks → Owned tracks links → Numbered n links places → NoneAt last tracks (take i places) → BeginsAt last tracks link (drop i places) → Found link (find p links)
-some-links p last tracks n zero link [] [] tests owned all none begins = absurd begins
-some-links p last tracks n (suc i) link [] [] tests owned all none begins = absurd begins
-some-links p last tracks n i link [] (at ∷ places) tests owned all none begins = absurd all
-some-links p last tracks n i link (k ∷ links) [] tests owned all none begins = absurd all
-some-links p last tracks n zero link (k ∷ links) (at ∷ places) tests owned all none begins =
-    let t = track_at tracks (place k.name) in
-    let named : named_by last t ≡ Some link = ap (named_at last tracks) all.1 ∙ begins in
-    let yes : p k ≡ true = tests k owned.0 ∙ test-yes (test last t) link t.link named in
-    record { k = k; is = ap (λ b. if b then Some k else find p links) yes; link_is = let e : Some k.link ≡ Some link = sym owned.0 ∙ named-link last t link named in cc }
-some-links p last tracks n (suc i) link (k ∷ links) (at ∷ places) tests owned all none begins =
-    let t = track_at tracks (place k.name) in
-    let no : p k ≡ false = tests k owned.0 ∙ test-no (test last t) k.link t.link owned.0 (ap (named_at last tracks) all.1 ∙ none.0) in
-    let later = some-links p last tracks (n + 1) i link links places tests owned.1 all.2 none.1 begins in
+some-links : (p : Known → Bool) (last : ℕ) (tracks : List Track) (n i : ℕ) (links : List Known) (places : List ℕ) (t : ToName) → Tests p last tracks → Owned tracks links → Numbered n links places → ((j spot : ℕ) → j < i → slice_get places j ≡ Some spot → named_at last tracks spot ≡ None) → slice_get places i ≡ Some t.at → named_at last tracks t.at ≡ Some t.link → Found t.link (find p links)
+some-links p last tracks n i [] [] t tests owned all none here named = cc
+some-links p last tracks n i [] (at ∷ places) t tests owned all none here named = absurd all
+some-links p last tracks n i (k ∷ links) [] t tests owned all none here named = absurd all
+some-links p last tracks n zero (k ∷ links) (at ∷ places) t tests owned all none here named =
+    let x = track_at tracks (place k.name) in
+    let same : at ≡ t.at = cc in
+    let by : named_by last x ≡ Some t.link = ap (named_at last tracks) (all.1 ∙ same) ∙ named in
+    let yes : p k ≡ true = tests k owned.0 ∙ test-true (test last x) x.link t.link by in
+    record { k = k; is = ap (λ b. if b then Some k else find p links) yes; link_is = let e : Some k.link ≡ Some t.link = sym owned.0 ∙ named-link last x t.link by in cc }
+some-links p last tracks n (suc i) (k ∷ links) (at ∷ places) t tests owned all none here named =
+    let x = track_at tracks (place k.name) in
+    let low : 0 < suc i = omega arith in
+    let no : p k ≡ false = tests k owned.0 ∙ test-no (test last x) k.link x.link owned.0 (ap (named_at last tracks) all.1 ∙ none 0 at low refl) in
+    let later = some-links p last tracks (n + 1) i links places t tests owned.1 all.2 (λ j spot before is. none (suc j) spot (omega arith) is) here named in
     record { k = later.k; is = ap (λ b. if b then Some k else find p links) no ∙ later.is; link_is = later.link_is }
 
 -- among the lines: the link of a name
@@ -161,7 +168,7 @@ some-name tracks last links places p name (Some k) later link all is some =
     let owner : (track_at tracks (place k.name)).link ≡ Some k.link = ap (λ (at : ℕ). (track_at tracks at).link) owns.place_is ∙ owns.owner in
     let t = track_at tracks (place k.name) in
     let named : named_by last t ≡ Some link = ap (named_at last tracks) owns.place_is ∙ some in
-    let yes : p k ≡ true = all.tests k owner ∙ test-yes (test last t) link t.link named in
+    let yes : p k ≡ true = all.tests k owner ∙ test-true (test last t) t.link link named in
     record { k = k; is = ap (λ b. if b then Some k else find p later) yes; link_is = let e : Some k.link ≡ Some link = sym owner ∙ named-link last t link named in cc }
 
 -- a line that may name a link
@@ -179,37 +186,52 @@ some-line : (tracks : List Track) (last : ℕ) (links : List Known) (places : Li
 some-line tracks last links places p None later link all some = cc
 some-line tracks last links places p (Some name) later link all some = some-name tracks last links places p name (with_name name links) later link all refl some
 
-none-lines : (tracks : List Track) (last : ℕ) (links : List Known) (places : List ℕ) (p : Known → Bool) (lines : List RecordEntry) → Lines tracks last links places p → NoneIn last tracks lines → find p (filter_map (known_at links) lines) ≡ None
-none-lines tracks last links places p [] all none = refl
-none-lines tracks last links places p (l ∷ lines) all none =
-    none-line tracks last links places p (name_at l) (filter_map (known_at links) lines) all none.0 ∙ none-lines tracks last links places p lines all none.1
+-- Where no link that is to be named has a line, a line names none.
+line-none : (last : ℕ) (tracks : List Track) (from : ℕ) (later : Option ℕ) (o : Option RecordLink) → ((at : ℕ) (link : LinkId) → named_at last tracks at ≡ Some link → (if (elim o [ Some name ↦ at == place name | None ↦ false ]) then Some from else later) ≡ None) → named_of last tracks o ≡ None
+line-none last tracks from later None none = refl
+line-none last tracks from later (Some name) none = of (named_at last tracks (place name)) refl where
+  of : (o : Option LinkId) → named_at last tracks (place name) ≡ o → o ≡ None
+  of None is = refl
+  of (Some link) is = absurd (let e : Some from ≡ None = sym (ap (λ b. if b then Some from else later) (same_number (place name))) ∙ none (place name) link is in cc)
 
-some-lines : (tracks : List Track) (last : ℕ) (links : List Known) (places : List ℕ) (p : Known → Bool) (lines : List RecordEntry) (link : LinkId) → Lines tracks last links places p → BeginsIn last tracks link lines → Found link (find p (filter_map (known_at links) lines))
-some-lines tracks last links places p [] link all begins = absurd begins
-some-lines tracks last links places p (l ∷ lines) link all begins = some-line tracks last links places p (name_at l) (filter_map (known_at links) lines) link all begins
+none-lines : (tracks : List Track) (last : ℕ) (links : List Known) (places : List ℕ) (p : Known → Bool) (from : ℕ) (lines : List RecordEntry) → Lines tracks last links places p → ((at : ℕ) (link : LinkId) → named_at last tracks at ≡ Some link → first_from at from lines ≡ None) → find p (filter_map (known_at links) lines) ≡ None
+none-lines tracks last links places p from [] all none = refl
+none-lines tracks last links places p from (l ∷ lines) all none =
+    let later : (at : ℕ) (link : LinkId) → named_at last tracks at ≡ Some link → first_from at (from + 1) lines ≡ None = λ at link named. (none-names at from l lines (none at link named)).later in
+    none-line tracks last links places p (name_at l) (filter_map (known_at links) lines) all (here (name_at l) refl)
+    ∙ none-lines tracks last links places p (from + 1) lines all later
+  where
+    here : (o : Option RecordLink) → name_at l ≡ o → named_of last tracks o ≡ None
+    here o is = line-none last tracks from None o (λ at link named.
+        ap (λ x. if (elim x [ Some name ↦ at == place name | None ↦ false ]) then Some from else None) (sym is) ∙ ap (λ b. if b then Some from else None) (none-names at from l lines (none at link named)).here)
 
--- what has been passed, and what follows
-between-parts : (a b c : ℕ) (lines : List RecordEntry) → a ≤ b → b ≤ c → lines_between a c lines ≡ lines_between a b lines ++ lines_between b c lines
-between-parts a b c lines le1 le2 =
-    ap (λ (n : ℕ). take n (drop a lines)) (let e : c - a ≡ (b - a) + (c - b) = omega arith in e)
-    ∙ take-add (b - a) (c - b) (drop a lines)
-    ∙ ap (λ (ls : List RecordEntry). take (b - a) (drop a lines) ++ take (c - b) ls) (drop-drop (b - a) a lines ∙ ap (λ (n : ℕ). drop n lines) (let e : a + (b - a) ≡ b = omega arith in e))
+-- a line that names the place of a link that is to be named
+line-some : (last : ℕ) (tracks : List Track) (at : ℕ) (link : LinkId) (o : Option RecordLink) → (elim o [ Some name ↦ at == place name | None ↦ false ]) ≡ true → named_at last tracks at ≡ Some link → named_of last tracks o ≡ Some link
+line-some last tracks at link None here named = cc
+line-some last tracks at link (Some name) here named = ap (named_at last tracks) (sym (eqb-true at (place name) here)) ∙ named
 
-none_in-append : (last : ℕ) (tracks : List Track) (a b : List RecordEntry) → NoneIn last tracks a → NoneIn last tracks b → NoneIn last tracks (a ++ b)
-none_in-append last tracks [] b p q = q
-none_in-append last tracks (l ∷ a) b p q = (p.0, none_in-append last tracks a b p.1 q)
+-- where the first line of such a place is later, a line names none
+line-before : (last : ℕ) (tracks : List Track) (from i : ℕ) (o : Option RecordLink) → from < i → ((at : ℕ) (link : LinkId) → named_at last tracks at ≡ Some link → (elim o [ Some name ↦ at == place name | None ↦ false ]) ≡ true → i ≤ from) → named_of last tracks o ≡ None
+line-before last tracks from i None later least = refl
+line-before last tracks from i (Some name) later least = of (named_at last tracks (place name)) refl where
+  of : (o : Option LinkId) → named_at last tracks (place name) ≡ o → o ≡ None
+  of None is = refl
+  of (Some link) is = absurd (let early : i ≤ from = least (place name) link is (same_number (place name)) in omega arith)
 
-none_at-append : (last : ℕ) (tracks : List Track) (a b : List ℕ) → NoneAt last tracks a → NoneAt last tracks b → NoneAt last tracks (a ++ b)
-none_at-append last tracks [] b p q = q
-none_at-append last tracks (l ∷ a) b p q = (p.0, none_at-append last tracks a b p.1 q)
-
-pub passed-more : (recording : List RecordEntry) (found : Option ToName) (old new : Stage) → IsWithin recording old → Passed recording old → Searches recording found old new → Passed recording new
-passed-more recording found old new within passed looks = subst (Passed recording) (sym looks.frame) (record {
-  lines = subst (NoneIn old.last old.tracks.items) (sym (between-parts old.last old.line new.line recording within.last looks.later_line))
-      (none_in-append old.last old.tracks.items (lines_between old.last old.line recording) (lines_between old.line new.line recording) passed.lines looks.lines);
-  places = subst (NoneAt old.last old.tracks.items) (sym (ap (λ (n : ℕ). take n old.places.items) (let le : old.link ≤ new.link = looks.later_link in let e : new.link ≡ old.link + (new.link - old.link) = omega arith in e) ∙ take-add old.link (new.link - old.link) old.places.items))
-      (none_at-append old.last old.tracks.items (take old.link old.places.items) (take (new.link - old.link) (drop old.link old.places.items)) passed.places looks.places);
-})
+some-lines : (tracks : List Track) (last : ℕ) (links : List Known) (places : List ℕ) (p : Known → Bool) (from i : ℕ) (lines : List RecordEntry) (t : ToName) → Lines tracks last links places p → named_at last tracks t.at ≡ Some t.link → first_from t.at from lines ≡ Some i → ((at j : ℕ) (link : LinkId) → named_at last tracks at ≡ Some link → first_from at from lines ≡ Some j → i ≤ j) → Found t.link (find p (filter_map (known_at links) lines))
+some-lines tracks last links places p from i [] t all named is least = cc
+some-lines tracks last links places p from i (l ∷ lines) t all named is least = elim (bool_cases (names t.at l)) [
+  | inl here ↦ some-line tracks last links places p (name_at l) (filter_map (known_at links) lines) t.link all (line-some last tracks t.at t.link (name_at l) here named)
+  | inr apart ↦
+      let later : first_from t.at (from + 1) lines ≡ Some i = sym (ap (λ b. if b then Some from else first_from t.at (from + 1) lines) apart) ∙ is in
+      let behind : from + 1 ≤ i = (first-number t.at (from + 1) i lines later).least in
+      let here : (at : ℕ) (link : LinkId) → named_at last tracks at ≡ Some link → names at l ≡ true → i ≤ from = λ at link is_named named_here. least at from link is_named (ap (λ b. if b then Some from else first_from at (from + 1) lines) named_here) in
+      subst (Found t.link) (sym (none-line tracks last links places p (name_at l) (filter_map (known_at links) lines) all (line-before last tracks from i (name_at l) (omega arith) here)))
+      (some-lines tracks last links places p (from + 1) i lines t all named later (λ at j link is_named found. elim (bool_cases (names at l)) [
+        | inl named_here ↦ absurd (let early : i ≤ from = here at link is_named named_here in omega arith)
+        | inr other ↦ least at j link is_named (ap (λ b. if b then Some from else first_from at (from + 1) lines) other ∙ found)
+      ]))
+]
 
 lines-of : (recording : List RecordEntry) (s : Stage) (log : Log) → IsWithin recording s → Stands recording s log → ((spot : ℕ) (link : LinkId) → (track_at s.tracks.items spot).link ≡ Some link → slice_get s.places.items link.0 ≡ Some spot) → Lines s.tracks.items s.last (known recording log) s.places.items (is_to_name recording log)
 lines-of recording s log within st linked = record {
@@ -219,34 +241,69 @@ lines-of recording s log within st linked = record {
   linked = linked;
 }
 
--- the order of naming, in the stage's lines
-order-is : (recording : List RecordEntry) (s : Stage) (log : Log) → Stands recording s log → IsWithin recording s → naming_order recording log ≡ filter_map (known_at (known recording log)) (lines_between s.last s.cut recording) ++ known recording log
+-- the first that is to be named of the stage's lines, and of its links
+abbrev of_lines : List RecordEntry → Stage → Log → Option Known
+of_lines recording s log = find (is_to_name recording log) (filter_map (known_at (known recording log)) (lines_between s.last s.cut recording))
+
+abbrev of_links : List RecordEntry → Log → Option Known
+of_links recording log = find (is_to_name recording log) (known recording log)
+
+order-is : (recording : List RecordEntry) (s : Stage) (log : Log) → Stands recording s log → IsWithin recording s → next_named recording log ≡ option_or (of_lines recording s log) (of_links recording log)
 order-is recording s log st within =
-    let le1 : s.last ≤ s.line = within.last in let le2 : s.line ≤ s.cut = within.line in
-    ap (λ (lines : List RecordEntry). filter_map (known_at (known recording log)) lines ++ known recording log) (last-lines recording s.last s.cut (wakes log) st.last st.cut (omega arith) within.cut)
-
-find-order : (p : Known → Bool) (links : List Known) (lines : List RecordEntry) → find p (filter_map (known_at links) lines ++ links) ≡ option_or (find p (filter_map (known_at links) lines)) (find p links)
-find-order p links lines = find-append p (filter_map (known_at links) lines) links
-
-pub names-none : (recording : List RecordEntry) (old new : Stage) (log : Log) → Stands recording old log → IsWithin recording old → ((spot : ℕ) (link : LinkId) → (track_at old.tracks.items spot).link ≡ Some link → slice_get old.places.items link.0 ≡ Some spot) → Passed recording old → Searches recording None old new → next_named recording log ≡ None
-names-none recording old new log st within linked passed looks =
+    let le : s.last ≤ s.cut = within.last in
     let p = is_to_name recording log in
     let links = known recording log in
-    let all = lines-of recording old log within st linked in
-    let le1 : old.last ≤ old.line = within.last in let le2 : old.line ≤ new.line = looks.later_line in
-    let done : new.line ≡ old.cut = looks.stopped.0 in
-    let ended : new.link ≡ length old.places.items = looks.stopped.1 in
-    let now = passed-more recording None old new within passed looks in
-    let lines : NoneIn old.last old.tracks.items (lines_between old.last old.cut recording) =
-    subst (λ (to : ℕ). NoneIn old.last old.tracks.items (lines_between old.last to recording)) done
-    (subst (NoneIn old.last old.tracks.items) (sym (between-parts old.last old.line new.line recording le1 le2)) (none_in-append old.last old.tracks.items (lines_between old.last old.line recording) (lines_between old.line new.line recording) passed.lines looks.lines)) in
-    let places : NoneAt old.last old.tracks.items old.places.items =
-    subst (NoneAt old.last old.tracks.items) (take-append-drop old.link old.places.items)
-    (none_at-append old.last old.tracks.items (take old.link old.places.items) (drop old.link old.places.items) passed.places
-    (subst (NoneAt old.last old.tracks.items) (ap (λ (n : ℕ). take (n - old.link) (drop old.link old.places.items)) ended ∙ take_rest old.places.items old.link) looks.places)) in
-    ap (find p) (order-is recording old log st within) ∙ find-order p links (lines_between old.last old.cut recording)
-    ∙ ap (λ o. option_or o (find p links)) (none-lines old.tracks.items old.last links old.places.items p (lines_between old.last old.cut recording) all lines)
-    ∙ none-links p old.last old.tracks.items 0 links old.places.items all.tests all.owned all.all places
+    ap (λ (lines : List RecordEntry). find p (filter_map (known_at links) lines ++ links)) (last-lines recording s.last s.cut (wakes log) st.last st.cut (omega arith) within.cut)
+    ∙ find-append p (filter_map (known_at links) (lines_between s.last s.cut recording)) links
+
+no-turn : (recorded : List RecordEntry) (last : ℕ) (tracks : List Track) (places : List ℕ) (turns : Turns) → InTurn recorded last tracks places turns → ((line : ℕ) → get nat_cmp turns.lines line ≡ None) → (at : ℕ) (link : LinkId) → named_at last tracks at ≡ Some link → first_from at last recorded ≡ None
+no-turn recorded last tracks places turns in_turn none at link named = of (first_from at last recorded) refl where
+  of : (o : Option ℕ) → first_from at last recorded ≡ o → o ≡ None
+  of None is = refl
+  of (Some i) is = absurd (let e : None ≡ Some at = sym (none i) ∙ in_turn.lines at i link named is in cc)
+
+-- what a search knows: how links stand to tracks, and how its turns stand to both before the links are looked at
+record Knows (recording : List RecordEntry) (s : Stage) (log : Log) (mid : Turns) : Type 0 where
+  pub all : Lines s.tracks.items s.last (known recording log) s.places.items (is_to_name recording log)
+  pub turns : InTurn (lines_between s.last s.cut recording) s.last s.tracks.items s.places.items mid
+
+knows-all : (recording : List RecordEntry) (found : Option ToName) (old new : Stage) (log : Log) → Stands recording old log → IsWithin recording old → ((spot : ℕ) (link : LinkId) → (track_at old.tracks.items spot).link ≡ Some link → slice_get old.places.items link.0 ≡ Some spot) → AllInTurn recording old → (looks : Searches found old new) → Knows recording old log looks.mid
+knows-all recording found old new log st within linked turns looks = record {
+  all = lines-of recording old log within st linked;
+  turns = in-lines (lines_between old.last old.cut recording) old.last old.tracks.items old.places.items old.turns looks.mid turns looks.passes;
+}
+
+no-lines : (recording : List RecordEntry) (s : Stage) (log : Log) (mid : Turns) → Knows recording s log mid → ((line : ℕ) → get nat_cmp mid.lines line ≡ None) → of_lines recording s log ≡ None
+no-lines recording s log mid knows none =
+    none-lines s.tracks.items s.last (known recording log) s.places.items (is_to_name recording log) s.last (lines_between s.last s.cut recording) knows.all
+    (no-turn (lines_between s.last s.cut recording) s.last s.tracks.items s.places.items mid knows.turns none)
+
+after-links : (recording : List RecordEntry) (found : Option ToName) (s : Stage) (log : Log) (mid new : Turns) → Knows recording s log mid → SearchesLinks found s mid new → InTurn (lines_between s.last s.cut recording) s.last s.tracks.items s.places.items new
+after-links recording found s log mid new knows stops = in-links (lines_between s.last s.cut recording) s.last s.tracks.items s.places.items mid new knows.turns stops.passes
+
+no-links : (recording : List RecordEntry) (s : Stage) (log : Log) (mid new : Turns) → Knows recording s log mid → SearchesLinks None s mid new → of_links recording log ≡ None
+no-links recording s log mid new knows stops =
+    none-links (is_to_name recording log) s.last s.tracks.items 0 (known recording log) s.places.items knows.all.tests knows.all.owned knows.all.all
+    (λ i at here. elim (low_or_high i new.link) [
+      | inl low ↦ after.passed i at low here
+      | inr high ↦ none-unless-pending (lines_between s.last s.cut recording) s.last s.tracks.items s.places.items new i at after here (stops.none i at high here)
+    ])
+  where
+    after : InTurn (lines_between s.last s.cut recording) s.last s.tracks.items s.places.items new
+    after = after-links recording None s log mid new knows stops
+
+some_none : (t : ToName) → None ≡ Some t → ⊥
+some_none t is = cc
+
+pub names-none : (recording : List RecordEntry) (old new : Stage) (log : Log) → Stands recording old log → IsWithin recording old → ((spot : ℕ) (link : LinkId) → (track_at old.tracks.items spot).link ≡ Some link → slice_get old.places.items link.0 ≡ Some spot) → AllInTurn recording old → Searches None old new → next_named recording log ≡ None
+names-none recording old new log st within linked turns looks =
+    order-is recording old log st within ∙ on looks.of_lines looks.on (knows-all recording None old new log st within linked turns looks)
+  where
+    on : (o : Option ToName) → SearchesOn o None old looks.mid new.turns → Knows recording old log looks.mid → option_or (of_lines recording old log) (of_links recording log) ≡ None
+    on (Some t) stops knows = absurd (some_none t stops.0)
+    on None stops knows =
+        ap (λ o. option_or o (of_links recording log)) (no-lines recording old log looks.mid knows stops.no_line)
+        ∙ no-links recording old log looks.mid new.turns knows stops
 
 first-found : (a b : Option Known) (link : LinkId) → Found link a → Found link (option_or a b)
 first-found a b link found = record { k = found.k; is = ap (λ o. option_or o b) found.is; link_is = found.link_is }
@@ -254,28 +311,32 @@ first-found a b link found = record { k = found.k; is = ap (λ o. option_or o b)
 then-found : (a b : Option Known) (link : LinkId) → a ≡ None → Found link b → Found link (option_or a b)
 then-found a b link none found = record { k = found.k; is = ap (λ o. option_or o b) none ∙ found.is; link_is = found.link_is }
 
-pub names-some : (recording : List RecordEntry) (old new : Stage) (log : Log) (t : ToName) → Stands recording old log → IsWithin recording old → ((spot : ℕ) (link : LinkId) → (track_at old.tracks.items spot).link ≡ Some link → slice_get old.places.items link.0 ≡ Some spot) → Passed recording old → Searches recording (Some t) old new → Names (next_named recording log) t.link
-names-some recording old new log t st within linked passed looks =
-    let p = is_to_name recording log in
-    let links = known recording log in
-    let all = lines-of recording old log within st linked in
-    let le1 : old.last ≤ old.line = within.last in let le2 : old.line ≤ new.line = looks.later_line in let le3 : new.line ≤ old.cut = looks.line in
-    let before : NoneIn old.last old.tracks.items (lines_between old.last new.line recording) =
-    subst (NoneIn old.last old.tracks.items) (sym (between-parts old.last old.line new.line recording le1 le2)) (none_in-append old.last old.tracks.items (lines_between old.last old.line recording) (lines_between old.line new.line recording) passed.lines looks.lines) in
-    let found : Found t.link (find p (filter_map (known_at links) (lines_between old.last old.cut recording) ++ links)) =
-    subst (Found t.link) (sym (find-order p links (lines_between old.last old.cut recording))) (elim looks.stopped.1 [
-      | inl begins ↦ first-found (find p (filter_map (known_at links) (lines_between old.last old.cut recording))) (find p links) t.link
-          (subst (λ (ls : List RecordEntry). Found t.link (find p (filter_map (known_at links) ls))) (sym (between-parts old.last new.line old.cut recording (omega arith) le3))
-          (subst (Found t.link) (sym (ap (find p) (filter_map-append (known_at links) (lines_between old.last new.line recording) (lines_between new.line old.cut recording)) ∙ find-append p (filter_map (known_at links) (lines_between old.last new.line recording)) (filter_map (known_at links) (lines_between new.line old.cut recording))))
-          (then-found (find p (filter_map (known_at links) (lines_between old.last new.line recording))) (find p (filter_map (known_at links) (lines_between new.line old.cut recording))) t.link
-          (none-lines old.tracks.items old.last links old.places.items p (lines_between old.last new.line recording) all before)
-          (some-lines old.tracks.items old.last links old.places.items p (lines_between new.line old.cut recording) t.link all begins))))
-      | inr rest ↦ then-found (find p (filter_map (known_at links) (lines_between old.last old.cut recording))) (find p links) t.link
-          (none-lines old.tracks.items old.last links old.places.items p (lines_between old.last old.cut recording) all (subst (λ (to : ℕ). NoneIn old.last old.tracks.items (lines_between old.last to recording)) rest.0 before))
-          (some-links p old.last old.tracks.items 0 new.link t.link links old.places.items all.tests all.owned all.all
-          (let le : old.link ≤ new.link = looks.later_link in
-          subst (NoneAt old.last old.tracks.items) (sym (ap (λ (n : ℕ). take n old.places.items) (let e : new.link ≡ old.link + (new.link - old.link) = omega arith in e) ∙ take-add old.link (new.link - old.link) old.places.items))
-          (none_at-append old.last old.tracks.items (take old.link old.places.items) (take (new.link - old.link) (drop old.link old.places.items)) passed.places looks.places))
-          rest.1)
-    ]) in
-    record { named = found.k; is = ap (find p) (order-is recording old log st within) ∙ found.is; link_is = found.link_is }
+at-line : (recording : List RecordEntry) (s : Stage) (log : Log) (mid : Turns) (t : ToName) → Knows recording s log mid → StopsAtLine s.last s.tracks.items mid t → Found t.link (of_lines recording s log)
+at-line recording s log mid t knows stops =
+    some-lines s.tracks.items s.last (known recording log) s.places.items (is_to_name recording log) s.last stops.line (lines_between s.last s.cut recording) t knows.all stops.named (knows.turns.queued stops.line t.at stops.first.has)
+    (λ at j link named is. stops.first.least j at (knows.turns.lines at j link named is))
+
+at-link : (recording : List RecordEntry) (s : Stage) (log : Log) (mid new : Turns) (t : ToName) → Knows recording s log mid → SearchesLinks (Some t) s mid new → Found t.link (of_links recording log)
+at-link recording s log mid new t knows stops =
+    some-links (is_to_name recording log) s.last s.tracks.items 0 new.link (known recording log) s.places.items t knows.all.tests knows.all.owned knows.all.all
+    (after-links recording (Some t) s log mid new knows stops).passed stops.some.here stops.some.named
+
+-- a search of the lines that has found a link has found this one
+found-at : (old new : Stage) (t x : ToName) (mid : Turns) → SearchesOn (Some x) (Some t) old mid new.turns → StopsAtLine old.last old.tracks.items mid t
+found-at old new t x mid stops = let same : x ≡ t = let e : Some t ≡ Some x = stops.0 in cc in subst (StopsAtLine old.last old.tracks.items mid) same stops.2
+
+pub names-some : (recording : List RecordEntry) (old new : Stage) (log : Log) (t : ToName) → Stands recording old log → IsWithin recording old → ((spot : ℕ) (link : LinkId) → (track_at old.tracks.items spot).link ≡ Some link → slice_get old.places.items link.0 ≡ Some spot) → AllInTurn recording old → Searches (Some t) old new → Names (next_named recording log) t.link
+names-some recording old new log t st within linked turns looks =
+    let found = on looks.of_lines looks.on (knows-all recording (Some t) old new log st within linked turns looks) in
+    record { named = found.k; is = order-is recording old log st within ∙ found.is; link_is = found.link_is }
+  where
+    on : (o : Option ToName) → SearchesOn o (Some t) old looks.mid new.turns → Knows recording old log looks.mid → Found t.link (option_or (of_lines recording old log) (of_links recording log))
+    on (Some x) stops knows = first-found (of_lines recording old log) (of_links recording log) t.link (at-line recording old log looks.mid t knows (found-at old new t x looks.mid stops))
+    on None stops knows = then-found (of_lines recording old log) (of_links recording log) t.link (no-lines recording old log looks.mid knows stops.no_line) (at-link recording old log looks.mid new.turns t knows stops)
+
+-- what a search has found is to be named
+pub names-at : (old new : Stage) (t : ToName) → Searches (Some t) old new → named_at old.last old.tracks.items t.at ≡ Some t.link
+names-at old new t looks = on looks.of_lines looks.on where
+  on : (o : Option ToName) → SearchesOn o (Some t) old looks.mid new.turns → named_at old.last old.tracks.items t.at ≡ Some t.link
+  on (Some x) stops = (found-at old new t x looks.mid stops).named
+  on None stops = stops.some.named

@@ -15,7 +15,8 @@ use Rattle.mem_wire.specs.Lines.{marks_for, released}
 use Rattle.mem_wire.specs.Came.{wakes}
 use Rattle.mem_wire.specs.Play.{is_mark, last_marks, just_opened, late_marks, due_marks, Answers, IsCallOf, IsAnswerOf, IsPlay}
 use Rattle.mem_wire.specs.Follows.{IsSound, Follows}
-use Rattle.mem_wire.specs.Stands.{Stands, Passed}
+use Rattle.mem_wire.specs.Stands.{Stands}
+use Rattle.mem_wire.specs.Turns.{AllInTurn}
 use Rattle.mem_wire.proofs.Links.{late_are}
 use Rattle.mem_wire.proofs.Scenes.{Alike, alike-marks, opens-marks, just-marks, last-marks, just-more, marks-more}
 use Rattle.mem_wire.proofs.Standing.{stands-alike}
@@ -58,13 +59,13 @@ pub record IsPlain (recording : List RecordEntry) (e : Entry) : Type 0 where
   pub call : IsCall recording e
   pub due : (log : Log) → due_marks recording log e ≡ late_marks recording log
 
-pub follows-entry : (recording : List RecordEntry) (old new : Stage) (log marks : Log) (e : Entry) → Follows recording old log → AreMarks marks → IsCall recording e → due_marks recording (log ++ marks) e ≡ marks → Answers recording (log ++ marks) e → IsSound recording new ((log ++ marks) ++ e ∷ []) → Stands recording new ((log ++ marks) ++ e ∷ []) → Passed recording new → late_marks recording ((log ++ marks) ++ e ∷ []) ≡ late_entries new.late → Follows recording new ((log ++ marks) ++ e ∷ [])
-follows-entry recording old new log marks e follows are call due answer sound stands passed late =
+pub follows-entry : (recording : List RecordEntry) (old new : Stage) (log marks : Log) (e : Entry) → Follows recording old log → AreMarks marks → IsCall recording e → due_marks recording (log ++ marks) e ≡ marks → Answers recording (log ++ marks) e → IsSound recording new ((log ++ marks) ++ e ∷ []) → Stands recording new ((log ++ marks) ++ e ∷ []) → AllInTurn recording new → late_marks recording ((log ++ marks) ++ e ∷ []) ≡ late_entries new.late → Follows recording new ((log ++ marks) ++ e ∷ [])
+follows-entry recording old new log marks e follows are call due answer sound stands turns late =
     record {
       playable = follows.playable;
       sound = sound;
       stands = stands;
-      passed = passed;
+      turns = turns;
       late = late;
       unmarked = marks-more (log ++ marks) e ∙ ap (λ b. if b then last_marks (log ++ marks) ++ e ∷ [] else []) call.unmarked;
       played = lawful-more (IsAnswerOf recording) (log ++ marks) e (played-marks recording log marks follows.played are)
@@ -77,12 +78,12 @@ stands-after recording s log marks are st = stands-alike recording s s.opens s.r
 pub stands-marked : (recording : List RecordEntry) (s : Stage) (log : Log) → Follows recording s log → Stands recording s (log ++ late_entries s.late)
 stands-marked recording s log follows = stands-after recording s log (late_entries s.late) (late_are s.late) follows.stands
 
-pub follows-plain : (recording : List RecordEntry) (old new : Stage) (log : Log) (e : Entry) → Follows recording old log → IsPlain recording e → Answers recording (log ++ late_entries old.late) e → IsSound recording new ((log ++ late_entries old.late) ++ e ∷ []) → Stands recording new ((log ++ late_entries old.late) ++ e ∷ []) → Passed recording new → late_marks recording ((log ++ late_entries old.late) ++ e ∷ []) ≡ late_entries new.late → Follows recording new ((log ++ late_entries old.late) ++ e ∷ [])
-follows-plain recording old new log e follows plain answer sound stands passed late =
+pub follows-plain : (recording : List RecordEntry) (old new : Stage) (log : Log) (e : Entry) → Follows recording old log → IsPlain recording e → Answers recording (log ++ late_entries old.late) e → IsSound recording new ((log ++ late_entries old.late) ++ e ∷ []) → Stands recording new ((log ++ late_entries old.late) ++ e ∷ []) → AllInTurn recording new → late_marks recording ((log ++ late_entries old.late) ++ e ∷ []) ≡ late_entries new.late → Follows recording new ((log ++ late_entries old.late) ++ e ∷ [])
+follows-plain recording old new log e follows plain answer sound stands turns late =
     let marks = late_entries old.late in
     follows-entry recording old new log marks e follows (late_are old.late) plain.call
     (plain.due (log ++ marks) ∙ late-after recording log marks (late_are old.late) ∙ follows.late)
-    answer sound stands passed late
+    answer sound stands turns late
 
 -- where no link was opened, no marks are late
 pub none-late : (recording : List RecordEntry) (log : Log) (e : Entry) (late : Late) → is_mark e ≡ false → opened_link e ≡ None → late.marks ≡ [] → late_marks recording (log ++ e ∷ []) ≡ late_entries late

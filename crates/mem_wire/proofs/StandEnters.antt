@@ -51,7 +51,7 @@ numbered-more n [] (p ∷ places) k at all link spot = absurd all
 numbered-more n (l ∷ links) [] k at all link spot = absurd all
 numbered-more n (l ∷ links) (p ∷ places) k at all link spot = (all.0, all.1, numbered-more (n + 1) links places k at all.2 (link ∙ ap numbered (let e : n + suc (length places) ≡ (n + 1) + length places = omega arith in e)) spot)
 
-get-cases : (xs : List ℕ) (x i y : ℕ) → slice_get (xs ++ x ∷ []) i ≡ Some y → (slice_get xs i ≡ Some y) ⊎ ((i ≡ length xs) × (x ≡ y))
+pub get-cases : (xs : List ℕ) (x i y : ℕ) → slice_get (xs ++ x ∷ []) i ≡ Some y → (slice_get xs i ≡ Some y) ⊎ ((i ≡ length xs) × (x ≡ y))
 get-cases [] x zero y is = inr (refl, let e : x ≡ y = cc in e)
 get-cases [] x (suc i) y is = cc
 get-cases (z ∷ xs) x zero y is = inl is
@@ -113,7 +113,7 @@ mine-enters lines last cut n log e name t below brings none fits =
       woken = fits.woken;
     }
 
-none_some : (link : LinkId) → None ≡ Some link → ⊥
+pub none_some : (link : LinkId) → None ≡ Some link → ⊥
 none_some link is = cc
 
 pub stands-enters : (recording : List RecordEntry) (old new : Stage) (log : Log) (e : Entry) (at : ℕ) (name : RecordLink) → Stands recording old log → ((spot : ℕ) (link : LinkId) → (track_at old.tracks.items spot).link ≡ Some link → slice_get old.places.items link.0 ≡ Some spot) → all_below (length old.places.items) log ≡ true → Enters at old new → new.cut ≡ old.cut → new.last ≡ old.last → ((port : Port) → clients_of port new ≡ clients_of port old) → ((port : Port) → accepted_of port new ≡ accepted_at port (log ++ e ∷ [])) → opened_links (log ++ e ∷ []) ≡ new.opened.items → new.opens ≡ opens (log ++ e ∷ []) → place name ≡ at → (track_at old.tracks.items at).link ≡ None → known_by recording log e ≡ record { link = next_link old; name = name } ∷ [] → ((spot : ℕ) → Entered old spot → Entered new spot) → Entered new at → Brings_link (next_link old) e → Stands recording new (log ++ e ∷ [])

@@ -43,11 +43,11 @@ own-if o P x is holds = subst (λ (p : Option _). IfSome p P) (sym is) holds
 none-own : {A : Type 0} (o : Option A) (P : Type 0) (x : A) → o ≡ Some x → IfNone o P
 none-own o P x is = subst (λ (p : Option _). IfNone p P) (sym is) tt
 
-clients-now : (old new : Stage) (port : Port) → clients_of port (record old { tracks = new.tracks; late = new.late; line = new.line; link = new.link }) ≡ clients_of port old
+clients-now : (old new : Stage) (port : Port) → clients_of port (record old { tracks = new.tracks; late = new.late; turns = new.turns }) ≡ clients_of port old
 clients-now old new Traffic = refl
 clients-now old new Admin = refl
 
-accepted-now : (old new : Stage) (port : Port) → accepted_of port (record old { tracks = new.tracks; late = new.late; line = new.line; link = new.link }) ≡ accepted_of port old
+accepted-now : (old new : Stage) (port : Port) → accepted_of port (record old { tracks = new.tracks; late = new.late; turns = new.turns }) ≡ accepted_of port old
 accepted-now old new Traffic = refl
 accepted-now old new Admin = refl
 
@@ -58,12 +58,12 @@ present [] (suc at) link is = cc
 present (t ∷ tracks) zero link is = omega arith
 present (t ∷ tracks) (suc at) link is = let later : at < length tracks = present tracks at link is in omega arith
 
-pub stands-moves : (recording : List RecordEntry) (old new : Stage) (log : Log) (e : Entry) (but : LinkId) (at : ℕ) (change : Track → Track) → Stands recording old log → ((spot : ℕ) (link : LinkId) → (track_at old.tracks.items spot).link ≡ Some link → slice_get old.places.items link.0 ≡ Some spot) → new ≡ record old { tracks = new.tracks; late = new.late; line = new.line; link = new.link } → ChangesTrack at change old.tracks.items new.tracks.items → SameLinks old.tracks.items new.tracks.items → slice_get old.places.items but.0 ≡ Some at → Brings_nothing e → is_open_call e ≡ false → AlikeBut but log (log ++ e ∷ []) → ((name : RecordLink) → place name ≡ at → Fits (take old.cut recording) old.last old.cut log name (track_at old.tracks.items (place name)) → Fits (take old.cut recording) old.last old.cut (log ++ e ∷ []) name (change (track_at old.tracks.items (place name)))) → Stands recording new (log ++ e ∷ [])
+pub stands-moves : (recording : List RecordEntry) (old new : Stage) (log : Log) (e : Entry) (but : LinkId) (at : ℕ) (change : Track → Track) → Stands recording old log → ((spot : ℕ) (link : LinkId) → (track_at old.tracks.items spot).link ≡ Some link → slice_get old.places.items link.0 ≡ Some spot) → new ≡ record old { tracks = new.tracks; late = new.late; turns = new.turns } → ChangesTrack at change old.tracks.items new.tracks.items → SameLinks old.tracks.items new.tracks.items → slice_get old.places.items but.0 ≡ Some at → Brings_nothing e → is_open_call e ≡ false → AlikeBut but log (log ++ e ∷ []) → ((name : RecordLink) → place name ≡ at → Fits (take old.cut recording) old.last old.cut log name (track_at old.tracks.items (place name)) → Fits (take old.cut recording) old.last old.cut (log ++ e ∷ []) name (change (track_at old.tracks.items (place name)))) → Stands recording new (log ++ e ∷ [])
 stands-moves recording old new log e but at change st linked frame changes links here brings unopened but_is mine =
     let woke : wakes (log ++ e ∷ []) ≡ wakes log = wakes-more log e ∙ ap (λ b. wakes log + length (if b then e ∷ [] else [])) brings.woke ∙ add-zero (wakes log) in
     let known_is : known recording (log ++ e ∷ []) ≡ known recording log = known-more recording log e ∙ ap (λ ks. known recording log ++ ks) (brings.known recording log) ∙ append-nil (known recording log) in
     let opened_is : opened_links (log ++ e ∷ []) ≡ opened_links log = opened-more log e ∙ ap (λ o. opened_links log ++ cons_option o []) brings.opened ∙ append-nil (opened_links log) in
-    let now : Stage = record old { tracks = new.tracks; late = new.late; line = new.line; link = new.link } in
+    let now : Stage = record old { tracks = new.tracks; late = new.late; turns = new.turns } in
     subst (λ (s : Stage). Stands recording s (log ++ e ∷ [])) (sym frame) (record {
       cut = subst (CutsAt recording old.cut) (sym woke) st.cut;
       last = subst (λ (n : ℕ). CutsAt recording old.last (n - 1)) (sym woke) st.last;

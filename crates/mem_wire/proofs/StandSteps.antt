@@ -14,6 +14,7 @@ use Rattle.recording.specs.declared.entry.RecordLink.{RecordLink}
 use Rattle.recording.specs.declared.entry.RecordEntry.{RecordEntry}
 use Rattle.mem_wire.specs.declared.track.Track.{Track}
 use Rattle.mem_wire.specs.declared.late.Late.{Late}
+use Rattle.mem_wire.specs.declared.turns.Turns.{Turns}
 use Rattle.mem_wire.specs.declared.stage.Stage.{Stage}
 use Rattle.mem_wire.specs.Lines.{clients_at, room_for}
 use Rattle.mem_wire.specs.Came.{is_woke, accepted_at, since_wake, told_step, is_told, blocked_step, is_blocked, room_left}
@@ -31,39 +32,39 @@ entered-like old new at clients accepted opened (client port i waiting low is pl
     client port i waiting (subst (λ (n : ℕ). i < n) (sym (accepted port)) low) (ap (λ cs. slice_get cs i) (clients port) ∙ is) place
 entered-like old new at clients accepted opened (server k low place) = server k (subst (λ links. k ≤ length links) (sym opened) low) place
 
-same-clients : (s : Stage) (late : Late) (line link : ℕ) (port : Port) → clients_of port (record s { late = late; line = line; link = link }) ≡ clients_of port s
-same-clients s late line link Traffic = refl
-same-clients s late line link Admin = refl
+same-clients : (s : Stage) (late : Late) (turns : Turns) (port : Port) → clients_of port (record s { late = late; turns = turns }) ≡ clients_of port s
+same-clients s late turns Traffic = refl
+same-clients s late turns Admin = refl
 
-same-accepted : (s : Stage) (late : Late) (line link : ℕ) (port : Port) → accepted_of port (record s { late = late; line = line; link = link }) ≡ accepted_of port s
-same-accepted s late line link Traffic = refl
-same-accepted s late line link Admin = refl
+same-accepted : (s : Stage) (late : Late) (turns : Turns) (port : Port) → accepted_of port (record s { late = late; turns = turns }) ≡ accepted_of port s
+same-accepted s late turns Traffic = refl
+same-accepted s late turns Admin = refl
 
-clients-stay : (recording : List RecordEntry) (s : Stage) (log : Log) (late : Late) (line link : ℕ) → Stands recording s log → (port : Port) → clients_of port (record s { late = late; line = line; link = link }) ≡ clients_at port (take s.cut recording)
-clients-stay recording s log late line link st Traffic = st.clients Traffic
-clients-stay recording s log late line link st Admin = st.clients Admin
+clients-stay : (recording : List RecordEntry) (s : Stage) (log : Log) (late : Late) (turns : Turns) → Stands recording s log → (port : Port) → clients_of port (record s { late = late; turns = turns }) ≡ clients_at port (take s.cut recording)
+clients-stay recording s log late turns st Traffic = st.clients Traffic
+clients-stay recording s log late turns st Admin = st.clients Admin
 
-accepted-stay : (recording : List RecordEntry) (s : Stage) (log : Log) (late : Late) (line link : ℕ) → Stands recording s log → (port : Port) → accepted_of port (record s { late = late; line = line; link = link }) ≡ accepted_at port log
-accepted-stay recording s log late line link st Traffic = st.accepted Traffic
-accepted-stay recording s log late line link st Admin = st.accepted Admin
+accepted-stay : (recording : List RecordEntry) (s : Stage) (log : Log) (late : Late) (turns : Turns) → Stands recording s log → (port : Port) → accepted_of port (record s { late = late; turns = turns }) ≡ accepted_at port log
+accepted-stay recording s log late turns st Traffic = st.accepted Traffic
+accepted-stay recording s log late turns st Admin = st.accepted Admin
 
--- a change of the places where a search stands, and of the late marks
-pub stands-stay : (recording : List RecordEntry) (s : Stage) (log : Log) (late : Late) (line link : ℕ) → Stands recording s log → Stands recording (record s { late = late; line = line; link = link }) log
-stands-stay recording s log late line link st = record {
+-- a change of the links that may be named, and of the late marks
+pub stands-stay : (recording : List RecordEntry) (s : Stage) (log : Log) (late : Late) (turns : Turns) → Stands recording s log → Stands recording (record s { late = late; turns = turns }) log
+stands-stay recording s log late turns st = record {
   cut = st.cut;
   last = st.last;
   wake = st.wake;
-  clients = clients-stay recording s log late line link st;
-  accepted = accepted-stay recording s log late line link st;
+  clients = clients-stay recording s log late turns st;
+  accepted = accepted-stay recording s log late turns st;
   opened = st.opened;
   opens = st.opens;
   links = st.links;
   placed = st.placed;
-  entered = λ at owner is. entered-like s (record s { late = late; line = line; link = link }) at (λ port. same-clients s late line link port) (λ port. same-accepted s late line link port) refl (st.entered at owner is);
+  entered = λ at owner is. entered-like s (record s { late = late; turns = turns }) at (λ port. same-clients s late turns port) (λ port. same-accepted s late turns port) refl (st.entered at owner is);
   tracks = st.tracks;
 }
 
-not_apart : (a b : ℕ) → a ≡ b → (a == b) ≡ false → ⊥
+pub not_apart : (a b : ℕ) → a ≡ b → (a == b) ≡ false → ⊥
 not_apart a b same apart = grind arith
 
 -- a track that changes, and the others

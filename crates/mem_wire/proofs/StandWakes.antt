@@ -65,7 +65,7 @@ wake-room wake name room o (line.Take link n ∷ lines) same = wake-room wake na
   one false = same
 wake-room wake name room o (_ ∷ lines) same = wake-room wake name room o lines same
 
-old-room : (room : Option Room) (cut : ℕ) → IfSome room (λ r. r.wake < cut) → room_in cut room ≡ None
+pub old-room : (room : Option Room) (cut : ℕ) → IfSome room (λ r. r.wake < cut) → room_in cut room ≡ None
 old-room None cut low = refl
 old-room (Some room) cut low = let below : room.wake < cut = low in ap (λ b. if b then Some room.left else None) (apart-below room.wake cut below)
 

@@ -145,7 +145,7 @@ pub record Has (recording : List RecordEntry) (last : ℕ) (log : Log) (link : L
 
 pub has-is : (recording : List RecordEntry) (s : Stage) (log : Log) (link : LinkId) (at : ℕ) → IsWithin recording s → Stands recording s log → slice_get s.places.items link.0 ≡ Some at → Has recording s.last log link (track_at s.tracks.items at)
 has-is recording s log link at within st here =
-    let le1 : s.last ≤ s.line = within.last in let le2 : s.line ≤ s.cut = within.line in
+    let le : s.last ≤ s.cut = within.last in
     let zero_is : 0 + link.0 ≡ link.0 = omega arith in
     let found = with-number 0 link.0 at (known recording log) s.places.items st.links here in
     let same : found.k.link ≡ link = found.link_is ∙ ap numbered zero_is in

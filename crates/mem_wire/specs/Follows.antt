@@ -11,7 +11,8 @@ use Rattle.mem_wire.specs.Adds.{late_entries}
 use Rattle.mem_wire.specs.Tracks.{track_at}
 use Rattle.mem_wire.specs.Below.{all_below, links_below}
 use Rattle.mem_wire.specs.Play.{last_marks, late_marks, IsPlay}
-use Rattle.mem_wire.specs.Stands.{Stands, Passed}
+use Rattle.mem_wire.specs.Stands.{Stands}
+use Rattle.mem_wire.specs.Turns.{AllInTurn}
 use Rattle.mem_wire.specs.Steps.{IsWithin}
 
 -- the rest of the lines can be played behind this moment
@@ -38,7 +39,7 @@ pub record Follows (recording : List RecordEntry) (s : Stage) (log : Log) : Type
   pub playable : IsPlayable recording
   pub sound : IsSound recording s log
   pub stands : Stands recording s log
-  pub passed : Passed recording s
+  pub turns : AllInTurn recording s
   pub late : late_marks recording log ≡ late_entries s.late
   pub unmarked : last_marks log ≡ []
   pub played : IsPlay recording log

@@ -10,6 +10,7 @@ pub mod Cuts
 pub mod Refusals
 pub mod Steps
 pub mod Naming
+pub mod Turns
 pub mod Below
 pub mod Follows
 pub mod Told

@@ -1,10 +1,9 @@
--- Which tracks are still to be named in a wake.
-use Rattle.std.specs.Prelude.{◌≡◌, ◌⊎◌, ℕ, ◌≤◌, ◌-◌, ◌==◌, ◌&&◌, not, Bool, false, if◌then◌else◌, List, [], ◌∷◌, length, take, drop, Option, Some, None}
+-- Which links are still to be named in a wake.
+use Rattle.std.specs.Prelude.{ℕ, ◌+◌, ◌-◌, ◌==◌, ◌&&◌, ◌||◌, not, is_some, Bool, false, if◌then◌else◌, List, [], ◌∷◌, take, drop, Option, Some, None}
 use Rattle.mx_base.specs.declared.names.LinkId.{LinkId}
 use Rattle.recording.specs.declared.entry.RecordEntry.{RecordEntry}
+use Rattle.mem_wire.specs.declared.ending.Ending.{Ending}
 use Rattle.mem_wire.specs.declared.track.Track.{Track}
-use Rattle.mem_wire.specs.declared.stage.Stage.{Stage}
-use Rattle.mem_wire.specs.declared.naming.ToName.{ToName}
 use Rattle.mem_wire.specs.Lines.{name_at}
 use Rattle.mem_wire.specs.Play.{is_ready}
 use Rattle.mem_wire.specs.Tracks.{track_at, place, room_in}
@@ -20,45 +19,23 @@ named_by last t = if not t.closed && (is_ready t.unread t.ending t.told t.blocke
 abbrev pub named_at : ℕ → List Track → ℕ → Option LinkId
 named_at last tracks at = named_by last (track_at tracks at)
 
-abbrev pub named_in : ℕ → List Track → RecordEntry → Option LinkId
-named_in last tracks line = elim (name_at line) [ Some name ↦ named_at last tracks (place name) | None ↦ None ]
+-- A link is ready, or may be so in the next wake without a line of it: this wake limits its writes, and one may find no
+-- room.
+abbrev pub may_turn_ready : (unread : List ℕ) (ending : Option Ending) (told blocked : Bool) (room : Option ℕ) → Bool
+may_turn_ready unread ending told blocked room = is_ready unread ending told blocked room || is_some room
 
--- no link of these is to be named
-abbrev pub NoneIn : ℕ → List Track → List RecordEntry → Type 0
-NoneIn last tracks [] = Unit {0}
-NoneIn last tracks (line ∷ later) = (named_in last tracks line ≡ None) × NoneIn last tracks later
+abbrev pub may_be_ready : ℕ → Track → Bool
+may_be_ready last t = not t.closed && may_turn_ready t.unread t.ending t.told t.blocked (room_in last t.room)
 
-abbrev pub NoneAt : ℕ → List Track → List ℕ → Type 0
-NoneAt last tracks [] = Unit {0}
-NoneAt last tracks (at ∷ later) = (named_at last tracks at ≡ None) × NoneAt last tracks later
+-- the line names the link of this place
+abbrev pub names : ℕ → RecordEntry → Bool
+names at line = elim (name_at line) [ Some name ↦ at == place name | None ↦ false ]
 
--- the first of these names the link
-abbrev pub BeginsIn : ℕ → List Track → LinkId → List RecordEntry → Type 0
-BeginsIn last tracks link [] = ⊥
-BeginsIn last tracks link (line ∷ later) = named_in last tracks line ≡ Some link
-
-abbrev pub BeginsAt : ℕ → List Track → LinkId → List ℕ → Type 0
-BeginsAt last tracks link [] = ⊥
-BeginsAt last tracks link (at ∷ later) = named_at last tracks at ≡ Some link
+-- the first of the lines that names the place; they are numbered from this number on
+abbrev pub first_from : ℕ → ℕ → List RecordEntry → Option ℕ
+first_from at from [] = None
+first_from at from (line ∷ later) = if names at line then Some from else first_from at (from + 1) later
 
 -- the lines from the first to the second place, which are behind it
 abbrev pub lines_between : ℕ → ℕ → List RecordEntry → List RecordEntry
 lines_between from to entries = take (to - from) (drop from entries)
-
--- What a search has found: in the lines, or else among the links, or nowhere.
-abbrev pub Stopped : List RecordEntry → Option ToName → Stage → ℕ → ℕ → Type 0
-Stopped entries (Some t) s line link =
-    (named_at s.last s.tracks.items t.at ≡ Some t.link)
-    × (BeginsIn s.last s.tracks.items t.link (lines_between line s.cut entries) ⊎ ((line ≡ s.cut) × BeginsAt s.last s.tracks.items t.link (drop link s.places.items)))
-Stopped entries None s line link = (line ≡ s.cut) × (link ≡ length s.places.items)
-
--- the lines and links that a search has passed, and where it stopped
-pub record Searches (entries : List RecordEntry) (found : Option ToName) (old new : Stage) : Type 0 where
-  pub frame : new ≡ record old { line = new.line; link = new.link }
-  pub line : new.line ≤ old.cut
-  pub link : new.link ≤ length old.places.items
-  pub later_line : old.line ≤ new.line
-  pub later_link : old.link ≤ new.link
-  pub lines : NoneIn old.last old.tracks.items (lines_between old.line new.line entries)
-  pub places : NoneAt old.last old.tracks.items (take (new.link - old.link) (drop old.link old.places.items))
-  pub stopped : Stopped entries found old new.line new.link

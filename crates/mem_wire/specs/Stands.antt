@@ -15,7 +15,7 @@ use Rattle.mem_wire.specs.Came.{wakes, accepted_at, opens, since_wake, is_told, 
 use Rattle.mem_wire.specs.Play.{named_since}
 use Rattle.mem_wire.specs.Tracks.{track_at, place, room_in}
 use Rattle.mem_wire.specs.Steps.{clients_of, accepted_of, numbered}
-use Rattle.mem_wire.specs.Naming.{is_named, NoneIn, NoneAt, lines_between}
+use Rattle.mem_wire.specs.Naming.{is_named}
 
 -- so many moments stand before this place, and one at it
 pub record CutsAt (recording : List RecordEntry) (at count : ℕ) : Type 0 where
@@ -80,8 +80,3 @@ pub record Stands (recording : List RecordEntry) (s : Stage) (log : Log) : Type 
   pub placed : (number at : ℕ) → slice_get s.places.items number ≡ Some at → (track_at s.tracks.items at).link ≡ Some (numbered number)
   pub entered : (at : ℕ) (link : LinkId) → (track_at s.tracks.items at).link ≡ Some link → Entered s at
   pub tracks : (name : RecordLink) → Fits (take s.cut recording) s.last s.cut log name (track_at s.tracks.items (place name))
-
--- what a search has passed is not to be named
-pub record Passed (recording : List RecordEntry) (s : Stage) : Type 0 where
-  pub lines : NoneIn s.last s.tracks.items (lines_between s.last s.line recording)
-  pub places : NoneAt s.last s.tracks.items (take s.link s.places.items)

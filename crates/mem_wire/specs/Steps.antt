@@ -17,6 +17,7 @@ use Rattle.mem_wire.specs.Refusals.{Knows}
 use Rattle.mem_wire.specs.Lines.{clients_at, is_port, is_refused}
 use Rattle.mem_wire.specs.Play.{has_failed, FitsRoom}
 use Rattle.mem_wire.specs.Tracks.{track_at, room_in, SameLinks, ChangesTrack, Released}
+use Rattle.mem_wire.specs.Turns.{HasNone, Seen, Joins}
 
 abbrev pub clients_of : Port → Stage → List Waiting
 clients_of Traffic s = s.traffic.items
@@ -35,20 +36,21 @@ next_link s = numbered (length s.places.items)
 
 -- the lines from the cut to the next one are released
 pub record Wakes (lines : List RecordEntry) (next : ℕ) (old new : Stage) : Type 0 where
-  pub frame : new ≡ record old { cut = next; last = old.cut; line = old.cut; link = 0; late = new.late; traffic = new.traffic; admin = new.admin; tracks = new.tracks }
+  pub frame : new ≡ record old { cut = next; last = old.cut; turns = new.turns; late = new.late; traffic = new.traffic; admin = new.admin; tracks = new.tracks }
   pub late : new.late.marks ≡ []
   pub traffic : new.traffic.items ≡ old.traffic.items ++ clients_at Traffic lines
   pub admin : new.admin.items ≡ old.admin.items ++ clients_at Admin lines
   pub tracks : Released old.cut lines old.tracks.items new.tracks.items
+  pub turns : Seen new.tracks.items old.cut lines old.turns new.turns
 
 -- a link comes, whose track is at this place
 pub record Enters (at : ℕ) (old new : Stage) : Type 0 where
   pub places : new.places.items ≡ old.places.items ++ at ∷ []
   pub tracks : ChangesTrack at (λ t. record t { link = Some (next_link old) }) old.tracks.items new.tracks.items
-  pub line : new.line ≡ old.last
+  pub turns : Joins (length old.places.items) at old.turns new.turns
 
 pub record Accepts (port : Port) (number : ℕ) (old new : Stage) : Type 0 where
-  pub frame : new ≡ record old { tracks = new.tracks; places = new.places; line = old.last; late = new.late; traffic_accepted = new.traffic_accepted; admin_accepted = new.admin_accepted }
+  pub frame : new ≡ record old { tracks = new.tracks; places = new.places; turns = new.turns; late = new.late; traffic_accepted = new.traffic_accepted; admin_accepted = new.admin_accepted }
   pub late : new.late.marks ≡ []
   pub accepted : (other : Port) → accepted_of other new ≡ accepted_of other old + (if is_port port other then 1 else 0)
   pub enters : Enters (2 * number) old new
@@ -59,7 +61,7 @@ pub record Asks (recording : List RecordEntry) (refused : Bool) (old new : Stage
   pub is : refused ≡ is_refused (old.opens + 1) recording
 
 pub record Opens (old new : Stage) : Type 0 where
-  pub frame : new ≡ record old { tracks = new.tracks; places = new.places; opened = new.opened; opens = new.opens; refusals = new.refusals; line = old.last; late = new.late }
+  pub frame : new ≡ record old { tracks = new.tracks; places = new.places; opened = new.opened; opens = new.opens; refusals = new.refusals; turns = new.turns; late = new.late }
   pub opened : new.opened.items ≡ old.opened.items ++ next_link old ∷ []
   pub late : new.late ≡ record { link = next_link old; marks = (track_at old.tracks.items (2 * length new.opened.items + 1)).marks }
   pub enters : Enters (2 * length new.opened.items + 1) old new
@@ -116,21 +118,16 @@ pub record Moves (link : LinkId) (change : Track → Track) (old new : Stage) : 
   pub links : SameLinks old.tracks.items new.tracks.items
   pub track : (at : ℕ) → place_in old link ≡ Some at → at < length old.tracks.items → ChangesTrack at change old.tracks.items new.tracks.items
 
--- The places in the lines and in the links stand as they stood.
+-- The places in the lines stand as they stood.
 pub record KeepsPlaces (old new : Stage) : Type 0 where
   pub cut : new.cut ≡ old.cut
   pub last : new.last ≡ old.last
-  pub line : new.line ≡ old.line
-  pub link : new.link ≡ old.link
-  pub places : new.places.items ≡ old.places.items
   pub refusals : new.refusals ≡ old.refusals
 
--- the places are within the recording and the links
+-- the places are within the recording
 pub record IsWithin (recording : List RecordEntry) (s : Stage) : Type 0 where
   pub cut : s.cut ≤ length recording
-  pub last : s.last ≤ s.line
-  pub line : s.line ≤ s.cut
-  pub link : s.link ≤ length s.places.items
+  pub last : s.last ≤ s.cut
   pub refusals : Knows recording s.refusals
 
 -- the stage before the first call
@@ -147,5 +144,4 @@ pub record IsFirst (s : Stage) : Type 0 where
   pub opens : s.opens ≡ 0
   pub refusals : s.refusals.found ≡ None
   pub late : s.late.marks ≡ []
-  pub line : s.line ≡ 0
-  pub link : s.link ≡ 0
+  pub turns : HasNone s.turns

@@ -16,6 +16,7 @@ mod tape;
 mod told_log;
 mod track;
 mod tracks;
+mod turns;
 mod waiting;
 
 pub use mem_files::MemFiles;

@@ -2,6 +2,7 @@
 use crate::late::Late;
 use crate::refusals::Refusals;
 use crate::track::Track;
+use crate::turns::Turns;
 use crate::waiting::Waiting;
 use mx_base::LinkId;
 
@@ -27,8 +28,6 @@ pub(crate) struct Stage {
     pub opens: u64,
     pub refusals: Refusals,
     pub late: Late,
-    /// No line of the last wake before this one names a link that is still to be named.
-    pub line: usize,
-    /// No link before this one is still to be named.
-    pub link: usize,
+    /// The links that the last wake may still name.
+    pub turns: Turns,
 }

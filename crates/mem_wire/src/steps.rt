@@ -10,6 +10,7 @@ use crate::lines::arrive;
 use crate::refusals::Refusals;
 use crate::stage::Stage;
 use crate::tracks::{close_track, marks_at, name_track, reach, read_track, release, write_track};
+use crate::turns::Turns;
 use crate::waiting::Waiting;
 use mx_base::{LinkId, OutOfMemory, Port};
 use mx_wire::{Got, Took};
@@ -33,8 +34,7 @@ pub(crate) fn new_stage(alloc: Global) -> Stage
         opens: 0,
         refusals: Refusals::new(),
         late: Late::none(alloc),
-        line: 0,
-        link: 0,
+        turns: Turns::new(alloc),
     }
 }
 
@@ -51,10 +51,9 @@ pub(crate) fn wake(
     arrive(Port::Traffic, &mut stage.traffic, lines)?;
     arrive(Port::Admin, &mut stage.admin, lines)?;
     release(alloc, &mut stage.tracks, stage.cut, lines)?;
+    stage.turns.wake(alloc, &stage.tracks, stage.cut, lines)?;
     stage.last = stage.cut;
     stage.cut += lines.len();
-    stage.line = stage.last;
-    stage.link = 0;
     stage.late.clear();
     Ok(())
 }
@@ -81,14 +80,14 @@ fn enter(stage: &mut Stage, alloc: Global, at: usize) -> Result<(), OutOfMemory>
     ensures enters { OnOk result (Enters at stage.old stage.new) }
     ensures err { OnErr result (KeepsPlaces stage.old stage.new) }
     ensures reached { OnOk result (at < vec_len stage.new.tracks) }
-    ensures frame { OnOk result (stage.new ≡ record stage.old { tracks = stage.new.tracks; places = stage.new.places; line = stage.old.last }) }
+    ensures frame { OnOk result (stage.new ≡ record stage.old { tracks = stage.new.tracks; places = stage.new.places; turns = stage.new.turns }) }
 {
     let link = next_link(stage);
     reach(alloc, &mut stage.tracks, at)?;
+    stage.turns.join(link.0, at)?;
     stage.places.push(at)?;
     let track = &mut stage.tracks[at];
     track.link = Some(link);
-    stage.line = stage.last;
     Ok(())
 }
 

@@ -103,7 +103,7 @@ impl Wire for Tape {
 
     fn next_ready(&mut self) -> Option<LinkId> {
         self.told.add_marks(&self.stage.late);
-        match next_to_name(&mut self.stage, &self.entries) {
+        match next_to_name(&mut self.stage) {
             None => {
                 self.told.add(Entry::NoneNamed);
                 self.stage.late.clear();

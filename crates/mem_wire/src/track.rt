@@ -3,6 +3,7 @@ ghost use Rattle.std.specs.Prelude.{◌≡◌, ◌<◌, ◌≤◌, length, Some}
 ghost use Rattle.mem_wire.specs.Play.{is_ready, has_failed, FitsRoom};
 ghost use Rattle.mem_wire.specs.Tracks.{blank, room_in, read_change, write_change};
 ghost use Rattle.mem_wire.specs.Steps.{ReadsTrack, WritesTrack};
+ghost use Rattle.mem_wire.specs.Naming.{may_be_ready};
 
 use crate::ending::Ending;
 use crate::marks::MarkList;
@@ -106,6 +107,13 @@ impl Track {
             return true;
         }
         self.blocked && self.room_in(wake) != Some(0)
+    }
+
+    /// Whether the link may be ready in the wake of this line, or in a later one without a line of it.
+    pub fn may_be_ready(&self, wake: usize) -> bool
+        ensures { result ≡ may_be_ready wake self.now }
+    {
+        !self.closed && (self.is_ready(wake) || self.room_in(wake).is_some())
     }
 
     /// Takes a front of so many bytes in the wake of this line.

@@ -3,13 +3,14 @@ ghost use Rattle.std.specs.Prelude.{◌≡◌, ◌<◌, ◌≤◌, ◌==◌, ◌
 ghost use Rattle.mem_wire.specs.Lines.{marks_for, bytes_for};
 ghost use Rattle.mem_wire.specs.Tracks.{track_at, place, SameTracks, ChangesTrack, Released, read_change, write_change};
 ghost use Rattle.mem_wire.specs.Steps.{ReadsTrack, WritesTrack};
+ghost use Rattle.mem_wire.specs.Naming.{may_be_ready};
 ghost use Rattle.recording.specs.declared.entry.RecordLink.{RecordLink};
 
 use crate::ending::Ending;
 use crate::marks::{Mark, MarkList};
 use crate::room::Room;
 use crate::track::Track;
-use mx_base::OutOfMemory;
+use mx_base::{LinkId, OutOfMemory};
 use mx_wire::{Got, Took};
 use recording::{RecordEntry, RecordLink};
 use std::alloc::Global;
@@ -143,6 +144,26 @@ pub(crate) fn marks_at(alloc: Global, tracks: &[Track], at: usize) -> Result<Mar
     match tracks.get(at) {
         Some(track) => track.marks.copied(alloc),
         None => Ok(MarkList::new(alloc)),
+    }
+}
+
+/// The link of a track, once it has come.
+pub(crate) fn link_at(tracks: &[Track], at: usize) -> Option<LinkId>
+    ensures { result ≡ (track_at tracks.now at).link }
+{
+    match tracks.get(at) {
+        Some(track) => track.link,
+        None => None,
+    }
+}
+
+/// Whether a track's link may be ready in the wake of this line, or in a later one without a line of it.
+pub(crate) fn may_be_ready(tracks: &[Track], wake: usize, at: usize) -> bool
+    ensures { result ≡ may_be_ready wake (track_at tracks.now at) }
+{
+    match tracks.get(at) {
+        Some(track) => track.may_be_ready(wake),
+        None => false,
     }
 }
 

@@ -1,10 +1,8 @@
-use Rattle.std.proofs.Common.{◌∙◌, ap, sym}
-use Rattle.mem_wire.specs.Naming.{named_in}
-use Rattle.mem_wire.proofs.NamingLaws.{none_in-next}
+use Rattle.std.proofs.Common.{sym, ◌∙◌}
+use Rattle.mem_wire.proofs.InTurn.{passes-line}
 use Rattle.mem_wire.proofs.naming.search_lines.Goals as goal
 
-pub loop-i-preserved : goal.loop-i-preserved
-loop-i-preserved c =
-    let s = c.args.stage.now in
-    none_in-next s.last s.tracks.items c.args.lines.now c.loop-i.i c.index-lines-i.result c.loop-i-test.true c.loop-i.invariant
-    (ap (named_in s.last s.tracks.items) (sym c.index-lines-i.is) ∙ c.in_default.ensures.none)
+pub loop-line-preserved : goal.loop-line-preserved
+loop-line-preserved c =
+    passes-line c.args.wake c.args.tracks.now c.args.turns.now c.loop-line.turns c.remove.new.self c.in-Some.line c.in-Some.at c.loop-line.invariant
+    c.in-Some.ensures.some.has (sym c.link_to_name.ensures ∙ c.in_default-link_to_name.is) c.remove.ensures.updates.0

@@ -1,40 +1,40 @@
-use Rattle.std.proofs.Common.{List, ◌++◌, Option, refl, subst}
+use Rattle.std.proofs.Common.{◌++◌, Option, refl, subst}
 use Rattle.mx_wire.specs.declared.entry.Entry.TheVariants as entry
-use Rattle.recording.specs.declared.entry.RecordEntry.{RecordEntry}
 use Rattle.mem_wire.specs.Adds.{late_entries}
-use Rattle.mem_wire.specs.Naming.{Searches}
+use Rattle.mem_wire.specs.Turns.{Searches}
 use Rattle.mem_wire.specs.declared.naming.ToName.{ToName}
 use Rattle.mem_wire.proofs.Telling.{tells, goes_on, calls_after}
 use Rattle.mem_wire.proofs.Courses.{within-search, within-moves, moved-name}
 use Rattle.mem_wire.proofs.Links.{late_are}
-use Rattle.mem_wire.proofs.Nameable.{names-none, passed-more}
-use Rattle.mem_wire.proofs.Entries.{tape-stays, passed-late, follows-named, stays-search}
+use Rattle.mem_wire.proofs.Nameable.{names-none}
+use Rattle.mem_wire.proofs.InTurn.{in-search}
+use Rattle.mem_wire.proofs.Entries.{tape-stays, follows-named, stays-search}
 use Rattle.mem_wire.proofs.tape.TapeWire.next_ready.Goals as goal
 
 pub invariant_of-self : goal.invariant_of-self
 invariant_of-self c =
     let s = c.self.inside.stage in
     let mid = c.next_to_name.new.stage in
-    let looks = subst (λ (es : List RecordEntry). Searches es c.next_to_name.result s mid) c.deref.ensures.value c.next_to_name.ensures in
+    let looks = c.next_to_name.ensures in
     tape-stays _ s _ c.self.inside.told _ entry.NoneNamed c.self.invariant
     (within-moves _ mid _ (within-search _ c.next_to_name.result s mid c.self.invariant.within looks) refl)
-    (stays-search _ c.next_to_name.result s mid _ looks refl (c.clear.ensures))
+    (stays-search c.next_to_name.result s mid _ looks refl (c.clear.ensures))
     (calls_after _ _ _ (late_entries s.late) entry.NoneNamed c.add_marks.ensures c.add.ensures.added c.add.ensures.bounded) (λ log is follows. refl) (λ m. refl)
     (record { woke = refl; accepted = λ port. refl; opened = refl; known = λ recording log. refl; named = λ links. refl; got = refl; open_is = λ was. refl; told = λ was. refl; blocked = λ was. refl; wrote = refl }) (record { call = record { unmarked = refl; judge = λ log call. call }; due = λ log. refl }) refl
-    (λ log follows stands. names-none _ s mid (log ++ late_entries s.late) stands c.self.invariant.within follows.sound.linked follows.passed (subst (λ (f : Option ToName). Searches c.self.inside.entries.items f s mid) c.in-None.is looks))
-    (λ log follows. passed-late _ mid _ (passed-more _ c.next_to_name.result s mid c.self.invariant.within follows.passed looks))
+    (λ log follows stands. names-none _ s mid (log ++ late_entries s.late) stands c.self.invariant.within follows.sound.linked follows.turns (subst (λ (f : Option ToName). Searches f s mid) c.in-None.is looks))
+    (λ log follows. in-search _ c.next_to_name.result s mid follows.turns looks)
 
 pub invariant_of-self-in-Some : goal.invariant_of-self-in-Some
 invariant_of-self-in-Some c =
     let s = c.self.inside.stage in
     let mid = c.next_to_name.new.stage in
-    let looks = subst (λ (es : List RecordEntry). Searches es c.next_to_name.result s mid) c.deref.ensures.value c.next_to_name.ensures in
-    let some = subst (λ (f : Option ToName). Searches c.self.inside.entries.items f s mid) c.in-Some.is looks in
+    let looks = c.next_to_name.ensures in
+    let some = subst (λ (f : Option ToName). Searches f s mid) c.in-Some.is looks in
     goes_on _ s c.name.new.stage c.self.inside.told _ (late_entries s.late) (entry.Named c.in-Some.found.link) c.self.invariant
     (within-moves _ mid _ (within-search _ c.next_to_name.result s mid c.self.invariant.within looks) c.name.ensures.frame)
     (calls_after _ _ _ (late_entries s.late) (entry.Named c.in-Some.found.link) c.add_marks.ensures c.add-in-Some.ensures.added c.add-in-Some.ensures.bounded)
     (λ log is follows. follows-named _ s mid c.name.new.stage log c.in-Some.found c.self.invariant.within follows some c.name.ensures
-    (moved-name _ c.next_to_name.result s mid _ looks c.name.ensures.frame c.name.ensures.late c.name.ensures.links))
+    (moved-name c.next_to_name.result s mid _ looks c.name.ensures.frame c.name.ensures.late c.name.ensures.links))
 
 pub returns-in-None-clause-told : goal.returns-in-None-clause-told
 returns-in-None-clause-told c =

@@ -45,8 +45,8 @@ invariant_of-self-else-is_err c =
     let opens = on_ok c.open.result _ right c.open.ensures.ok in
     let link : c.next_link-id.result ≡ next_link s = c.next_link-id.ensures ∙ ap {A = Stage} next_link c.ask_open.ensures.frame in
     goes_on _ s new c.self.inside.told _ (late_entries s.late) (entry.Opened c.args.server c.args.address (next_link s)) c.self.invariant
-    (within-enters _ mid new _ (within-asked _ s mid c.self.invariant.within (c.ask_open.ensures.frame ∙ ap (λ late. record s { opens = mid.opens; refusals = mid.refusals; late = late }) (sym (ap {A = Stage} (λ t. t.late) c.ask_open.ensures.frame))) (subst (λ (es : List RecordEntry). Knows es mid.refusals) c.deref.ensures.value c.ask_open.ensures.knows))
-    opens.enters (ap (λ t. t.cut) opens.frame) (ap (λ t. t.last) opens.frame) (ap (λ t. t.link) opens.frame) (on_ok c.open.result _ right c.open.ensures.refusals))
+    (within-enters _ mid new (within-asked _ s mid c.self.invariant.within (c.ask_open.ensures.frame ∙ ap (λ late. record s { opens = mid.opens; refusals = mid.refusals; late = late }) (sym (ap {A = Stage} (λ t. t.late) c.ask_open.ensures.frame))) (subst (λ (es : List RecordEntry). Knows es mid.refusals) c.deref.ensures.value c.ask_open.ensures.knows))
+    (ap (λ t. t.cut) opens.frame) (ap (λ t. t.last) opens.frame) (on_ok c.open.result _ right c.open.ensures.refusals))
     (subst (λ (l : LinkId). Calls c.self.inside.told (late_entries s.late) (entry.Opened c.args.server c.args.address l) c.add_call-2.new.self) link
     (subst (λ (marks : Log). Calls c.self.inside.told marks (entry.Opened c.args.server c.args.address c.next_link-id.result) c.add_call-2.new.self) (ap {A = Stage} (λ t. late_entries t.late) c.ask_open.ensures.frame) c.add_call-2.ensures))
     (λ log is follows. follows-opened _ s new log c.args.server c.args.address c.self.invariant.within follows (opens-asked s mid new c.ask_open.ensures.frame opens)

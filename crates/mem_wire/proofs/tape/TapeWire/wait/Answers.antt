@@ -7,7 +7,7 @@ use Rattle.mem_wire.proofs.Courses.{within-moves, within-wakes}
 use Rattle.mem_wire.proofs.Links.{late_are}
 use Rattle.mem_wire.proofs.Following.{wake-marks, wake-later, wake-calls, marks_are}
 use Rattle.mem_wire.proofs.CutLaws.{over-is}
-use Rattle.mem_wire.proofs.Entries.{tape-stays, passed-late}
+use Rattle.mem_wire.proofs.Entries.{tape-stays}
 use Rattle.mem_wire.proofs.Arrivals.{follows-woken}
 use Rattle.mem_wire.proofs.Playable.{first-some, wake-end}
 use Rattle.mem_wire.proofs.Results.{on_ok}
@@ -21,7 +21,7 @@ invariant_of-self c =
     c.add_call.ensures (λ log is follows. refl) (λ m. refl)
     (record { woke = refl; accepted = λ port. refl; opened = refl; known = λ recording log. refl; named = λ links. refl; got = refl; open_is = λ was. refl; told = λ was. refl; blocked = λ was. refl; wrote = refl }) (record { call = record { unmarked = refl; judge = λ log call. call }; due = λ log. refl }) refl
     (λ log follows stands. over-is _ (take (length c.deref.result.now - s.cut) (drop s.cut c.deref.result.now)) s.cut _ stands.cut (take_rest c.deref.result.now s.cut ∙ ap (drop s.cut) c.deref.ensures.value) (sym c.first_moment.ensures ∙ c.in_default.is))
-    (λ log follows. passed-late _ s _ follows.passed)
+    (λ log follows. follows.turns)
 
 pub returns-in_default-clause-told : goal.returns-in_default-clause-told
 returns-in_default-clause-told c =
