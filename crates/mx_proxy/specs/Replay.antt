@@ -17,11 +17,13 @@ use Rattle.mem_wire.specs.Play.{IsPlay}
 use Rattle.mem_wire.specs.Told.{Played}
 use Rattle.ready_loop.specs.Drained.{write_dry}
 use Rattle.ready_loop.specs.Round.{calls_since_wake}
-use Rattle.session_core.specs.Headline.{IsServed, IsLawful}
+use Rattle.ready_loop.specs.Machine.{Target}
+use Rattle.client_session.specs.Headline.{IsServed, IsLawful}
+use Rattle.client_session.specs.Rest.{RestsAt}
+use Rattle.session_core.specs.Cores.{server_of, target_of}
 use Rattle.mx_config.specs.declared.config.Config.{Config}
 use Rattle.mx_config.specs.declared.fault.ConfigFault.{ConfigFault}
 use Rattle.mx_config.specs.Reading.{reading_of}
-use Rattle.session_core.specs.Rest.{RestsAt}
 use Rattle.mx_proxy.specs.declared.stop.Stop.{Stop}
 use Rattle.mx_proxy.specs.declared.stop.Stop.TheVariants as stop
 use Rattle.mx_proxy.specs.Words.{Named, replay_words}
@@ -30,12 +32,16 @@ use Rattle.mx_proxy.specs.Words.{Named, replay_words}
 abbrev pub Held : Type 0
 Held = Option (List (List ℕ × List ℕ))
 
--- the bytes under the name say a configuration
-pub record IsConfigured (name : List ℕ) (held : Held) : Type 0 where
+-- the bytes under the name say this configuration
+pub record Configures (name : List ℕ) (held : Held) (config : Config) : Type 0 where
   pub bytes : List ℕ
   pub under : HasUnder name bytes held
-  pub config : Config
   pub said : reading_of bytes ≡ Ok config
+
+-- they say a configuration
+pub record IsConfigured (name : List ℕ) (held : Held) : Type 0 where
+  pub config : Config
+  pub said : Configures name held config
 
 -- they say none, and this is their first fault
 pub record IsMisconfigured (name : List ℕ) (held : Held) (fault : ConfigFault) : Type 0 where
@@ -55,12 +61,16 @@ pub record IsFaulty (name : List ℕ) (held : Held) (fault : RecordFault) : Type
   pub under : HasUnder name bytes held
   pub said : recording_of bytes ≡ Err fault
 
+-- The first server of the configuration, where it has one. Links are opened to it alone.
+abbrev pub target_in : Config → Option Target
+target_in config = target_of (server_of config.servers)
+
 -- At each moment of the log what was written to each client is a beginning of the answers to its messages, and each byte
 -- was written as it may be. Each wait came at rest, and so did the last, after which the wire has nothing more.
-pub record ServesToEnd (log : Log) : Type 0 where
-  pub served : AtEachMoment IsServed log
-  pub lawful : AllLawful IsLawful log
-  pub rests : AllLawful RestsAt log
+pub record ServesToEnd (target : Option Target) (log : Log) : Type 0 where
+  pub served : AtEachMoment (IsServed target) log
+  pub lawful : AllLawful (IsLawful target) log
+  pub rests : AllLawful (RestsAt target) log
   pub before : Log
   pub over : log ≡ before ++ Over ∷ []
 
@@ -72,22 +82,22 @@ pub record IsPlayedOut (entries : List RecordEntry) (log : Log) : Type 0 where
   pub read : (link : LinkId) (k : Known) → with_link link (known entries log) ≡ Some k → IsOpen link log → (read_of link log ≡ bytes_for k.name entries) ⊎ (write_dry link log ≡ true)
 
 -- the wire answered as the recording says, until it was played out
-pub record ReplaysTo (entries : List RecordEntry) (log : Log) : Type 0 where
+pub record ReplaysTo (target : Option Target) (entries : List RecordEntry) (log : Log) : Type 0 where
   pub play : IsPlay entries log
-  pub serves : ServesToEnd log
+  pub serves : ServesToEnd target log
   pub ends : IsPlayedOut entries serves.before
 
 -- what a tape tells that has played these entries
-pub record HasPlayed (entries : List RecordEntry) (tape : Played) : Type 0 where
+pub record HasPlayed (target : Option Target) (entries : List RecordEntry) (tape : Played) : Type 0 where
   pub keeps : (log : Log) → IsPlay tape.recording log → IsPlay entries log
-  pub serves : (log : Log) → tape.told ≡ Some log → ServesToEnd log
+  pub serves : (log : Log) → tape.told ≡ Some log → ServesToEnd target log
 
 -- a play of which the same holds, in which one wake took as many calls as it may
-pub record IsSpent (entries : List RecordEntry) (log : Log) : Type 0 where
+pub record IsSpent (target : Option Target) (entries : List RecordEntry) (log : Log) : Type 0 where
   pub play : IsPlay entries log
-  pub served : AtEachMoment IsServed log
-  pub lawful : AllLawful IsLawful log
-  pub rests : AllLawful RestsAt log
+  pub served : AtEachMoment (IsServed target) log
+  pub lawful : AllLawful (IsLawful target) log
+  pub rests : AllLawful (RestsAt target) log
   pub spent : 4294967296 ≤ calls_since_wake log
 
 abbrev pub ConfigStops : Stop → List ℕ → Held → (before now : ℕ) → Type 0
@@ -102,10 +112,10 @@ ReadStops (stop.BadRecording fault) name held before now = IsFaulty name held fa
 ReadStops stop.OutOfMemory name held before now = Unit {0}
 ReadStops _ name held before now = ⊥
 
-abbrev pub PlayStops : Stop → List RecordEntry → Type 0
-PlayStops stop.OutOfMemory entries = Unit {0}
-PlayStops stop.TurnsSpent entries = (log : Log) × IsSpent entries log
-PlayStops _ entries = ⊥
+abbrev pub PlayStops : Stop → Option Target → List RecordEntry → Type 0
+PlayStops stop.OutOfMemory target entries = Unit {0}
+PlayStops stop.TurnsSpent target entries = (log : Log) × IsSpent target entries log
+PlayStops _ target entries = ⊥
 
 -- the transcript of the log is put
 pub record Puts (tape : Played) (old new : Option (List ℕ)) : Type 0 where
@@ -139,7 +149,7 @@ pub record IsReplay (words : List (List ℕ)) (held : Held) (log : Log) : Type 0
   pub configured : IsConfigured names.config held
   pub entries : List RecordEntry
   pub under : IsUnder names.recording held entries
-  pub replays : ReplaysTo entries log
+  pub replays : ReplaysTo (target_in configured.config) entries log
 
 -- and the transcript of that log is put
 pub record Replayed (words : List (List ℕ)) (held : Held) (old new : Option (List ℕ)) : Type 0 where
@@ -172,7 +182,7 @@ pub record RanOut (words : List (List ℕ)) (held : Held) : Type 0 where
   pub entries : List RecordEntry
   pub under : IsUnder names.recording held entries
   pub log : Log
-  pub spent : IsSpent entries log
+  pub spent : IsSpent (target_in configured.config) entries log
 
 pub record IsUnread (words : List (List ℕ)) (before now : ℕ) : Type 0 where
   pub names : Named

@@ -2,7 +2,7 @@
 ghost use Rattle.std.specs.Prelude.{◌≡◌, ◌≤◌, OnOk, IfOk, IfErr};
 ghost use Rattle.recording.specs.Playable.{IsPlayable};
 ghost use Rattle.mx_proxy.specs.Words.{texts};
-ghost use Rattle.mx_proxy.specs.Replay.{IsConfigured, ConfigStops, IsUnder, HasPlayed, ReadStops, PlayStops, PutStops, Puts, Replayed, Stops};
+ghost use Rattle.mx_proxy.specs.Replay.{Configures, ConfigStops, IsUnder, target_in, HasPlayed, ReadStops, PlayStops, PutStops, Puts, Replayed, Stops};
 
 use crate::stop::Stop;
 use crate::words::replay_words;
@@ -16,7 +16,7 @@ use std::alloc::Global;
 
 // The configuration under the name.
 fn configure<F: Files>(alloc: Global, name: &str, files: &mut F) -> Result<Config, Stop>
-    ensures ok { OnOk result (IsConfigured name.now (F.held files.old)) }
+    ensures ok { IfOk result (λ config. Configures name.now (F.held files.old) config) }
     ensures err { IfErr result (λ stop. ConfigStops stop name.now (F.held files.old) (F.faults files.old) (F.faults files.new)) }
     ensures held { F.held files.new ≡ F.held files.old }
     ensures faults { F.faults files.old ≤ F.faults files.new }
@@ -52,13 +52,13 @@ fn read<F: Files>(alloc: Global, name: &str, files: &mut F) -> Result<Vec<Record
 }
 
 // Plays a recording to its end.
-fn play(alloc: Global, entries: Vec<RecordEntry>) -> Result<Tape, Stop>
+fn play(alloc: Global, config: &Config, entries: Vec<RecordEntry>) -> Result<Tape, Stop>
     requires { IsPlayable entries.items }
-    ensures ok { IfOk result (λ tape. HasPlayed entries.items tape) }
-    ensures err { IfErr result (λ stop. PlayStops stop entries.items) }
+    ensures ok { IfOk result (λ tape. HasPlayed (target_in config.now) entries.items tape) }
+    ensures err { IfErr result (λ stop. PlayStops stop (target_in config.now) entries.items) }
 {
     let turns = 2 * entries.len() as u64 + 16;
-    let mut core = Core::new(alloc)?;
+    let mut core = Core::new(alloc, config)?;
     let mut tape = Tape::new(alloc, entries);
     match serve(alloc, &mut core, &mut tape, turns) {
         ServeEnd::Over => Ok(tape),
@@ -101,8 +101,8 @@ pub fn replay<F: Files, O: Sink>(
     let Some(names) = replay_words(words) else {
         return Err(Stop::Usage);
     };
-    let _config = configure(alloc, names.config, files)?;
+    let config = configure(alloc, names.config, files)?;
     let entries = read(alloc, names.recording, files)?;
-    let tape = play(alloc, entries)?;
+    let tape = play(alloc, &config, entries)?;
     put(alloc, &tape, out)
 }

@@ -18,6 +18,27 @@ const STATISTICS: &str =
 const ANSWERED: &str =
     "at 0\naccept c1 traffic 0102030405060708090a0b0c0d0e0f1011121314\nat 1\nbytes c1 0500000003444f2031\nat 2\nexec s1\nbytes s1 070000010000\nat 3\nbytes s1 0002000000\nbytes c1 0100000009\n";
 
+/// The server's link ends before any byte of the reply.
+const LOST: &str =
+    "at 0\naccept c1 traffic 0102030405060708090a0b0c0d0e0f1011121314\nat 1\nbytes c1 0500000003444f2031\nat 2\nend s1\n";
+
+/// The open that the query asks for fails.
+const REFUSED: &str =
+    "at 0\naccept c1 traffic 0102030405060708090a0b0c0d0e0f1011121314\nat 1\nrefuse 1\nbytes c1 0500000003444f2031\n";
+
+/// Three clients: the first's query comes in two pieces, and is written in two; the second's finds no link; the third's link is
+/// lost inside a reply, and its next query goes to another. The first client's reply is written in two pieces, and it ends.
+const THREE: &str =
+    "at 0\naccept c1 traffic 0102030405060708090a0b0c0d0e0f1011121314\naccept c2 traffic 1102030405060708090a0b0c0d0e0f1011121314\naccept c3 traffic 2102030405060708090a0b0c0d0e0f1011121314\nat 1\nrefuse 1\nbytes c1 0500000003\nbytes c2 0500000003444f2032\nat 2\nbytes c1 444f2031\nbytes c3 0500000003444f2033\ntake s1 4\nat 3\nbytes s2 0700000100\nat 4\nbytes s1 0700000100000002000000\ntake c1 3\nend s2\nat 5\nbytes c3 0500000003444f2034\nat 6\nbytes s3 0700000100010002000000\nend c1\n";
+
+/// What the three are answered.
+const THREE_ANSWERED: &str =
+    "link c1 traffic closed\nc1 reply 0700000100000002000000\nlink c2 traffic open\nc2 reply 22000001ff8f2323485930303053657276657220636f6e6e656374696f6e2072656675736564\nlink c3 traffic open\nc3 reply 1f000001ff8d2323485930303053657276657220636f6e6e656374696f6e206c6f73740700000100010002000000\nlink s1 server 1 closed\ns1 for c1/1 0500000003444f2031\nlink s2 server 1 closed\ns2 for c3/1 0500000003444f2033\nlink s3 server 1 open\ns3 for c3/2 0500000003444f2034\n";
+
+/// One user, and no server.
+const BARE: &str =
+    "[proxy]\nlisten = \"127.0.0.1:6033\"\nadmin_listen = \"127.0.0.1:6032\"\nadmin_user = \"admin\"\nadmin_password = \"\"\n[[users]]\nname = \"u\"\npassword = \"\"\n";
+
 /// One user, and one server.
 const CONFIG: &str =
     "[proxy]\nlisten = \"127.0.0.1:6033\"\nadmin_listen = \"127.0.0.1:6032\"\nadmin_user = \"admin\"\nadmin_password = \"\"\n[[users]]\nname = \"u\"\npassword = \"\"\n[[servers]]\nhostgroup = 0\nhost = \"127.0.0.1\"\nport = 3306\n";
@@ -25,7 +46,7 @@ const CONFIG: &str =
 const USAGE: &str =
     "usage: mx_proxy serve <config> or replay <config> <recording> or load <start> <clients> <statements> or audit <config> <lines> <workers>\n";
 
-// Runs the words where the files are `c`, a configuration, `n`, one of no bytes, and `r`. The first put fails where
+// Runs the words where the files are `c`, a configuration, `b`, one without servers, `n`, one of no bytes, and `r`. The first put fails where
 // that is asked for. The status, and what was printed.
 fn outcome<R: Threads + Sync>(
     rt: &R,
@@ -39,7 +60,7 @@ fn outcome<R: Threads + Sync>(
         texts.push(String::from_str(alloc, word)?)?;
     }
     let mut held = Vec::new(alloc);
-    for (name, bytes) in [("c", CONFIG), ("n", ""), ("r", file)] {
+    for (name, bytes) in [("c", CONFIG), ("b", BARE), ("n", ""), ("r", file)] {
         held.push((
             Bytes::from_slice(alloc, name.as_bytes())?,
             Bytes::from_slice(alloc, bytes.as_bytes())?,
@@ -58,7 +79,7 @@ fn outcome<R: Threads + Sync>(
 
 #[test]
 fn runs(rt: HostRuntime) -> Result<(), Fail> {
-    let rows: [(&[&str], &str, bool, u8, &str); 15] = [
+    let rows: [(&[&str], &str, bool, u8, &str); 19] = [
         (
             &["replay", "c", "r"],
             ASKED,
@@ -79,6 +100,28 @@ fn runs(rt: HostRuntime) -> Result<(), Fail> {
             false,
             0,
             "link c1 traffic open\nc1 reply 18000001ff1704233038533031556e6b6e6f776e20636f6d6d616e64\n",
+        ),
+        (&["replay", "c", "r"], THREE, false, 0, THREE_ANSWERED),
+        (
+            &["replay", "c", "r"],
+            LOST,
+            false,
+            0,
+            "link c1 traffic open\nc1 reply 1f000001ff8d2323485930303053657276657220636f6e6e656374696f6e206c6f7374\nlink s1 server 1 closed\ns1 for c1/1 0500000003444f2031\n",
+        ),
+        (
+            &["replay", "c", "r"],
+            REFUSED,
+            false,
+            0,
+            "link c1 traffic open\nc1 reply 22000001ff8f2323485930303053657276657220636f6e6e656374696f6e2072656675736564\n",
+        ),
+        (
+            &["replay", "b", "r"],
+            ASKED,
+            false,
+            0,
+            "link c1 traffic open\nc1 reply 21000001ff8c232348593030304e6f2073657276657220696e20686f737467726f75702030\n",
         ),
         (&["replay", "c", "r"], "", false, 0, ""),
         (

@@ -1,5 +1,5 @@
 -- How a machine stands for a log.
-use Rattle.std.specs.Prelude.{◌≡◌, ◌⊎◌, ℕ, ◌<◌, ◌≤◌, List, [], ◌∷◌, ◌++◌, length, take, Option, Some, None}
+use Rattle.std.specs.Prelude.{◌≡◌, ◌⊎◌, ℕ, ◌<◌, ◌≤◌, Bool, false, List, [], ◌∷◌, ◌++◌, length, take, Option, Some, None}
 use Rattle.mx_base.specs.declared.names.LinkId.{LinkId}
 use Rattle.mx_base.specs.declared.names.ServerId.{ServerId}
 use Rattle.mx_base.specs.declared.names.Address.{Address}
@@ -37,6 +37,12 @@ abbrev pub IsHeard : Option Target → Event → Type 0
 IsHeard awaited (event.Opened server link) = (address : Address) × (awaited ≡ Some (record { server = server; address = address }))
 IsHeard awaited (event.OpenFailed server) = (address : Address) × (awaited ≡ Some (record { server = server; address = address }))
 IsHeard awaited _ = Unit {0}
+
+-- the acts that a machine asked for are done before it is told of anything but what an open answered
+abbrev pub HasActed : Bool → Event → Type 0
+HasActed asks (event.Opened server link) = Unit {0}
+HasActed asks (event.OpenFailed server) = Unit {0}
+HasActed asks _ = asks ≡ false
 
 abbrev pub IsAwaited : Option Target → Act → Type 0
 IsAwaited awaited (act.Open server address) = awaited ≡ Some (record { server = server; address = address })

@@ -29,6 +29,7 @@ fn open_link<M: Machine, W: Wire>(
     ensures wakes { table.new.round.wakes ≡ table.old.round.wakes }
     ensures broke { OnErr result (StoodFor M.stands (W.told wire.new)) }
     ensures advances { Advances W.told W.rule W.port_faults W.faults wire.old wire.new }
+    ensures serves_by { M.serves_by core.new ≡ M.serves_by core.old }
 {
     table.round.calls += 1;
     match wire.open(server, address) {
@@ -94,6 +95,7 @@ fn act_once<M: Machine, W: Wire>(
     ensures wakes { table.new.round.wakes ≡ table.old.round.wakes }
     ensures broke { OnErr result (StoodFor M.stands (W.told wire.new)) }
     ensures advances { Advances W.told W.rule W.port_faults W.faults wire.old wire.new }
+    ensures serves_by { M.serves_by core.new ≡ M.serves_by core.old }
 {
     match core.next_act() {
         None => Ok(false),
@@ -123,6 +125,7 @@ pub fn do_acts<M: Machine, W: Wire>(
     ensures ends { IfErr result (Ends M.stands M.is_stopped table.new.round.wakes BusyFor core.new (W.told wire.new)) }
     ensures rose { IfErr result (λ end. end ≡ ServeEnd.ListenFault → ⊥) }
     ensures advances { Advances W.told W.rule W.port_faults W.faults wire.old wire.new }
+    ensures serves_by { M.serves_by core.new ≡ M.serves_by core.old }
 {
     while table.round.calls < CALLS_PER_WAKE {
         if !act_once(core, wire, table)? {

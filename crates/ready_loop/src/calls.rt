@@ -55,6 +55,7 @@ pub fn wait_once<M: Machine, W: Wire>(
     ensures ends { IfErr result (Ends M.stands M.is_stopped table.new.round.wakes BusyFor core.new (W.told wire.new)) }
     ensures rose { IfErr result (λ end. end ≡ ServeEnd.ListenFault → W.port_faults wire.old < W.port_faults wire.new) }
     ensures advances { Advances W.told W.rule W.port_faults W.faults wire.old wire.new }
+    ensures serves_by { M.serves_by core.new ≡ M.serves_by core.old }
 {
     match wire.wait(core.until_ms()) {
         Woke::Woke { now_ms } => {
@@ -85,6 +86,7 @@ pub fn accept_once<M: Machine, W: Wire>(
     ensures ends { IfErr result (Ends M.stands M.is_stopped table.new.round.wakes BusyFor core.new (W.told wire.new)) }
     ensures rose { IfErr result (λ end. end ≡ ServeEnd.ListenFault → W.port_faults wire.old < W.port_faults wire.new) }
     ensures advances { Advances W.told W.rule W.port_faults W.faults wire.old wire.new }
+    ensures serves_by { M.serves_by core.new ≡ M.serves_by core.old }
 {
     table.round.calls += 1;
     match wire.accept(port) {
@@ -160,6 +162,7 @@ pub fn read_once<M: Machine, W: Wire>(
     ensures ends { IfErr result (λ end. end ≡ ServeEnd.OutOfMemory) }
     ensures broke { OnErr result (StoodFor M.stands (W.told wire.new)) }
     ensures advances { Advances W.told W.rule W.port_faults W.faults wire.old wire.new }
+    ensures serves_by { M.serves_by core.new ≡ M.serves_by core.old }
 {
     table.round.calls += 1;
     match wire.read(link, buffer) {
@@ -201,6 +204,7 @@ pub fn write_once<M: Machine, W: Wire>(
     ensures ends { IfErr result (λ end. end ≡ ServeEnd.OutOfMemory) }
     ensures broke { OnErr result (StoodFor M.stands (W.told wire.new)) }
     ensures advances { Advances W.told W.rule W.port_faults W.faults wire.old wire.new }
+    ensures serves_by { M.serves_by core.new ≡ M.serves_by core.old }
 {
     let Some(piece) = core.outgoing(link) else {
         return Ok(());

@@ -6,7 +6,7 @@ ghost use Rattle.mx_base.specs.declared.names.Address.{Address};
 ghost use Rattle.mx_wire.specs.Log.{Log};
 ghost use Rattle.mx_wire.specs.declared.entry.Entry.{Entry};
 ghost use Rattle.mx_wire.specs.declared.entry.Entry.TheVariants as entry;
-ghost use Rattle.ready_loop.specs.Machine.{Target, IsHeard, IsAwaited, CarriesOver, Keeps, IsToldOf, Acts, IsQuiet, IsLent, MayTake};
+ghost use Rattle.ready_loop.specs.Machine.{Target, IsHeard, HasActed, IsAwaited, CarriesOver, Keeps, IsToldOf, Acts, IsQuiet, IsLent, MayTake};
 ghost use Rattle.ready_loop.specs.Changes.{ChangesOnly, SaysSame, TakesChange};
 ghost use Rattle.ready_loop.specs.Sent.{Sent};
 ghost use Rattle.ready_loop.specs.Drained.{IsDue};
@@ -91,11 +91,19 @@ pub trait Machine {
 
     ghost most: { Self → ℕ };
 
-    /// Tells of an event. `bytes` are those read for a `Got`, and else none.
+    /// What it serves by, which nothing changes.
+    ghost Service: { Type 0 };
+
+    ghost serves_by: { Self → Service };
+
+    /// Tells of an event. `bytes` are those read for a `Got`, and else none. What the machine asked for is done by then, but
+    /// for the open whose answer the event is.
     fn take(&mut self, event: Event, bytes: &mut [u8]) -> Result<(), OutOfMemory>
-        requires { IsHeard (awaits self.old) event }
+        requires heard { IsHeard (awaits self.old) event }
+        requires acted { HasActed (asks self.old) event }
         ensures carries { OnOk result ((e : Entry) → IsToldOf (until self.old) (awaits self.old) event bytes.old e → CarriesOver stands (IsDue reads sends asks) self.old self.new e) }
-        ensures changes { OnOk result (ChangesOnly changed reads sends self.old self.new) };
+        ensures changes { OnOk result (ChangesOnly changed reads sends self.old self.new) }
+        ensures serves_by { serves_by self.new ≡ serves_by self.old };
 
     /// The next act to do, oldest first. The bytes that are left for a link are offered to one write before it
     /// closes, and what that write answers is no event.
@@ -103,7 +111,8 @@ pub trait Machine {
         ensures awaits { IfSome result (IsAwaited (awaits self.new)) }
         ensures act { Acts stands (IsDue reads sends asks) sends self.old self.new result }
         ensures changes { ChangesOnly changed reads sends self.old self.new }
-        ensures none { IfNone result (asks self.new ≡ false) };
+        ensures none { IfNone result (asks self.new ≡ false) }
+        ensures serves_by { serves_by self.new ≡ serves_by self.old };
 
     /// The next link on which there may be something new to write, or which may be read again. It isn't named
     /// twice but for a new reason.
@@ -113,17 +122,20 @@ pub trait Machine {
         ensures named { TakesChange changed self.old self.new result }
         ensures none { IfNone result ((link : LinkId) → changed self.old link ≡ false) }
         ensures asks { asks self.new ≡ asks self.old }
-        ensures fewer { IsSome result → unnamed self.new < unnamed self.old };
+        ensures fewer { IsSome result → unnamed self.new < unnamed self.old }
+        ensures serves_by { serves_by self.new ≡ serves_by self.old };
 
     /// What is to be written on a link, if anything is.
     fn outgoing(&self, link: LinkId) -> Option<Piece<'_>>
         ensures { IsLent result (sends self.now link) };
 
-    /// So many of the bytes that `outgoing` lends were written.
+    /// So many of the bytes that `outgoing` lends were written. What the machine asked for is done by then.
     fn taken(&mut self, link: LinkId, n: usize)
-        requires { MayTake (sends self.old link) n }
+        requires lent { MayTake (sends self.old link) n }
+        requires acted { asks self.old ≡ false }
         ensures carries { (sent : Sent) → sends self.old link ≡ Some sent → CarriesOver stands (IsDue reads sends asks) self.old self.new (entry.Wrote link sent.tag (take n sent.bytes)) }
-        ensures changes { ChangesOnly changed reads sends self.old self.new };
+        ensures changes { ChangesOnly changed reads sends self.old self.new }
+        ensures serves_by { serves_by self.new ≡ serves_by self.old };
 
     /// Whether the link is to be read.
     fn wants_read(&self, link: LinkId) -> bool

@@ -35,6 +35,7 @@ fn queue_changed<M: Machine, W: Wire>(
     ensures acted { M.asks core.new ≡ M.asks core.old }
     ensures round { table.new.round ≡ table.old.round }
     ensures broke { OnErr result (StoodFor M.stands (W.told wire.now)) }
+    ensures serves_by { M.serves_by core.new ≡ M.serves_by core.old }
 {
     while let Some(link) = core.next_changed() {
         table.links.enqueue(link)?;
@@ -58,6 +59,7 @@ fn follow<M: Machine, W: Wire>(
     ensures ends { IfErr result (Ends M.stands M.is_stopped table.new.round.wakes BusyFor core.new (W.told wire.new)) }
     ensures rose { IfErr result (λ end. end ≡ ServeEnd.ListenFault → ⊥) }
     ensures advances { Advances W.told W.rule W.port_faults W.faults wire.old wire.new }
+    ensures serves_by { M.serves_by core.new ≡ M.serves_by core.old }
 {
     do_acts(core, wire, table)?;
     if core.stopped() {
@@ -88,6 +90,7 @@ fn make_call<M: Machine, W: Wire>(
     ensures ends { IfErr result (Ends M.stands M.is_stopped table.new.round.wakes BusyFor core.new (W.told wire.new)) }
     ensures rose { IfErr result (λ end. end ≡ ServeEnd.ListenFault → W.port_faults wire.old < W.port_faults wire.new) }
     ensures advances { Advances W.told W.rule W.port_faults W.faults wire.old wire.new }
+    ensures serves_by { M.serves_by core.new ≡ M.serves_by core.old }
 {
     match call {
         Call::Accept { port } => accept_once(core, wire, table, port)?,
@@ -119,6 +122,7 @@ fn settle<M: Machine, W: Wire>(
     ensures ends { IfErr result (Ends M.stands M.is_stopped table.new.round.wakes BusyFor core.new (W.told wire.new)) }
     ensures rose { IfErr result (λ end. end ≡ ServeEnd.ListenFault → W.port_faults wire.old < W.port_faults wire.new) }
     ensures advances { Advances W.told W.rule W.port_faults W.faults wire.old wire.new }
+    ensures serves_by { M.serves_by core.new ≡ M.serves_by core.old }
 {
     while table.round.calls < CALLS_PER_WAKE {
         let Some(call) = table.owed(core) else {
@@ -148,6 +152,7 @@ fn catch_up<M: Machine, W: Wire>(
     ensures ends { IfErr result (Ends M.stands M.is_stopped table.new.round.wakes BusyFor core.new (W.told wire.new)) }
     ensures rose { IfErr result (λ end. end ≡ ServeEnd.ListenFault → W.port_faults wire.old < W.port_faults wire.new) }
     ensures advances { Advances W.told W.rule W.port_faults W.faults wire.old wire.new }
+    ensures serves_by { M.serves_by core.new ≡ M.serves_by core.old }
 {
     follow(core, wire, table)?;
     settle(core, wire, table, buffer)?;
@@ -177,6 +182,7 @@ fn serve_wake<M: Machine, W: Wire>(
     ensures ends { IfErr result (Ends M.stands M.is_stopped table.new.round.wakes BusyFor core.new (W.told wire.new)) }
     ensures rose { IfErr result (λ end. end ≡ ServeEnd.ListenFault → W.port_faults wire.old < W.port_faults wire.new) }
     ensures advances { Advances W.told W.rule W.port_faults W.faults wire.old wire.new }
+    ensures serves_by { M.serves_by core.new ≡ M.serves_by core.old }
 {
     wait_once(core, wire, table)?;
     catch_up(core, wire, table, buffer)?;
@@ -197,6 +203,7 @@ fn serve_turns<M: Machine, W: Wire>(
     ensures ends { Ends M.stands M.is_stopped turns (SpentFor turns (M.reads core.new) (M.sends core.new)) core.new (W.told wire.new) result }
     ensures rose { result ≡ ServeEnd.ListenFault → W.port_faults wire.old < W.port_faults wire.new }
     ensures advances { Advances W.told W.rule W.port_faults W.faults wire.old wire.new }
+    ensures serves_by { M.serves_by core.new ≡ M.serves_by core.old }
 {
     if let Err(end) = catch_up(core, wire, table, buffer) {
         return end;
@@ -294,6 +301,7 @@ pub fn serve<M: Machine, W: Wire>(alloc: Global, core: &mut M, wire: &mut W, tur
     ensures rule { KeepsRule W.rule wire.old wire.new }
     ensures port_faults { W.port_faults wire.old ≤ W.port_faults wire.new }
     ensures faults { W.faults wire.old ≤ W.faults wire.new }
+    ensures serves_by { M.serves_by core.new ≡ M.serves_by core.old }
 {
     match prepare(alloc, core, wire) {
         Ok((mut table, mut buffer)) => serve_turns(core, wire, &mut table, &mut buffer, turns),

@@ -34,6 +34,10 @@ impl Machine for Reader {
 
     ghost most = { λ _. 4 };
 
+    ghost Service = { Unit {0} };
+
+    ghost serves_by = { λ _. tt };
+
     fn take(&mut self, _: Event, _: &mut [u8]) -> Result<(), OutOfMemory> {
         Ok(())
     }

@@ -1,37 +1,104 @@
--- What the core tracks once a client or a link to the server comes.
-use Rattle.std.specs.Prelude.{◌≡◌, ◌⊎◌, ℕ, suc, ◌+◌, ◌≤◌, Bool, true, false, nat_eq, List, [], ◌∷◌, ◌++◌, length, Option, Some, None, refl}
+-- What the core carries over links that come.
+use Rattle.std.specs.Prelude.{◌≡◌, ℕ, zero, suc, ◌+◌, ◌<◌, ◌≤◌, Bool, true, false, nat_eq, List, [], ◌∷◌, ◌++◌, length, slice_get, Option, Some, None, refl}
 use Rattle.std.specs.List.{cons_option, flat_map}
-use Rattle.std.proofs.Common.{sym, ◌∙◌, ap, subst, append-nil, append_assoc, inl, inr, arith, length-append}
+use Rattle.std.proofs.Common.{sym, ◌∙◌, ap, subst, inl, inr, arith, length-append}
+use Rattle.std.proofs.lemmas.Bool.{eqb-true}
 use Rattle.mx_base.specs.declared.names.LinkId.{LinkId}
-use Rattle.mx_base.specs.declared.names.ServerId.{ServerId}
-use Rattle.mx_base.specs.declared.names.Address.{Address}
 use Rattle.mx_base.specs.declared.names.Port.{Port}
-use Rattle.mx_wire.specs.Log.{Log, link_of, is_link, of_link, got_bytes, wrote_bytes, read_of, written_of, accepted_link, accepted_links, open_step}
+use Rattle.mx_wire.specs.Log.{Log, link_of, is_link, of_link, got_bytes, wrote_bytes, read_of, written_of, accepted_link, accepted_links}
 use Rattle.mx_wire.specs.Tells.{IsNew, IsOpen, MayFollow}
-use Rattle.mx_wire.specs.Growth.{same_number, nat_eq-sym, bytes-idle, step-other}
+use Rattle.mx_wire.specs.Growth.{bool_cases, same_number, nat_eq-sym, bytes-idle}
 use Rattle.mx_wire.specs.declared.entry.Entry.{Entry}
 use Rattle.mx_wire.specs.declared.entry.Entry.TheVariants as entry
-use Rattle.packet_frame.specs.Laws.{first_message-empty}
-use Rattle.session_core.specs.declared.phase.Phase.{Phase}
-use Rattle.session_core.specs.declared.phase.Phase.TheVariants.{Idle, Working, Ending, Leaving, Gone}
-use Rattle.session_core.specs.declared.client.Client.{Client}
-use Rattle.session_core.specs.declared.server.Server.{Server}
+use Rattle.client_session.specs.declared.session.Session.{Session}
+use Rattle.client_session.specs.Count.{counted, counted-one}
+use Rattle.client_session.specs.Growth.{accepted_links-new}
+use Rattle.client_session.specs.Headline.{client_link, Turn, replies_to, Passes as PassesOn}
+use Rattle.client_session.specs.Passing.{same_for, Passes, IsApart, passes-other, session-stays, next-passes}
+use Rattle.client_session.specs.Sending.{carrier}
+use Rattle.client_session.specs.Stands.{WasAnswered, HasSession, upstream_link, is_closed}
+use Rattle.client_session.specs.Still.{replies-stay, was_answered-stays}
 use Rattle.session_core.specs.declared.router.Core.{Core}
-use Rattle.session_core.specs.Answers.{most_payload}
-use Rattle.session_core.specs.Headline.{client_link, replies_to}
-use Rattle.session_core.specs.Growth.{client_link-more, client_link-same, client_link-new, client_link-back, accepted_links-new, accepted_links-same}
-use Rattle.session_core.specs.Held.{AreHeld, held-comes, held-at, open-apart, new-shut}
-use Rattle.session_core.specs.Past.{past-none}
-use Rattle.session_core.specs.Past.IsLast.{None_yet}
-use Rattle.session_core.specs.Stands.{server_links, while_held, client_links, MayBeFree, IsCarried, IsServedBy, IsOther, IsShut, HasClient, HasNone, MayHaveClient, IsServers, Tracks}
-use Rattle.session_core.specs.Stands.IsCarried.{Unsent, Begun}
-use Rattle.session_core.specs.Still.{client-known, new-apart, replies-stay, at-stays}
-use Rattle.session_core.specs.Quiet.{CarriesNothing, reads-no_reply, unsent-more, served-more}
-use Rattle.session_core.specs.Count.{counted, counted-one}
-use Rattle.session_core.specs.Cores.{first_client, ComesFirst, Comes, OpensFor, OpensLink}
-use Rattle.session_core.specs.Acts.{has_work, is_working}
-use Rattle.session_core.specs.Tracking.{tracks-with, has-with, held-with}
-use Rattle.session_core.specs.Steps.{reading}
+use Rattle.session_core.specs.declared.place.Place.{Place}
+use Rattle.session_core.specs.declared.place.Place.TheVariants as place
+use Rattle.session_core.specs.Cores.{place_of, session_at}
+use Rattle.session_core.specs.Opening.{new-shut, open-apart}
+use Rattle.session_core.specs.Stands.{service_of, TracksSessions, TracksLinks}
+
+-- A client that came is named by the log.
+
+accepted-of : (e : Entry) (link : LinkId) → accepted_link e ≡ Some link → is_link link (link_of e) ≡ true
+accepted-of (entry.Accepted port other salt) link is = let same : other ≡ link = cc in subst (λ (l : LinkId). nat_eq link.0 l.0 ≡ true) (sym same) (same_number link.0)
+accepted-of _ link is = cc
+
+known-at : (log : Log) (n : ℕ) (link : LinkId) → slice_get (accepted_links log) n ≡ Some link → IsNew link log → ⊥
+known-at [] n link has new = cc
+known-at (e ∷ log) n link has new = comes (accepted_link e) refl n has (λ m later. known-at log m link later (rest (is_link link (link_of e)) refl)) where
+  rest : (b : Bool) → is_link link (link_of e) ≡ b → IsNew link log
+  rest true here = absurd (let no : e ∷ of_link link log ≡ [] = rw here at new in cc)
+  rest false other = rw other at new
+
+  comes : (o : Option LinkId) → accepted_link e ≡ o → (m : ℕ) → slice_get (cons_option o (accepted_links log)) m ≡ Some link → ((k : ℕ) → slice_get (accepted_links log) k ≡ Some link → ⊥) → ⊥
+  comes None is m at later = later m at
+  comes (Some other) is zero at later =
+      let same : other ≡ link = cc in
+      let here : is_link link (link_of e) ≡ true = accepted-of e link (is ∙ ap (λ (l : LinkId). Some l) same) in
+      let no : e ∷ of_link link log ≡ [] = rw here at new in cc
+  comes (Some other) is (suc m) at later = later m at
+
+pub client-known : (n : ℕ) (log : Log) (link : LinkId) → client_link n log ≡ Some link → IsNew link log → ⊥
+client-known zero log link has new = cc
+client-known (suc n) log link has new = known-at log n link has new
+
+-- a link that is new is none that is known
+new-apart : (known link : LinkId) (log : Log) → (IsNew known log → ⊥) → IsNew link log → nat_eq known.0 link.0 ≡ false
+new-apart known link log is_known new = elim (bool_cases (nat_eq known.0 link.0)) [
+  | inl same ↦ absurd (is_known (ap (λ n. of_link (record { 0 = n }) log) (eqb-true known.0 link.0 same) ∙ new))
+  | inr apart ↦ apart
+]
+
+-- What a new link is apart from.
+module _ (core : Core) (refused : List Turn) (log : Log) (sessions : TracksSessions core refused log) (links : TracksLinks core log) (new : LinkId) (fresh : IsNew new log) where
+  pub fresh-client : (n : ℕ) (link : LinkId) → client_link n log ≡ Some link → nat_eq link.0 new.0 ≡ false
+  fresh-client n link is = new-apart link new log (client-known n log link is) fresh
+
+  pub fresh-session : (key : ℕ) (session : Session) → session_at core key ≡ Some session → nat_eq session.link.0 new.0 ≡ false
+  fresh-session key session at = fresh-client session.number.0 session.link (sessions.has key session at).number
+
+  pub fresh-open : (link : LinkId) → IsOpen link log → nat_eq link.0 new.0 ≡ false
+  fresh-open link opened = nat_eq-sym new.0 link.0 (open-apart new link log (new-shut new log fresh) opened)
+
+  pub fresh-upstream : (key : ℕ) (session : Session) (link : LinkId) → session_at core key ≡ Some session → upstream_link session.upstream ≡ Some link → nat_eq link.0 new.0 ≡ false
+  fresh-upstream key session link at up = fresh-open link (links.server key session link at up).opened
+
+  pub fresh-apart : (key : ℕ) (session : Session) → session_at core key ≡ Some session → IsApart (upstream_link session.upstream) new
+  fresh-apart key session at = by (upstream_link session.upstream) refl where
+    by : (up : Option LinkId) → upstream_link session.upstream ≡ up → IsApart up new
+    by None up = tt
+    by (Some link) up = fresh-upstream key session link at up
+
+  pub fresh-unplaced : place_of core new ≡ None
+  fresh-unplaced = by (place_of core new) refl where
+    by : (p : Option Place) → place_of core new ≡ p → place_of core new ≡ None
+    by None is = is
+    by (Some (place.Client key)) is =
+        let there = links.placed new (place.Client key) is in
+        let no : true ≡ false = sym (same_number new.0) ∙ sym (ap (λ (l : LinkId). nat_eq l.0 new.0) there.2) ∙ fresh-session key there.0 there.1 in
+        absurd (cc)
+    by (Some (place.Server key)) is =
+        let there = links.placed new (place.Server key) is in
+        let no : true ≡ false = sym (same_number new.0) ∙ fresh-upstream key there.0 new there.1 there.2 in
+        absurd (cc)
+
+  -- an entry by which it comes passes the sessions
+  pub fresh-passes : (e : Entry) → link_of e ≡ Some new → ((n i : ℕ) → carrier n i e ≡ None) → (key : ℕ) (session : Session) → session_at core key ≡ Some session → Passes session log e
+  fresh-passes e of nothing key session at = passes-other session log e new of (fresh-session key session at) (fresh-apart key session at) (λ i. nothing session.number.0 i)
+
+-- nothing was read of a new link, and nothing was written on it
+pub new-bytes : (f : Entry → List ℕ) (link : LinkId) (log : Log) (e : Entry) → f e ≡ [] → IsNew link log → flat_map f (of_link link (log ++ e ∷ [])) ≡ []
+new-bytes f link log e idle fresh = bytes-idle f link log e idle ∙ ap (flat_map f) fresh
+
+-- A client comes.
 
 accepted-few : (log : Log) → length (accepted_links log) ≤ length log
 accepted-few [] = omega arith
@@ -40,218 +107,31 @@ accepted-few (e ∷ log) = by (accepted_link e) (accepted-few log) where
   by None few = omega arith
   by (Some link) few = omega arith
 
--- one more client came
-counted-clients : (core : Core) (log : Log) (e : Entry) (link : LinkId) → accepted_link e ≡ Some link → MayFollow log e → core.accepted ≡ length (accepted_links log) → counted core.accepted ≡ length (accepted_links (log ++ e ∷ []))
-counted-clients core log e link is may was =
-    let one : counted core.accepted ≡ core.accepted + 1 = counted-one core.accepted (omega (arith, accepted-few log, may.bounded)) in
-    let more : length (accepted_links (log ++ e ∷ [])) ≡ length (accepted_links log) + 1 = ap length (accepted_links-new log e link is) ∙ length-append (accepted_links log) (link ∷ []) in
-    omega arith
+module _ (old : Core) (log : Log) (port : Port) (link : LinkId) (salt : List ℕ) (refused : List Turn) (may : MayFollow log (entry.Accepted port link salt)) (sessions : TracksSessions old refused log) (links : TracksLinks old log) where
+  pub fresh : IsNew link log
+  fresh = may.fits.fresh
 
-number-is : (n k : ℕ) → n ≡ k → nat_eq n k ≡ false → ⊥
-number-is n k same apart = (let here : nat_eq k k ≡ false = subst (λ (m : ℕ). nat_eq m k ≡ false) same apart in let no_way : true ≡ false = sym (same_number k) ∙ here in absurd (cc))
+  pub more-clients : length (accepted_links (log ++ entry.Accepted port link salt ∷ [])) ≡ length (accepted_links log) + 1
+  more-clients = ap length (accepted_links-new log (entry.Accepted port link salt) link refl) ∙ length-append (accepted_links log) (link ∷ [])
 
-came-nothing : (port : Port) (link : LinkId) (salt : List ℕ) → CarriesNothing (entry.Accepted port link salt)
-came-nothing port link salt = record { no_carrier = λ n i. refl; no_bytes = λ n i. refl }
+  pub counted-clients : counted old.accepted ≡ length (accepted_links (log ++ entry.Accepted port link salt ∷ []))
+  counted-clients =
+      let was : old.accepted ≡ length (accepted_links log) = sessions.accepted in
+      let one : counted old.accepted ≡ old.accepted + 1 = counted-one old.accepted (omega (arith, accepted-few log, may.bounded)) in
+      omega (arith, more-clients)
 
--- nothing was read of a new link, and nothing was written on it
-new-bytes : (f : Entry → List ℕ) (link : LinkId) (log : Log) (e : Entry) → f e ≡ [] → IsNew link log → flat_map f (of_link link (log ++ e ∷ [])) ≡ []
-new-bytes f link log e idle fresh = bytes-idle f link log e idle ∙ ap (flat_map f) fresh
+  pub number-is : counted old.accepted ≡ suc (length (accepted_links log))
+  number-is = (let c = counted-clients in let m = more-clients in omega arith)
 
--- the first client
-pub tracks-first : (old new : Core) (log : Log) (port : Port) (link : LinkId) (salt : List ℕ) → MayFollow log (entry.Accepted port link salt) → ComesFirst old link new → Tracks old log → Tracks new (log ++ entry.Accepted port link salt ∷ [])
-tracks-first old new log port link salt may comes was =
-    tracks-with new (first_client link (counted old.accepted)) (log ++ e ∷ []) comes.client (comes.accepted ∙ counted-clients old log e link refl may was.accepted)
-    (subst (λ (links : List LinkId). AreHeld links (log ++ e ∷ [])) (sym (ap (λ xs. (xs ++ server_links new.server) ++ link ∷ []) comes.refused ∙ ap (λ s. (old.refused.items ++ server_links s) ++ link ∷ []) comes.server))
-    (held-comes (old.refused.items ++ server_links old.server) [] link log e may.fits.fresh refl refl refl
-    (subst (λ (k : Option Client). AreHeld ((old.refused.items ++ server_links old.server) ++ client_links k) log) comes.none was.held)))
-    (subst (λ (s : Option Server). IsServers s (log ++ e ∷ [])) (sym (comes.server ∙ none.no_server)) tt)
-    (subst (λ (s : Option Server). HasClient (first_client link (counted old.accepted)) s (log ++ e ∷ [])) (sym (comes.server ∙ none.no_server)) (record {
-      number = subst (λ (n : ℕ). client_link n (log ++ e ∷ []) ≡ Some link) (sym number) (client_link-new log e link refl);
-      others = λ n other is apart. elim (client_link-back n log e link other refl is) [
-        | inl before ↦ record {
-          apart = nat_eq-sym other.0 link.0 (new-apart other link log (client-known n log other before) may.fits.fresh);
-          silent = bytes-idle wrote_bytes other log e refl ∙ none.silent n other before;
-        }
-        | inr now ↦ absurd (number-is n (counted old.accepted) (now.0 ∙ sym number) apart)
-      ];
-      state = (
-        record {
-          framer = record { limited = refl; unfound = refl; faultless = refl };
-          done = [];
-          count = refl;
-          so_far = record {
-            past = subst (λ (xs : List ℕ). Rattle.session_core.specs.Past.Past xs [] []) (sym (new-bytes got_bytes link log e refl may.fits.fresh)) past-none;
-            before = [];
-            answered = refl;
-            is_last = None_yet;
-            is = ap (λ xs. xs ++ []) (new-bytes wrote_bytes link log e refl may.fits.fresh);
-          };
-        },
-        first_message-empty most_payload 0,
-      );
-      served = tt;
-      unsent = λ i later. unsent-more (counted old.accepted) i log e (came-nothing port link salt) (none.unsent (counted old.accepted) i);
-      shut = tt;
-    })) where
-      e : Entry
-      e = entry.Accepted port link salt
+  -- the clients that were there
+  pub session-on : (service : Rattle.client_session.specs.Headline.Service) (key : ℕ) (session : Session) → session_at old key ≡ Some session → HasSession service session log → HasSession service session (log ++ entry.Accepted port link salt ∷ [])
+  session-on service key session at has = session-stays service session log (entry.Accepted port link salt) (fresh-passes old refused log sessions links link fresh (entry.Accepted port link salt) refl (λ n i. refl) key session at) has
 
-      none : HasNone old.server log
-      none = subst (λ (k : Option Client). MayHaveClient k old.server log) comes.none was.client
+  pub over-on : (service : Rattle.client_session.specs.Headline.Service) (n : ℕ) (other : LinkId) → client_link n log ≡ Some other → WasAnswered (replies_to service n log) (read_of other log) (written_of other log)
+      → WasAnswered (replies_to service n (log ++ entry.Accepted port link salt ∷ [])) (read_of other (log ++ entry.Accepted port link salt ∷ [])) (written_of other (log ++ entry.Accepted port link salt ∷ []))
+  over-on service n other is was = subst (λ (xs : List ℕ). WasAnswered (replies_to service n (log ++ entry.Accepted port link salt ∷ [])) xs (written_of other (log ++ entry.Accepted port link salt ∷ []))) (sym (bytes-idle got_bytes other log (entry.Accepted port link salt) refl))
+      (subst (λ (xs : List ℕ). WasAnswered (replies_to service n (log ++ entry.Accepted port link salt ∷ [])) (read_of other log) xs) (sym (bytes-idle wrote_bytes other log (entry.Accepted port link salt) refl))
+      (was_answered-stays (replies_to service n log) (replies_to service n (log ++ entry.Accepted port link salt ∷ [])) (read_of other log) (written_of other log) (replies-stay service n log (entry.Accepted port link salt)) was))
 
-      number : counted old.accepted ≡ suc (length (accepted_links log))
-      number = counted-clients old log e link refl may was.accepted ∙ ap length (accepted_links-new log e link refl) ∙ length-append (accepted_links log) (link ∷ []) ∙ (let one : length (accepted_links log) + 1 ≡ suc (length (accepted_links log)) = omega arith in one)
-
--- a link that was closed stays so, as another comes
-shut-other : (phase : Phase) (link new : LinkId) (log : Log) (e : Entry) → link_of e ≡ Some new → nat_eq link.0 new.0 ≡ false → IsShut phase link log → IsShut phase link (log ++ e ∷ [])
-shut-other Idle link new log e of apart shut = tt
-shut-other (Working command) link new log e of apart shut = tt
-shut-other Ending link new log e of apart shut = tt
-shut-other Leaving link new log e of apart shut = tt
-shut-other Gone link new log e of apart shut = step-other open_step false link log e (let other : is_link link (link_of e) ≡ false = rw of apart in other) ∙ shut
-
--- A link comes, of which the client isn't told.
-record Comes_by (log : Log) (new : LinkId) (e : Entry) : Type 0 where
-  of : link_of e ≡ Some new
-  fresh : IsNew new log
-  no_read : got_bytes e ≡ []
-  no_write : wrote_bytes e ≡ []
-  nothing : CarriesNothing e
-  clients : (n : ℕ) (link : LinkId) → client_link n (log ++ e ∷ []) ≡ Some link → (client_link n log ≡ Some link) ⊎ (new ≡ link)
-
-other-client : (client : Client) (server : Option Server) (log : Log) (new : LinkId) (e : Entry) → Comes_by log new e → HasClient client server log → HasClient client server (log ++ e ∷ [])
-other-client client server log new e comes has =
-    let apart : nat_eq client.link.0 new.0 ≡ false = new-apart client.link new log (client-known client.number.0 log client.link has.number) comes.fresh in
-    let read : read_of client.link (log ++ e ∷ []) ≡ read_of client.link log = bytes-idle got_bytes client.link log e comes.no_read in
-    let written : written_of client.link (log ++ e ∷ []) ≡ written_of client.link log = bytes-idle wrote_bytes client.link log e comes.no_write in
-    record {
-      number = client_link-more client.number.0 log e client.link has.number;
-      others = λ n other is number. elim (comes.clients n other is) [
-        | inl before ↦ (let was = has.others n other before number in record { apart = was.apart; silent = bytes-idle wrote_bytes other log e comes.no_write ∙ was.silent })
-        | inr now ↦ subst (λ (l : LinkId). IsOther client.link l (log ++ e ∷ [])) now (record { apart = apart; silent = new-bytes wrote_bytes new log e comes.no_write comes.fresh })
-      ];
-      state = rw (read, written) (at-stays client.phase client (replies_to client.number.0 log) (replies_to client.number.0 (log ++ e ∷ [])) (read_of client.link log) (written_of client.link log) (replies-stay client.number.0 log e) has.state);
-      served = served-more client.phase client.number.0 client.arrived server log e comes.nothing (reads-no_reply server e comes.no_read) has.served;
-      unsent = λ i later. unsent-more client.number.0 i log e comes.nothing (has.unsent i later);
-      shut = shut-other client.phase client.link new log e comes.of apart has.shut;
-    }
-
-other-may : (client : Option Client) (server : Option Server) (log : Log) (new : LinkId) (e : Entry) → Comes_by log new e → MayHaveClient client server log → MayHaveClient client server (log ++ e ∷ [])
-other-may (Some client) server log new e comes has = other-client client server log new e comes has
-other-may None server log new e comes has = record {
-  no_server = has.no_server;
-  silent = λ n link is. elim (comes.clients n link is) [
-    | inl before ↦ bytes-idle wrote_bytes link log e comes.no_write ∙ has.silent n link before
-    | inr now ↦ subst (λ (l : LinkId). written_of l (log ++ e ∷ []) ≡ []) now (new-bytes wrote_bytes new log e comes.no_write comes.fresh)
-  ];
-  unsent = λ n i. unsent-more n i log e comes.nothing (has.unsent n i);
-}
-
-other-servers : (server : Option Server) (log : Log) (new : LinkId) (e : Entry) → Comes_by log new e → ((s : Server) → server ≡ Some s → IsOpen s.link log) → IsServers server log → IsServers server (log ++ e ∷ [])
-other-servers None log new e comes opened is = tt
-other-servers (Some server) log new e comes opened is = λ n other has. elim (comes.clients n other has) [
-  | inl before ↦ is n other before
-  | inr now ↦ subst (λ (l : LinkId). nat_eq server.link.0 l.0 ≡ false) now (nat_eq-sym new.0 server.link.0 (open-apart new server.link log (new-shut new log comes.fresh) (opened server refl)))
-]
-
--- the links held, with one more that is to be closed
-refused-held : (refused back more : List LinkId) (new : LinkId) → ((refused ++ new ∷ []) ++ back) ++ more ≡ refused ++ new ∷ (back ++ more)
-refused-held refused back more new = ap (λ xs. xs ++ more) (append_assoc refused (new ∷ []) back) ∙ append_assoc refused (new ∷ back) more
-
-server-open : (core : Core) (log : Log) (server : Server) → core.server ≡ Some server → Tracks core log → IsOpen server.link log
-server-open core log server on was =
-    held-at core.refused.items (client_links core.client) server.link log
-    (subst (λ (links : List LinkId). AreHeld links log) (append_assoc core.refused.items (server.link ∷ []) (client_links core.client))
-    (subst (λ (s : Option Server). AreHeld ((core.refused.items ++ server_links s) ++ client_links core.client) log) on was.held))
-
--- a link that is to be closed again
-tracks-needless : (old new : Core) (log : Log) (link : LinkId) (e : Entry) → Comes_by log link e → (open_step true e ≡ true) → (open_step false e ≡ true) → new.client ≡ old.client → new.server ≡ old.server → new.refused.items ≡ old.refused.items ++ link ∷ []
-    → new.accepted ≡ length (accepted_links (log ++ e ∷ [])) → Tracks old log → Tracks new (log ++ e ∷ [])
-tracks-needless old new log link e comes keeps opens client server refused accepted was = record {
-  accepted = accepted;
-  held = subst (λ (links : List LinkId). AreHeld links (log ++ e ∷ [])) (sym (
-      ap (λ xs. (xs ++ server_links new.server) ++ client_links new.client) refused ∙ ap (λ s. ((old.refused.items ++ link ∷ []) ++ server_links s) ++ client_links new.client) server
-      ∙ ap (λ k. ((old.refused.items ++ link ∷ []) ++ server_links old.server) ++ client_links k) client ∙ refused-held old.refused.items (server_links old.server) (client_links old.client) link))
-      (held-comes old.refused.items (server_links old.server ++ client_links old.client) link log e comes.fresh keeps opens comes.of
-      (subst (λ (links : List LinkId). AreHeld links log) (append_assoc old.refused.items (server_links old.server) (client_links old.client)) was.held));
-  servers = subst (λ (s : Option Server). IsServers s (log ++ e ∷ [])) (sym server) (other-servers old.server log link e comes (λ s on. server-open old log s on was) was.servers);
-  client = subst (λ (k : Option Client). MayHaveClient k new.server (log ++ e ∷ [])) (sym client) (subst (λ (s : Option Server). MayHaveClient old.client s (log ++ e ∷ [])) (sym server) (other-may old.client old.server log link e comes was.client));
-}
-
-client-comes : (log : Log) (port : Port) (link : LinkId) (salt : List ℕ) → IsNew link log → Comes_by log link (entry.Accepted port link salt)
-client-comes log port link salt fresh = record {
-  of = refl;
-  fresh = fresh;
-  no_read = refl;
-  no_write = refl;
-  nothing = came-nothing port link salt;
-  clients = λ n other is. elim (client_link-back n log (entry.Accepted port link salt) link other refl is) [ inl before ↦ inl before | inr now ↦ inr now.1 ];
-}
-
--- a client comes
-pub tracks-came : (old new : Core) (log : Log) (port : Port) (link : LinkId) (salt : List ℕ) (first : Bool) → MayFollow log (entry.Accepted port link salt) → Comes first old link new → Tracks old log → Tracks new (log ++ entry.Accepted port link salt ∷ [])
-tracks-came old new log port link salt true may comes was = tracks-first old new log port link salt may comes was
-tracks-came old new log port link salt false may comes was =
-    tracks-needless old new log link (entry.Accepted port link salt) (client-comes log port link salt may.fits.fresh) refl refl comes.client comes.server comes.refused
-    (comes.accepted ∙ counted-clients old log (entry.Accepted port link salt) link refl may was.accepted) was
-
-server-comes : (log : Log) (server : ServerId) (address : Address) (link : LinkId) → IsNew link log → Comes_by log link (entry.Opened server address link)
-server-comes log server address link fresh = record {
-  of = refl;
-  fresh = fresh;
-  no_read = refl;
-  no_write = refl;
-  nothing = record { no_carrier = λ n i. refl; no_bytes = λ n i. refl };
-  clients = λ n other is. inl (sym (client_link-same n log (entry.Opened server address link) refl) ∙ is);
-}
-
-work-waits : (phase : Phase) (n i : ℕ) (log : Log) (server : Server) → is_working phase ≡ true → MayBeFree (Some server) → IsServedBy phase n i None log → IsServedBy phase n i (Some server) log
-work-waits Idle n i log server work free served = cc
-work-waits (Working command) n i log server work free served = record { carried = waits served.carried; sent = served.sent } where
-  waits : IsCarried n i command None log → IsCarried n i command (Some server) log
-  waits (Unsent none not_sending nobody) = Unsent none not_sending free
-  waits (Begun carrier_link since is some on framer kept none) = cc
-work-waits Ending n i log server work free served = cc
-work-waits Leaving n i log server work free served = cc
-work-waits Gone n i log server work free served = cc
-
--- a link to the server is open for the command in work
-tracks-opened-for : (old new : Core) (log : Log) (id : ServerId) (address : Address) (link : LinkId) → MayFollow log (entry.Opened id address link) → OpensFor old link new → Tracks old log → Tracks new (log ++ entry.Opened id address link ∷ [])
-tracks-opened-for old new log id address link may opens was = by old.client refl opens.work where
-  e : Entry
-  e = entry.Opened id address link
-
-  fresh : Server
-  fresh = record { link = link; framer = reading [] }
-
-  free : MayBeFree (Some fresh)
-  free = record { framer = record { limited = refl; unfound = refl; faultless = refl }; kept = refl }
-
-  by : (client : Option Client) → old.client ≡ client → has_work client ≡ true → Tracks new (log ++ e ∷ [])
-  by None is work = cc
-  by (Some client) is work =
-      let has = subst (λ (s : Option Server). HasClient client s log) opens.none (has-with old client log is was) in
-      let on = other-client client None log link e (server-comes log id address link may.fits) has in
-      tracks-with new client (log ++ e ∷ []) (opens.client ∙ is) (opens.accepted ∙ was.accepted ∙ sym (ap length (accepted_links-same log e refl)))
-      (subst (λ (links : List LinkId). AreHeld links (log ++ e ∷ [])) (sym (
-      ap (λ xs. (xs ++ server_links new.server) ++ while_held client.link client.phase) opens.refused ∙ ap (λ s. (old.refused.items ++ server_links s) ++ while_held client.link client.phase) opens.server
-      ∙ append_assoc old.refused.items (link ∷ []) (while_held client.link client.phase)))
-      (held-comes old.refused.items (while_held client.link client.phase) link log e may.fits refl refl refl
-      (subst (λ (links : List LinkId). AreHeld links log) (ap (λ xs. xs ++ while_held client.link client.phase) (append-nil old.refused.items))
-      (subst (λ (s : Option Server). AreHeld ((old.refused.items ++ server_links s) ++ while_held client.link client.phase) log) opens.none (held-with old client log is was)))))
-      (subst (λ (s : Option Server). IsServers s (log ++ e ∷ [])) (sym opens.server)
-      (λ n other there. nat_eq-sym other.0 link.0 (let before : client_link n log ≡ Some other = sym (client_link-same n log e refl) ∙ there in new-apart other link log (client-known n log other before) may.fits)))
-      (subst (λ (s : Option Server). HasClient client s (log ++ e ∷ [])) (sym opens.server) (record {
-        number = on.number;
-        others = on.others;
-        state = on.state;
-        served = work-waits client.phase client.number.0 client.arrived (log ++ e ∷ []) fresh work free on.served;
-        unsent = on.unsent;
-        shut = on.shut;
-      }))
-
-pub tracks-opened : (wanted : Bool) (old new : Core) (log : Log) (id : ServerId) (address : Address) (link : LinkId) → MayFollow log (entry.Opened id address link) → OpensLink wanted old link new → Tracks old log → Tracks new (log ++ entry.Opened id address link ∷ [])
-tracks-opened true old new log id address link may used was = tracks-opened-for old new log id address link may used was
-tracks-opened false old new log id address link may needless was =
-    tracks-needless old new log link (entry.Opened id address link) (server-comes log id address link may.fits) refl refl needless.client needless.server needless.refused
-    (needless.accepted ∙ was.accepted ∙ sym (ap length (accepted_links-same log (entry.Opened id address link) refl))) was
+  pub later-on : (n i : ℕ) → length (accepted_links (log ++ entry.Accepted port link salt ∷ [])) < n → Rattle.client_session.specs.Stands.IsNext (service_of old refused) n i (log ++ entry.Accepted port link salt ∷ [])
+  later-on n i more = next-passes (service_of old refused) (service_of old refused) n i log (entry.Accepted port link salt) (same_for (service_of old refused) n) refl (sessions.later n i (let m = more-clients in omega arith))

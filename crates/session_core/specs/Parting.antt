@@ -1,117 +1,86 @@
--- What the core stands for as it closes links.
-use Rattle.std.specs.Prelude.{◌≡◌, false, nat_eq, List, [], ◌∷◌, ◌++◌, length, Option, Some, None, refl}
-use Rattle.std.proofs.Common.{sym, ◌∙◌, ap, subst, append-nil, append_assoc}
+-- What the core stands for as links close.
+use Rattle.std.specs.Prelude.{◌≡◌, ℕ, false, [], ◌∷◌, ◌++◌, Option, Some, None, refl}
+use Rattle.std.proofs.Common.{sym, ◌∙◌, ap}
 use Rattle.mx_base.specs.declared.names.LinkId.{LinkId}
-use Rattle.mx_wire.specs.Log.{Log, IsMark, AreMarks}
+use Rattle.mx_wire.specs.Log.{Log, AreMarks, link_of, got_bytes, wrote_bytes, accepted_link}
 use Rattle.mx_wire.specs.Tells.{IsOpen}
-use Rattle.mx_wire.specs.Growth.{nat_eq-sym}
 use Rattle.mx_wire.specs.declared.entry.Entry.{Entry}
 use Rattle.mx_wire.specs.declared.entry.Entry.TheVariants as entry
+use Rattle.ready_loop.specs.Machine.{Closes, IsFarewell}
 use Rattle.ready_loop.specs.Sent.{Sent}
-use Rattle.ready_loop.specs.Machine.{IsFarewell, Closes}
-use Rattle.session_core.specs.declared.phase.Phase.{Phase}
-use Rattle.session_core.specs.declared.phase.Phase.TheVariants.{Idle, Working, Ending, Leaving, Gone}
-use Rattle.session_core.specs.declared.client.Client.{Client}
-use Rattle.session_core.specs.declared.server.Server.{Server}
+use Rattle.client_session.specs.declared.session.Session.{Session}
+use Rattle.client_session.specs.Growth.{client_link-append}
+use Rattle.client_session.specs.Headline.{client_link, is_failure, IsLawful}
+use Rattle.client_session.specs.Passing.{IsApart}
+use Rattle.client_session.specs.Rest.{RestsAt}
+use Rattle.client_session.specs.Sending.{carrier}
+use Rattle.client_session.specs.Stands.{upstream_link}
 use Rattle.session_core.specs.declared.router.Core.{Core}
-use Rattle.session_core.specs.Growth.{accepted_links-same}
-use Rattle.session_core.specs.Held.{AllApart, AreHeld, held-at, open-apart, held-closed, held-apart-from}
-use Rattle.session_core.specs.Stands.{server_links, while_held, client_links, IsShut, MayHaveClient, IsServers, Tracks, Stands, is_client, is_server, sends, due_in}
-use Rattle.session_core.specs.Still.{few-still, stands-more}
-use Rattle.session_core.specs.Quiet.{IsStill, servers-same, may_have-passes, is-quiet, still-on}
-use Rattle.session_core.specs.Rest.{RestsAt}
+use Rattle.session_core.specs.Cores.{session_at, target_of}
+use Rattle.session_core.specs.Acting.{sends}
+use Rattle.session_core.specs.Links.{links-passed}
+use Rattle.session_core.specs.Opening.{KeepsOpen}
+use Rattle.session_core.specs.Passing.{IsEmpty, passes-all_empty, sessions-passed}
+use Rattle.session_core.specs.Quiet.{upholds-marks, links-marks}
+use Rattle.session_core.specs.Stands.{TracksLinks, Upholds, Stands, due_in}
+use Rattle.session_core.specs.Upholding.{few-still, upholds-more}
 
--- Entries that the core isn't told of.
+-- Entries of a link to which no session sends.
 
-pub mark-still : (e : Entry) → IsMark e → IsStill e
-mark-still (entry.Exec link) mark = is-quiet (entry.Exec link) tt
-mark-still (entry.Drop link) mark = is-quiet (entry.Drop link) tt
-mark-still _ mark = absurd mark
+-- no session has it for its server
+abbrev pub NoUpstream : Core → LinkId → Type 0
+NoUpstream core link = (key : ℕ) (session : Session) → session_at core key ≡ Some session → IsApart (upstream_link session.upstream) link
 
-pub mark-rests : (log : Log) (e : Entry) → IsMark e → RestsAt log e
-mark-rests log (entry.Exec link) mark = tt
-mark-rests log (entry.Drop link) mark = tt
-mark-rests log _ mark = absurd mark
+upholds-empty : (core : Core) (link : LinkId) (log : Log) (e : Entry) → NoUpstream core link → IsEmpty e link → IsLawful (target_of core.target) log e → RestsAt (target_of core.target) log e → Upholds core log → Upholds core (log ++ e ∷ [])
+upholds-empty core link log e none empty law rest held = upholds-more core core held.refused log e refl (few-still log e empty.no_read held.few) held law rest
+    (sessions-passed core held.refused log e (passes-all_empty core log e link empty none) held.sessions)
 
-marks-on : (core : Core) (log marks : Log) → AreMarks marks → Stands core log → Stands core (log ++ marks)
-marks-on core log [] all held = subst (λ (l : Log). Stands core l) (sym (append-nil log)) held
-marks-on core log (e ∷ marks) all held = subst (λ (l : Log). Stands core l) (append_assoc log (e ∷ []) marks) (marks-on core (log ++ e ∷ []) marks all.1 (still-on core log e (mark-still e all.0) (mark-rests log e all.0) held))
+empty-of : (e : Entry) (link : LinkId) → link_of e ≡ Some link → accepted_link e ≡ None → is_failure e ≡ false → got_bytes e ≡ [] → wrote_bytes e ≡ [] → ((n i : ℕ) → carrier n i e ≡ None) → IsEmpty e link
+empty-of e link of no_client no_failure no_read no_write nothing = record { of = of; no_client = no_client; no_failure = no_failure; no_read = no_read; no_write = no_write; nothing = nothing }
 
--- A link that is to be closed closes.
+pub upholds-closed : (core : Core) (link : LinkId) (log : Log) → NoUpstream core link → Upholds core log → Upholds core (log ++ entry.Closed link ∷ [])
+upholds-closed core link log none held = upholds-empty core link log (entry.Closed link) none (empty-of (entry.Closed link) link refl refl refl refl refl (λ n i. refl)) tt tt held
 
-pub record Drops (old new : Core) (link : LinkId) : Type 0 where
-  pub refused : old.refused.items ≡ new.refused.items ++ link ∷ []
-  pub server : new.server ≡ old.server
-  pub client : new.client ≡ old.client
-  pub accepted : new.accepted ≡ old.accepted
+-- a farewell without bytes
+pub upholds-silent : (core : Core) (lent : Option Sent) (link : LinkId) (log : Log) (e : Entry) → NoUpstream core link → lent ≡ None → IsFarewell lent link e → Upholds core log → Upholds core (log ++ e ∷ [])
+upholds-silent core lent link log (entry.Wrote to tag bytes) none nothing farewell held = absurd (let no_way : ◌≡◌ {A = Option Sent} None (Some farewell.1.sent) = sym nothing ∙ farewell.1.is in cc)
+upholds-silent core lent link log (entry.WriteNothing to) none nothing farewell held = upholds-empty core link log (entry.WriteNothing to) none (empty-of (entry.WriteNothing to) link (ap (λ (l : LinkId). Some l) farewell) refl refl refl refl (λ n i. refl)) tt tt held
+upholds-silent core lent link log (entry.WriteFailed to) none nothing farewell held = upholds-empty core link log (entry.WriteFailed to) none (empty-of (entry.WriteFailed to) link (ap (λ (l : LinkId). Some l) farewell) refl refl refl refl (λ n i. refl)) tt tt held
+upholds-silent core lent link log _ none nothing farewell held = absurd farewell
 
-links-behind : (front server client : List LinkId) (link : LinkId) → ((front ++ link ∷ []) ++ server) ++ client ≡ front ++ link ∷ (server ++ client)
-links-behind front server client link = ap (λ xs. xs ++ client) (append_assoc front (link ∷ []) server) ∙ append_assoc front (link ∷ server) client
+farewell-keeps : (lent : Option Sent) (link : LinkId) (e : Entry) → IsFarewell lent link e → KeepsOpen e × (accepted_link e ≡ None)
+farewell-keeps lent link (entry.Wrote to tag bytes) farewell = (record { keeps = refl; opens_none = refl }, refl)
+farewell-keeps lent link (entry.WriteNothing to) farewell = (record { keeps = refl; opens_none = refl }, refl)
+farewell-keeps lent link (entry.WriteFailed to) farewell = (record { keeps = refl; opens_none = refl }, refl)
+farewell-keeps lent link _ farewell = absurd farewell
 
-dropped-held : (old new : Core) (link : LinkId) (log : Log) → Drops old new link → Tracks old log → AreHeld (new.refused.items ++ link ∷ (server_links old.server ++ client_links old.client)) log
-dropped-held old new link log drops was = subst (λ (links : List LinkId). AreHeld links log)
-    (ap (λ xs. (xs ++ server_links old.server) ++ client_links old.client) drops.refused ∙ links-behind new.refused.items (server_links old.server) (client_links old.client) link) was.held
+-- the links of the core before, behind the farewell and the marks
+pub links-behind : (core : Core) (lent : Option Sent) (link : LinkId) (log : Log) (e : Entry) (marks : Log) → IsFarewell lent link e → AreMarks marks → TracksLinks core log → TracksLinks core (log ++ e ∷ [] ++ marks)
+links-behind core lent link log e marks farewell all links =
+    let keeps = farewell-keeps lent link e farewell in
+    links-marks core (log ++ e ∷ []) marks all (links-passed core log e keeps.0 keeps.1 links)
 
-tracks-dropped : (old new : Core) (link : LinkId) (log : Log) → Drops old new link → Tracks old log → Tracks new (log ++ entry.Closed link ∷ [])
-tracks-dropped old new link log drops was = record {
-  accepted = drops.accepted ∙ was.accepted ∙ sym (ap length (accepted_links-same log (entry.Closed link) refl));
-  held = subst (λ (links : List LinkId). AreHeld links (log ++ entry.Closed link ∷ []))
-      (sym (append_assoc new.refused.items (server_links old.server) (client_links old.client)) ∙ ap (λ s. (new.refused.items ++ server_links s) ++ client_links old.client) (sym drops.server) ∙ ap (λ k. (new.refused.items ++ server_links new.server) ++ client_links k) (sym drops.client))
-      (held-closed new.refused.items (server_links old.server ++ client_links old.client) link log (dropped-held old new link log drops was));
-  servers = subst (λ (s : Option Server). IsServers s (log ++ entry.Closed link ∷ [])) (sym drops.server) (servers-same old.server log (entry.Closed link) refl was.servers);
-  client = subst (λ (k : Option Client). MayHaveClient k new.server (log ++ entry.Closed link ∷ [])) (sym drops.client)
-      (subst (λ (s : Option Server). MayHaveClient old.client s (log ++ entry.Closed link ∷ [])) (sym drops.server) (may_have-passes old.client old.server log (entry.Closed link) refl refl refl (record { no_carrier = λ n i. refl; no_bytes = λ n i. refl }) refl was.client));
-}
+-- A link closes that a core has no bytes for.
 
--- nothing is to be written on it
-apart-sends : (core : Core) (link : LinkId) → is_client core.client link ≡ false → is_server core.server link ≡ false → sends core link ≡ None
-apart-sends core link client server = rw (client, server) refl
+-- each session's client has its number
+pub record HasNumbers (core : Core) (log : Log) : Type 0 where
+  pub each : (key : ℕ) (session : Session) → session_at core key ≡ Some session → client_link session.number.0 log ≡ Some session.link
 
-not-client : (client : Option Client) (link : LinkId) (log : Log) (server : Option Server) → MayHaveClient client server log → IsOpen link log → AllApart link (client_links client) → is_client client link ≡ false
-not-client None link log server has opened apart = refl
-not-client (Some client) link log server has opened apart = by client.phase refl has.shut apart where
-  by : (phase : Phase) → client.phase ≡ phase → IsShut phase client.link log → AllApart link (while_held client.link phase) → nat_eq client.link.0 link.0 ≡ false
-  by Idle is shut other = nat_eq-sym link.0 client.link.0 other.0
-  by (Working command) is shut other = nat_eq-sym link.0 client.link.0 other.0
-  by Ending is shut other = nat_eq-sym link.0 client.link.0 other.0
-  by Leaving is shut other = nat_eq-sym link.0 client.link.0 other.0
-  by Gone is shut other = open-apart client.link link log shut opened
+pub numbers-of : (core : Core) (log : Log) → Upholds core log → HasNumbers core log
+numbers-of core log held = record { each = λ key session at. (held.sessions.has key session at).number }
 
-not-server : (server : Option Server) (link : LinkId) → AllApart link (server_links server) → is_server server link ≡ false
-not-server None link apart = refl
-not-server (Some server) link apart = nat_eq-sym link.0 server.link.0 apart.0
+pub numbers-more : (core : Core) (log more : Log) → HasNumbers core log → HasNumbers core (log ++ more)
+numbers-more core log more numbers = record { each = λ key session at. client_link-append session.number.0 log more session.link (numbers.each key session at) }
 
-apart-front : (link : LinkId) (front back : List LinkId) → AllApart link (front ++ back) → AllApart link front
-apart-front link [] back apart = tt
-apart-front link (other ∷ front) back apart = (apart.0, apart-front link front back apart.1)
-
-apart-back : (link : LinkId) (front back : List LinkId) → AllApart link (front ++ back) → AllApart link back
-apart-back link [] back apart = apart
-apart-back link (other ∷ front) back apart = apart-back link front back apart.1
-
-dropped-sends : (old new : Core) (link : LinkId) (log : Log) → Drops old new link → Tracks old log → sends new link ≡ None
-dropped-sends old new link log drops was =
-    let held = dropped-held old new link log drops was in
-    let apart = apart-back link new.refused.items (server_links old.server ++ client_links old.client) (held-apart-from new.refused.items (server_links old.server ++ client_links old.client) link log held) in
-    let opened = held-at new.refused.items (server_links old.server ++ client_links old.client) link log held in
-    apart-sends new link
-    (ap (λ k. is_client k link) drops.client ∙ not-client old.client link log old.server was.client opened (apart-back link (server_links old.server) (client_links old.client) apart))
-    (ap (λ s. is_server s link) drops.server ∙ not-server old.server link (apart-front link (server_links old.server) (client_links old.client) apart))
-
-dropped-on : (old new : Core) (link : LinkId) (log : Log) → Drops old new link → Stands old log → Stands new (log ++ entry.Closed link ∷ [])
-dropped-on old new link log drops held = stands-more old new log (entry.Closed link) (few-still log (entry.Closed link) refl held.few) held tt tt (tracks-dropped old new link log drops held.tracks)
-
--- a farewell is none where nothing is to be written
-farewell-on : (old : Core) (lent : Option Sent) (link : LinkId) (log : Log) (e : Entry) → lent ≡ None → IsFarewell lent link e → Stands old log → Stands old (log ++ e ∷ [])
-farewell-on old lent link log (entry.Wrote to tag bytes) none farewell held = absurd (let no_way : ◌≡◌ {A = Option Sent} None (Some farewell.1.sent) = sym none ∙ farewell.1.is in cc)
-farewell-on old lent link log (entry.WriteNothing to) none farewell held = still-on old log (entry.WriteNothing to) (is-quiet (entry.WriteNothing to) tt) tt held
-farewell-on old lent link log (entry.WriteFailed to) none farewell held = still-on old log (entry.WriteFailed to) (record { no_client = refl; no_read = refl; no_write = refl; nothing = record { no_carrier = λ n i. refl; no_bytes = λ n i. refl }; keeps = refl; opens_none = refl; law = λ l. tt }) tt held
-farewell-on old lent link log _ none farewell held = absurd farewell
-
-pub closes-refused : (old new : Core) (link : LinkId) → Drops old new link → Closes Stands due_in old new (sends new link) link
-closes-refused old new link drops = record {
-  opened = λ log held. held-at new.refused.items (server_links old.server ++ client_links old.client) link log (dropped-held old new link log drops held.tracks);
-  plain = record { carried = λ log may is_due held. dropped-on old new link log drops held };
-  offered = λ log e marks farewell all may may_close held.
-      (dropped-on old new link (log ++ e ∷ [] ++ marks) drops (marks-on old (log ++ e ∷ []) marks all (farewell-on old (sends new link) link log e (dropped-sends old new link log drops held.tracks) farewell held)));
+pub closes-silently : (old new : Core) (link : LinkId) → ((log : Log) → HasNumbers old log → TracksLinks old log → TracksLinks new (log ++ entry.Closed link ∷ [])) → ((log : Log) → Stands old log → IsOpen link log) → ((log : Log) → Stands old log → Upholds new log × NoUpstream new link) → ((log : Log) → Stands old log → sends new link ≡ None)
+    → Closes Stands due_in old new (sends new link) link
+closes-silently old new link links opened upholds silent = record {
+  opened = opened;
+  plain = record { carried = λ log may is_due held. (let it = upholds log held in record { upholds = upholds-closed new link log it.1 it.0; links = links log (numbers-of old log held.upholds) held.links }) };
+  offered = λ log e marks farewell all may may_close held. (
+      let it = upholds log held in
+      record {
+        upholds = upholds-closed new link (log ++ e ∷ [] ++ marks) it.1 (upholds-marks new (log ++ e ∷ []) marks all (upholds-silent new (sends new link) link log e it.1 (silent log held) farewell it.0));
+        links = links (log ++ e ∷ [] ++ marks) (numbers-more old (log ++ e ∷ []) marks (numbers-more old log (e ∷ []) (numbers-of old log held.upholds))) (links-behind old (sends new link) link log e marks farewell all held.links);
+      });
 }

@@ -1,252 +1,223 @@
 -- Where the loop may wait, the core has left nothing to do.
-use Rattle.std.specs.Prelude.{◌≡◌, ◌⊎◌, ℕ, suc, ◌+◌, ◌<◌, ◌≤◌, Bool, true, false, ◌||◌, nat_eq, nat_lt, List, [], ◌∷◌, ◌++◌, length, Option, Some, None, IsSome, refl}
-use Rattle.std.proofs.Common.{sym, ◌∙◌, ap, subst, append-nil, append_assoc, inl, inr, arith}
+use Rattle.std.specs.Prelude.{◌≡◌, ◌⊎◌, ℕ, ◌<◌, Bool, true, false, nat_eq, nat_lt, ◌&&◌, ◌||◌, is_some, List, cond, length, Option, Some, None, IsSome, refl}
+use Rattle.std.proofs.Common.{sym, ◌∙◌, ap, subst, inl, inr, arith}
 use Rattle.std.proofs.lemmas.Bool.{eqb-true}
-use Rattle.std.proofs.lemmas.List.{take_all}
 use Rattle.mx_base.specs.declared.names.LinkId.{LinkId}
-use Rattle.mx_wire.specs.Log.{Log, read_of, written_of}
+use Rattle.mx_wire.specs.Log.{Log}
 use Rattle.mx_wire.specs.Tells.{IsOpen}
-use Rattle.mx_wire.specs.Growth.{bool_cases, same_number, nat_eq-sym}
+use Rattle.mx_wire.specs.Growth.{bool_cases, same_number}
 use Rattle.mx_wire.specs.declared.entry.Entry.{Entry}
 use Rattle.mx_wire.specs.declared.entry.Entry.TheVariants as entry
-use Rattle.packet_frame.specs.Packets.{Framed, spelling}
-use Rattle.packet_frame.specs.Packets.Found.{Nothing}
-use Rattle.packet_frame.specs.SpellingLaws.{spelling-some}
 use Rattle.ready_loop.specs.Drained.{read_dry, write_dry, IsDrained, MayWait}
-use Rattle.session_core.specs.declared.phase.Command.{Command}
-use Rattle.session_core.specs.declared.phase.Phase.{Phase}
-use Rattle.session_core.specs.declared.phase.Phase.TheVariants.{Idle, Working, Ending, Leaving, Gone}
-use Rattle.session_core.specs.declared.client.Client.{Client}
-use Rattle.session_core.specs.declared.server.Server.{Server}
+use Rattle.client_session.specs.declared.hear.Server.{Server}
+use Rattle.client_session.specs.declared.phase.Command.{Command}
+use Rattle.client_session.specs.declared.phase.Phase.{Phase}
+use Rattle.client_session.specs.declared.phase.Phase.TheVariants.{Idle, Working, Ending}
+use Rattle.client_session.specs.declared.phase.LinkState.{LinkState}
+use Rattle.client_session.specs.declared.phase.LinkState.TheVariants as link_state
+use Rattle.client_session.specs.declared.phase.Upstream.{Upstream}
+use Rattle.client_session.specs.declared.phase.Upstream.TheVariants as upstream
+use Rattle.client_session.specs.declared.session.Session.{Session}
+use Rattle.client_session.specs.Acts.{act_by, act_of, client_act, wants_link, open_if, is_over}
+use Rattle.client_session.specs.Headline.{client_link, Turn, Service, IsRefusing}
+use Rattle.client_session.specs.Rest.{IsAnswered, IsAtRest, RestsAt}
+use Rattle.client_session.specs.Resting.{IsLeft, session-answered}
+use Rattle.client_session.specs.Sends.{is_read, reply_left, command_left}
+use Rattle.client_session.specs.Stands.{IsDryIn, upstream_link, is_closed}
 use Rattle.session_core.specs.declared.router.Core.{Core}
-use Rattle.session_core.specs.Answers.{client_messages, is_query, answer_to}
-use Rattle.session_core.specs.Sending.{Sending, sending, command_sent, reply_in, reply_to}
-use Rattle.session_core.specs.Headline.{client_link, replies_to, due}
-use Rattle.session_core.specs.Past.{past-next, answers-nothing, answers-next, answers-faulty}
-use Rattle.session_core.specs.Held.{is_among, held-at}
-use Rattle.session_core.specs.Acts.{has_work, client_leaves, is_any, asks}
-use Rattle.session_core.specs.Rest.{IsSentOn, WaitsForReply, IsAnswered, IsAtRest, RestsAt}
-use Rattle.session_core.specs.Rest.AreAnswered.{All, UpTo}
-use Rattle.session_core.specs.Stands.{server_links, while_held, client_links, held_links, IsIdle, IsWorking, IsEnding, IsAt, IsCarried, IsOnItsWay, IsServedBy, HasClient, MayHaveClient, IsServers, Tracks, command_left, is_client, is_server, client_sends, server_sends, sends, reads, due_in}
-use Rattle.session_core.specs.Stands.IsCarried.{Unsent, Begun}
+use Rattle.session_core.specs.declared.router.ServerAt.{ServerAt}
+use Rattle.session_core.specs.declared.place.Place.{Place}
+use Rattle.session_core.specs.declared.place.Place.TheVariants as place
+use Rattle.session_core.specs.Cores.{place_of, session_at, target_of, is_among, open_link, is_link_of}
+use Rattle.session_core.specs.Acting.{session_asks, asks, client_reads, server_reads, reads_at, reads, client_sends, server_sends, sends_at, sends}
+use Rattle.session_core.specs.Stands.{service_of, IsLive, TracksSessions, IsPlaced, TracksLinks, Upholds, Stands, due_in}
+use Rattle.session_core.specs.Links.{or-false, none-refused, quiet-session}
 
-or-false : (a b : Bool) → (a || b) ≡ false → (a ≡ false) × (b ≡ false)
-or-false true b none = cc
-or-false false b none = (refl, none)
+-- whether a server is configured
+pub some-target : (target : Option ServerAt) → is_some (target_of target) ≡ is_some target
+some-target None = refl
+some-target (Some at) = refl
 
--- Which links are open.
+-- A session that asks for nothing.
 
--- the core asks for nothing, so an open link is its server's or its client's
-pub data IsHeldBy (core : Core) (link : LinkId) : Type 0 where
-  AsServer : (server : Server) → core.server ≡ Some server → link ≡ server.link → IsHeldBy core link
-  AsClient : (client : Client) → core.client ≡ Some client → link ≡ client.link → IsHeldBy core link
+pub quiet-act : (core : Core) (session : Session) → session_asks core (Some session) ≡ false → is_some (act_of session) ≡ false
+quiet-act core session quiet = (or-false (is_some (act_of session)) (is_closed session.state && is_some (place_of core session.link)) (or-false (is_some (act_of session) || (is_closed session.state && is_some (place_of core session.link))) (is_over session) quiet).0).0
 
-same-link : (link other : LinkId) → nat_eq link.0 other.0 ≡ true → link ≡ other
-same-link link other same = ap (λ n. let l : LinkId = record { 0 = n } in l) (eqb-true link.0 other.0 same)
+quiet-closed : (core : Core) (session : Session) → session_asks core (Some session) ≡ false → (is_closed session.state && is_some (place_of core session.link)) ≡ false
+quiet-closed core session quiet = (or-false (is_some (act_of session)) (is_closed session.state && is_some (place_of core session.link)) (or-false (is_some (act_of session) || (is_closed session.state && is_some (place_of core session.link))) (is_over session) quiet).0).1
 
--- the last of these
-among-one : (link other : LinkId) → is_among link (other ∷ []) ≡ true → link ≡ other
-among-one link other among = elim (bool_cases (nat_eq link.0 other.0)) [
-  | inl same ↦ same-link link other same
-  | inr apart ↦ (let no : false ≡ true = rw apart at among in absurd (cc))
-]
+closing-asks : (state : LinkState) (session : Session) → is_some (client_act state session) ≡ false → state ≡ link_state.Closing → ⊥
+closing-asks link_state.Open session none is = cc
+closing-asks link_state.Closing session none is = (let no : true ≡ false = none in cc)
+closing-asks link_state.Closed session none is = cc
 
-among-held : (link : LinkId) (client : Client) (phase : Phase) → is_among link (while_held client.link phase) ≡ true → link ≡ client.link
-among-held link client Idle among = among-one link client.link among
-among-held link client (Working command) among = among-one link client.link among
-among-held link client Ending among = among-one link client.link among
-among-held link client Leaving among = among-one link client.link among
-among-held link client Gone among = (let no : false ≡ true = among in absurd (cc))
+act-client : (up : Upstream) (session : Session) → is_some (act_by up session) ≡ false → is_some (client_act session.state session) ≡ false
+act-client upstream.Absent session none = none
+act-client (upstream.Open server) session none = none
+act-client (upstream.Closing link) session none = (let no : true ≡ false = none in absurd (cc))
 
-pub held-by : (core : Core) (log : Log) (link : LinkId) → Tracks core log → asks core ≡ false → IsOpen link log → IsHeldBy core link
-held-by core log link tracks none opened = by core.refused.items core.server core.client refl refl (or-false (is_any core.refused.items) (client_leaves core.client) (or-false (is_any core.refused.items || client_leaves core.client) _ none).0).0 (tracks.held.only link opened) where
-  in_client : (client : Option Client) → core.client ≡ client → is_among link (client_links client) ≡ true → IsHeldBy core link
-  in_client None is among = (let no : false ≡ true = among in absurd (cc))
-  in_client (Some client) is among = AsClient client is (among-held link client client.phase among)
+not-closing : (core : Core) (session : Session) → session_asks core (Some session) ≡ false → session.state ≡ link_state.Closing → ⊥
+not-closing core session quiet = closing-asks session.state session (act-client session.upstream session (quiet-act core session quiet))
 
-  by : (refused : List LinkId) (server : Option Server) (client : Option Client) → core.server ≡ server → core.client ≡ client → is_any refused ≡ false → is_among link ((refused ++ server_links server) ++ client_links client) ≡ true → IsHeldBy core link
-  by (other ∷ refused) server client on is none among = (let no : true ≡ false = none in absurd (cc))
-  by [] None client on is none among = in_client client is among
-  by [] (Some server) client on is none among = elim (bool_cases (nat_eq link.0 server.link.0)) [
-    | inl same ↦ AsServer server on (same-link link server.link same)
-    | inr apart ↦ in_client client is (rw apart at among)
-  ]
+-- an open one whose link isn't to be closed is open
+pub quiet-open : (core : Core) (session : Session) → session_asks core (Some session) ≡ false → is_closed session.state ≡ false → session.state ≡ link_state.Open
+quiet-open core session quiet shut = by session.state refl shut where
+  by : (state : LinkState) → session.state ≡ state → is_closed state ≡ false → session.state ≡ link_state.Open
+  by link_state.Open is open_still = is
+  by link_state.Closing is open_still = absurd (not-closing core session quiet is)
+  by link_state.Closed is open_still = cc
 
--- What is to be written and read.
+-- and its link to a server isn't to be closed
+pub upstream-open : (session : Session) (link : LinkId) → is_some (act_of session) ≡ false → upstream_link session.upstream ≡ Some link → (server : Server) × (session.upstream ≡ upstream.Open server) × (server.link ≡ link)
+upstream-open session link none is = by session.upstream refl none is where
+  by : (up : Upstream) → session.upstream ≡ up → is_some (act_by up session) ≡ false → upstream_link up ≡ Some link → (server : Server) × (session.upstream ≡ upstream.Open server) × (server.link ≡ link)
+  by upstream.Absent at quiet there = cc
+  by (upstream.Open server) at quiet there = (server, at, (let same : Some server.link ≡ Some link = there in cc))
+  by (upstream.Closing other) at quiet there = (let no : true ≡ false = quiet in absurd (cc))
 
--- a link on which bytes are left takes no more
-client-dry : (core : Core) (client : Client) (log : Log) → core.client ≡ Some client → IsDrained (reads core) (sends core) log → IsOpen client.link log → 0 < length client.outgoing → write_dry client.link log ≡ true
-client-dry core client log is drained opened some = drained.written client.link opened (subst (λ (k : Option Client). IsSome (sends (record core { client = k }) client.link)) (sym is) (
-    let here : nat_eq client.link.0 client.link.0 ≡ true = same_number client.link.0 in
-    let more : nat_lt 0 (length client.outgoing) ≡ true = search arith in
-    rw (here, more) refl))
+-- a command in work of an open client has a link to a server
+working-upstream : (session : Session) (command : Command) → is_some (act_of session) ≡ false → session.state ≡ link_state.Open → session.phase ≡ Working command → (server : Server) × (session.upstream ≡ upstream.Open server)
+working-upstream session command none opened working = by session.upstream refl none where
+  by : (up : Upstream) → session.upstream ≡ up → is_some (act_by up session) ≡ false → (server : Server) × (session.upstream ≡ upstream.Open server)
+  by upstream.Absent at quiet = (
+      let act : is_some (client_act link_state.Open session) ≡ false = subst (λ (s : LinkState). is_some (client_act s session) ≡ false) opened quiet in
+      let wants : is_some (open_if (wants_link (Working command) upstream.Absent)) ≡ false = subst (λ (u : Upstream). is_some (open_if (wants_link (Working command) u)) ≡ false) at (subst (λ (p : Phase). is_some (open_if (wants_link p session.upstream)) ≡ false) working act) in
+      let no : true ≡ false = wants in absurd (cc))
+  by (upstream.Open server) at quiet = (server, at)
+  by (upstream.Closing link) at quiet = (let no : true ≡ false = quiet in absurd (cc))
 
-written-or : (core : Core) (client : Client) (log : Log) (bytes : List ℕ) → core.client ≡ Some client → IsDrained (reads core) (sends core) log → IsOpen client.link log → written_of client.link log ++ client.outgoing ≡ bytes
-    → (written_of client.link log ≡ bytes) ⊎ (write_dry client.link log ≡ true)
-written-or core client log bytes is drained opened all = by client.outgoing refl where
-  by : (left : List ℕ) → client.outgoing ≡ left → (written_of client.link log ≡ bytes) ⊎ (write_dry client.link log ≡ true)
-  by [] none = inl (sym (append-nil (written_of client.link log)) ∙ sym (ap (λ xs. written_of client.link log ++ xs) none) ∙ all)
-  by (b ∷ left) some = inr (client-dry core client log is drained opened (rw some (search arith)))
+-- What the loop leaves of it.
 
--- The command in work.
+client-sends : (core : Core) (key : ℕ) (session : Session) → session_at core key ≡ Some session → place_of core session.link ≡ Some (place.Client key) → sends core session.link ≡ reply_left session.outgoing
+client-sends core key session at placed = ap (λ (p : Option Place). sends_at core p session.link) placed ∙ ap (λ (s : Option Session). client_sends s session.link) at ∙ ap (λ b. cond b (reply_left session.outgoing) None) (same_number session.link.0)
 
-carried-unanswered : (n i : ℕ) (command : Command) (server : Option Server) (log : Log) → IsCarried n i command server log → reply_to n i log ≡ None
-carried-unanswered n i command server log (Unsent sent none free) = rw none refl
-carried-unanswered n i command server log (Begun carrier since is sent on framer kept none) =
-    let nothing : Rattle.session_core.specs.Sending.server_message (read_of carrier.link since) ≡ Nothing = rw kept at none in
-    rw (on, nothing) refl
+some-left : (bytes : List ℕ) → 0 < length bytes → IsSome (reply_left bytes)
+some-left bytes some = (let more : nat_lt 0 (length bytes) ≡ true = search arith in rw more refl)
 
-server-opened : (core : Core) (server : Server) (log : Log) → core.server ≡ Some server → Tracks core log → IsOpen server.link log
-server-opened core server log on tracks =
-    held-at core.refused.items (client_links core.client) server.link log
-    (subst (λ (links : List LinkId). Rattle.session_core.specs.Held.AreHeld links log) (append_assoc core.refused.items (server.link ∷ []) (client_links core.client))
-    (subst (λ (s : Option Server). Rattle.session_core.specs.Held.AreHeld ((core.refused.items ++ server_links s) ++ client_links core.client) log) on tracks.held))
+client-dry : (core : Core) (log : Log) (key : ℕ) (session : Session) → TracksLinks core log → IsDrained (reads core) (sends core) log → session_at core key ≡ Some session → is_closed session.state ≡ false → 0 < length session.outgoing → write_dry session.link log ≡ true
+client-dry core log key session links drained at shut some =
+    let connected = links.client key session at shut in
+    drained.written session.link connected.opened (subst (λ o. IsSome o) (sym (client-sends core key session at connected.placed)) (some-left session.outgoing some))
 
-server-apart-client : (core : Core) (server : Server) (n : ℕ) (link : LinkId) (log : Log) → core.server ≡ Some server → Tracks core log → client_link n log ≡ Some link → nat_eq server.link.0 link.0 ≡ false
-server-apart-client core server n link log on tracks there = (subst (λ (s : Option Server). IsServers s log) on tracks.servers) n link there
+server-sends : (core : Core) (key : ℕ) (session : Session) (server : Server) → session_at core key ≡ Some session → session.upstream ≡ upstream.Open server → place_of core server.link ≡ Some (place.Server key) → sends core server.link ≡ command_left session session.phase
+server-sends core key session server at on placed =
+    ap (λ (p : Option Place). sends_at core p server.link) placed ∙ ap (λ (s : Option Session). server_sends s server.link) at
+    ∙ ap (λ (u : Upstream). cond (is_link_of server.link (open_link u)) (command_left session session.phase) None) on ∙ ap (λ b. cond b (command_left session session.phase) None) (same_number server.link.0)
 
-command-dry : (core : Core) (client : Client) (command : Command) (server : Server) (log : Log) → core.client ≡ Some client → client.phase ≡ Working command → core.server ≡ Some server → Tracks core log → IsDrained (reads core) (sends core) log
-    → client_link client.number.0 log ≡ Some client.link → command.sent < length command.bytes → write_dry server.link log ≡ true
-command-dry core client command server log is working on tracks drained number less =
-    drained.written server.link (server-opened core server log on tracks)
-    (let apart : nat_eq client.link.0 server.link.0 ≡ false = nat_eq-sym server.link.0 client.link.0 (server-apart-client core server client.number.0 client.link log on tracks number) in
-    let here : nat_eq server.link.0 server.link.0 ≡ true = same_number server.link.0 in
-    let more : nat_lt command.sent (length command.bytes) ≡ true = search arith in
-    rw (is, on, apart, here, working, more) refl)
+command-dry : (core : Core) (log : Log) (key : ℕ) (session : Session) (command : Command) (server : Server) → TracksLinks core log → IsDrained (reads core) (sends core) log → session_at core key ≡ Some session → session.phase ≡ Working command
+    → session.upstream ≡ upstream.Open server → command.sent < length command.bytes → write_dry server.link log ≡ true
+command-dry core log key session command server links drained at working on less =
+    let there = links.server key session server.link at (ap upstream_link on) in
+    drained.written server.link there.opened (subst (λ o. IsSome o) (sym (server-sends core key session server at on there.placed ∙ ap (command_left session) working))
+    (let more : nat_lt command.sent (length command.bytes) ≡ true = search arith in rw more refl))
 
-command-sent : (n i : ℕ) (client : Client) (command : Command) (server : Server) (log : Log) (message : Framed) → IsOnItsWay n i command (Some server) log → command.bytes ≡ spelling message.first message.payload → length command.bytes ≤ command.sent
-    → IsSentOn n i (spelling message.first message.payload) server.link log
-command-sent n i client command server log message way spelled all = by way.carried where
-  by : IsCarried n i command (Some server) log → IsSentOn n i (spelling message.first message.payload) server.link log
-  by (Unsent sent none free) = absurd (let some = spelling-some message.first message.payload in let size = ap (λ xs. length xs) spelled in omega arith)
-  by (Begun carrier since is sent on framer kept none) = record {
-    whole = way.sent ∙ take_all command.sent command.bytes all ∙ spelled;
-    since = since;
-    on = on ∙ ap (λ (s : Option Server). Rattle.std.specs.Option.option_map (λ (k : Server). let sent : Sending = record { link = k.link; since = since } in sent) s) (sym is);
-  }
-
-command-waits : (core : Core) (client : Client) (command : Command) (log : Log) (message : Framed) → core.client ≡ Some client → client.phase ≡ Working command → Tracks core log → asks core ≡ false → IsDrained (reads core) (sends core) log
-    → client_link client.number.0 log ≡ Some client.link → IsOnItsWay client.number.0 client.arrived command core.server log → command.bytes ≡ spelling message.first message.payload → is_query message.payload ≡ true
-    → WaitsForReply client.number.0 client.arrived message log
-command-waits core client command log message is working tracks none drained number way spelled query = by core.server refl way where
-  working_now : has_work core.client ≡ true
-  working_now = rw (is, working) refl
-
-  by : (server : Option Server) → core.server ≡ server → IsOnItsWay client.number.0 client.arrived command server log → WaitsForReply client.number.0 client.arrived message log
-  by None on carried = (let no : true ≡ false = rw (working_now, on) at (or-false (is_any core.refused.items || client_leaves core.client) _ none).1 in absurd (cc))
-  by (Some server) on carried = record {
-    query = query;
-    unanswered = carried-unanswered client.number.0 client.arrived command (Some server) log carried.carried;
-    link = server.link;
-    opened = server-opened core server log on tracks;
-    sent = elim (bool_cases (nat_lt command.sent (length command.bytes))) [
-      | inl less ↦ inr (command-dry core client command server log is working on tracks drained number (search arith))
-      | inr whole ↦ inl (command-sent client.number.0 client.arrived client command server log message carried spelled (search arith))
-    ];
-  }
-
-query-unanswered : (reply : Option (List ℕ)) (payload : List ℕ) → is_query payload ≡ true → reply ≡ None → answer_to reply payload ≡ None
-query-unanswered reply [] query none = cc
-query-unanswered reply (command ∷ text) query none = rw query none
-
--- The client is answered.
-
-answered-at : (phase : Phase) (core : Core) (client : Client) (log : Log) → core.client ≡ Some client → client.phase ≡ phase → Tracks core log → asks core ≡ false → IsDrained (reads core) (sends core) log → IsOpen client.link log
-    → HasClient client core.server log → IsAt phase client (replies_to client.number.0 log) (read_of client.link log) (written_of client.link log) → IsServedBy phase client.number.0 client.arrived core.server log → IsAnswered client.number.0 client.link log
-answered-at Idle core client log is at tracks none drained opened has state served =
-    let all = answers-nothing (replies_to client.number.0 log) (read_of client.link log) state.0.done client.framer.kept (written_of client.link log ++ client.outgoing) state.0.so_far state.1 in
-    record {
-      messages = All state.0.so_far.before (rw all.1 state.0.so_far.answered);
-      written = written-or core client log (due client.number.0 client.link log) is drained opened all.0;
-    }
-answered-at (Working command) core client log is at tracks none drained opened has state served =
-    let waits = command-waits core client command log state.message is at tracks none drained has.number served state.spelled state.query in
-    let i_is : client.arrived ≡ suc (length state.done) = state.count in
-    let unanswered : replies_to client.number.0 log (1 + length state.done) ≡ None = subst (λ i. reply_to client.number.0 i log ≡ None) (i_is ∙ search arith) waits.unanswered in
-    let no_answer = query-unanswered (replies_to client.number.0 log (1 + length state.done)) state.message.payload state.query unanswered in
-    record {
-      messages = UpTo state.done (client_messages client.framer.kept).messages state.message state.so_far.before
-          (past-next (read_of client.link log) state.done state.waiting state.message client.framer.kept state.so_far.past state.next) state.so_far.answered
-          (subst (λ i. WaitsForReply client.number.0 i state.message log) i_is waits);
-      written = written-or core client log (due client.number.0 client.link log) is drained opened
-          (answers-next (replies_to client.number.0 log) (read_of client.link log) state.done state.waiting (written_of client.link log ++ client.outgoing) state.message client.framer.kept state.so_far state.next no_answer);
-    }
-answered-at Ending core client log is at tracks none drained opened has state served =
-    let all = answers-faulty (replies_to client.number.0 log) (read_of client.link log) state.done state.waiting (written_of client.link log ++ client.outgoing) state.fault state.so_far state.faulty in
-    record {
-      messages = All state.so_far.before (rw all.1 state.so_far.answered);
-      written = written-or core client log (due client.number.0 client.link log) is drained opened all.0;
-    }
-answered-at Leaving core client log is at tracks none drained opened has state served =
-    let leaves : client_leaves core.client ≡ true = rw (is, at) refl in
-    (let no : true ≡ false = sym leaves ∙ (or-false (is_any core.refused.items) (client_leaves core.client) (or-false (is_any core.refused.items || client_leaves core.client) _ none).0).1 in absurd (cc))
-answered-at Gone core client log is at tracks none drained opened has state served =
-    let shut : Rattle.session_core.specs.Stands.IsShut Gone client.link log = subst (λ (p : Phase). Rattle.session_core.specs.Stands.IsShut p client.link log) at has.shut in
-    (let no : true ≡ false = sym opened ∙ shut in absurd (cc))
-
--- the one client whose link is open
-pub answered-open : (core : Core) (log : Log) (n : ℕ) (link : LinkId) → Tracks core log → asks core ≡ false → IsDrained (reads core) (sends core) log → client_link n log ≡ Some link → IsOpen link log → IsAnswered n link log
-answered-open core log n link tracks none drained there opened = by (held-by core log link tracks none opened) where
-  of_client : (client : Client) → core.client ≡ Some client → link ≡ client.link → HasClient client core.server log → IsAnswered n link log
-  of_client client is same has = elim (bool_cases (nat_eq n client.number.0)) [
-    | inl number ↦ subst (λ (l : LinkId). IsAnswered n l log) (sym same) (subst (λ m. IsAnswered m client.link log) (sym (eqb-true n client.number.0 number))
-        (answered-at client.phase core client log is refl tracks none drained (subst (λ (l : LinkId). IsOpen l log) same opened) has has.state has.served))
-    | inr other ↦ (let apart : nat_eq client.link.0 client.link.0 ≡ false = rw same at (has.others n link there other).apart in let no : true ≡ false = sym (same_number client.link.0) ∙ apart in absurd (cc))
-  ]
-
-  by : IsHeldBy core link → IsAnswered n link log
-  by (AsServer server on same) = (let apart : nat_eq server.link.0 server.link.0 ≡ false = rw same at (server-apart-client core server n link log on tracks there) in let no : true ≡ false = sym (same_number server.link.0) ∙ apart in absurd (cc))
-  by (AsClient client is same) = of_client client is same (subst (λ (k : Option Client). MayHaveClient k core.server log) is tracks.client)
-
--- Each open link is read dry.
-
-read-client : (phase : Phase) (core : Core) (client : Client) (log : Log) → core.client ≡ Some client → client.phase ≡ phase → asks core ≡ false → IsDrained (reads core) (sends core) log → IsOpen client.link log → HasClient client core.server log
-    → IsAt phase client (replies_to client.number.0 log) (read_of client.link log) (written_of client.link log) → (read_dry client.link log ≡ true) ⊎ (write_dry client.link log ≡ true)
-read-client Idle core client log is at none drained opened has state =
-    let here : nat_eq client.link.0 client.link.0 ≡ true = same_number client.link.0 in
-    inl (drained.read client.link opened (rw (is, here, at) refl))
-read-client (Working command) core client log is at none drained opened has state =
-    let here : nat_eq client.link.0 client.link.0 ≡ true = same_number client.link.0 in
-    inl (drained.read client.link opened (rw (is, here, at) refl))
-read-client Ending core client log is at none drained opened has state = inr (client-dry core client log is drained opened state.some)
-read-client Leaving core client log is at none drained opened has state =
-    let leaves : client_leaves core.client ≡ true = rw (is, at) refl in
-    (let no : true ≡ false = sym leaves ∙ (or-false (is_any core.refused.items) (client_leaves core.client) (or-false (is_any core.refused.items || client_leaves core.client) _ none).0).1 in absurd (cc))
-read-client Gone core client log is at none drained opened has state =
-    let shut : Rattle.session_core.specs.Stands.IsShut Gone client.link log = subst (λ (p : Phase). Rattle.session_core.specs.Stands.IsShut p client.link log) at has.shut in
-    (let no : true ≡ false = sym opened ∙ shut in absurd (cc))
-
-reads-server : (core : Core) (server : Server) → (client : Option Client) → core.client ≡ client → core.server ≡ Some server → is_client client server.link ≡ false → reads core server.link ≡ true
-reads-server core server client is on apart =
-    let here : nat_eq server.link.0 server.link.0 ≡ true = same_number server.link.0 in
-    rw (is, apart, on, here) refl
-
-server-no-client : (core : Core) (server : Server) (log : Log) (client : Option Client) → core.client ≡ client → core.server ≡ Some server → Tracks core log → is_client client server.link ≡ false
-server-no-client core server log None is on tracks = refl
-server-no-client core server log (Some client) is on tracks =
-    let has : HasClient client core.server log = subst (λ (k : Option Client). MayHaveClient k core.server log) is tracks.client in
-    nat_eq-sym server.link.0 client.link.0 (server-apart-client core server client.number.0 client.link log on tracks has.number)
-
-pub read-open : (core : Core) (log : Log) (link : LinkId) → Tracks core log → asks core ≡ false → IsDrained (reads core) (sends core) log → IsOpen link log → (read_dry link log ≡ true) ⊎ (write_dry link log ≡ true)
-read-open core log link tracks none drained opened = by (held-by core log link tracks none opened) where
-  by : IsHeldBy core link → (read_dry link log ≡ true) ⊎ (write_dry link log ≡ true)
-  by (AsServer server on same) = inl (drained.read link opened (subst (λ (l : LinkId). reads core l ≡ true) (sym same) (reads-server core server core.client refl on (server-no-client core server log core.client refl on tracks))))
-  by (AsClient client is same) = subst (λ (l : LinkId). (read_dry l log ≡ true) ⊎ (write_dry l log ≡ true)) (sym same) (
-      let has : HasClient client core.server log = subst (λ (k : Option Client). MayHaveClient k core.server log) is tracks.client in
-      read-client client.phase core client log is refl none drained (subst (λ (l : LinkId). IsOpen l log) same opened) has has.state)
-
--- The loop waits at rest.
-
-at-rest : (core : Core) (log : Log) → MayWait (reads core) (sends core) (asks core) log → Tracks core log → IsAtRest log
-at-rest core log may tracks = record {
-  accepted = may.drained.accepted;
-  named = may.drained.named;
-  read = λ link opened. read-open core log link tracks may.acted may.drained opened;
-  answered = λ n link there opened. answered-open core log n link tracks may.acted may.drained there opened;
+left-of : (core : Core) (log : Log) (key : ℕ) (session : Session) → TracksLinks core log → IsDrained (reads core) (sends core) log → session_asks core (Some session) ≡ false → session_at core key ≡ Some session → session.state ≡ link_state.Open → IsLeft session log
+left-of core log key session links drained quiet at opened = record {
+  written = λ some. client-dry core log key session links drained at (ap is_closed opened) some;
+  works = λ command working. (
+      let up = working-upstream session command (quiet-act core session quiet) opened working in
+      let there = links.server key session up.0.link at (ap upstream_link up.1) in
+      record { server = up.0; on = up.1; opened = there.opened; dry = λ less. command-dry core log key session command up.0 links drained at working up.1 less });
 }
 
-pub rests-due : (core : Core) (log : Log) (e : Entry) → due_in core log e → Tracks core log → RestsAt log e
-rests-due core log (entry.Woke until_ms now_ms) may tracks = at-rest core log may tracks
-rests-due core log entry.WaitFailed may tracks = at-rest core log may tracks
-rests-due core log entry.Over may tracks = at-rest core log may tracks
-rests-due core log _ may tracks = tt
+-- Each open link is read dry, or takes no more.
+
+client-read : (core : Core) (log : Log) (key : ℕ) (session : Session) → TracksLinks core log → IsDrained (reads core) (sends core) log → session_at core key ≡ Some session → session.state ≡ link_state.Open → IsDryIn session.state session.phase session
+    → (read_dry session.link log ≡ true) ⊎ (write_dry session.link log ≡ true)
+client-read core log key session links drained at opened dry = by session.phase refl (subst (λ (s : LinkState). IsDryIn s session.phase session) opened dry) where
+  connected : Rattle.session_core.specs.Stands.IsConnected core key session.link log
+  connected = links.client key session at (ap is_closed opened)
+
+  read : is_read session.phase ≡ true → (read_dry session.link log ≡ true) ⊎ (write_dry session.link log ≡ true)
+  read wanted = inl (drained.read session.link connected.opened (
+      ap (λ (p : Option Place). reads_at core p session.link) connected.placed ∙ ap (λ (s : Option Session). client_reads s session.link) at ∙ ap (λ b. b && is_read session.phase) (same_number session.link.0) ∙ wanted))
+
+  by : (phase : Phase) → session.phase ≡ phase → IsDryIn link_state.Open phase session → (read_dry session.link log ≡ true) ⊎ (write_dry session.link log ≡ true)
+  by Idle is left = read (ap is_read is)
+  by (Working command) is left = read (ap is_read is)
+  by Ending is left = inr (client-dry core log key session links drained at (ap is_closed opened) left)
+
+server-read : (core : Core) (log : Log) (key : ℕ) (session : Session) (link : LinkId) → TracksLinks core log → IsDrained (reads core) (sends core) log → session_asks core (Some session) ≡ false → session_at core key ≡ Some session → upstream_link session.upstream ≡ Some link
+    → read_dry link log ≡ true
+server-read core log key session link links drained quiet at is =
+    let up = upstream-open session link (quiet-act core session quiet) is in
+    let there = links.server key session link at is in
+    drained.read link there.opened (
+    ap (λ (p : Option Place). reads_at core p link) there.placed ∙ ap (λ (s : Option Session). server_reads s link) at
+    ∙ ap (λ (u : Upstream). is_link_of link (open_link u)) up.1 ∙ ap (λ (l : LinkId). nat_eq l.0 link.0) up.2 ∙ same_number link.0)
+
+-- a placed client's link that asks for nothing isn't closed
+pub placed-open : (core : Core) (key : ℕ) (session : Session) → session_asks core (Some session) ≡ false → place_of core session.link ≡ Some (place.Client key) → is_closed session.state ≡ false
+placed-open core key session quiet placed = by (is_closed session.state) (ap (λ (p : Option Place). is_closed session.state && is_some p) (sym placed) ∙ quiet-closed core session quiet) where
+  by : (b : Bool) → (b && true) ≡ false → b ≡ false
+  by true is = is
+  by false is = refl
+
+module _ (core : Core) (log : Log) (refused : List Turn) (sessions : TracksSessions core refused log) (links : TracksLinks core log) (may : MayWait (reads core) (sends core) (asks core) log) where
+  quiet : (key : ℕ) (session : Session) → session_at core key ≡ Some session → session_asks core (Some session) ≡ false
+  quiet key session at = quiet-session core log key session links may.acted at
+
+  none-among : (link : LinkId) → is_among link core.refused.items ≡ true → ⊥
+  none-among link among = (let none : false ≡ true = sym (ap (is_among link) (none-refused core may.acted)) ∙ among in absurd (cc))
+
+  read-placed : (link : LinkId) (where_to : Place) → place_of core link ≡ Some where_to → IsPlaced core link where_to → (read_dry link log ≡ true) ⊎ (write_dry link log ≡ true)
+  read-placed link (place.Client key) placed (session, at, same) =
+      let here : place_of core session.link ≡ Some (place.Client key) = ap (place_of core) same ∙ placed in
+      let opened = quiet-open core session (quiet key session at) (placed-open core key session (quiet key session at) here) in
+      subst (λ (l : LinkId). (read_dry l log ≡ true) ⊎ (write_dry l log ≡ true)) same (client-read core log key session links may.drained at opened (sessions.has key session at).dry)
+  read-placed link (place.Server key) placed (session, at, up) = inl (server-read core log key session link links may.drained (quiet key session at) at up)
+
+  read-open : (link : LinkId) → IsOpen link log → (read_dry link log ≡ true) ⊎ (write_dry link log ≡ true)
+  read-open link opened = elim (links.known link opened) [
+    | inl somewhere ↦ by (place_of core link) refl somewhere
+    | inr among ↦ absurd (none-among link among)
+  ] where
+    by : (p : Option Place) → place_of core link ≡ p → IsSome p → (read_dry link log ≡ true) ⊎ (write_dry link log ≡ true)
+    by None is some = cc
+    by (Some where_to) is some = read-placed link where_to is (links.placed link where_to is)
+
+  answered-live : (n : ℕ) (link : LinkId) → client_link n log ≡ Some link → IsOpen link log → IsLive core n → IsAnswered (service_of core refused) n link log
+  answered-live n link is opened live =
+      let has = sessions.has live.key live.session live.at in
+      let same : live.session.link ≡ link = (let both : Some live.session.link ≡ Some link = sym has.number ∙ ap (λ m. client_link m log) live.number ∙ is in cc) in
+      let asks_none = quiet live.key live.session live.at in
+      let shut : is_closed live.session.state ≡ false = by_open live.key live.session live.at (subst (λ (l : LinkId). IsOpen l log) (sym same) opened) (is_closed live.session.state) refl in
+      let open_state = quiet-open core live.session asks_none shut in
+      subst (λ (l : LinkId). IsAnswered (service_of core refused) n l log) same
+      (subst (λ m. IsAnswered (service_of core refused) m live.session.link log) live.number
+      (session-answered (service_of core refused) live.session log open_state (left-of core log live.key live.session links may.drained asks_none live.at open_state) has)) where
+        by_open : (key : ℕ) (session : Session) → session_at core key ≡ Some session → IsOpen session.link log → (b : Bool) → is_closed session.state ≡ b → is_closed session.state ≡ false
+        by_open key session at open_link_now true closed = (let no : false ≡ true = sym (links.closed key session at closed) ∙ open_link_now in absurd (cc))
+        by_open key session at open_link_now false closed = closed
+
+  over-placed : (n : ℕ) (link : LinkId) (where_to : Place) → client_link n log ≡ Some link → IsPlaced core link where_to → IsLive core n
+  over-placed n link (place.Client key) is (session, at, same) = elim (bool_cases (nat_eq n session.number.0)) [
+    | inl here ↦ record { key = key; session = session; at = at; number = sym (eqb-true n session.number.0 here) }
+    | inr apart ↦ (let no : true ≡ false = sym (same_number link.0) ∙ sym (ap (λ (l : LinkId). nat_eq l.0 link.0) same) ∙ links.others n key link session is at apart in absurd (cc))
+  ]
+  over-placed n link (place.Server key) is (session, at, up) = (let no : true ≡ false = sym (same_number link.0) ∙ links.servers n key link link session is at up in absurd (cc))
+
+  answered-open : (n : ℕ) (link : LinkId) → client_link n log ≡ Some link → IsOpen link log → IsAnswered (service_of core refused) n link log
+  answered-open n link is opened = elim (links.known link opened) [
+    | inl somewhere ↦ answered-live n link is opened (by (place_of core link) refl somewhere)
+    | inr among ↦ absurd (none-among link among)
+  ] where
+    by : (p : Option Place) → place_of core link ≡ p → IsSome p → IsLive core n
+    by None at some = cc
+    by (Some where_to) at some = over-placed n link where_to is (links.placed link where_to at)
+
+  at-rest : IsAtRest (target_of core.target) log
+  at-rest = record {
+    accepted = may.drained.accepted;
+    named = may.drained.named;
+    read = read-open;
+    refused = refused;
+    refusing = subst (λ b. IsRefusing b refused log) (sym (some-target core.target)) sessions.refusing;
+    answered = λ n link is opened. subst (λ b. let service : Service = record { has_server = b; refused = refused } in IsAnswered service n link log) (sym (some-target core.target)) (answered-open n link is opened);
+  }
+
+pub rests-due : (core : Core) (log : Log) (e : Entry) → due_in core log e → Stands core log → RestsAt (target_of core.target) log e
+rests-due core log (entry.Woke until_ms now_ms) may held = at-rest core log held.upholds.refused held.upholds.sessions held.links may
+rests-due core log entry.WaitFailed may held = at-rest core log held.upholds.refused held.upholds.sessions held.links may
+rests-due core log entry.Over may held = at-rest core log held.upholds.refused held.upholds.sessions held.links may
+rests-due core log _ may held = tt

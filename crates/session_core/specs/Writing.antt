@@ -1,137 +1,162 @@
--- What the core tracks once bytes are written.
-use Rattle.std.specs.Prelude.{◌≡◌, ℕ, true, false, List, [], ◌∷◌, ◌++◌, length, take, drop, Option, Some, refl}
-use Rattle.std.proofs.Common.{sym, ◌∙◌, ap, subst, append_assoc, take-append-drop, arith}
+-- What the core carries over bytes that are written.
+use Rattle.std.specs.Prelude.{◌≡◌, ℕ, ◌≤◌, Bool, true, false, nat_eq, nat_lt, ◌&&◌, List, [], ◌∷◌, ◌++◌, cond, length, take, drop, Option, Some, None, refl}
+use Rattle.std.proofs.Common.{sym, ◌∙◌, ap, subst, inr}
 use Rattle.mx_base.specs.declared.names.LinkId.{LinkId}
-use Rattle.mx_base.specs.declared.tag.Tag.TheVariants.{Reply}
-use Rattle.mx_wire.specs.Log.{Log, got_bytes, wrote_bytes, read_of, written_of}
-use Rattle.mx_wire.specs.Tells.{IsOpen, MayFollow}
-use Rattle.mx_wire.specs.Growth.{same_number, nat_eq-sym, bytes-same, bytes-other, bytes-idle}
+use Rattle.mx_base.specs.declared.tag.Tag.{Tag}
+use Rattle.mx_base.specs.declared.tag.Tag.TheVariants.{For, Reply}
+use Rattle.mx_wire.specs.Log.{Log}
+use Rattle.mx_wire.specs.Tells.{MayFollow}
 use Rattle.mx_wire.specs.declared.entry.Entry.{Entry}
 use Rattle.mx_wire.specs.declared.entry.Entry.TheVariants as entry
-use Rattle.session_core.specs.declared.phase.Phase.{Phase}
-use Rattle.session_core.specs.declared.phase.Phase.TheVariants.{Idle, Working, Ending, Leaving, Gone}
-use Rattle.session_core.specs.declared.client.Client.{Client}
-use Rattle.session_core.specs.declared.server.Server.{Server}
+use Rattle.ready_loop.specs.Machine.{CarriesOver, MayTake}
+use Rattle.ready_loop.specs.Sent.{Sent}
+use Rattle.client_session.specs.declared.hear.Server.{Server}
+use Rattle.client_session.specs.declared.phase.Command.{Command}
+use Rattle.client_session.specs.declared.phase.Phase.{Phase}
+use Rattle.client_session.specs.declared.phase.Phase.TheVariants.{Idle, Working, Ending}
+use Rattle.client_session.specs.declared.phase.LinkState.{LinkState}
+use Rattle.client_session.specs.declared.phase.LinkState.TheVariants as link_state
+use Rattle.client_session.specs.declared.phase.Upstream.{Upstream}
+use Rattle.client_session.specs.declared.phase.Upstream.TheVariants as upstream
+use Rattle.client_session.specs.declared.session.Session.{Session}
+use Rattle.client_session.specs.Events.{state_behind, written_in, sent_in}
+use Rattle.client_session.specs.Headline.{Turn, Service, MaySend, MaySendSo}
+use Rattle.client_session.specs.Sends.{reply_left, command_left}
+use Rattle.client_session.specs.Stands.{upstream_link, is_closed}
+use Rattle.client_session.specs.Written.{session-written, session-may_send, session-commanded}
 use Rattle.session_core.specs.declared.router.Core.{Core}
-use Rattle.session_core.specs.Headline.{replies_to}
-use Rattle.session_core.specs.Growth.{client_link-more, client_link-same, accepted_links-same}
-use Rattle.session_core.specs.Held.{AreHeld, held-stays}
-use Rattle.session_core.specs.Stands.{server_links, while_held, AreAnswers, IsAt, IsServedBy, IsShut, HasClient, IsServers, Tracks}
-use Rattle.session_core.specs.Still.{replies-stay, at-stays}
-use Rattle.session_core.specs.Quiet.{CarriesNothing, reads-no_reply, unsent-more, served-more, servers-same}
-use Rattle.session_core.specs.Cores.{closing_at, written_in}
-use Rattle.session_core.specs.Tracking.{tracks-with, has-with, held-with}
-use Rattle.session_core.specs.Answers.{fault_answer}
-use Rattle.session_core.specs.Past.{Answers}
+use Rattle.session_core.specs.declared.place.Place.{Place}
+use Rattle.session_core.specs.declared.place.Place.TheVariants as place
+use Rattle.session_core.specs.Cores.{place_of, session_at, target_of, open_link, is_link_of}
+use Rattle.session_core.specs.Acting.{client_sends, server_sends, sends_at, sends, asks, Takes, TakesAt, TakenAt}
+use Rattle.session_core.specs.Carrying.{IsStep, over-entry}
+use Rattle.session_core.specs.Links.{quiet-session}
+use Rattle.session_core.specs.Opening.{same_link}
+use Rattle.session_core.specs.Passing.{hears-empty}
+use Rattle.session_core.specs.Resting.{some-target, quiet-open, placed-open}
+use Rattle.session_core.specs.Stands.{service_of, Stands, due_in}
+use Rattle.session_core.specs.Touching.{upstream-apart, leaves-client, client-other, leaves-server}
 
--- Bytes are written to the client.
+-- what is lent is all that is left
+lent-reply : (bytes : List ℕ) (sent : Sent) → reply_left bytes ≡ Some sent → (sent.tag ≡ Reply) × (sent.bytes ≡ bytes)
+lent-reply bytes sent is = by (nat_lt 0 (length bytes)) is where
+  by : (b : Bool) → cond b (Some (record { tag = Reply; bytes = bytes })) None ≡ Some sent → (sent.tag ≡ Reply) × (sent.bytes ≡ bytes)
+  by true same = (let one : record { tag = Reply; bytes = bytes } ≡ sent = cc in (ap (λ (s : Sent). s.tag) (sym one), ap (λ (s : Sent). s.bytes) (sym one)))
+  by false same = cc
 
-reply-nothing : (link : LinkId) (bytes : List ℕ) → CarriesNothing (entry.Wrote link Reply bytes)
-reply-nothing link bytes = record { no_carrier = λ n i. refl; no_bytes = λ n i. refl }
+lent-command : (session : Session) (command : Command) (sent : Sent) → command_left session (Working command) ≡ Some sent → (sent.tag ≡ For session.number session.arrived) × (sent.bytes ≡ drop command.sent command.bytes)
+lent-command session command sent is = by (nat_lt command.sent (length command.bytes)) is where
+  by : (b : Bool) → cond b (Some (record { tag = For session.number session.arrived; bytes = drop command.sent command.bytes })) None ≡ Some sent → (sent.tag ≡ For session.number session.arrived) × (sent.bytes ≡ drop command.sent command.bytes)
+  by true same = (let one : record { tag = For session.number session.arrived; bytes = drop command.sent command.bytes } ≡ sent = cc in (ap (λ (s : Sent). s.tag) (sym one), ap (λ (s : Sent). s.bytes) (sym one)))
+  by false same = cc
 
-split-written : (written outgoing : List ℕ) (n : ℕ) → (written ++ take n outgoing) ++ drop n outgoing ≡ written ++ outgoing
-split-written written outgoing n = append_assoc written (take n outgoing) (drop n outgoing) ∙ ap (λ xs. written ++ xs) (take-append-drop n outgoing)
+if-some : {X : Type 0} (b : Bool) (o : Option X) (x : X) → cond b o None ≡ Some x → (b ≡ true) × (o ≡ Some x)
+if-some true o x is = (refl, is)
+if-some false o x is = cc
 
--- in each phase
-written-state : (phase : Phase) (client : Client) (n : ℕ) (reply : ℕ → Option (List ℕ)) (read written : List ℕ) → (phase ≡ Gone → ⊥) → IsAt phase client reply read written
-    → IsAt (closing_at phase (drop n client.outgoing)) (written_in client n) reply read (written ++ take n client.outgoing)
-written-state Idle client n reply read written still_here was = (
-  record {
-    framer = was.0.framer;
-    done = was.0.done;
-    count = was.0.count;
-    so_far = record { past = was.0.so_far.past; before = was.0.so_far.before; answered = was.0.so_far.answered; is_last = was.0.so_far.is_last; is = split-written written client.outgoing n ∙ was.0.so_far.is };
-  },
-  was.1,
-)
-written-state (Working command) client n reply read written still_here was = record {
-  framer = was.framer;
-  done = was.done;
-  waiting = was.waiting;
-  message = was.message;
-  count = was.count;
-  so_far = record { past = was.so_far.past; before = was.so_far.before; answered = was.so_far.answered; is_last = was.so_far.is_last; is = split-written written client.outgoing n ∙ was.so_far.is };
-  next = was.next;
-  query = was.query;
-  spelled = was.spelled;
-  within = was.within;
+behind-open : (phase : Phase) (left : List ℕ) → is_closed (state_behind phase link_state.Open left) ≡ false
+behind-open Idle left = refl
+behind-open (Working command) left = refl
+behind-open Ending [] = refl
+behind-open Ending (b ∷ left) = refl
+
+a-write : (old new : Core) (key : ℕ) (session later : Session) → session_at old key ≡ Some session → Takes old new key later → asks old ≡ false → later.link ≡ session.link → later.number ≡ session.number → is_closed later.state ≡ is_closed session.state
+    → upstream_link later.upstream ≡ upstream_link session.upstream → IsStep old new key session later
+a-write old new key session later at takes none link number closed up = record {
+  relinks = record { at = at; sets = takes.sets; link = link; number = number; closed = closed; upstream = up; places = takes.places; refused = takes.refused; turn = takes.turn; acted = inr none };
+  target = takes.counts.service.target;
+  accepted = takes.counts.accepted;
 }
-written-state Ending client n reply read written still_here was = by (drop n client.outgoing) refl where
-  so_far : Answers reply read was.done was.waiting ((written ++ take n client.outgoing) ++ drop n client.outgoing) (fault_answer (Some was.fault))
-  so_far = subst (λ (xs : List ℕ). Answers reply read was.done was.waiting xs (fault_answer (Some was.fault))) (sym (split-written written client.outgoing n)) was.so_far
 
-  by : (left : List ℕ) → drop n client.outgoing ≡ left → IsAt (closing_at Ending left) (written_in client n) reply read (written ++ take n client.outgoing)
-  by [] is = record { done = was.done; waiting = was.waiting; last = fault_answer (Some was.fault); so_far = so_far }
-  by (b ∷ left) is = record { done = was.done; waiting = was.waiting; fault = was.fault; faulty = was.faulty; so_far = so_far; some = rw is (search arith) }
-written-state Leaving client n reply read written still_here was = subst (AreAnswers reply read) (sym (split-written written client.outgoing n)) was
-written-state Gone client n reply read written still_here was = absurd (still_here refl)
+-- Bytes of a client's.
 
-written-served : (phase : Phase) (left : List ℕ) (n i : ℕ) (server : Option Server) (log : Log) → IsServedBy phase n i server log → IsServedBy (closing_at phase left) n i server log
-written-served Idle left n i server log served = served
-written-served (Working command) left n i server log served = served
-written-served Ending [] n i server log served = served
-written-served Ending (b ∷ left) n i server log served = served
-written-served Leaving left n i server log served = served
-written-served Gone left n i server log served = served
+client-wrote : (old new : Core) (key : ℕ) (session : Session) (n : ℕ) (log : Log) → asks old ≡ false → session_at old key ≡ Some session → session.state ≡ link_state.Open → Takes old new key (written_in session n)
+    → MayFollow log (entry.Wrote session.link Reply (take n session.outgoing)) → Stands old log → Stands new (log ++ entry.Wrote session.link Reply (take n session.outgoing) ∷ [])
+client-wrote old new key session n log none at opened takes may held =
+    let e : Entry = entry.Wrote session.link Reply (take n session.outgoing) in
+    let has = held.upholds.sessions.has key session at in
+    over-entry old new key session (written_in session n) log e held
+    (a-write old new key session (written_in session n) at takes none refl refl (ap (λ (s : LinkState). is_closed (state_behind session.phase s (drop n session.outgoing))) opened ∙ behind-open session.phase (drop n session.outgoing) ∙ sym (ap is_closed opened)) refl)
+    (leaves-client old held.upholds.refused log held.upholds.sessions held.links key session at e refl refl (λ m i apart. refl))
+    (record { keeps = refl; opens_none = refl }) refl may tt (session.number.0, has.number)
+    (session-written (service_of old held.upholds.refused) session n log opened (hears-empty session.upstream session.link e refl (upstream-apart old held.upholds.refused log held.upholds.sessions held.links key session at key session at)) has)
 
-written-shut : (phase : Phase) (left : List ℕ) (link : LinkId) (log : Log) → (phase ≡ Gone → ⊥) → IsShut (closing_at phase left) link log
-written-shut Idle left link log still_here = tt
-written-shut (Working command) left link log still_here = tt
-written-shut Ending [] link log still_here = tt
-written-shut Ending (b ∷ left) link log still_here = tt
-written-shut Leaving left link log still_here = tt
-written-shut Gone left link log still_here = absurd (still_here refl)
+-- Bytes of a command.
 
-written-held : (link : LinkId) (phase : Phase) (left : List ℕ) → while_held link (closing_at phase left) ≡ while_held link phase
-written-held link Idle left = refl
-written-held link (Working command) left = refl
-written-held link Ending [] = refl
-written-held link Ending (b ∷ left) = refl
-written-held link Leaving left = refl
-written-held link Gone left = refl
+may-send : (core : Core) (refused : List Turn) (n i : ℕ) (link : LinkId) (bytes : List ℕ) (log : Log) → MaySendSo (service_of core refused) n i link bytes log → MaySend (target_of core.target) n i link bytes log
+may-send core refused n i link bytes log so = record {
+  refused = refused;
+  so = subst (λ b. let service : Service = record { has_server = b; refused = refused } in MaySendSo service n i link bytes log) (sym (some-target core.target)) so;
+}
 
--- a link that is open isn't gone
-here-still : (phase : Phase) (link : LinkId) (log : Log) → IsOpen link log → IsShut phase link log → phase ≡ Gone → ⊥
-here-still Idle link log opened shut is = cc
-here-still (Working command) link log opened shut is = cc
-here-still Ending link log opened shut is = cc
-here-still Leaving link log opened shut is = cc
-here-still Gone link log opened shut is = (let no_way : true ≡ false = sym opened ∙ shut in absurd (cc))
+server-wrote : (old new : Core) (key : ℕ) (session : Session) (command : Command) (server : Server) (n : ℕ) (log : Log) → asks old ≡ false → session_at old key ≡ Some session → session.phase ≡ Working command → session.upstream ≡ upstream.Open server
+    → n ≤ length (drop command.sent command.bytes) → Takes old new key (record session { phase = sent_in session.phase n })
+    → MayFollow log (entry.Wrote server.link (For session.number session.arrived) (take n (drop command.sent command.bytes))) → Stands old log → Stands new (log ++ entry.Wrote server.link (For session.number session.arrived) (take n (drop command.sent command.bytes)) ∷ [])
+server-wrote old new key session command server n log none at working on fits takes may held =
+    let e : Entry = entry.Wrote server.link (For session.number session.arrived) (take n (drop command.sent command.bytes)) in
+    let has = held.upholds.sessions.has key session at in
+    let up : upstream_link session.upstream ≡ Some server.link = ap upstream_link on in
+    over-entry old new key session (record session { phase = sent_in session.phase n }) log e held
+    (a-write old new key session (record session { phase = sent_in session.phase n }) at takes none refl refl refl refl)
+    (leaves-server old held.upholds.refused log held.upholds.sessions held.links key session at server.link up e refl refl
+    (λ m i apart. ap (λ (b : Bool). cond (b && nat_eq i session.arrived) (Some server.link) None) apart))
+    (record { keeps = refl; opens_none = refl }) refl may tt
+    (may-send old held.upholds.refused session.number.0 session.arrived server.link (take n (drop command.sent command.bytes)) log
+    (session-may_send (service_of old held.upholds.refused) session command server n log working on held.upholds.sessions.refusing has))
+    (session-commanded (service_of old held.upholds.refused) session command server n log working on
+    (client-other old held.upholds.refused log held.upholds.sessions held.links key session at server.link up key session at) fits may.fits.some has)
 
-pub record WritesClient (old new : Core) (client : Client) (n : ℕ) : Type 0 where
-  pub client_is : new.client ≡ Some (written_in client n)
-  pub accepted : new.accepted ≡ old.accepted
-  pub server : new.server ≡ old.server
-  pub refused : new.refused.items ≡ old.refused.items
+-- so many bytes of what is lent are written
+on-client : (old new : Core) (key : ℕ) (link : LinkId) (n : ℕ) (sent : Sent) → asks old ≡ false → place_of old link ≡ Some (place.Client key) → (s : Option Session) → session_at old key ≡ s → TakesAt (λ session. written_in session n) old new key s
+    → client_sends s link ≡ Some sent → CarriesOver Stands due_in old new (entry.Wrote link sent.tag (take n sent.bytes))
+on-client old new key link n sent none placed None at takes lent = cc
+on-client old new key link n sent none placed (Some session) at takes lent =
+    let both = if-some (nat_eq session.link.0 link.0) (reply_left session.outgoing) sent lent in
+    let same : session.link ≡ link = same_link session.link link both.0 in
+    let said = lent-reply session.outgoing sent both.1 in
+    subst (λ (l : LinkId). CarriesOver Stands due_in old new (entry.Wrote l sent.tag (take n sent.bytes))) same
+    (subst (λ (t : Tag). CarriesOver Stands due_in old new (entry.Wrote session.link t (take n sent.bytes))) (sym said.0)
+    (subst (λ (xs : List ℕ). CarriesOver Stands due_in old new (entry.Wrote session.link Reply (take n xs))) (sym said.1)
+    (record {
+      carried = λ log may is_due held. (
+          let quiet = quiet-session old log key session held.links none at in
+          client-wrote old new key session n log none at (quiet-open old session quiet (placed-open old key session quiet (ap (place_of old) same ∙ placed))) takes may held);
+    })))
 
-pub tracks-written : (old new : Core) (client : Client) (n : ℕ) (log : Log) → old.client ≡ Some client → WritesClient old new client n → MayFollow log (entry.Wrote client.link Reply (take n client.outgoing)) → Tracks old log
-    → Tracks new (log ++ entry.Wrote client.link Reply (take n client.outgoing) ∷ [])
-tracks-written old new client n log is writes may was =
-    tracks-with new (written_in client n) (log ++ e ∷ []) writes.client_is (writes.accepted ∙ was.accepted ∙ sym (ap length (accepted_links-same log e refl)))
-    (subst (λ (links : List LinkId). AreHeld links (log ++ e ∷ [])) (sym (
-    ap (λ xs. (xs ++ server_links new.server) ++ while_held client.link (closing_at client.phase (drop n client.outgoing))) writes.refused
-    ∙ ap (λ s. (old.refused.items ++ server_links s) ++ while_held client.link (closing_at client.phase (drop n client.outgoing))) writes.server
-    ∙ ap (λ links. (old.refused.items ++ server_links old.server) ++ links) (written-held client.link client.phase (drop n client.outgoing))))
-    (held-stays ((old.refused.items ++ server_links old.server) ++ while_held client.link client.phase) log e refl refl (held-with old client log is was)))
-    (subst (λ (s : Option Server). IsServers s (log ++ e ∷ [])) (sym writes.server) (servers-same old.server log e refl was.servers))
-    (subst (λ (s : Option Server). HasClient (written_in client n) s (log ++ e ∷ [])) (sym writes.server) (record {
-      number = client_link-more client.number.0 log e client.link has.number;
-      others = λ m other there number. (
-          let before = has.others m other (sym (client_link-same m log e refl) ∙ there) number in
-          record { apart = before.apart; silent = bytes-other wrote_bytes other log e (nat_eq-sym client.link.0 other.0 before.apart) ∙ before.silent });
-      state = subst (λ (xs : List ℕ). IsAt (closing_at client.phase (drop n client.outgoing)) (written_in client n) (replies_to client.number.0 (log ++ e ∷ [])) (read_of client.link (log ++ e ∷ [])) xs) (sym (bytes-same wrote_bytes client.link log e (same_number client.link.0)))
-          (subst (λ (xs : List ℕ). IsAt (closing_at client.phase (drop n client.outgoing)) (written_in client n) (replies_to client.number.0 (log ++ e ∷ [])) xs (written_of client.link log ++ take n client.outgoing)) (sym (bytes-idle got_bytes client.link log e refl))
-          (written-state client.phase client n (replies_to client.number.0 (log ++ e ∷ [])) (read_of client.link log) (written_of client.link log) still_here
-          (at-stays client.phase client (replies_to client.number.0 log) (replies_to client.number.0 (log ++ e ∷ [])) (read_of client.link log) (written_of client.link log) (replies-stay client.number.0 log e) has.state)));
-      served = written-served client.phase (drop n client.outgoing) client.number.0 client.arrived old.server (log ++ e ∷ []) (served-more client.phase client.number.0 client.arrived old.server log e (reply-nothing client.link (take n client.outgoing)) (reads-no_reply old.server e refl) has.served);
-      unsent = λ i later. unsent-more client.number.0 i log e (reply-nothing client.link (take n client.outgoing)) (has.unsent i later);
-      shut = written-shut client.phase (drop n client.outgoing) client.link (log ++ e ∷ []) still_here;
-    })) where
-      e : Entry
-      e = entry.Wrote client.link Reply (take n client.outgoing)
+is-open : (session : Session) (link : LinkId) → is_link_of link (open_link session.upstream) ≡ true → (server : Server) × (session.upstream ≡ upstream.Open server) × (server.link ≡ link)
+is-open session link here = by session.upstream refl here where
+  by : (up : Upstream) → session.upstream ≡ up → is_link_of link (open_link up) ≡ true → (server : Server) × (session.upstream ≡ upstream.Open server) × (server.link ≡ link)
+  by upstream.Absent is there = cc
+  by (upstream.Open server) is there = (server, is, same_link server.link link there)
+  by (upstream.Closing other) is there = cc
 
-      has : HasClient client old.server log
-      has = has-with old client log is was
+in-work : (session : Session) (sent : Sent) → command_left session session.phase ≡ Some sent → (command : Command) × (session.phase ≡ Working command)
+in-work session sent is = by session.phase refl is where
+  by : (phase : Phase) → session.phase ≡ phase → command_left session phase ≡ Some sent → (command : Command) × (session.phase ≡ Working command)
+  by Idle at left = cc
+  by (Working command) at left = (command, at)
+  by Ending at left = cc
 
-      still_here : client.phase ≡ Gone → ⊥
-      still_here = here-still client.phase client.link log may.fits.opened has.shut
+on-server : (old new : Core) (key : ℕ) (link : LinkId) (n : ℕ) (sent : Sent) → asks old ≡ false → (s : Option Session) → session_at old key ≡ s → TakesAt (λ session. record session { phase = sent_in session.phase n }) old new key s
+    → server_sends s link ≡ Some sent → n ≤ length sent.bytes → CarriesOver Stands due_in old new (entry.Wrote link sent.tag (take n sent.bytes))
+on-server old new key link n sent none None at takes lent fits = cc
+on-server old new key link n sent none (Some session) at takes lent fits =
+    let both = if-some (is_link_of link (open_link session.upstream)) (command_left session session.phase) sent lent in
+    let up = is-open session link both.0 in
+    let work = in-work session sent both.1 in
+    let said = lent-command session work.0 sent (ap (command_left session) (sym work.1) ∙ both.1) in
+    subst (λ (l : LinkId). CarriesOver Stands due_in old new (entry.Wrote l sent.tag (take n sent.bytes))) up.2
+    (subst (λ (t : Tag). CarriesOver Stands due_in old new (entry.Wrote up.0.link t (take n sent.bytes))) (sym said.0)
+    (subst (λ (xs : List ℕ). CarriesOver Stands due_in old new (entry.Wrote up.0.link (For session.number session.arrived) (take n xs))) (sym said.1)
+    (record { carried = λ log may is_due held. server-wrote old new key session work.0 up.0 n log none at work.1 up.1 (subst (λ (xs : List ℕ). n ≤ length xs) said.1 fits) takes may held })))
+
+fits-of : (o : Option Sent) (sent : Sent) (n : ℕ) → o ≡ Some sent → MayTake o n → n ≤ length sent.bytes
+fits-of None sent n is may = cc
+fits-of (Some other) sent n is may = (let same : other ≡ sent = cc in subst (λ (s : Sent). n ≤ length s.bytes) same may)
+
+pub taken-carries : (old new : Core) (link : LinkId) (n : ℕ) (sent : Sent) → asks old ≡ false → MayTake (sends old link) n → TakenAt n (place_of old link) old new → sends old link ≡ Some sent → CarriesOver Stands due_in old new (entry.Wrote link sent.tag (take n sent.bytes))
+taken-carries old new link n sent none may takes lent = by (place_of old link) refl takes lent where
+  by : (p : Option Place) → place_of old link ≡ p → TakenAt n p old new → sends_at old p link ≡ Some sent → CarriesOver Stands due_in old new (entry.Wrote link sent.tag (take n sent.bytes))
+  by None is same left = cc
+  by (Some (place.Client key)) is took left = on-client old new key link n sent none is (session_at old key) refl took left
+  by (Some (place.Server key)) is took left = on-server old new key link n sent none (session_at old key) refl took left (fits-of (sends old link) sent n lent may)

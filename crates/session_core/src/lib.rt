@@ -1,16 +1,16 @@
-//! The router's core, as the machine that the serving loop tells of events. One client's queries go to one server,
-//! each on a link that is opened when it is needed.
+//! The router's core, as the machine that the serving loop tells of events. Each client's queries go to the first server of the
+//! configuration, on a link of the client's own that is opened when it is needed.
 #![tactic(auto)]
 
-mod asked;
-mod client;
-mod count;
+mod coming;
+mod leaving;
 mod machine;
-mod phase;
-mod refusal;
+mod place;
 mod router;
-mod server;
+mod taking;
 #[cfg(test)]
 mod tests;
+mod writing;
 
-pub use router::Core;
+pub use place::Place;
+pub use router::{Core, ServerAt};

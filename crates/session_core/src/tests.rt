@@ -1,88 +1,82 @@
-// One client's message, and what it is answered.
+// The clients of a core, and who is answered what.
 use crate::Core;
-use mx_base::{ClientNo, LinkId, OutOfMemory, Port, ServerId, Tag};
+use mx_base::{LinkId, Port};
+use mx_config::read_config;
 use ready_loop::{Act, Event, Machine};
 use std::alloc::Global;
 use std::test::Fail;
 
-const CLIENT: LinkId = LinkId(7);
-
-const SERVER: LinkId = LinkId(8);
-
-const COMMAND: Tag = Tag::For {
-    client: ClientNo(1),
-    ordinal: 1,
-};
+/// Two clients may be connected. One user and one server are there.
+const CONFIG: &str =
+    "[proxy]\nlisten='127.0.0.1:6033'\nadmin_listen='127.0.0.1:6032'\nadmin_user='a'\nadmin_password=''\nmax_clients=2\n[[users]]\nname='u'\npassword=''\n[[servers]]\nhostgroup=0\nhost='127.0.0.1'\nport=3306\n";
 
 const DO_1: &[u8] = b"\x05\0\0\0\x03DO 1";
 
-const PING: &[u8] = b"\x01\0\0\0\x0e";
-
 const DONE: &[u8] = b"\x07\0\0\x01\0\0\0\x02\0\0\0";
 
-const LOCAL_INFILE: &[u8] = b"\x02\0\0\x01\xfba";
-
-const UNKNOWN: &[u8] = b"\x18\0\0\x01\xff\x17\x04#08S01Unknown command";
-
-const BAD_BYTES: &[u8] = b"\x1e\0\0\x01\xff\x96\x23#HY000Bad server bytes at 0";
-
-// A core whose client sent these bytes, behind the open of a link to the server.
-fn asked(alloc: Global, message: &[u8]) -> Result<Core, OutOfMemory> {
-    let mut core = Core::new(alloc)?;
-    let accepted = Event::Accepted {
-        port: Port::Traffic,
-        link: CLIENT,
-        salt: [0; 20],
-    };
-    core.take(accepted, &mut [])?;
-    let mut bytes = message.to_vec(alloc)?;
-    core.take(Event::Got { link: CLIENT }, &mut bytes)?;
-    let opened = Event::Opened {
-        server: ServerId(1),
-        link: SERVER,
-    };
-    core.take(opened, &mut [])?;
-    Ok(core)
-}
-
-// The bytes that a link is offered, all of them under this tag.
-fn offered(core: &Core, link: LinkId, tag: Tag) -> &[u8] {
-    match core.outgoing(link) {
-        Some(piece) if piece.tag == tag => piece.bytes,
-        _ => &[],
+// A link comes to the port.
+fn come(core: &mut Core, port: Port, link: LinkId) -> Result<(), Fail> {
+    if core.next_act().is_some() {
+        return Err("an act was left".into());
     }
+    let salt = [1; 20];
+    core.take(Event::Accepted { port, link, salt }, &mut [])?;
+    Ok(())
 }
 
-#[test]
-fn answers_a_message(rt: HostRuntime) -> Result<(), Fail> {
-    let cases: [(&[u8], &[u8], &[u8], &[u8]); 3] = [
-        (DO_1, DO_1, DONE, DONE),
-        (DO_1, DO_1, LOCAL_INFILE, BAD_BYTES),
-        (PING, b"", DONE, UNKNOWN),
-    ];
-    for (message, command, reply, want) in cases {
-        let mut core = asked(rt.alloc(), message)?;
-        assert_eq!(rt; offered(&core, SERVER, COMMAND), command);
-        if let Some(piece) = core.outgoing(SERVER) {
-            let length = piece.bytes.len();
-            core.taken(SERVER, length);
-        }
-        let mut bytes = reply.to_vec(rt.alloc())?;
-        core.take(Event::Got { link: SERVER }, &mut bytes)?;
-        assert_eq!(rt; offered(&core, CLIENT, Tag::Reply), want);
-        assert_eq!(rt; offered(&core, SERVER, COMMAND), b"".as_slice());
+// Bytes come on a link.
+fn say(alloc: Global, core: &mut Core, link: LinkId, bytes: &[u8]) -> Result<(), Fail> {
+    if core.next_act().is_some() {
+        return Err("an act was left".into());
+    }
+    let mut got = bytes.to_vec(alloc)?;
+    core.take(Event::Got { link }, &mut got)?;
+    Ok(())
+}
+
+// The link that the core asks for is opened, and all that it has for it is written.
+fn open(core: &mut Core, link: LinkId) -> Result<(), Fail> {
+    match core.next_act() {
+        Some(Act::Open { server, .. }) => core.take(Event::Opened { server, link }, &mut [])?,
+        _ => return Err("no open was asked for".into()),
+    }
+    if core.next_act().is_some() {
+        return Err("an act was left".into());
+    }
+    if let Some(piece) = core.outgoing(link) {
+        let length = piece.bytes.len();
+        core.taken(link, length);
     }
     Ok(())
 }
 
+// What is to be written on a link.
+fn left(core: &Core, link: LinkId) -> &[u8] {
+    match core.outgoing(link) {
+        Some(piece) => piece.bytes,
+        None => &[],
+    }
+}
+
 #[test]
-fn closes_a_needless_link(rt: HostRuntime) -> Result<(), Fail> {
-    let mut core = asked(rt.alloc(), PING)?;
-    assert_eq!(rt; core.next_act(), Some(Act::Close { link: SERVER }));
-    assert_eq!(rt; core.next_act(), None);
-    assert_eq!(rt; core.next_changed(), Some(CLIENT));
-    assert_eq!(rt; core.next_changed(), None);
-    assert!(rt; core.wants_read(CLIENT));
-    assert!(rt; !core.stopped());
+fn answers_each_client_its_own(rt: HostRuntime) -> Result<(), Fail> {
+    let config = read_config(rt.alloc(), CONFIG.as_bytes())
+        .ok()
+        .ok_or("the configuration was refused")?;
+    let mut core = Core::new(rt.alloc(), &config)?;
+    come(&mut core, Port::Traffic, LinkId(1))?;
+    come(&mut core, Port::Traffic, LinkId(2))?;
+    for (port, link) in [(Port::Traffic, LinkId(3)), (Port::Admin, LinkId(4))] {
+        come(&mut core, port, link)?;
+        assert_eq!(rt; core.next_act(), Some(Act::Close { link }));
+    }
+    for (client, server) in [(LinkId(1), LinkId(5)), (LinkId(2), LinkId(6))] {
+        say(rt.alloc(), &mut core, client, DO_1)?;
+        open(&mut core, server)?;
+    }
+    say(rt.alloc(), &mut core, LinkId(6), DONE)?;
+    assert_eq!(rt; left(&core, LinkId(1)), b"".as_slice());
+    assert_eq!(rt; left(&core, LinkId(2)), DONE);
+    assert!(rt; core.next_act().is_none());
     Ok(())
 }

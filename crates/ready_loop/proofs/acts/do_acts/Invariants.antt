@@ -8,6 +8,7 @@ invariant-loop-table g l = record {
   more : l.fn.table.round.calls ≤ l.table.round.calls;
   wakes : l.table.round.wakes ≡ l.fn.table.round.wakes;
   advances : Advances g.W.Wire.told g.W.Wire.rule g.W.Wire.port_faults g.W.Wire.faults l.fn.wire l.wire;
+  serves_by : g.M.Machine.serves_by l.core ≡ g.M.Machine.serves_by l.fn.core;
 }
 
 abbrev pub decreases-loop-table : goal.decreases-loop-table

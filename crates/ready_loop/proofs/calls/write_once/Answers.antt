@@ -10,8 +10,8 @@ use Rattle.ready_loop.proofs.calls.write_once.Goals as goal
 pub write-requires-clause-open : goal.write-requires-clause-open
 write-requires-clause-open g c = open_marked _ _ _ _ _ c.requires.serves.tracks c.requires.wet
 
-pub taken-requires : goal.taken-requires
-taken-requires g c = may_take c.in-Some.piece _ _ c.in-Some.ensures c.in-Took.ensures.bound.fits
+pub taken-requires-clause-lent : goal.taken-requires-clause-lent
+taken-requires-clause-lent g c = may_take c.in-Some.piece _ _ c.in-Some.ensures c.in-Took.ensures.bound.fits
 
 pub returns-in-Took-clause-serves : goal.returns-in-Took-clause-serves
 returns-in-Took-clause-serves g c = record {

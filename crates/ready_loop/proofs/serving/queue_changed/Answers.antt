@@ -16,6 +16,7 @@ loop-link-preserved g c = record {
   stopped = c.in-Some.ensures.same.stopped ∙ c.loop-link.invariant.stopped;
   acted = c.in-Some.ensures.asks ∙ c.loop-link.invariant.acted;
   round = c.loop-link.invariant.round;
+  serves_by = c.in-Some.ensures.serves_by ∙ c.loop-link.invariant.serves_by;
 }
 
 pub returns-in_err-enqueue-clause-broke : goal.returns-in_err-enqueue-clause-broke

@@ -8,6 +8,7 @@ invariant-loop-link g l = record {
   stopped : g.M.Machine.is_stopped l.core ≡ g.M.Machine.is_stopped l.fn.core;
   acted : g.M.Machine.asks l.core ≡ g.M.Machine.asks l.fn.core;
   round : l.table.round ≡ l.fn.table.round;
+  serves_by : g.M.Machine.serves_by l.core ≡ g.M.Machine.serves_by l.fn.core;
 }
 
 abbrev pub decreases-loop-link : goal.decreases-loop-link

@@ -11,6 +11,7 @@ invariant-loop-table g l = record {
   drained : DrainedFor (g.M.Machine.reads l.core) (g.M.Machine.sends l.core) (g.W.Wire.told l.wire);
   wakes : l.table.round.wakes ≤ l.turns;
   advances : Advances g.W.Wire.told g.W.Wire.rule g.W.Wire.port_faults g.W.Wire.faults l.fn.wire l.wire;
+  serves_by : g.M.Machine.serves_by l.core ≡ g.M.Machine.serves_by l.fn.core;
 }
 
 abbrev pub decreases-loop-table : goal.decreases-loop-table

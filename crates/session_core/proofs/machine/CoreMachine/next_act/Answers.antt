@@ -1,10 +1,12 @@
 use Rattle.std.proofs.Common.{◌≡◌, [], ◌∷◌, ◌++◌, refl, rules}
-use Rattle.session_core.specs.Parting.{closes-refused}
-use Rattle.session_core.specs.Taking.{closes-parted}
+use Rattle.session_core.specs.Naming.{drops-one, none-refused_acts, none-refused_only}
 use Rattle.session_core.proofs.machine.CoreMachine.next_act.Goals as goal
 
 pub returns-in-Some-clause-act : goal.returns-in-Some-clause-act
-returns-in-Some-clause-act c = closes-refused _ _ _ (record { refused = (let popped : c.args.self.now.refused.items ≡ c.pop.new.self.items ++ c.in-Some.link ∷ [] = search rules in popped); server = refl; client = refl; accepted = refl })
+returns-in-Some-clause-act c = drops-one _ _ _ (record { sessions = refl; places = refl; turn = refl; target = refl; accepted = refl }) (let popped : c.args.self.now.refused.items ≡ c.pop.new.self.items ++ c.in-Some.link ∷ [] = search rules in popped)
 
-pub returns-in-Some-close_client-clause-act : goal.returns-in-Some-close_client-clause-act
-returns-in-Some-close_client-clause-act c = closes-parted _ _ _ (rw c.in-Some-close_client.is at c.close_client.ensures) refl (let same : c.pop.new.self.items ≡ c.args.self.now.refused.items = search rules in same) refl
+pub returns-clause-act : goal.returns-clause-act
+returns-clause-act c = none-refused_acts _ _ _ _ (record { sessions = refl; places = refl; turn = refl; target = refl; accepted = refl }) (let same : c.pop.new.self.items ≡ c.args.self.now.refused.items = search rules in same) c.turn_act.ensures.changes
+
+pub returns-clause-changes : goal.returns-clause-changes
+returns-clause-changes c = none-refused_only _ _ _ _ (record { sessions = refl; places = refl; turn = refl; target = refl; accepted = refl }) refl c.turn_act.ensures.changes

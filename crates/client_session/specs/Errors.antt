@@ -1,0 +1,42 @@
+-- The payloads of the errors that the proxy itself answers.
+use Rattle.std.specs.Prelude.{ℕ, List, ◌++◌, codes}
+use Rattle.std.specs.Fmt.{decimal}
+use Rattle.reply_text.specs.Replies.{err_payload}
+
+unfoldable pub unknown_command : List ℕ
+unknown_command = err_payload 1047 (codes "08S01") (codes "Unknown command")
+
+unfoldable pub malformed_command : List ℕ
+malformed_command = err_payload 9109 (codes "HY000") (codes "Malformed command")
+
+-- no server is configured for the hostgroup of clients, which is 0
+unfoldable pub no_server : List ℕ
+no_server = err_payload 9100 (codes "HY000") (codes "No server in hostgroup 0")
+
+-- the link that carried a command was lost before its reply was whole
+unfoldable pub connection_lost : List ℕ
+connection_lost = err_payload 9101 (codes "HY000") (codes "Server connection lost")
+
+-- no link could be opened for a command
+unfoldable pub connection_refused : List ℕ
+connection_refused = err_payload 9103 (codes "HY000") (codes "Server connection refused")
+
+-- the place counts the bytes of the reply from 0
+unfoldable pub bad_bytes_text : ℕ → List ℕ
+bad_bytes_text place = codes "Bad server bytes at " ++ decimal place
+
+unfoldable pub too_large_text : (length limit : ℕ) → List ℕ
+too_large_text length limit = codes "Packet of " ++ (decimal length ++ (codes " bytes is larger than " ++ decimal limit))
+
+unfoldable pub out_of_order_text : (expected found : ℕ) → List ℕ
+out_of_order_text expected found = codes "Packet " ++ decimal found ++ codes " came where " ++ decimal expected ++ codes " was due"
+
+-- bytes of a server that are no reply
+unfoldable pub bad_server_bytes : ℕ → List ℕ
+bad_server_bytes place = err_payload 9110 (codes "HY000") (bad_bytes_text place)
+
+unfoldable pub packet_too_large : (length limit : ℕ) → List ℕ
+packet_too_large length limit = err_payload 1153 (codes "08S01") (too_large_text length limit)
+
+unfoldable pub packet_out_of_order : (expected found : ℕ) → List ℕ
+packet_out_of_order expected found = err_payload 1156 (codes "08S01") (out_of_order_text expected found)

@@ -1,0 +1,109 @@
+-- What one more entry changes of the clients of a log, and of what is sent for them.
+use Rattle.std.specs.Prelude.{false, true, ◌≡◌, ◌⊎◌, ℕ, zero, suc, List, [], ◌∷◌, ◌++◌, length, slice_get, Option, Some, None, refl}
+use Rattle.std.specs.Option.{option_and_then}
+use Rattle.std.proofs.Common.{◌∙◌, ap, append-nil, inl, inr}
+use Rattle.std.proofs.lemmas.List.Elements.{filter_map-append}
+use Rattle.std.proofs.lemmas.Grind.{flat_map-append}
+use Rattle.mx_base.specs.declared.names.LinkId.{LinkId}
+use Rattle.mx_wire.specs.Log.{Log, link_of, is_link, accepted_link, accepted_links}
+use Rattle.mx_wire.specs.Growth.{bool_cases, step-same, step-other}
+use Rattle.mx_wire.specs.declared.entry.Entry.{Entry}
+use Rattle.client_session.specs.Sending.{carrier, command_bytes, command_sent, Sending, first_carried, sending, SoFar, Part, Heard, hear_step, heard_on, answer_in, reply_on, reply_to}
+use Rattle.client_session.specs.Headline.{client_link}
+
+-- an element of a list, with more behind it
+pub slice_get-more : {X : Type 0} (xs ys : List X) (i : ℕ) (x : X) → slice_get xs i ≡ Some x → slice_get (xs ++ ys) i ≡ Some x
+slice_get-more [] ys i x is = cc
+slice_get-more (y ∷ xs) ys zero x is = is
+slice_get-more (y ∷ xs) ys (suc i) x is = slice_get-more xs ys i x is
+
+pub slice_get-at : {X : Type 0} (xs : List X) (x : X) (ys : List X) → slice_get (xs ++ x ∷ ys) (length xs) ≡ Some x
+slice_get-at [] x ys = refl
+slice_get-at (y ∷ xs) x ys = slice_get-at xs x ys
+
+-- an element of a list with one more: it was there before, or is the new one
+slice_get-back : {X : Type 0} (xs : List X) (y : X) (i : ℕ) (x : X) → slice_get (xs ++ y ∷ []) i ≡ Some x → (slice_get xs i ≡ Some x) ⊎ ((i ≡ length xs) × (y ≡ x))
+slice_get-back [] y zero x is = inr (refl, cc)
+slice_get-back [] y (suc i) x is = cc
+slice_get-back (z ∷ xs) y zero x is = inl is
+slice_get-back (z ∷ xs) y (suc i) x is = elim (slice_get-back xs y i x is) [
+  | inl before ↦ inl before
+  | inr new ↦ inr (ap suc new.0, new.1)
+]
+
+pub accepted_links-new : (log : Log) (e : Entry) (link : LinkId) → accepted_link e ≡ Some link → accepted_links (log ++ e ∷ []) ≡ accepted_links log ++ link ∷ []
+accepted_links-new log e link is = rw (filter_map-append, is) refl
+
+pub accepted_links-same : (log : Log) (e : Entry) → accepted_link e ≡ None → accepted_links (log ++ e ∷ []) ≡ accepted_links log
+accepted_links-same log e none = rw (filter_map-append, none) (append-nil (accepted_links log))
+
+-- a client keeps its number
+pub client_link-append : (n : ℕ) (log more : Log) (link : LinkId) → client_link n log ≡ Some link → client_link n (log ++ more) ≡ Some link
+client_link-append zero log more link is = cc
+client_link-append (suc n) log more link is =
+    rw (filter_map-append accepted_link log more) (slice_get-more (accepted_links log) (accepted_links more) n link is)
+
+pub client_link-more : (n : ℕ) (log : Log) (e : Entry) (link : LinkId) → client_link n log ≡ Some link → client_link n (log ++ e ∷ []) ≡ Some link
+client_link-more n log e link is = client_link-append n log (e ∷ []) link is
+
+-- no client comes with this entry
+pub client_link-same : (n : ℕ) (log : Log) (e : Entry) → accepted_link e ≡ None → client_link n (log ++ e ∷ []) ≡ client_link n log
+client_link-same zero log e none = refl
+client_link-same (suc n) log e none = ap (λ (links : List LinkId). slice_get links n) (accepted_links-same log e none)
+
+-- a client comes, with the next number
+pub client_link-new : (log : Log) (e : Entry) (link : LinkId) → accepted_link e ≡ Some link → client_link (suc (length (accepted_links log))) (log ++ e ∷ []) ≡ Some link
+client_link-new log e link is = rw (accepted_links-new log e link is) (slice_get-at (accepted_links log) link [])
+
+pub client_link-back : (n : ℕ) (log : Log) (e : Entry) (new link : LinkId) → accepted_link e ≡ Some new → client_link n (log ++ e ∷ []) ≡ Some link → (client_link n log ≡ Some link) ⊎ ((n ≡ suc (length (accepted_links log))) × (new ≡ link))
+client_link-back zero log e new link is has = cc
+client_link-back (suc n) log e new link is has = elim (slice_get-back (accepted_links log) new n link (rw (accepted_links-new log e new is) at has)) [
+  | inl before ↦ inl before
+  | inr now ↦ inr (ap suc now.0, now.1)
+]
+
+-- the first byte of a command was written before, is written now, or isn't yet
+pub sending-before : (n i : ℕ) (log : Log) (e : Entry) (sent : Sending) → sending n i log ≡ Some sent → sending n i (log ++ e ∷ []) ≡ Some (record { link = sent.link; since = sent.since ++ e ∷ [] })
+sending-before n i [] e sent is = cc
+sending-before n i (x ∷ log) e sent is = begins (carrier n i x) (λ here. sending-before n i log e sent here) is where
+  begins : (o : Option LinkId) → (sending n i log ≡ Some sent → sending n i (log ++ e ∷ []) ≡ Some (record { link = sent.link; since = sent.since ++ e ∷ [] })) → first_carried o log (sending n i log) ≡ Some sent → first_carried o (log ++ e ∷ []) (sending n i (log ++ e ∷ [])) ≡ Some (record { link = sent.link; since = sent.since ++ e ∷ [] })
+  begins None later here = later here
+  begins (Some link) later here =
+      let same : record { link = link; since = log } ≡ sent = cc in
+      ap (λ (s : Sending). Some (record { link = s.link; since = s.since ++ e ∷ [] })) same
+
+pub sending-now : (n i : ℕ) (log : Log) (e : Entry) → sending n i log ≡ None → sending n i (log ++ e ∷ []) ≡ first_carried (carrier n i e) [] None
+sending-now n i [] e none = refl
+sending-now n i (x ∷ log) e none = begins (carrier n i x) (λ here. sending-now n i log e here) none where
+  begins : (o : Option LinkId) → (sending n i log ≡ None → sending n i (log ++ e ∷ []) ≡ first_carried (carrier n i e) [] None) → first_carried o log (sending n i log) ≡ None → first_carried o (log ++ e ∷ []) (sending n i (log ++ e ∷ [])) ≡ first_carried (carrier n i e) [] None
+  begins None later here = later here
+  begins (Some link) later here = cc
+
+pub command_sent-more : (n i : ℕ) (log : Log) (e : Entry) → command_sent n i (log ++ e ∷ []) ≡ command_sent n i log ++ command_bytes n i e
+command_sent-more n i log e =
+    let one : command_bytes n i e ++ [] ≡ command_bytes n i e = append-nil (command_bytes n i e) in
+    flat_map-append (command_bytes n i) log (e ∷ []) ∙ ap (λ xs. command_sent n i log ++ xs) one
+
+-- what is heard of a reply, with one more entry of its link or of another
+pub heard-same : (link : LinkId) (since : Log) (e : Entry) → is_link link (link_of e) ≡ true → heard_on link (since ++ e ∷ []) ≡ hear_step (heard_on link since) e
+heard-same link since e here = step-same hear_step (Part []) link since e here
+
+pub heard-other : (link : LinkId) (since : Log) (e : Entry) → is_link link (link_of e) ≡ false → heard_on link (since ++ e ∷ []) ≡ heard_on link since
+heard-other link since e other = step-other hear_step (Part []) link since e other
+
+-- an answer that was heard stays
+heard-stays : (link : LinkId) (since : Log) (e : Entry) (payload : List ℕ) → heard_on link since ≡ Heard payload → heard_on link (since ++ e ∷ []) ≡ Heard payload
+heard-stays link since e payload is = elim (bool_cases (is_link link (link_of e))) [
+  | inl here ↦ heard-same link since e here ∙ ap (λ h. hear_step h e) is
+  | inr other ↦ heard-other link since e other ∙ is
+]
+
+answer-heard : (heard : SoFar) (payload : List ℕ) → answer_in heard ≡ Some payload → heard ≡ Heard payload
+answer-heard (Part bytes) payload is = cc
+answer-heard (Heard other) payload is = (let same : other ≡ payload = cc in ap Heard same)
+
+pub reply_to-stays : (n i : ℕ) (log : Log) (e : Entry) (payload : List ℕ) → reply_to n i log ≡ Some payload → reply_to n i (log ++ e ∷ []) ≡ Some payload
+reply_to-stays n i log e payload is = sent (sending n i log) refl is where
+  sent : (s : Option Sending) → sending n i log ≡ s → option_and_then reply_on s ≡ Some payload → reply_to n i (log ++ e ∷ []) ≡ Some payload
+  sent None is reply = cc
+  sent (Some s) is reply = rw (sending-before n i log e s is, heard-stays s.link s.since e payload (answer-heard (heard_on s.link s.since) payload reply)) refl

@@ -1,0 +1,94 @@
+// The errors that the router itself answers.
+ghost use Rattle.std.specs.Prelude.{◌≡◌, ◌++◌, OnOk, IfOk, string_bytes};
+ghost use Rattle.packet_frame.specs.Packets.{spelling};
+ghost use Rattle.client_session.specs.Errors.{bad_bytes_text, too_large_text, out_of_order_text};
+ghost use Rattle.client_session.specs.Refusals.{payload_of};
+
+use mx_base::OutOfMemory;
+use packet_frame::FrameFault;
+use reply_text::write_err;
+use std::alloc::Global;
+
+/// An error that the router itself answers, as an ERR packet (MySQL Reference Manual, "Server Error Message
+/// Reference"; the numbers from 9100 on are the router's own).
+#[derive(Clone, Copy, Debug, PartialEq, Eq)]
+pub enum Refusal {
+    /// 1047: a command that the router doesn't take.
+    UnknownCommand,
+    /// 9109: a message that is no command.
+    MalformedCommand,
+    /// 9100: a query, where no server is configured.
+    NoServer,
+    /// 9101: the server's link was lost before its reply was whole.
+    ConnectionLost,
+    /// 9103: no link to the server could be opened.
+    ConnectionRefused,
+    /// 9110: bytes of a server that are no reply, from this place of the reply on, counted from 0.
+    BadServerBytes { place: u64 },
+    /// 1153: a message longer than the limit, or 1156: a packet out of order.
+    Frame { fault: FrameFault, limit: u64 },
+}
+
+// The texts that have numbers in them.
+#[tactic(auto, unfolding(crate::specs::Errors::bad_bytes_text))]
+fn bad_bytes_text(alloc: Global, place: u64) -> Result<String, OutOfMemory>
+    ensures { IfOk result (λ text. string_bytes text ≡ bad_bytes_text place) }
+{
+    Ok(format!(in alloc; "Bad server bytes at {place}")?)
+}
+
+#[tactic(auto, unfolding(crate::specs::Errors::too_large_text))]
+fn too_large_text(alloc: Global, length: u64, limit: u64) -> Result<String, OutOfMemory>
+    ensures { IfOk result (λ text. string_bytes text ≡ too_large_text length limit) }
+{
+    Ok(format!(in alloc; "Packet of {length} bytes is larger than {limit}")?)
+}
+
+#[tactic(auto, unfolding(crate::specs::Errors::out_of_order_text))]
+fn out_of_order_text(alloc: Global, expected: u8, found: u8) -> Result<String, OutOfMemory>
+    ensures { IfOk result (λ text. string_bytes text ≡ out_of_order_text expected found) }
+{
+    Ok(format!(in alloc; "Packet {found} came where {expected} was due")?)
+}
+
+/// A refusal appended to `out` as one message that begins with the sequence id `first`.
+#[tactic(auto, unfolding(crate::specs::Errors::unknown_command, crate::specs::Errors::malformed_command, crate::specs::Errors::no_server, crate::specs::Errors::connection_lost, crate::specs::Errors::connection_refused, crate::specs::Errors::bad_server_bytes, crate::specs::Errors::packet_too_large, crate::specs::Errors::packet_out_of_order))]
+pub fn write_refusal(
+    alloc: Global,
+    out: &mut Vec<u8>,
+    first: u8,
+    refusal: Refusal,
+) -> Result<(), OutOfMemory>
+    ensures { OnOk result (out.new.items ≡ out.old.items ++ spelling first (payload_of refusal)) }
+{
+    match refusal {
+        Refusal::UnknownCommand => write_err(out, first, 1047, b"08S01", b"Unknown command")?,
+        Refusal::MalformedCommand => write_err(out, first, 9109, b"HY000", b"Malformed command")?,
+        Refusal::NoServer => write_err(out, first, 9100, b"HY000", b"No server in hostgroup 0")?,
+        Refusal::ConnectionLost => {
+            write_err(out, first, 9101, b"HY000", b"Server connection lost")?
+        }
+        Refusal::ConnectionRefused => {
+            write_err(out, first, 9103, b"HY000", b"Server connection refused")?
+        }
+        Refusal::BadServerBytes { place } => {
+            let text = bad_bytes_text(alloc, place)?;
+            write_err(out, first, 9110, b"HY000", text.as_bytes())?
+        }
+        Refusal::Frame {
+            fault: FrameFault::TooLarge { length },
+            limit,
+        } => {
+            let text = too_large_text(alloc, length, limit)?;
+            write_err(out, first, 1153, b"08S01", text.as_bytes())?
+        }
+        Refusal::Frame {
+            fault: FrameFault::OutOfOrder { expected, found },
+            ..
+        } => {
+            let text = out_of_order_text(alloc, expected, found)?;
+            write_err(out, first, 1156, b"08S01", text.as_bytes())?
+        }
+    };
+    Ok(())
+}

@@ -1,0 +1,14 @@
+-- Where the core listens, and how many links it may have open.
+use Rattle.std.specs.Prelude.{ℕ, ◌+◌, nat_lt, if◌then◌else◌}
+use Rattle.mx_base.specs.declared.names.Address.{Address}
+use Rattle.mx_base.specs.declared.names.Port.{Port}
+use Rattle.mx_base.specs.declared.names.Port.TheVariants.{Traffic, Admin}
+use Rattle.session_core.specs.declared.router.Core.{Core}
+
+abbrev pub address_of : Core → Port → Address
+address_of core Traffic = core.listen
+address_of core Admin = core.admin_listen
+
+-- a sum stands still at its type's end
+abbrev pub most_of : Core → ℕ
+most_of core = if nat_lt (core.max_clients + 10018) 4294967296 then core.max_clients + 10018 else 4294967295

@@ -1,0 +1,98 @@
+// Links that come.
+ghost use Rattle.std.specs.Prelude.{◌≡◌, ◌<◌, OnOk, is_some};
+ghost use Rattle.client_session.specs.Events.{OpenFails};
+ghost use Rattle.session_core.specs.Cores.{session_at, StepsAt};
+ghost use Rattle.session_core.specs.Comes.{is_admitted, Admits, Comes, OpensAt, OpensBy, FailsBy};
+
+use crate::place::Place;
+use crate::router::Core;
+use crate::taking::mark;
+use client_session::{fail_upstream, new_session, one_more, open_upstream};
+use mx_base::{ClientNo, LinkId, OutOfMemory, Port};
+
+// A client is served.
+fn admit(core: &mut Core, link: LinkId) -> Result<(), OutOfMemory>
+    requires { core.old.clients < 4294967295 }
+    ensures changes { OnOk result (Admits core.old link core.new) }
+    ensures target { core.new.target ≡ core.old.target }
+{
+    core.accepted = one_more(core.accepted);
+    let session = new_session(core.alloc, link, ClientNo(core.accepted));
+    let key = core.sessions.insert(session)?;
+    core.places.insert(link.0, Place::Client(key))?;
+    core.changed.push(link)?;
+    core.clients += 1;
+    Ok(())
+}
+
+/// A client comes. It is served where it came to the port of clients and fewer than the most are connected, and else its link is
+/// to be closed.
+pub fn client_comes(core: &mut Core, port: Port, link: LinkId) -> Result<(), OutOfMemory>
+    ensures changes { OnOk result (Comes (is_admitted core.old port) core.old link core.new) }
+    ensures target { core.new.target ≡ core.old.target }
+{
+    if port == Port::Traffic && core.clients < core.max_clients {
+        admit(core, link)?;
+        Ok(())
+    } else {
+        core.refused.push(link)?;
+        core.accepted = one_more(core.accepted);
+        Ok(())
+    }
+}
+
+// A link to the server is open for the session under the key.
+fn open_at(core: &mut Core, key: usize, link: LinkId) -> Result<(), OutOfMemory>
+    ensures changes { OnOk result (OpensAt core.old core.new key link (session_at core.old key)) }
+    ensures target { core.new.target ≡ core.old.target }
+{
+    let alloc = core.alloc;
+    if let Some(session) = core.sessions.get_mut(key) {
+        open_upstream(alloc, session, link);
+        core.places.insert(link.0, Place::Server(key))?;
+        mark(core, key)?;
+    }
+    Ok(())
+}
+
+/// A link to the server is open for the session that has its turn.
+pub fn link_opens(core: &mut Core, link: LinkId) -> Result<(), OutOfMemory>
+    ensures changes { OnOk result (OpensBy core.old core.new link core.old.turn) }
+    ensures target { core.new.target ≡ core.old.target }
+{
+    match core.turn {
+        Some(key) => {
+            open_at(core, key, link)?;
+            Ok(())
+        }
+        None => Ok(()),
+    }
+}
+
+// No link to the server could be opened for the session under the key.
+fn fail_at(core: &mut Core, key: usize) -> Result<(), OutOfMemory>
+    ensures changes { OnOk result (StepsAt (OpenFails (is_some core.old.target)) core.old core.new key (session_at core.old key)) }
+    ensures target { core.new.target ≡ core.old.target }
+{
+    let alloc = core.alloc;
+    let has_server = core.target.is_some();
+    if let Some(session) = core.sessions.get_mut(key) {
+        fail_upstream(alloc, session, has_server)?;
+        mark(core, key)?;
+    }
+    Ok(())
+}
+
+/// No link to the server could be opened for the session that has its turn.
+pub fn open_fails(core: &mut Core) -> Result<(), OutOfMemory>
+    ensures changes { OnOk result (FailsBy core.old core.new core.old.turn) }
+    ensures target { core.new.target ≡ core.old.target }
+{
+    match core.turn {
+        Some(key) => {
+            fail_at(core, key)?;
+            Ok(())
+        }
+        None => Ok(()),
+    }
+}

@@ -1,0 +1,8 @@
+// Whose a link is.
+
+/// Whose an open link is, by the key of the session.
+#[derive(Clone, Copy, Debug, PartialEq, Eq)]
+pub enum Place {
+    Client(usize),
+    Server(usize),
+}
