@@ -1,0 +1,6 @@
+pub mod Login
+pub mod Client
+pub mod Steps
+pub mod Reading
+pub mod Laws
+pub mod HeldUp

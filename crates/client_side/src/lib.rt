@@ -1,0 +1,15 @@
+//! The link of one client: its login, and behind it the messages, out of bytes that come in pieces; and the bytes that
+//! are to be written to it.
+#![tactic(auto)]
+
+mod client;
+mod greeting;
+mod next;
+mod stage;
+mod step;
+#[cfg(test)]
+mod tests;
+
+pub use client::Client;
+pub use stage::Stage;
+pub use step::{ClientFault, ClientStep};

@@ -1,0 +1,194 @@
+// What a client says next.
+ghost use Rattle.std.specs.Prelude.{◌≡◌, IfOk};
+ghost use Rattle.handshake.specs.declared.response.Response.{Response};
+ghost use Rattle.client_side.specs.Client.{counted};
+ghost use Rattle.client_side.specs.Login.{fault_id, needs_switch};
+
+use crate::client::Client;
+use crate::stage::Stage;
+use crate::step::{ClientFault, ClientStep};
+use handshake::{HandFault, Response, read_response, write_switch};
+use mx_base::{Bytes, OutOfMemory};
+use packet_frame::{FrameFault, write_message};
+use std::mem;
+
+/// One more, unless it is the last value.
+pub fn counted(count: u64) -> u64
+    ensures { result ≡ counted count }
+{
+    if count < u64::MAX { count + 1 } else { count }
+}
+
+// The sequence id of the answer to a packet that can't be, where one of the id `due` was due.
+fn fault_id(due: u8, fault: FrameFault) -> u8
+    ensures { result ≡ fault_id due fault }
+{
+    match fault {
+        FrameFault::OutOfOrder { found, .. } => found.wrapping_add(1),
+        FrameFault::TooLarge { .. } => due.wrapping_add(1),
+    }
+}
+
+// Whether the response names another login method than the one that the router has.
+fn needs_switch(response: &Response) -> bool
+    ensures { result ≡ needs_switch response.now.plugin }
+{
+    match &response.plugin {
+        Some(plugin) => plugin.as_slice() != b"mysql_native_password".as_slice(),
+        None => false,
+    }
+}
+
+impl Client {
+    ghost use Rattle.std.specs.Prelude.{◌≡◌, IsSome, IfSome, IfOk, OnOk, OnErr, Result, Err};
+    ghost use Rattle.handshake.specs.declared.fault.HandFault.{HandFault};
+    ghost use Rattle.handshake.specs.Reading.{Gives};
+    ghost use Rattle.handshake.specs.Response.{response_of};
+    ghost use Rattle.client_side.specs.Client.{ClientState, IsSame};
+    ghost use Rattle.packet_frame.specs.FramerState.{look};
+    ghost use Rattle.client_side.specs.Steps.{next_of, response_found, response_read, answer_found, command_found, behind, asked, looked, IsAnswerNext, IsAnswerRead, IsFoundBy, IsUnread, IsUnanswered, IsHeldUp};
+
+    /// What the client says next. A login or a command stays found until `done`. A client that names another login
+    /// method is asked to switch (client/server protocol, "Protocol::AuthSwitchRequest"), by the same salt. A step Refused
+    /// is answered again for good. OutOfMemory comes before the login alone, and the call after it answers what this one
+    /// would have: no byte that was read is lost, and nobody is asked to switch twice.
+    #[tactic(auto, using(crate::specs::HeldUp::next_again, crate::specs::HeldUp::next_same, crate::specs::HeldUp::held_up_same))]
+    pub fn next(&mut self) -> Result<ClientStep, OutOfMemory>
+        ensures found { IfOk result (λ step. IsFoundBy step self.new) }
+        ensures err { OnErr result (IsHeldUp self.old.stage self.old self.new) }
+        ensures again { OnErr result (next_of self.new.stage self.new ≡ next_of self.old.stage self.old) }
+        ensures same { IsSame self.old self.new }
+        ensures step { IfOk result (λ step. record { step = step; client = self.new } ≡ next_of self.old.stage self.old) }
+    {
+        match &self.stage {
+            Stage::Response => self.next_response(),
+            Stage::Answer(_) => self.next_answer(),
+            Stage::Login { first, .. } => Ok(ClientStep::Login { first: *first }),
+            Stage::Refused { first, fault } => Ok(ClientStep::Refused {
+                first: *first,
+                fault: ClientFault::Hand(*fault),
+            }),
+            Stage::Commands => Ok(self.next_command()),
+        }
+    }
+
+    // The response, where it is whole.
+    fn next_response(&mut self) -> Result<ClientStep, OutOfMemory>
+        ensures step { IfOk result (λ step. record { step = step; client = self.new } ≡ response_found self.old (look 1 self.old.framer)) }
+        ensures err { OnErr result (IsUnanswered self.old (look 1 self.old.framer) self.new) }
+    {
+        match self.framer.next(1) {
+            Ok(None) => Ok(ClientStep::Nothing),
+            Ok(Some(_)) => self.read(),
+            Err(fault) => Ok(ClientStep::Refused {
+                first: fault_id(1, fault),
+                fault: ClientFault::Frame(fault),
+            }),
+        }
+    }
+
+    // The response that was found.
+    fn read(&mut self) -> Result<ClientStep, OutOfMemory>
+        requires { IsSome self.old.framer.found }
+        ensures step { IfOk result (λ step. IfSome self.old.framer.found (λ message. record { step = step; client = self.new } ≡ response_read (response_of message.payload) (behind message self.old))) }
+        ensures err { OnErr result (IfSome self.old.framer.found (λ message. IsUnread message self.old self.new)) }
+    {
+        match read_response(self.alloc, self.framer.payload()) {
+            Ok(response) => {
+                if needs_switch(&response) {
+                    self.ask(response)?;
+                    self.next_answer()
+                } else {
+                    self.framer.done();
+                    self.stage = Stage::Login { response, first: 2 };
+                    Ok(ClientStep::Login { first: 2 })
+                }
+            }
+            Err(fault) => self.refuse(fault),
+        }
+    }
+
+    // The response that was found can't be read.
+    #[tactic(auto, using(crate::proofs::Given::given_fault))]
+    fn refuse(&mut self, fault: HandFault) -> Result<ClientStep, OutOfMemory>
+        requires { IsSome self.old.framer.found }
+        ensures step { IfOk result (λ step. IfSome self.old.framer.found (λ message. (read : Result Response HandFault) → Gives (Err fault) read → record { step = step; client = self.new } ≡ response_read read (behind message self.old))) }
+        ensures err { OnErr result (self.new ≡ self.old) }
+    {
+        match fault {
+            HandFault::OutOfMemory => Err(OutOfMemory),
+            fault => {
+                self.framer.done();
+                self.stage = Stage::Refused { first: 2, fault };
+                Ok(ClientStep::Refused {
+                    first: 2,
+                    fault: ClientFault::Hand(fault),
+                })
+            }
+        }
+    }
+
+    // The client is asked to switch.
+    fn ask(&mut self, response: Response) -> Result<(), OutOfMemory>
+        requires { IsSome self.old.framer.found }
+        ensures ok { OnOk result (IfSome self.old.framer.found (λ message. self.new ≡ asked response (behind message self.old))) }
+        ensures err { OnErr result (self.new ≡ self.old) }
+    {
+        let mut payload = Vec::new(self.alloc);
+        write_switch(&mut payload, &self.salt)?;
+        let mut packet = Vec::new(self.alloc);
+        write_message(&mut packet, 2, &payload)?;
+        self.outgoing.push(&packet)?;
+        self.framer.done();
+        self.stage = Stage::Answer(response);
+        Ok(())
+    }
+
+    // The bare answer, where it is whole.
+    fn next_answer(&mut self) -> Result<ClientStep, OutOfMemory>
+        ensures step { IfOk result (λ step. IsAnswerNext self.old.stage self.old (record { step = step; client = self.new })) }
+        ensures err { OnErr result (self.new ≡ looked self.old (look 3 self.old.framer)) }
+    {
+        match self.framer.next(3) {
+            Ok(None) => Ok(ClientStep::Nothing),
+            Ok(Some(_)) => self.read_answer(),
+            Err(fault) => Ok(ClientStep::Refused {
+                first: fault_id(3, fault),
+                fault: ClientFault::Frame(fault),
+            }),
+        }
+    }
+
+    // The bare answer that was found.
+    fn read_answer(&mut self) -> Result<ClientStep, OutOfMemory>
+        requires { IsSome self.old.framer.found }
+        ensures step { IfOk result (λ step. IfSome self.old.framer.found (λ message. IsAnswerRead self.old.stage message self.old (record { step = step; client = self.new }))) }
+        ensures err { OnErr result (self.new ≡ self.old) }
+    {
+        let answer = Bytes::from_slice(self.alloc, self.framer.payload())?;
+        self.framer.done();
+        let stage = mem::replace(&mut self.stage, Stage::Commands);
+        if let Stage::Answer(mut response) = stage {
+            response.answer = answer;
+            self.stage = Stage::Login { response, first: 4 };
+        }
+        Ok(ClientStep::Login { first: 4 })
+    }
+
+    // The command, where one is whole.
+    fn next_command(&mut self) -> ClientStep
+        ensures { record { step = result; client = self.new } ≡ command_found self.old (look 0 self.old.framer) }
+    {
+        match self.framer.next(0) {
+            Ok(None) => ClientStep::Nothing,
+            Ok(Some(_)) => ClientStep::Message {
+                ordinal: counted(self.arrived),
+                first: 1,
+            },
+            Err(fault) => ClientStep::Refused {
+                first: fault_id(0, fault),
+                fault: ClientFault::Frame(fault),
+            },
+        }
+    }
+}

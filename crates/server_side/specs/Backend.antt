@@ -1,0 +1,98 @@
+-- What a link to a server is to its callers.
+use Rattle.std.specs.Prelude.{◌≡◌, ℕ, Bool, false, not, nat_eq, zero, suc, ◌+◌, ◌<◌, ◌≤◌, nat_lt, List, [], ◌∷◌, length, drop, Option, Some, None, if◌then◌else◌}
+use Rattle.mx_base.specs.declared.tag.Tag.{Tag}
+use Rattle.mx_base.specs.declared.tag.Tag.TheVariants.{Own}
+use Rattle.packet_frame.specs.FramerState.{FramerState}
+use Rattle.packet_frame.specs.Packets.{spelling}
+use Rattle.server_side.specs.declared.account.Account.{Account}
+use Rattle.server_side.specs.declared.command.Command.{Command}
+use Rattle.server_side.specs.declared.command.Outgoing.{Outgoing}
+use Rattle.server_side.specs.declared.stage.Stage.{Stage}
+use Rattle.server_side.specs.declared.stage.Stage.TheVariants.{Greeting}
+use Rattle.server_side.specs.Login.{most_payload}
+
+-- who logs in, what was read, how far the login is, what is left of what the router says of its own, the command that has no reply yet, and
+-- the last reply that was whole
+pub record BackendState : Type 0 where
+  pub account : Account
+  pub framer : FramerState
+  pub stage : Stage
+  pub own : List ℕ
+  pub command : Option Command
+  pub reply : List ℕ
+
+-- a framer that has found nothing
+abbrev pub reading : List ℕ → FramerState
+reading kept = record { limit = most_payload; kept = kept; found = None; fault = None }
+
+abbrev pub new_backend : Account → BackendState
+new_backend account = record { account = account; framer = reading []; stage = Greeting; own = []; command = None; reply = [] }
+
+abbrev pub commanded : Tag → List ℕ → (first : ℕ) → BackendState → BackendState
+commanded tag payload first backend = record backend { command = Some (record { tag = tag; bytes = spelling 0 payload; sent = 0; first = first }) }
+
+-- What is to be written: bytes with their tag.
+pub record Left : Type 0 where
+  pub tag : Tag
+  pub bytes : List ℕ
+
+abbrev pub left_of : Command → Option Left
+left_of command = if nat_lt command.sent (length command.bytes) then Some (record { tag = command.tag; bytes = drop command.sent command.bytes }) else None
+
+abbrev pub command_left : Option Command → Option Left
+command_left None = None
+command_left (Some command) = left_of command
+
+abbrev pub left_by : (own : List ℕ) → Option Command → Option Left
+left_by [] command = command_left command
+left_by (byte ∷ bytes) command = Some (record { tag = Own; bytes = byte ∷ bytes })
+
+abbrev pub left : BackendState → Option Left
+left backend = left_by backend.own backend.command
+
+pub record IsLentPiece (outgoing : Outgoing) (left : Left) : Type 0 where
+  pub tag : outgoing.tag ≡ left.tag
+  pub bytes : outgoing.bytes.now ≡ left.bytes
+  pub some : 0 < length left.bytes
+
+abbrev pub IsLent : Option Outgoing → Option Left → Type 0
+IsLent (Some outgoing) (Some left) = IsLentPiece outgoing left
+IsLent None None = Unit {0}
+IsLent _ _ = ⊥
+
+abbrev pub MayTake : Option Left → ℕ → Type 0
+MayTake (Some left) n = n ≤ length left.bytes
+MayTake None n = ⊥
+
+-- so many of these bytes are written
+abbrev pub command_taken : ℕ → Option Command → Option Command
+command_taken n None = None
+command_taken n (Some command) = Some (record command { sent = command.sent + n })
+
+abbrev pub taken_by : ℕ → (own : List ℕ) → BackendState → BackendState
+taken_by n [] backend = record backend { command = command_taken n backend.command }
+taken_by n (byte ∷ bytes) backend = record backend { own = drop n (byte ∷ bytes) }
+
+abbrev pub taken : ℕ → BackendState → BackendState
+taken n backend = taken_by n backend.own backend
+
+-- a command of which nothing was written is dropped
+abbrev pub unless_begun : (sent : ℕ) → Command → Option Command
+unless_begun zero command = None
+unless_begun (suc sent) command = Some command
+
+abbrev pub withdrawn_by : Option Command → Option Command
+withdrawn_by None = None
+withdrawn_by (Some command) = unless_begun command.sent command
+
+abbrev pub withdrawn : BackendState → BackendState
+withdrawn backend = record backend { command = withdrawn_by backend.command }
+
+-- a byte of the command was written, or all were
+abbrev pub is_begun : Option Command → Bool
+is_begun None = false
+is_begun (Some command) = not (nat_eq command.sent 0)
+
+abbrev pub is_sent : Option Command → Bool
+is_sent None = false
+is_sent (Some command) = nat_eq command.sent (length command.bytes)

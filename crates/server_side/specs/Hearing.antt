@@ -1,0 +1,157 @@
+-- What is heard on a link to a server, and what is left of it.
+use Rattle.std.specs.Prelude.{◌≡◌, ℕ, zero, suc, ◌+◌, ◌-◌, nat_eq, not, ◌&&◌, bytes_eq, List, ◌++◌, length, drop, Option, Some, None, Result, Ok, Err, if◌then◌else◌}
+use Rattle.packet_frame.specs.FramerState.{FramerState, look, seen}
+use Rattle.packet_frame.specs.Packets.{Framed, Found, spelling}
+use Rattle.packet_frame.specs.Packets.Found.{Nothing, Whole, Faulty}
+use Rattle.reply_text.specs.Replies.{is_lone}
+use Rattle.handshake.specs.declared.fault.HandFault.{HandFault}
+use Rattle.handshake.specs.declared.greeting.Greeting.{Greeting}
+use Rattle.handshake.specs.declared.switch.Switch.{Switch}
+use Rattle.handshake.specs.Greeting.{greeting_of}
+use Rattle.handshake.specs.Switch.{native_password, switch_of}
+use Rattle.server_side.specs.declared.command.Command.{Command}
+use Rattle.server_side.specs.declared.fault.BackendFault.{BackendFault}
+use Rattle.server_side.specs.declared.fault.BackendFault.TheVariants.{BadBytes, Plugin, Denied, OutOfMemory}
+use Rattle.server_side.specs.declared.hear.Heard.{Heard}
+use Rattle.server_side.specs.declared.hear.Heard.TheVariants.{Quiet, LoggedIn, Part, Whole as WholeReply}
+use Rattle.server_side.specs.declared.stage.Stage.{Stage}
+use Rattle.server_side.specs.declared.stage.Stage.TheVariants as stage
+use Rattle.server_side.specs.Login.{response_said, answer_said, lacks_found_rows, denied, asks_switch}
+use Rattle.server_side.specs.Backend.{BackendState}
+
+-- what was heard, with the link behind it; or why it is of no use any more
+pub data Got : Type 0 where
+  Hears : Heard → BackendState → Got
+  Fails : BackendFault → Got
+
+-- a call answered so, unless memory ran out
+abbrev pub Tells : Result Heard BackendFault → BackendState → Got → Type 0
+Tells (Ok heard) new (Hears what left) = (heard ≡ what) × (new ≡ left)
+Tells (Err OutOfMemory) new got = Unit {0}
+Tells (Err fault) new (Fails why) = fault ≡ why
+Tells (Ok heard) new (Fails why) = ⊥
+Tells (Err fault) new (Hears what left) = ⊥
+
+-- and nothing more is heard behind a fault
+abbrev pub Gives : Result Heard BackendFault → BackendState → Got → Type 0
+Gives (Ok heard) new (Hears what left) = (heard ≡ what) × (new ≡ left)
+Gives (Err OutOfMemory) new got = Unit {0}
+Gives (Err fault) new (Fails why) = (fault ≡ why) × (new.stage ≡ stage.Lost)
+Gives (Ok heard) new (Fails why) = ⊥
+Gives (Err fault) new (Hears what left) = ⊥
+
+abbrev pub bad : Got
+bad = Fails (BadBytes 0)
+
+-- the framer without the message that it found
+abbrev pub past_message : Framed → FramerState → FramerState
+past_message message framer = record framer { kept = drop (4 + length message.payload) framer.kept; found = None }
+
+abbrev pub behind : Framed → BackendState → BackendState
+behind message backend = record backend { framer = past_message message backend.framer }
+
+-- nothing is whole
+abbrev pub nothing : Heard → BackendState → Got
+nothing heard backend = Hears heard (record backend { framer = seen backend.framer Nothing })
+
+-- The login.
+
+abbrev pub accepted_by : (accepted : Rattle.std.specs.Prelude.Bool) → BackendState → Got
+accepted_by accepted backend = if accepted && nat_eq (length backend.framer.kept) 0 then Hears LoggedIn (record backend { stage = stage.In }) else bad
+
+abbrev pub end_told : Option ℕ → Framed → BackendState → Got
+end_told (Some code) message backend = Fails (Denied code)
+end_told None message backend = accepted_by (is_lone message.payload) backend
+
+-- the message is the login's end, and the link is behind it
+abbrev pub end_read : Framed → BackendState → Got
+end_read message backend = end_told (denied message.payload) message backend
+
+abbrev pub end_found : BackendState → Found → Got
+end_found backend Nothing = nothing Quiet backend
+end_found backend (Whole message rest) = end_read message (behind message backend)
+end_found backend (Faulty fault) = bad
+
+-- the router says its bare answer
+abbrev pub answered : Switch → BackendState → BackendState
+answered switch backend = record backend { own = backend.own ++ answer_said backend.account switch.salt; stage = stage.Switched }
+
+abbrev pub switched : Switch → BackendState → Got
+switched switch backend = if bytes_eq switch.plugin native_password then end_found (answered switch backend) (look 4 backend.framer) else Fails (Plugin switch.plugin)
+
+abbrev pub switch_told : Result Switch HandFault → BackendState → Got
+switch_told (Err fault) backend = bad
+switch_told (Ok switch) backend = switched switch backend
+
+-- the message is what the server says to the response, and the link is behind it
+abbrev pub welcome_read : Framed → BackendState → Got
+welcome_read message backend = if asks_switch message.payload then switch_told (switch_of message.payload) backend else end_read message backend
+
+abbrev pub welcome_found : BackendState → Found → Got
+welcome_found backend Nothing = nothing Quiet backend
+welcome_found backend (Whole message rest) = welcome_read message (behind message backend)
+welcome_found backend (Faulty fault) = bad
+
+-- the router says its response
+abbrev pub responded : Greeting → BackendState → BackendState
+responded greeting backend = record backend { own = backend.own ++ response_said backend.account greeting; stage = stage.Welcome }
+
+abbrev pub greeted : Greeting → BackendState → Got
+greeted greeting backend = if lacks_found_rows backend.account.found_rows greeting.capabilities then bad else welcome_found (responded greeting backend) (look 2 backend.framer)
+
+abbrev pub greeting_told : Result Greeting HandFault → BackendState → Got
+greeting_told (Err fault) backend = bad
+greeting_told (Ok greeting) backend = greeted greeting backend
+
+abbrev pub greeting_or_not : Option ℕ → Framed → BackendState → Got
+greeting_or_not (Some code) message backend = Fails (Denied code)
+greeting_or_not None message backend = greeting_told (greeting_of message.payload) backend
+
+-- the message is the greeting, and the link is behind it
+abbrev pub greeting_read : Framed → BackendState → Got
+greeting_read message backend = greeting_or_not (denied message.payload) message backend
+
+abbrev pub greeting_found : BackendState → Found → Got
+greeting_found backend Nothing = nothing Quiet backend
+greeting_found backend (Whole message rest) = greeting_read message (behind message backend)
+greeting_found backend (Faulty fault) = bad
+
+-- The reply.
+
+-- the link behind a whole reply, and how many bytes of the piece are a part of it
+abbrev pub replied : (first length : ℕ) → Framed → BackendState → Got
+replied first size message backend =
+    Hears (WholeReply (size - length backend.framer.kept)) (record backend { reply = spelling first message.payload; command = None })
+
+abbrev pub reply_read : (first length : ℕ) → Framed → BackendState → Got
+reply_read first size message backend = if is_lone message.payload then replied first size message backend else bad
+
+abbrev pub reply_found : (first length : ℕ) → BackendState → Found → Got
+reply_found first size backend Nothing = nothing (Part size) backend
+reply_found first size backend (Whole message rest) = reply_read first size message (behind message backend)
+reply_found first size backend (Faulty fault) = bad
+
+-- it is due once a byte of the command is written
+abbrev pub reply_begun : (sent first length : ℕ) → BackendState → Got
+reply_begun zero first size backend = bad
+reply_begun (suc sent) first size backend = reply_found first size backend (look 1 backend.framer)
+
+abbrev pub reply_due : Option Command → (length : ℕ) → BackendState → Got
+reply_due None size backend = bad
+reply_due (Some command) size backend = reply_begun command.sent command.first size backend
+
+-- Both.
+
+abbrev pub hears : Stage → (length : ℕ) → BackendState → Got
+hears stage.Greeting size backend = greeting_found backend (look 0 backend.framer)
+hears stage.Welcome size backend = welcome_found backend (look 2 backend.framer)
+hears stage.Switched size backend = end_found backend (look 4 backend.framer)
+hears stage.In size backend = reply_due backend.command size backend
+hears stage.Lost size backend = bad
+
+abbrev pub fed : BackendState → List ℕ → BackendState
+fed backend piece = record backend { framer = record backend.framer { kept = backend.framer.kept ++ piece } }
+
+-- what a piece tells
+abbrev pub got_of : List ℕ → BackendState → Got
+got_of piece backend = hears backend.stage (length piece) (fed backend piece)

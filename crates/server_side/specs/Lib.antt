@@ -1,0 +1,7 @@
+pub mod Login
+pub mod Backend
+pub mod Hearing
+pub mod Reading
+pub mod Growth
+pub mod Stages
+pub mod Laws
