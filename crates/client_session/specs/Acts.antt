@@ -3,7 +3,7 @@ use Rattle.std.specs.Prelude.{◌≡◌, Bool, true, false, Option, Some, None}
 use Rattle.client_session.specs.declared.parting.SessionAct.{SessionAct}
 use Rattle.client_session.specs.declared.parting.SessionAct.TheVariants as act
 use Rattle.client_session.specs.declared.phase.Phase.{Phase}
-use Rattle.client_session.specs.declared.phase.Phase.TheVariants.{Working}
+use Rattle.client_session.specs.declared.phase.Phase.TheVariants as phase
 use Rattle.client_session.specs.declared.phase.LinkState.{LinkState}
 use Rattle.client_session.specs.declared.phase.LinkState.TheVariants as link_state
 use Rattle.client_session.specs.declared.phase.Upstream.{Upstream}
@@ -12,7 +12,7 @@ use Rattle.client_session.specs.declared.session.Session.{Session}
 
 -- a command in work needs a link
 abbrev pub wants_link : Phase → Upstream → Bool
-wants_link (Working command) upstream.Absent = true
+wants_link (phase.Working payload) upstream.Absent = true
 wants_link _ _ = false
 
 abbrev pub open_if : Bool → Option SessionAct

@@ -1,7 +1,25 @@
 -- The payloads of the errors that the proxy itself answers.
-use Rattle.std.specs.Prelude.{ℕ, List, ◌++◌, codes}
+use Rattle.std.specs.Prelude.{ℕ, List, [], ◌++◌, nat_lt, if◌then◌else◌, length, codes, take}
 use Rattle.std.specs.Fmt.{decimal}
-use Rattle.reply_text.specs.Replies.{err_payload}
+use Rattle.reply_text.specs.Replies.{ok_payload, err_payload}
+
+-- the proxy's own OK: AUTOCOMMIT, and no info
+unfoldable pub own_ok : List ℕ
+own_ok = ok_payload 2 []
+
+unfoldable pub bad_handshake : List ℕ
+bad_handshake = err_payload 1043 (codes "08S01") (codes "Bad handshake")
+
+-- the name, or its first 64 bytes where it is longer
+abbrev pub shown : (name : List ℕ) → List ℕ
+shown name = if nat_lt 64 (length name) then take 64 name else name
+
+unfoldable pub denied_text : (name : List ℕ) → List ℕ
+denied_text name = codes "Access denied for user '" ++ shown name ++ codes "'"
+
+-- the user isn't known, or its answer is wrong
+unfoldable pub access_denied : (name : List ℕ) → List ℕ
+access_denied name = err_payload 1045 (codes "28000") (denied_text name)
 
 unfoldable pub unknown_command : List ℕ
 unknown_command = err_payload 1047 (codes "08S01") (codes "Unknown command")

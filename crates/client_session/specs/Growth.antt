@@ -1,13 +1,16 @@
 -- What one more entry changes of the clients of a log, and of what is sent for them.
 use Rattle.std.specs.Prelude.{false, true, ◌≡◌, ◌⊎◌, ℕ, zero, suc, List, [], ◌∷◌, ◌++◌, length, slice_get, Option, Some, None, refl}
-use Rattle.std.specs.Option.{option_and_then}
-use Rattle.std.proofs.Common.{◌∙◌, ap, append-nil, inl, inr}
+use Rattle.std.specs.Option.{option_and_then, option_map}
+use Rattle.std.proofs.Common.{sym, ◌∙◌, ap, append-nil, inl, inr}
 use Rattle.std.proofs.lemmas.List.Elements.{filter_map-append}
 use Rattle.std.proofs.lemmas.Grind.{flat_map-append}
 use Rattle.mx_base.specs.declared.names.LinkId.{LinkId}
+use Rattle.mx_base.specs.declared.names.Port.{Port}
 use Rattle.mx_wire.specs.Log.{Log, link_of, is_link, accepted_link, accepted_links}
 use Rattle.mx_wire.specs.Growth.{bool_cases, step-same, step-other}
 use Rattle.mx_wire.specs.declared.entry.Entry.{Entry}
+use Rattle.mx_wire.specs.declared.entry.Entry.TheVariants.{Accepted}
+use Rattle.client_session.specs.Arrivals.{Arrival, arrival_in, arrivals, arrival_of}
 use Rattle.client_session.specs.Sending.{carrier, command_bytes, command_sent, Sending, first_carried, sending, SoFar, Part, Heard, hear_step, heard_on, answer_in, reply_on, reply_to}
 use Rattle.client_session.specs.Headline.{client_link}
 
@@ -37,30 +40,82 @@ accepted_links-new log e link is = rw (filter_map-append, is) refl
 pub accepted_links-same : (log : Log) (e : Entry) → accepted_link e ≡ None → accepted_links (log ++ e ∷ []) ≡ accepted_links log
 accepted_links-same log e none = rw (filter_map-append, none) (append-nil (accepted_links log))
 
--- a client keeps its number
+-- Clients.
+
+-- a client keeps its number, and how it came
+pub arrival-append : (n : ℕ) (log more : Log) (came : Arrival) → arrival_of n log ≡ Some came → arrival_of n (log ++ more) ≡ Some came
+arrival-append zero log more came is = cc
+arrival-append (suc n) log more came is = rw (filter_map-append arrival_in log more) (slice_get-more (arrivals log) (arrivals more) n came is)
+
+pub arrival-more : (n : ℕ) (log : Log) (e : Entry) (came : Arrival) → arrival_of n log ≡ Some came → arrival_of n (log ++ e ∷ []) ≡ Some came
+arrival-more n log e came is = arrival-append n log (e ∷ []) came is
+
+pub link-of : (n : ℕ) (log : Log) (link : LinkId) → client_link n log ≡ Some link → (came : Arrival) × (arrival_of n log ≡ Some came) × (came.link ≡ link)
+link-of n log link is = by (arrival_of n log) refl is where
+  by : (o : Option Arrival) → arrival_of n log ≡ o → option_map (λ (came : Arrival). came.link) o ≡ Some link → (came : Arrival) × (arrival_of n log ≡ Some came) × (came.link ≡ link)
+  by None is none = cc
+  by (Some came) is some = (came, is, cc)
+
 pub client_link-append : (n : ℕ) (log more : Log) (link : LinkId) → client_link n log ≡ Some link → client_link n (log ++ more) ≡ Some link
-client_link-append zero log more link is = cc
-client_link-append (suc n) log more link is =
-    rw (filter_map-append accepted_link log more) (slice_get-more (accepted_links log) (accepted_links more) n link is)
+client_link-append n log more link is = (let of = link-of n log link is in ap (option_map (λ (came : Arrival). came.link)) (arrival-append n log more of.0 of.1) ∙ ap (λ (l : LinkId). Some l) of.2)
 
 pub client_link-more : (n : ℕ) (log : Log) (e : Entry) (link : LinkId) → client_link n log ≡ Some link → client_link n (log ++ e ∷ []) ≡ Some link
 client_link-more n log e link is = client_link-append n log (e ∷ []) link is
 
 -- no client comes with this entry
+nobody : (e : Entry) → accepted_link e ≡ None → arrival_in e ≡ None
+nobody (Accepted port link salt) is = cc
+nobody _ is = refl
+
+pub arrivals-same : (log : Log) (e : Entry) → accepted_link e ≡ None → arrivals (log ++ e ∷ []) ≡ arrivals log
+arrivals-same log e none = rw (filter_map-append, nobody e none) (append-nil (arrivals log))
+
+pub arrival-same : (n : ℕ) (log : Log) (e : Entry) → accepted_link e ≡ None → arrival_of n (log ++ e ∷ []) ≡ arrival_of n log
+arrival-same zero log e none = refl
+arrival-same (suc n) log e none = ap (λ (came : List Arrival). slice_get came n) (arrivals-same log e none)
+
 pub client_link-same : (n : ℕ) (log : Log) (e : Entry) → accepted_link e ≡ None → client_link n (log ++ e ∷ []) ≡ client_link n log
-client_link-same zero log e none = refl
-client_link-same (suc n) log e none = ap (λ (links : List LinkId). slice_get links n) (accepted_links-same log e none)
+client_link-same n log e none = ap (option_map (λ (came : Arrival). came.link)) (arrival-same n log e none)
+
+-- as many came as links were accepted
+one-count : (log : Log) (e : Entry) → length (arrivals log) ≡ length (accepted_links log) → length (arrivals (e ∷ log)) ≡ length (accepted_links (e ∷ log))
+one-count log (Accepted port link salt) later = ap suc later
+one-count log _ later = later
+
+pub arrivals-count : (log : Log) → length (arrivals log) ≡ length (accepted_links log)
+arrivals-count [] = refl
+arrivals-count (e ∷ log) = one-count log e (arrivals-count log)
 
 -- a client comes, with the next number
-pub client_link-new : (log : Log) (e : Entry) (link : LinkId) → accepted_link e ≡ Some link → client_link (suc (length (accepted_links log))) (log ++ e ∷ []) ≡ Some link
-client_link-new log e link is = rw (accepted_links-new log e link is) (slice_get-at (accepted_links log) link [])
+abbrev pub new_arrival : LinkId → (salt : List ℕ) → Arrival
+new_arrival link salt = record { link = link; salt = salt }
 
-pub client_link-back : (n : ℕ) (log : Log) (e : Entry) (new link : LinkId) → accepted_link e ≡ Some new → client_link n (log ++ e ∷ []) ≡ Some link → (client_link n log ≡ Some link) ⊎ ((n ≡ suc (length (accepted_links log))) × (new ≡ link))
-client_link-back zero log e new link is has = cc
-client_link-back (suc n) log e new link is has = elim (slice_get-back (accepted_links log) new n link (rw (accepted_links-new log e new is) at has)) [
+pub arrivals-new : (log : Log) (port : Port) (link : LinkId) (salt : List ℕ) → arrivals (log ++ Accepted port link salt ∷ []) ≡ arrivals log ++ new_arrival link salt ∷ []
+arrivals-new log port link salt = filter_map-append arrival_in log (Accepted port link salt ∷ [])
+
+pub arrival-new : (log : Log) (port : Port) (link : LinkId) (salt : List ℕ) → arrival_of (suc (length (accepted_links log))) (log ++ Accepted port link salt ∷ []) ≡ Some (new_arrival link salt)
+arrival-new log port link salt =
+    ap (λ (n : ℕ). slice_get (arrivals (log ++ Accepted port link salt ∷ [])) n) (sym (arrivals-count log))
+    ∙ ap (λ (came : List Arrival). slice_get came (length (arrivals log))) (arrivals-new log port link salt) ∙ slice_get-at (arrivals log) (new_arrival link salt) []
+
+pub arrival-back : (n : ℕ) (log : Log) (port : Port) (link : LinkId) (salt : List ℕ) (came : Arrival) → arrival_of n (log ++ Accepted port link salt ∷ []) ≡ Some came
+    → (arrival_of n log ≡ Some came) ⊎ ((n ≡ suc (length (accepted_links log))) × (new_arrival link salt ≡ came))
+arrival-back zero log port link salt came has = cc
+arrival-back (suc n) log port link salt came has = elim (slice_get-back (arrivals log) (new_arrival link salt) n came (rw (arrivals-new log port link salt) at has)) [
   | inl before ↦ inl before
-  | inr now ↦ inr (ap suc now.0, now.1)
+  | inr now ↦ inr (ap suc (now.0 ∙ arrivals-count log), now.1)
 ]
+
+pub client_link-new : (log : Log) (port : Port) (link : LinkId) (salt : List ℕ) → client_link (suc (length (accepted_links log))) (log ++ Accepted port link salt ∷ []) ≡ Some link
+client_link-new log port link salt = ap (option_map (λ (came : Arrival). came.link)) (arrival-new log port link salt)
+
+pub client_link-back : (n : ℕ) (log : Log) (port : Port) (new : LinkId) (salt : List ℕ) (link : LinkId) → client_link n (log ++ Accepted port new salt ∷ []) ≡ Some link → (client_link n log ≡ Some link) ⊎ ((n ≡ suc (length (accepted_links log))) × (new ≡ link))
+client_link-back n log port new salt link has =
+    let of = link-of n (log ++ Accepted port new salt ∷ []) link has in
+    elim (arrival-back n log port new salt of.0 of.1) [
+      | inl before ↦ inl (ap (option_map (λ (came : Arrival). came.link)) before ∙ ap (λ (l : LinkId). Some l) of.2)
+      | inr now ↦ inr (now.0, ap (λ (came : Arrival). came.link) now.1 ∙ of.2)
+    ]
 
 -- the first byte of a command was written before, is written now, or isn't yet
 pub sending-before : (n i : ℕ) (log : Log) (e : Entry) (sent : Sending) → sending n i log ≡ Some sent → sending n i (log ++ e ∷ []) ≡ Some (record { link = sent.link; since = sent.since ++ e ∷ [] })

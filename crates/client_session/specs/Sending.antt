@@ -11,7 +11,7 @@ use Rattle.mx_wire.specs.declared.entry.Entry.TheVariants.{Got, Ended, ReadFaile
 use Rattle.packet_frame.specs.Packets.{Found, Nothing, Whole, Faulty, first_message}
 use Rattle.reply_text.specs.Replies.{is_lone}
 use Rattle.client_session.specs.Errors.{bad_server_bytes, connection_lost}
-use Rattle.client_session.specs.Answers.{most_payload}
+use Rattle.server_side.specs.Login.{most_payload}
 
 -- bytes tagged so are of the i-th command of client n
 abbrev pub is_command : (n i : ℕ) → Tag → Bool

@@ -2,8 +2,7 @@
 ghost use Rattle.std.specs.Prelude.{◌≡◌};
 ghost use Rattle.client_session.specs.Asked.{asked_of};
 
-/// The first byte of a query (client/server protocol, "COM_QUERY").
-const QUERY: u8 = 0x03;
+use command_parse::{Command, parse};
 
 /// What a client's message asks for.
 #[derive(Clone, Copy, Debug, PartialEq, Eq)]
@@ -12,6 +11,10 @@ pub enum Asked {
     Query,
     /// A query, and there is no server.
     Unserved,
+    /// Whether the router is alive.
+    Ping,
+    /// The end of the session.
+    Quit,
     /// A command that the router doesn't take.
     Unknown,
     /// No command: the payload is empty.
@@ -22,15 +25,17 @@ pub enum Asked {
 pub fn kind_of(payload: &[u8], has_server: bool) -> Asked
     ensures { result ≡ asked_of has_server payload.now }
 {
-    match payload {
-        [] => Asked::Malformed,
-        [QUERY, ..] => {
+    match parse(payload, None) {
+        Ok(Command::Query { .. }) => {
             if has_server {
                 Asked::Query
             } else {
                 Asked::Unserved
             }
         }
-        [_, ..] => Asked::Unknown,
+        Ok(Command::Ping) => Asked::Ping,
+        Ok(Command::Quit) => Asked::Quit,
+        Ok(_) => Asked::Unknown,
+        Err(_) => Asked::Malformed,
     }
 }

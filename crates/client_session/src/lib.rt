@@ -1,25 +1,24 @@
-//! One client of the router: its messages and their answers, and the link to a server that its queries go to.
+//! One client of the router: its login, its messages and their answers, and the link to a server that its queries go to.
 #![tactic(auto)]
 
+mod account;
 mod asked;
-mod count;
 mod events;
-mod hear;
 mod parting;
 mod phase;
 mod pump;
 mod refusal;
 mod session;
+mod setup;
 #[cfg(test)]
 mod tests;
 mod writing;
 
-pub use count::one_more;
 pub use events::{
     client_says, fail_upstream, lose_client, lose_server, open_upstream, server_says,
 };
-pub use hear::Server;
 pub use parting::{SessionAct, is_over, next_act};
-pub use phase::{Command, LinkState, Phase, Upstream};
+pub use phase::{LinkState, Phase, Server, Upstream};
 pub use session::{Session, new_session};
-pub use writing::{client_taken, command_left, command_taken, is_read, reply_left};
+pub use setup::{ServerAt, Setup, User};
+pub use writing::{client_taken, is_read, reply_left, server_left, server_taken};

@@ -1,21 +1,16 @@
 // Where a client, its link and its link to a server are on their way.
-use crate::hear::Server;
 use mx_base::{Bytes, LinkId};
-
-/// The command that is in work, as it goes to a server, and how many of its bytes are written.
-#[derive(Drop)]
-pub struct Command {
-    pub bytes: Bytes,
-    pub sent: usize,
-}
+use server_side::Backend;
 
 /// How far the messages of a client are.
 #[derive(Drop)]
 pub enum Phase {
+    /// It isn't logged in.
+    LoggingIn,
     /// No command is in work.
     Idle,
-    /// A command waits for its reply.
-    Working(Command),
+    /// The command of this payload waits for its reply.
+    Working(Bytes),
     /// No more is read. The link is to be closed once its bytes are written.
     Ending,
 }
@@ -30,7 +25,14 @@ pub enum LinkState {
     Closed,
 }
 
-/// The link to a server.
+/// A link to a server.
+#[derive(Drop)]
+pub struct Server {
+    pub link: LinkId,
+    pub backend: Backend,
+}
+
+/// The link to the server, where there is one.
 #[derive(Drop)]
 pub enum Upstream {
     /// There is none.

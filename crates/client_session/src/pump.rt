@@ -1,65 +1,83 @@
-// The messages of a client arrive.
+// What a client says, taken in order.
 ghost use Rattle.std.specs.Prelude.{◌≡◌, IsSome, IfSome, OnOk, IfOk};
 ghost use Rattle.client_session.specs.Refusals.{payload_of};
-ghost use Rattle.client_session.specs.Steps.{Feeds, Steps, Pumps, EndsWith, Arrives, Refuses, Starts};
-ghost use Rattle.client_session.specs.Asked.{asked_of};
+ghost use Rattle.client_session.specs.Errors.{own_ok};
+ghost use Rattle.client_side.specs.declared.stage.Stage.TheVariants.{Commands};
+ghost use Rattle.client_side.specs.Client.{login_of};
+ghost use Rattle.client_session.specs.Steps.{fed_with, started, answered_by, past_answer, refused_within, ArrivesIn, LogsIn, Steps, Pumps};
 
+use crate::account::account_of;
 use crate::asked::{Asked, kind_of};
-use crate::count::one_more;
-use crate::hear::MOST_PAYLOAD;
-use crate::phase::{Command, Phase};
-use crate::refusal::{Refusal, write_refusal};
+use crate::phase::Phase;
+use crate::refusal::{Refusal, write_denied, write_own_ok, write_refusal};
 use crate::session::Session;
+use crate::setup::Setup;
+use client_side::{ClientFault, ClientStep};
 use mx_base::{Bytes, OutOfMemory};
-use packet_frame::{FrameFault, write_message};
 use std::alloc::Global;
 
 /// Keeps bytes that were read.
 pub fn feed(session: &mut Session, bytes: &[u8]) -> Result<(), OutOfMemory>
-    ensures { OnOk result (Feeds session.old bytes.now session.new) }
+    ensures { OnOk result (session.new ≡ fed_with session.old bytes.now) }
 {
-    session.framer.feed(bytes)?;
+    session.client.feed(bytes)?;
     Ok(())
 }
 
 // The query that was found becomes the command in work.
 fn start(alloc: Global, session: &mut Session) -> Result<(), OutOfMemory>
-    requires { IsSome session.old.framer.found }
-    ensures { OnOk result (IfSome session.old.framer.found (λ message. Starts message session.old session.new)) }
+    requires found { IsSome session.old.client.framer.found }
+    requires commands { session.old.client.stage ≡ Commands }
+    ensures { OnOk result (IfSome session.old.client.framer.found (λ message. session.new ≡ started message session.old)) }
 {
-    let mut command = Vec::new(alloc);
-    write_message(&mut command, 0, session.framer.payload())?;
-    session.framer.done();
-    session.arrived = one_more(session.arrived);
-    session.phase = Phase::Working(Command {
-        bytes: Bytes::from_vec(command),
-        sent: 0,
-    });
+    let payload = Bytes::from_slice(alloc, session.client.payload())?;
+    session.client.done();
+    session.phase = Phase::Working(payload);
+    Ok(())
+}
+
+// The message that was found is answered by the router itself.
+fn answer(session: &mut Session, packet: &[u8]) -> Result<(), OutOfMemory>
+    requires found { IsSome session.old.client.framer.found }
+    requires commands { session.old.client.stage ≡ Commands }
+    ensures { OnOk result (IfSome session.old.client.framer.found (λ message. session.new ≡ past_answer message packet.now session.old)) }
+{
+    session.client.answer_grown(packet)?;
+    session.client.done();
     Ok(())
 }
 
 // The message that was found is answered by an error.
 fn refuse(alloc: Global, session: &mut Session, refusal: Refusal) -> Result<(), OutOfMemory>
-    requires { IsSome session.old.framer.found }
-    ensures { OnOk result (IfSome session.old.framer.found (λ message. Refuses message (payload_of refusal) session.old session.new)) }
+    requires found { IsSome session.old.client.framer.found }
+    requires commands { session.old.client.stage ≡ Commands }
+    ensures { OnOk result (IfSome session.old.client.framer.found (λ message. session.new ≡ answered_by message (payload_of refusal) session.old)) }
 {
     let mut packet = Vec::new(alloc);
     write_refusal(alloc, &mut packet, 1, refusal)?;
-    session.outgoing.push(&packet)?;
-    session.framer.done();
-    session.arrived = one_more(session.arrived);
-    Ok(())
+    answer(session, &packet)
 }
 
 // The message that was found arrives. True where the next one may.
-fn arrive(alloc: Global, session: &mut Session, has_server: bool) -> Result<bool, OutOfMemory>
-    requires { IsSome session.old.framer.found }
-    ensures { IfOk result (λ more. IfSome session.old.framer.found (λ message. Arrives (asked_of has_server message.payload) message session.old session.new more)) }
+fn arrive(alloc: Global, session: &mut Session, setup: &Setup) -> Result<bool, OutOfMemory>
+    requires found { IsSome session.old.client.framer.found }
+    requires commands { session.old.client.stage ≡ Commands }
+    ensures { IfOk result (λ more. ArrivesIn setup.now session.old.client.framer.found session.old session.new more) }
 {
-    match kind_of(session.framer.payload(), has_server) {
+    match kind_of(session.client.payload(), setup.has_server()) {
         Asked::Query => {
             start(alloc, session)?;
             Ok(false)
+        }
+        Asked::Quit => {
+            session.phase = Phase::Ending;
+            Ok(false)
+        }
+        Asked::Ping => {
+            let mut packet = Vec::new(alloc);
+            write_own_ok(&mut packet, 1)?;
+            answer(session, &packet)?;
+            Ok(true)
         }
         Asked::Unserved => {
             refuse(alloc, session, Refusal::NoServer)?;
@@ -76,46 +94,79 @@ fn arrive(alloc: Global, session: &mut Session, has_server: bool) -> Result<bool
     }
 }
 
-// What is kept is no message: the error is the last that the client is answered.
-fn end_with(alloc: Global, session: &mut Session, fault: FrameFault) -> Result<(), OutOfMemory>
-    ensures { OnOk result (EndsWith fault session.old session.new) }
+// The client says who it is. True where it is logged in, and its first command may arrive.
+fn log_in(
+    alloc: Global,
+    session: &mut Session,
+    first: u8,
+    setup: &Setup,
+) -> Result<bool, OutOfMemory>
+    requires { IsSome (login_of session.old.client.stage) }
+    ensures { IfOk result (λ more. LogsIn setup.now (login_of session.old.client.stage) first session.old session.new more) }
 {
-    let id = match fault {
-        FrameFault::OutOfOrder { found, .. } => found.wrapping_add(1),
-        FrameFault::TooLarge { .. } => 1,
+    let Some(response) = session.client.login() else {
+        unreachable!()
     };
-    let refusal = Refusal::Frame {
-        fault,
-        limit: MOST_PAYLOAD,
-    };
+    let account = account_of(alloc, setup, response, session.client.salt())?;
     let mut packet = Vec::new(alloc);
-    write_refusal(alloc, &mut packet, id, refusal)?;
-    session.outgoing.push(&packet)?;
-    session.phase = Phase::Ending;
-    Ok(())
-}
-
-// The next message arrives, if one is whole. True where the one behind it may.
-fn step(alloc: Global, session: &mut Session, has_server: bool) -> Result<bool, OutOfMemory>
-    ensures { IfOk result (λ more. Steps has_server session.old session.new more) }
-{
-    match session.framer.next(0) {
-        Ok(None) => Ok(false),
-        Ok(Some(_)) => {
-            let more = arrive(alloc, session, has_server)?;
-            Ok(more)
+    match account {
+        Some(account) => {
+            write_own_ok(&mut packet, first)?;
+            session.client.answer_grown(&packet)?;
+            session.client.done();
+            session.account = Some(account);
+            session.phase = Phase::Idle;
+            Ok(true)
         }
-        Err(fault) => {
-            end_with(alloc, session, fault)?;
+        None => {
+            write_denied(alloc, &mut packet, first, response.user.as_slice())?;
+            session.client.answer_grown(&packet)?;
+            session.phase = Phase::Ending;
             Ok(false)
         }
     }
 }
 
-/// The messages of an idle client arrive in order, until one is in work, or none is left.
-pub fn pump(alloc: Global, session: &mut Session, has_server: bool) -> Result<(), OutOfMemory>
-    ensures { OnOk result (Pumps has_server session.old session.new) }
+// What is kept is nothing that may come: the error is the last that the client is answered.
+fn end_with(
+    alloc: Global,
+    session: &mut Session,
+    first: u8,
+    fault: ClientFault,
+    limit: u64,
+) -> Result<(), OutOfMemory>
+    ensures { OnOk result (session.new ≡ refused_within limit fault first session.old) }
 {
-    while step(alloc, session, has_server)? {}
+    let refusal = match fault {
+        ClientFault::Hand(_) => Refusal::BadHandshake,
+        ClientFault::Frame(fault) => Refusal::Frame { fault, limit },
+    };
+    let mut packet = Vec::new(alloc);
+    write_refusal(alloc, &mut packet, first, refusal)?;
+    session.client.answer_grown(&packet)?;
+    session.phase = Phase::Ending;
+    Ok(())
+}
+
+// The next thing that the client says is taken, if it is whole. True where the one behind it may.
+fn step(alloc: Global, session: &mut Session, setup: &Setup) -> Result<bool, OutOfMemory>
+    ensures { IfOk result (λ more. Steps setup.now session.old session.new more) }
+{
+    match session.client.next()? {
+        ClientStep::Nothing => Ok(false),
+        ClientStep::Login { first } => log_in(alloc, session, first, setup),
+        ClientStep::Message { .. } => arrive(alloc, session, setup),
+        ClientStep::Refused { first, fault } => {
+            end_with(alloc, session, first, fault, setup.limit())?;
+            Ok(false)
+        }
+    }
+}
+
+/// What an idle client says is taken in order, until a command is in work, or nothing whole is left.
+pub fn pump(alloc: Global, session: &mut Session, setup: &Setup) -> Result<(), OutOfMemory>
+    ensures { OnOk result (Pumps setup.now session.old session.new) }
+{
+    while step(alloc, session, setup)? {}
     Ok(())
 }

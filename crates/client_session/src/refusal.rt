@@ -1,12 +1,12 @@
 // The errors that the router itself answers.
 ghost use Rattle.std.specs.Prelude.{◌≡◌, ◌++◌, OnOk, IfOk, string_bytes};
 ghost use Rattle.packet_frame.specs.Packets.{spelling};
-ghost use Rattle.client_session.specs.Errors.{bad_bytes_text, too_large_text, out_of_order_text};
+ghost use Rattle.client_session.specs.Errors.{own_ok, access_denied, shown, denied_text, bad_bytes_text, too_large_text, out_of_order_text};
 ghost use Rattle.client_session.specs.Refusals.{payload_of};
 
 use mx_base::OutOfMemory;
 use packet_frame::FrameFault;
-use reply_text::write_err;
+use reply_text::{write_err, write_ok};
 use std::alloc::Global;
 
 /// An error that the router itself answers, as an ERR packet (MySQL Reference Manual, "Server Error Message
@@ -17,6 +17,8 @@ pub enum Refusal {
     UnknownCommand,
     /// 9109: a message that is no command.
     MalformedCommand,
+    /// 1043: a response that can't be read.
+    BadHandshake,
     /// 9100: a query, where no server is configured.
     NoServer,
     /// 9101: the server's link was lost before its reply was whole.
@@ -52,7 +54,7 @@ fn out_of_order_text(alloc: Global, expected: u8, found: u8) -> Result<String, O
 }
 
 /// A refusal appended to `out` as one message that begins with the sequence id `first`.
-#[tactic(auto, unfolding(crate::specs::Errors::unknown_command, crate::specs::Errors::malformed_command, crate::specs::Errors::no_server, crate::specs::Errors::connection_lost, crate::specs::Errors::connection_refused, crate::specs::Errors::bad_server_bytes, crate::specs::Errors::packet_too_large, crate::specs::Errors::packet_out_of_order))]
+#[tactic(auto, unfolding(crate::specs::Errors::unknown_command, crate::specs::Errors::malformed_command, crate::specs::Errors::bad_handshake, crate::specs::Errors::no_server, crate::specs::Errors::connection_lost, crate::specs::Errors::connection_refused, crate::specs::Errors::bad_server_bytes, crate::specs::Errors::packet_too_large, crate::specs::Errors::packet_out_of_order))]
 pub fn write_refusal(
     alloc: Global,
     out: &mut Vec<u8>,
@@ -64,6 +66,7 @@ pub fn write_refusal(
     match refusal {
         Refusal::UnknownCommand => write_err(out, first, 1047, b"08S01", b"Unknown command")?,
         Refusal::MalformedCommand => write_err(out, first, 9109, b"HY000", b"Malformed command")?,
+        Refusal::BadHandshake => write_err(out, first, 1043, b"08S01", b"Bad handshake")?,
         Refusal::NoServer => write_err(out, first, 9100, b"HY000", b"No server in hostgroup 0")?,
         Refusal::ConnectionLost => {
             write_err(out, first, 9101, b"HY000", b"Server connection lost")?
@@ -90,5 +93,54 @@ pub fn write_refusal(
             write_err(out, first, 1156, b"08S01", text.as_bytes())?
         }
     };
+    Ok(())
+}
+
+/// SERVER_STATUS_AUTOCOMMIT (client/server protocol, "SERVER_STATUS_flags_enum").
+const AUTOCOMMIT: u16 = 0x0002;
+
+/// The router's own OK, appended to `out` as one message with the sequence id `first`.
+#[tactic(auto, unfolding(crate::specs::Errors::own_ok))]
+pub fn write_own_ok(out: &mut Vec<u8>, first: u8) -> Result<(), OutOfMemory>
+    ensures { OnOk result (out.new.items ≡ out.old.items ++ spelling first own_ok) }
+{
+    let _ = write_ok(out, first, AUTOCOMMIT, b"")?;
+    Ok(())
+}
+
+// The name, or its first 64 bytes.
+fn shown(name: &[u8]) -> &[u8]
+    ensures { result.now ≡ shown name.now }
+{
+    if name.len() > 64 {
+        name.split_at(64).0
+    } else {
+        name
+    }
+}
+
+// The text of 1045.
+#[tactic(auto, unfolding(crate::specs::Errors::denied_text))]
+fn denied_text(alloc: Global, name: &[u8]) -> Result<Vec<u8>, OutOfMemory>
+    ensures { IfOk result (λ text. text.items ≡ denied_text name.now) }
+{
+    let mut text = b"Access denied for user '".to_vec(alloc)?;
+    text.extend_from_slice(shown(name))?;
+    text.extend_from_slice(b"'")?;
+    Ok(text)
+}
+
+/// Error 1045 appended to `out` as one message with the sequence id `first`: the user isn't known, or its answer is wrong.
+#[tactic(auto, unfolding(crate::specs::Errors::access_denied))]
+pub fn write_denied(
+    alloc: Global,
+    out: &mut Vec<u8>,
+    first: u8,
+    name: &[u8],
+) -> Result<(), OutOfMemory>
+    ensures { OnOk result (out.new.items ≡ out.old.items ++ spelling first (access_denied name.now)) }
+{
+    let text = denied_text(alloc, name)?;
+    let _ = write_err(out, first, 1045, b"28000", &text)?;
     Ok(())
 }

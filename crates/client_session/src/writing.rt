@@ -2,9 +2,9 @@
 ghost use Rattle.std.specs.Prelude.{◌≡◌, ◌≤◌, length};
 ghost use Rattle.ready_loop.specs.Machine.{IsLent, MayTake};
 ghost use Rattle.client_session.specs.Events.{written_in, sent_in};
-ghost use Rattle.client_session.specs.Sends.{is_read, reply_left, command_left};
+ghost use Rattle.client_session.specs.Sends.{is_read, reply_left, server_left};
 
-use crate::phase::{LinkState, Phase};
+use crate::phase::{LinkState, Phase, Upstream};
 use crate::session::Session;
 use mx_base::Tag;
 use ready_loop::Piece;
@@ -13,14 +13,14 @@ use ready_loop::Piece;
 pub fn is_read(session: &Session) -> bool
     ensures { result ≡ is_read session.now.phase }
 {
-    matches!(session.phase, Phase::Idle | Phase::Working(_))
+    !matches!(session.phase, Phase::Ending)
 }
 
 /// The bytes that are left for the client.
 pub fn reply_left(session: &Session) -> Option<Piece<'_>>
-    ensures { IsLent result (reply_left session.now.outgoing) }
+    ensures { IsLent result (reply_left session.now.client.outgoing) }
 {
-    let bytes = session.outgoing.as_slice();
+    let bytes = session.client.outgoing();
     if bytes.is_empty() {
         None
     } else {
@@ -31,38 +31,31 @@ pub fn reply_left(session: &Session) -> Option<Piece<'_>>
     }
 }
 
-/// The bytes that are left of the command in work.
-pub fn command_left(session: &Session) -> Option<Piece<'_>>
-    ensures { IsLent result (command_left session.now session.now.phase) }
+/// The bytes that are left for the server: of the login, or of the command in work.
+pub fn server_left(session: &Session) -> Option<Piece<'_>>
+    ensures { IsLent result (server_left session.now.upstream) }
 {
-    match &session.phase {
-        Phase::Working(command) => {
-            let bytes = command.bytes.as_slice();
-            if command.sent < bytes.len() {
-                Some(Piece {
-                    tag: Tag::For {
-                        client: session.number,
-                        ordinal: session.arrived,
-                    },
-                    bytes: &bytes[command.sent..],
-                })
-            } else {
-                None
-            }
-        }
+    match &session.upstream {
+        Upstream::Open(server) => match server.backend.outgoing() {
+            Some(outgoing) => Some(Piece {
+                tag: outgoing.tag,
+                bytes: outgoing.bytes,
+            }),
+            None => None,
+        },
         _ => None,
     }
 }
 
 /// So many bytes of the client's were written. A client that ends is to be closed behind its last byte.
 pub fn client_taken(session: &mut Session, n: usize)
-    requires { n ≤ length session.old.outgoing }
+    requires { n ≤ length session.old.client.outgoing }
     ensures { session.new ≡ written_in session.old n }
 {
-    session.outgoing.advance(n);
+    session.client.taken(n);
     match session.phase {
         Phase::Ending => {
-            if session.outgoing.as_slice().is_empty() {
+            if session.client.outgoing().is_empty() {
                 session.state = LinkState::Closing;
             }
         }
@@ -70,14 +63,12 @@ pub fn client_taken(session: &mut Session, n: usize)
     }
 }
 
-/// So many bytes of the command in work were written.
-pub fn command_taken(session: &mut Session, n: usize)
-    requires { MayTake (command_left session.old session.old.phase) n }
-    ensures { session.new ≡ record session.old { phase = sent_in session.old.phase n } }
+/// So many of the bytes that were left for the server were written.
+pub fn server_taken(session: &mut Session, n: usize)
+    requires { MayTake (server_left session.old.upstream) n }
+    ensures { session.new ≡ record session.old { upstream = sent_in session.old.upstream n } }
 {
-    if let Phase::Working(command) = &mut session.phase {
-        // A length is known to fit, and so is the sum, which is at most this one.
-        let _length = command.bytes.as_slice().len();
-        command.sent += n;
+    if let Upstream::Open(server) = &mut session.upstream {
+        server.backend.taken(n);
     }
 }

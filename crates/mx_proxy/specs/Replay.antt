@@ -17,10 +17,10 @@ use Rattle.mem_wire.specs.Play.{IsPlay}
 use Rattle.mem_wire.specs.Told.{Played}
 use Rattle.ready_loop.specs.Drained.{write_dry}
 use Rattle.ready_loop.specs.Round.{calls_since_wake}
-use Rattle.ready_loop.specs.Machine.{Target}
+use Rattle.client_session.specs.Setups.{Setup}
 use Rattle.client_session.specs.Headline.{IsServed, IsLawful}
 use Rattle.client_session.specs.Rest.{RestsAt}
-use Rattle.session_core.specs.Cores.{server_of, target_of}
+use Rattle.session_core.specs.Cores.{setup_of}
 use Rattle.mx_config.specs.declared.config.Config.{Config}
 use Rattle.mx_config.specs.declared.fault.ConfigFault.{ConfigFault}
 use Rattle.mx_config.specs.Reading.{reading_of}
@@ -61,16 +61,18 @@ pub record IsFaulty (name : List ℕ) (held : Held) (fault : RecordFault) : Type
   pub under : HasUnder name bytes held
   pub said : recording_of bytes ≡ Err fault
 
--- The first server of the configuration, where it has one. Links are opened to it alone.
-abbrev pub target_in : Config → Option Target
-target_in config = target_of (server_of config.servers)
+-- What sessions go by, as the configuration says it: the version that clients are told, who may log in, the limits, and the first server,
+-- where it has one. Links are opened to it alone.
+abbrev pub setup_in : Config → Setup
+setup_in config = setup_of config
 
--- At each moment of the log what was written to each client is a beginning of the answers to its messages, and each byte
--- was written as it may be. Each wait came at rest, and so did the last, after which the wire has nothing more.
-pub record ServesToEnd (target : Option Target) (log : Log) : Type 0 where
-  pub served : AtEachMoment (IsServed target) log
-  pub lawful : AllLawful (IsLawful target) log
-  pub rests : AllLawful (RestsAt target) log
+-- At each moment of the log what was written to each client is a beginning of what it is due, which is the greeting, the answer to
+-- its login, and the answers to its messages; and each byte was written as it may be. Each wait came at rest, and so did the last,
+-- after which the wire has nothing more.
+pub record ServesToEnd (setup : Setup) (log : Log) : Type 0 where
+  pub served : AtEachMoment (IsServed setup) log
+  pub lawful : AllLawful (IsLawful setup) log
+  pub rests : AllLawful (RestsAt setup) log
   pub before : Log
   pub over : log ≡ before ++ Over ∷ []
 
@@ -82,22 +84,22 @@ pub record IsPlayedOut (entries : List RecordEntry) (log : Log) : Type 0 where
   pub read : (link : LinkId) (k : Known) → with_link link (known entries log) ≡ Some k → IsOpen link log → (read_of link log ≡ bytes_for k.name entries) ⊎ (write_dry link log ≡ true)
 
 -- the wire answered as the recording says, until it was played out
-pub record ReplaysTo (target : Option Target) (entries : List RecordEntry) (log : Log) : Type 0 where
+pub record ReplaysTo (setup : Setup) (entries : List RecordEntry) (log : Log) : Type 0 where
   pub play : IsPlay entries log
-  pub serves : ServesToEnd target log
+  pub serves : ServesToEnd setup log
   pub ends : IsPlayedOut entries serves.before
 
 -- what a tape tells that has played these entries
-pub record HasPlayed (target : Option Target) (entries : List RecordEntry) (tape : Played) : Type 0 where
+pub record HasPlayed (setup : Setup) (entries : List RecordEntry) (tape : Played) : Type 0 where
   pub keeps : (log : Log) → IsPlay tape.recording log → IsPlay entries log
-  pub serves : (log : Log) → tape.told ≡ Some log → ServesToEnd target log
+  pub serves : (log : Log) → tape.told ≡ Some log → ServesToEnd setup log
 
 -- a play of which the same holds, in which one wake took as many calls as it may
-pub record IsSpent (target : Option Target) (entries : List RecordEntry) (log : Log) : Type 0 where
+pub record IsSpent (setup : Setup) (entries : List RecordEntry) (log : Log) : Type 0 where
   pub play : IsPlay entries log
-  pub served : AtEachMoment (IsServed target) log
-  pub lawful : AllLawful (IsLawful target) log
-  pub rests : AllLawful (RestsAt target) log
+  pub served : AtEachMoment (IsServed setup) log
+  pub lawful : AllLawful (IsLawful setup) log
+  pub rests : AllLawful (RestsAt setup) log
   pub spent : 4294967296 ≤ calls_since_wake log
 
 abbrev pub ConfigStops : Stop → List ℕ → Held → (before now : ℕ) → Type 0
@@ -112,10 +114,10 @@ ReadStops (stop.BadRecording fault) name held before now = IsFaulty name held fa
 ReadStops stop.OutOfMemory name held before now = Unit {0}
 ReadStops _ name held before now = ⊥
 
-abbrev pub PlayStops : Stop → Option Target → List RecordEntry → Type 0
-PlayStops stop.OutOfMemory target entries = Unit {0}
-PlayStops stop.TurnsSpent target entries = (log : Log) × IsSpent target entries log
-PlayStops _ target entries = ⊥
+abbrev pub PlayStops : Stop → Setup → List RecordEntry → Type 0
+PlayStops stop.OutOfMemory setup entries = Unit {0}
+PlayStops stop.TurnsSpent setup entries = (log : Log) × IsSpent setup entries log
+PlayStops _ setup entries = ⊥
 
 -- the transcript of the log is put
 pub record Puts (tape : Played) (old new : Option (List ℕ)) : Type 0 where
@@ -149,7 +151,7 @@ pub record IsReplay (words : List (List ℕ)) (held : Held) (log : Log) : Type 0
   pub configured : IsConfigured names.config held
   pub entries : List RecordEntry
   pub under : IsUnder names.recording held entries
-  pub replays : ReplaysTo (target_in configured.config) entries log
+  pub replays : ReplaysTo (setup_in configured.config) entries log
 
 -- and the transcript of that log is put
 pub record Replayed (words : List (List ℕ)) (held : Held) (old new : Option (List ℕ)) : Type 0 where
@@ -182,7 +184,7 @@ pub record RanOut (words : List (List ℕ)) (held : Held) : Type 0 where
   pub entries : List RecordEntry
   pub under : IsUnder names.recording held entries
   pub log : Log
-  pub spent : IsSpent (target_in configured.config) entries log
+  pub spent : IsSpent (setup_in configured.config) entries log
 
 pub record IsUnread (words : List (List ℕ)) (before now : ℕ) : Type 0 where
   pub names : Named

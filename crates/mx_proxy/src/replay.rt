@@ -1,8 +1,9 @@
 // A configuration is judged, and a recording is read, played and printed.
 ghost use Rattle.std.specs.Prelude.{◌≡◌, ◌≤◌, OnOk, IfOk, IfErr};
 ghost use Rattle.recording.specs.Playable.{IsPlayable};
+ghost use Rattle.mx_config.specs.Lawful.{IsLawful};
 ghost use Rattle.mx_proxy.specs.Words.{texts};
-ghost use Rattle.mx_proxy.specs.Replay.{Configures, ConfigStops, IsUnder, target_in, HasPlayed, ReadStops, PlayStops, PutStops, Puts, Replayed, Stops};
+ghost use Rattle.mx_proxy.specs.Replay.{Configures, ConfigStops, IsUnder, setup_in, HasPlayed, ReadStops, PlayStops, PutStops, Puts, Replayed, Stops};
 
 use crate::stop::Stop;
 use crate::words::replay_words;
@@ -17,6 +18,7 @@ use std::alloc::Global;
 // The configuration under the name.
 fn configure<F: Files>(alloc: Global, name: &str, files: &mut F) -> Result<Config, Stop>
     ensures ok { IfOk result (λ config. Configures name.now (F.held files.old) config) }
+    ensures lawful { IfOk result IsLawful }
     ensures err { IfErr result (λ stop. ConfigStops stop name.now (F.held files.old) (F.faults files.old) (F.faults files.new)) }
     ensures held { F.held files.new ≡ F.held files.old }
     ensures faults { F.faults files.old ≤ F.faults files.new }
@@ -53,9 +55,10 @@ fn read<F: Files>(alloc: Global, name: &str, files: &mut F) -> Result<Vec<Record
 
 // Plays a recording to its end.
 fn play(alloc: Global, config: &Config, entries: Vec<RecordEntry>) -> Result<Tape, Stop>
-    requires { IsPlayable entries.items }
-    ensures ok { IfOk result (λ tape. HasPlayed (target_in config.now) entries.items tape) }
-    ensures err { IfErr result (λ stop. PlayStops stop (target_in config.now) entries.items) }
+    requires playable { IsPlayable entries.items }
+    requires lawful { IsLawful config.now }
+    ensures ok { IfOk result (λ tape. HasPlayed (setup_in config.now) entries.items tape) }
+    ensures err { IfErr result (λ stop. PlayStops stop (setup_in config.now) entries.items) }
 {
     let turns = 2 * entries.len() as u64 + 16;
     let mut core = Core::new(alloc, config)?;

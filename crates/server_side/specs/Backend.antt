@@ -4,7 +4,7 @@ use Rattle.mx_base.specs.declared.tag.Tag.{Tag}
 use Rattle.mx_base.specs.declared.tag.Tag.TheVariants.{Own}
 use Rattle.packet_frame.specs.FramerState.{FramerState}
 use Rattle.packet_frame.specs.Packets.{spelling}
-use Rattle.server_side.specs.declared.account.Account.{Account}
+use Rattle.server_side.specs.Account.{Account}
 use Rattle.server_side.specs.declared.command.Command.{Command}
 use Rattle.server_side.specs.declared.command.Outgoing.{Outgoing}
 use Rattle.server_side.specs.declared.stage.Stage.{Stage}

@@ -11,7 +11,7 @@ use Rattle.handshake.specs.declared.greeting.Greeting.{Greeting}
 use Rattle.handshake.specs.declared.switch.Switch.{Switch}
 use Rattle.handshake.specs.Greeting.{greeting_of}
 use Rattle.handshake.specs.Switch.{native_password, switch_of}
-use Rattle.server_side.specs.declared.account.Account.{Account}
+use Rattle.server_side.specs.Account.{Account}
 use Rattle.server_side.specs.declared.fault.BackendFault.TheVariants.{Plugin}
 use Rattle.server_side.specs.Login.{most_payload, response_said, answer_said, lacks_found_rows, denied, asks_switch, Opening, Goes, LogsIn, Fails, said_of, bad, by_end, end_by, end_in, by_switch, welcome_by, welcome_in, by_greeting, greeting_or_not, greeting_by, opening}
 

@@ -6,7 +6,7 @@ use Rattle.packet_frame.specs.SpellingLaws.{spelling-some}
 use Rattle.handshake.specs.declared.greeting.Greeting.{Greeting}
 use Rattle.handshake.specs.Response.{response_bytes}
 use Rattle.native_auth.specs.Native.{answer_of, bytes_of}
-use Rattle.server_side.specs.declared.account.Account.{Account}
+use Rattle.server_side.specs.Account.{Account}
 use Rattle.server_side.specs.declared.fault.BackendFault.{BackendFault}
 use Rattle.server_side.specs.declared.stage.Stage.{Stage}
 use Rattle.server_side.specs.declared.stage.Stage.TheVariants as stages

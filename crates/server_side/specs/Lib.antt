@@ -1,3 +1,4 @@
+pub mod Account
 pub mod Login
 pub mod Backend
 pub mod Hearing

@@ -14,7 +14,7 @@ use Rattle.handshake.specs.declared.greeting.Greeting.{Greeting}
 use Rattle.handshake.specs.declared.switch.Switch.{Switch}
 use Rattle.handshake.specs.Greeting.{greeting_of}
 use Rattle.handshake.specs.Switch.{native_password, switch_of}
-use Rattle.server_side.specs.declared.account.Account.{Account}
+use Rattle.server_side.specs.Account.{Account}
 use Rattle.server_side.specs.declared.fault.BackendFault.{BackendFault}
 use Rattle.server_side.specs.declared.fault.BackendFault.TheVariants.{BadBytes, Plugin, Denied}
 use Rattle.server_side.specs.declared.hear.Heard.TheVariants.{Quiet, LoggedIn}

@@ -25,13 +25,10 @@ pub struct Backend {
 
 impl Model for Backend {
     ghost use Rattle.server_side.specs.Backend.{BackendState};
-    ghost use Rattle.handshake.specs.Spelling.{IsText};
 
     ghost Value = { BackendState };
 
     ghost view = { λ b. record { account = b.account; framer = b.framer; stage = b.stage; own = b.own; command = b.command; reply = b.reply } };
-
-    ghost invariant = { λ b. IsText b.account.user };
 }
 
 impl Backend {
@@ -53,11 +50,11 @@ impl Backend {
     {
         Ok(Backend {
             alloc,
-            account: Account {
-                user: Bytes::from_slice(alloc, user)?,
-                password: Bytes::from_slice(alloc, password)?,
+            account: Account::new(
+                Bytes::from_slice(alloc, user)?,
+                Bytes::from_slice(alloc, password)?,
                 found_rows,
-            },
+            ),
             framer: Framer::new(alloc, MOST_PAYLOAD),
             stage: Stage::Greeting,
             own: ByteQueue::new(alloc),

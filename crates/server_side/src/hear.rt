@@ -94,7 +94,7 @@ impl Backend {
     fn respond(&mut self, greeting: &Greeting) -> Result<Heard, BackendFault>
         ensures { Tells result self.new (greeted greeting.now self.old) }
     {
-        if lacks_found_rows(self.account.found_rows, greeting.capabilities) {
+        if lacks_found_rows(self.account.found_rows(), greeting.capabilities) {
             return Err(BackendFault::BadBytes { at: 0 });
         }
         let packet = response_packet(self.alloc, &self.account, greeting)?;

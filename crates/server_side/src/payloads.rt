@@ -65,13 +65,14 @@ fn own_response(
 ) -> Result<Response, OutOfMemory>
     ensures is { IfOk result (λ response. response ≡ own_response account.now greeting.now) }
     ensures short { IfOk result (λ response. length response.answer ≤ 20) }
+    ensures text { IfOk result (λ response. IsText response.user) }
 {
     Ok(Response {
-        capabilities: wanted(account.found_rows) & greeting.capabilities,
+        capabilities: wanted(account.found_rows()) & greeting.capabilities,
         max_packet: MOST_PACKET,
         collation: COLLATION,
-        user: Bytes::from_slice(alloc, account.user.as_slice())?,
-        answer: answer_bytes(alloc, account.password.as_slice(), &greeting.salt)?,
+        user: Bytes::from_slice(alloc, account.user())?,
+        answer: answer_bytes(alloc, account.password(), &greeting.salt)?,
         schema: None,
         plugin: Some(Bytes::from_slice(alloc, b"mysql_native_password")?),
     })
@@ -85,7 +86,6 @@ pub fn response_packet(
     account: &Account,
     greeting: &Greeting,
 ) -> Result<Vec<u8>, OutOfMemory>
-    requires { IsText account.now.user }
     ensures { IfOk result (λ packet. packet.items ≡ response_said account.now greeting.now) }
 {
     let response = own_response(alloc, account, greeting)?;
@@ -106,7 +106,7 @@ pub fn answer_packet(
 ) -> Result<Vec<u8>, OutOfMemory>
     ensures { IfOk result (λ packet. packet.items ≡ answer_said account.now salt.now) }
 {
-    let payload = answer_bytes(alloc, account.password.as_slice(), salt)?;
+    let payload = answer_bytes(alloc, account.password(), salt)?;
     let mut packet = Vec::new(alloc);
     write_message(&mut packet, 3, payload.as_slice())?;
     Ok(packet)

@@ -18,7 +18,7 @@ stepped Step old new key session later is step marks = subst (λ (s : Option Ses
     step = step;
     sets = subst (λ s. Updates old.sessions s key (Some later)) (sym only.sessions) updates;
     marks = record { turn = only.marks.turn; changed = only.marks.changed };
-    service = record { target = only.service.target; max_clients = only.service.max_clients; listen = only.service.listen; admin_listen = only.service.admin_listen };
+    service = record { setup = only.service.setup; listen = only.service.listen; admin_listen = only.service.admin_listen };
     accepted = only.accepted;
     refused = only.refused;
   },

@@ -10,10 +10,10 @@ use Rattle.client_session.specs.declared.parting.SessionAct.TheVariants as sessi
 use Rattle.client_session.specs.declared.session.Session.{Session}
 use Rattle.client_session.specs.Acts.{act_of, asked_for, is_over}
 use Rattle.client_session.specs.Events.{written_in, sent_in}
-use Rattle.client_session.specs.Sends.{is_read, reply_left, command_left}
+use Rattle.client_session.specs.Sends.{is_read, reply_left, server_left}
 use Rattle.client_session.specs.Stands.{is_closed}
 use Rattle.session_core.specs.declared.router.Core.{Core}
-use Rattle.session_core.specs.declared.router.ServerAt.{ServerAt}
+use Rattle.client_session.specs.declared.setup.ServerAt.{ServerAt}
 use Rattle.session_core.specs.declared.place.Place.{Place}
 use Rattle.session_core.specs.declared.place.Place.TheVariants as place
 use Rattle.session_core.specs.Cores.{place_of, session_at, target_of, open_link, is_link_of, SetsPlace, SetsSession, KeepsSessions, KeepsPlaces, SameService}
@@ -38,11 +38,11 @@ reads core link = reads_at core (place_of core link) link
 
 abbrev pub client_sends : Option Session → LinkId → Option Sent
 client_sends None link = None
-client_sends (Some session) link = if nat_eq session.link.0 link.0 then reply_left session.outgoing else None
+client_sends (Some session) link = if nat_eq session.link.0 link.0 then reply_left session.client.outgoing else None
 
 abbrev pub server_sends : Option Session → LinkId → Option Sent
 server_sends None link = None
-server_sends (Some session) link = if is_link_of link (open_link session.upstream) then command_left session session.phase else None
+server_sends (Some session) link = if is_link_of link (open_link session.upstream) then server_left session.upstream else None
 
 abbrev pub sends_at : Core → Option Place → LinkId → Option Sent
 sends_at core None link = None
@@ -71,12 +71,12 @@ abbrev pub asks : Core → Bool
 asks core = is_any core.refused.items || turn_asks core core.turn
 
 abbrev pub target_if : Option SessionAct → Option ServerAt → Option Target
-target_if (Some session_act.Open) target = target_of target
-target_if _ target = None
+target_if (Some session_act.Open) at = target_of at
+target_if _ at = None
 
 abbrev pub session_awaits : Core → Option Session → Option Target
 session_awaits core None = None
-session_awaits core (Some session) = target_if (act_of session) core.target
+session_awaits core (Some session) = target_if (act_of session) core.setup.target
 
 abbrev pub turn_awaits : Core → Option ℕ → Option Target
 turn_awaits core None = None
@@ -152,7 +152,7 @@ OpensTo (Some at) old new asked = (asked ≡ Some (act.Open at.server at.address
 
 abbrev pub ActsOn : Option SessionAct → Core → Core → Option Act → Type 0
 ActsOn None old new asked = (asked ≡ None) × (new ≡ old)
-ActsOn (Some session_act.Open) old new asked = OpensTo old.target old new asked
+ActsOn (Some session_act.Open) old new asked = OpensTo old.setup.target old new asked
 ActsOn (Some (session_act.CloseServer link)) old new asked = (asked ≡ Some (act.Close link)) × ClosesServer old new link
 ActsOn (Some (session_act.CloseClient link)) old new asked = (asked ≡ Some (act.Close link)) × KeepsLinks old new
 
@@ -179,4 +179,4 @@ TakesAt step old new key (Some session) = Takes old new key (step session)
 abbrev pub TakenAt : ℕ → Option Place → Core → Core → Type 0
 TakenAt n None old new = new ≡ old
 TakenAt n (Some (place.Client key)) old new = TakesAt (λ session. written_in session n) old new key (session_at old key)
-TakenAt n (Some (place.Server key)) old new = TakesAt (λ session. record session { phase = sent_in session.phase n }) old new key (session_at old key)
+TakenAt n (Some (place.Server key)) old new = TakesAt (λ session. record session { upstream = sent_in session.upstream n }) old new key (session_at old key)

@@ -11,4 +11,4 @@ address_of core Admin = core.admin_listen
 
 -- a sum stands still at its type's end
 abbrev pub most_of : Core → ℕ
-most_of core = if nat_lt (core.max_clients + 10018) 4294967296 then core.max_clients + 10018 else 4294967295
+most_of core = if nat_lt (core.setup.max_clients + 10018) 4294967296 then core.setup.max_clients + 10018 else 4294967295

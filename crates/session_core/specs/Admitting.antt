@@ -1,6 +1,6 @@
 -- What the core carries over a client that comes.
-use Rattle.std.specs.Prelude.{◌≡◌, ◌⊎◌, ℕ, suc, Bool, true, false, nat_eq, is_some, List, [], ◌∷◌, ◌++◌, length, Option, Some, None, IsSome, refl}
-use Rattle.std.proofs.Common.{sym, ◌∙◌, ap, subst, inl, inr, arith}
+use Rattle.std.specs.Prelude.{◌≡◌, ◌⊎◌, ℕ, suc, Bool, true, false, nat_eq, List, [], ◌∷◌, ◌++◌, length, Option, Some, None, IsSome, refl}
+use Rattle.std.proofs.Common.{sym, ◌∙◌, ap, subst, append-nil, inl, inr, arith}
 use Rattle.std.proofs.lemmas.Bool.{eqb-true}
 use Rattle.mx_base.specs.declared.names.LinkId.{LinkId}
 use Rattle.mx_base.specs.declared.names.Port.{Port}
@@ -8,16 +8,17 @@ use Rattle.mx_wire.specs.Log.{Log, accepted_links, got_bytes, wrote_bytes, read_
 use Rattle.mx_wire.specs.Tells.{MayFollow}
 use Rattle.mx_wire.specs.Growth.{bool_cases, nat_eq-sym}
 use Rattle.mx_wire.specs.declared.entry.Entry.TheVariants as entry
-use Rattle.packet_frame.specs.Laws.{first_message-empty}
 use Rattle.client_session.specs.declared.session.Session.{Session}
-use Rattle.client_session.specs.Answers.{most_payload}
-use Rattle.client_session.specs.Count.{counted}
-use Rattle.client_session.specs.Growth.{client_link-new, client_link-back}
-use Rattle.client_session.specs.Headline.{client_link, Turn, replies_to, IsRefusing, Passes as PassesOn}
-use Rattle.client_session.specs.Past.{Past, past-none}
-use Rattle.client_session.specs.Past.IsLast.{None_yet}
+use Rattle.client_side.specs.Client.{counted}
+use Rattle.packet_frame.specs.Laws.{first_message-empty}
+use Rattle.client_side.specs.Login.{greeting_said, Waits, by_message, opening}
+use Rattle.client_session.specs.Dues.{session-link}
+use Rattle.client_session.specs.Growth.{arrival-new, client_link-back}
+use Rattle.client_session.specs.Arrivals.{arrival_of}
+use Rattle.client_session.specs.Setups.{Setup}
+use Rattle.client_session.specs.Headline.{client_link, Turn, due, IsPrefix, IsRefusing, Passes as PassesOn}
 use Rattle.client_session.specs.Passing.{same_for, next-passes}
-use Rattle.client_session.specs.Stands.{WasAnswered, IsNext, HasSession, upstream_link, is_closed}
+use Rattle.client_session.specs.Stands.{IsNext, HasSession, upstream_link, is_closed}
 use Rattle.session_core.specs.declared.router.Core.{Core}
 use Rattle.session_core.specs.declared.place.Place.{Place}
 use Rattle.session_core.specs.declared.place.Place.TheVariants as place
@@ -31,28 +32,35 @@ use Rattle.session_core.specs.Passing.{same-service}
 use Rattle.session_core.specs.Sessions.{differ-by, client-counted}
 use Rattle.session_core.specs.Stands.{service_of, TracksSessions, IsPlaced, IsConnected, IsUpstream, AreDistinct, TracksLinks}
 
-module _ (old new : Core) (log : Log) (port : Port) (link : LinkId) (salt : List ℕ) (refused : List Turn) (may : MayFollow log (entry.Accepted port link salt)) (sessions : TracksSessions old refused log) (links : TracksLinks old log) (admits : Admits old link new) where
+-- a login of which nothing was read
+opening-nothing : (limit : ℕ) → opening limit [] ≡ Waits false
+unfolding opening
+opening-nothing limit = ap (by_message limit) (first_message-empty limit 1)
+
+module _ (old new : Core) (log : Log) (port : Port) (link : LinkId) (salt : List ℕ) (refused : List Turn) (may : MayFollow log (entry.Accepted port link salt)) (sessions : TracksSessions old refused log) (links : TracksLinks old log) (admits : Admits old link salt new) where
   is-suc : counted old.accepted ≡ suc (length (accepted_links log))
   is-suc = number-is old log port link salt refused may sessions links
 
-  has-first : HasSession (service_of old refused) (first_session link (counted old.accepted)) (log ++ entry.Accepted port link salt ∷ [])
+  -- nothing was read of it, and nothing was written to it
+  unread : read_of link (log ++ entry.Accepted port link salt ∷ []) ≡ []
+  unread = new-bytes got_bytes link log (entry.Accepted port link salt) refl may.fits.fresh
+
+  has-first : HasSession (service_of old refused) (first_session link (counted old.accepted) salt old.setup) (log ++ entry.Accepted port link salt ∷ [])
   has-first = record {
-    number = subst (λ (n : ℕ). client_link n (log ++ entry.Accepted port link salt ∷ []) ≡ Some link) (sym is-suc) (client_link-new log (entry.Accepted port link salt) link refl);
+    client = record { came = subst (λ (n : ℕ). arrival_of n (log ++ entry.Accepted port link salt ∷ []) ≡ Some (record { link = link; salt = salt })) (sym is-suc) (arrival-new log port link salt) };
     told = [];
     written = new-bytes wrote_bytes link log (entry.Accepted port link salt) refl may.fits.fresh;
     at = record {
-      framer = record { limited = refl; unfound = refl; faultless = refl };
-      done = [];
-      count = refl;
-      so_far = record {
-        past = subst (λ (xs : List ℕ). Past xs [] []) (sym (new-bytes got_bytes link log (entry.Accepted port link salt) refl may.fits.fresh)) past-none;
-        before = [];
-        answered = refl;
-        is_last = None_yet;
-        is = refl;
-      };
+      limited = refl;
+      arrived = refl;
+      nobody = refl;
+      is = (record { short = admits.short; unfound = refl; faultless = refl }, sym unread, sym (append-nil (greeting_said (counted old.accepted) salt old.setup.version)));
     };
-    dry = first_message-empty most_payload 0;
+    dry = record {
+      switched = false;
+      waits = ap (opening old.setup.limit) unread ∙ opening-nothing old.setup.limit;
+      put = sym (append-nil (greeting_said (counted old.accepted) salt old.setup.version));
+    };
     served = tt;
     next = λ i later. next-passes (service_of old refused) (service_of old refused) (counted old.accepted) i log (entry.Accepted port link salt) (same_for (service_of old refused) (counted old.accepted)) refl
         (sessions.later (counted old.accepted) i (let c = is-suc in omega arith));
@@ -61,46 +69,46 @@ module _ (old new : Core) (log : Log) (port : Port) (link : LinkId) (salt : List
   -- which session is under a key
   data IsThere (key : ℕ) (session : Session) : Type 0 where
     Before : session_at old key ≡ Some session → IsThere key session
-    Now : key ≡ admits.key → session ≡ first_session link (counted old.accepted) → IsThere key session
+    Now : key ≡ admits.key → session ≡ first_session link (counted old.accepted) salt old.setup → IsThere key session
 
   there : (key : ℕ) (session : Session) → session_at new key ≡ Some session → IsThere key session
   there key session at = elim (bool_cases (nat_eq key admits.key)) [
     | inl here ↦ (
         let at_key : key ≡ admits.key = eqb-true key admits.key here in
-        Now at_key (let both : Some session ≡ Some (first_session link (counted old.accepted)) = sym (ap (session_at new) (sym at_key) ∙ at) ∙ admits.sets.changed in cc))
+        Now at_key (let both : Some session ≡ Some (first_session link (counted old.accepted) salt old.setup) = sym (ap (session_at new) (sym at_key) ∙ at) ∙ admits.sets.changed in cc))
     | inr differs ↦ Before (sym (admits.sets.others key (differ-by key admits.key differs)) ∙ at)
   ]
 
   kept : (key : ℕ) (session : Session) → session_at old key ≡ Some session → session_at new key ≡ Some session
   kept key session at = admits.sets.others key (λ same. (let no : ◌≡◌ {A = Option Session} (Some session) None = sym at ∙ ap (session_at old) same ∙ admits.vacant in cc)) ∙ at
 
-  older : (key : ℕ) (session : Session) → session_at old key ≡ Some session → session.number.0 ≡ counted old.accepted → ⊥
-  older key session at same = (let c = client-counted session.number.0 log session.link (sessions.has key session at).number in let s = is-suc in absurd (omega arith))
+  older : (key : ℕ) (session : Session) → session_at old key ≡ Some session → session.client.number.0 ≡ counted old.accepted → ⊥
+  older key session at same = (let c = client-counted session.client.number.0 log session.link (session-link (service_of old refused) session log (sessions.has key session at).client) in let s = is-suc in absurd (omega arith))
 
   pub sessions-admitted : TracksSessions new refused (log ++ entry.Accepted port link salt ∷ [])
   sessions-admitted = record {
     accepted = admits.accepted ∙ counted-clients old log port link salt refused may sessions links;
-    refusing = subst (λ t. IsRefusing (is_some t) refused (log ++ entry.Accepted port link salt ∷ [])) (sym admits.service.target) (PassesOn refused log (entry.Accepted port link salt) sessions.refusing refl);
-    has = λ key session at. subst (λ service. HasSession service session (log ++ entry.Accepted port link salt ∷ [])) (sym (same-service old new refused admits.service.target)) (has_in key session (there key session at));
+    refusing = subst (λ (t : Setup). IsRefusing t refused (log ++ entry.Accepted port link salt ∷ [])) (sym admits.service.setup) (PassesOn refused log (entry.Accepted port link salt) sessions.refusing refl);
+    has = λ key session at. subst (λ service. HasSession service session (log ++ entry.Accepted port link salt ∷ [])) (sym (same-service old new refused admits.service.setup)) (has_in key session (there key session at));
     numbers = λ key other a b at_a at_b same. numbers_in key other a b (there key a at_a) (there other b at_b) same;
-    ended = λ n other is. elim (client_link-back n log (entry.Accepted port link salt) link other refl is) [
+    ended = λ n other is. elim (client_link-back n log port link salt other is) [
       | inl before ↦ elim (sessions.ended n other before) [
         | inl live ↦ inl (record { key = live.key; session = live.session; at = kept live.key live.session live.at; number = live.number })
-        | inr over ↦ inr (subst (λ service. WasAnswered (replies_to service n (log ++ entry.Accepted port link salt ∷ [])) (read_of other (log ++ entry.Accepted port link salt ∷ [])) (written_of other (log ++ entry.Accepted port link salt ∷ []))) (sym (same-service old new refused admits.service.target))
+        | inr over ↦ inr (subst (λ service. IsPrefix (written_of other (log ++ entry.Accepted port link salt ∷ [])) (due service n (log ++ entry.Accepted port link salt ∷ []))) (sym (same-service old new refused admits.service.setup))
             (over-on old log port link salt refused may sessions links (service_of old refused) n other before over))
       ]
-      | inr now ↦ inl (record { key = admits.key; session = first_session link (counted old.accepted); at = admits.sets.changed; number = is-suc ∙ sym now.0 })
+      | inr now ↦ inl (record { key = admits.key; session = first_session link (counted old.accepted) salt old.setup; at = admits.sets.changed; number = is-suc ∙ sym now.0 })
     ];
-    later = λ n i more. subst (λ service. IsNext service n i (log ++ entry.Accepted port link salt ∷ [])) (sym (same-service old new refused admits.service.target)) (later-on old log port link salt refused may sessions links n i more);
+    later = λ n i more. subst (λ service. IsNext service n i (log ++ entry.Accepted port link salt ∷ [])) (sym (same-service old new refused admits.service.setup)) (later-on old log port link salt refused may sessions links n i more);
   } where
     has_in : (key : ℕ) (session : Session) → IsThere key session → HasSession (service_of old refused) session (log ++ entry.Accepted port link salt ∷ [])
     has_in key session (Before at) = session-on old log port link salt refused may sessions links (service_of old refused) key session at (sessions.has key session at)
     has_in key session (Now at_key is) = subst (λ (s : Session). HasSession (service_of old refused) s (log ++ entry.Accepted port link salt ∷ [])) (sym is) has-first
 
-    numbers_in : (key other : ℕ) (a b : Session) → IsThere key a → IsThere other b → a.number.0 ≡ b.number.0 → key ≡ other
+    numbers_in : (key other : ℕ) (a b : Session) → IsThere key a → IsThere other b → a.client.number.0 ≡ b.client.number.0 → key ≡ other
     numbers_in key other a b (Before at_a) (Before at_b) same = sessions.numbers key other a b at_a at_b same
-    numbers_in key other a b (Before at_a) (Now at_key is) same = absurd (older key a at_a (same ∙ ap (λ (s : Session). s.number.0) is))
-    numbers_in key other a b (Now at_key is) (Before at_b) same = absurd (older other b at_b (sym same ∙ ap (λ (s : Session). s.number.0) is))
+    numbers_in key other a b (Before at_a) (Now at_key is) same = absurd (older key a at_a (same ∙ ap (λ (s : Session). s.client.number.0) is))
+    numbers_in key other a b (Now at_key is) (Before at_b) same = absurd (older other b at_b (sym same ∙ ap (λ (s : Session). s.client.number.0) is))
     numbers_in key other a b (Now at_key is) (Now other_key other_is) same = at_key ∙ sym other_key
 
   place-kept : (other : LinkId) → nat_eq other.0 link.0 ≡ false → place_of new other ≡ place_of old other
@@ -109,7 +117,7 @@ module _ (old new : Core) (log : Log) (port : Port) (link : LinkId) (salt : List
   open-on : (other : LinkId) → nat_eq other.0 link.0 ≡ false → is_open other (log ++ entry.Accepted port link salt ∷ []) ≡ is_open other log
   open-on other apart = open-other other link log (entry.Accepted port link salt) refl apart
 
-  first-quiet : session_asks new (Some (first_session link (counted old.accepted))) ≡ false
+  first-quiet : session_asks new (Some (first_session link (counted old.accepted) salt old.setup)) ≡ false
   first-quiet = refl
 
   pub links-admitted : TracksLinks new (log ++ entry.Accepted port link salt ∷ [])
@@ -130,8 +138,8 @@ module _ (old new : Core) (log : Log) (port : Port) (link : LinkId) (salt : List
         let apart = fresh-open old refused log sessions links link may.fits.fresh other before.opened in
         record { unplaced = place-kept other apart ∙ before.unplaced; opened = open-on other apart ∙ before.opened });
     distinct = subst AreDistinct (sym admits.refused) links.distinct;
-    others = λ n key other session is at apart. others_in n key other session (client_link-back n log (entry.Accepted port link salt) link other refl is) (there key session at) apart;
-    servers = λ n key other up session is at has_up. servers_in n key other up session (client_link-back n log (entry.Accepted port link salt) link other refl is) (there key session at) has_up;
+    others = λ n key other session is at apart. others_in n key other session (client_link-back n log port link salt other is) (there key session at) apart;
+    servers = λ n key other up session is at has_up. servers_in n key other up session (client_link-back n log port link salt other is) (there key session at) has_up;
     calm = λ key session at. calm_in key session (there key session at);
   } where
     client_in : (key : ℕ) (session : Session) → IsThere key session → is_closed session.state ≡ false → IsConnected new key session.link (log ++ entry.Accepted port link salt ∷ [])
@@ -163,14 +171,14 @@ module _ (old new : Core) (log : Log) (port : Port) (link : LinkId) (salt : List
     placed_in other where_to true same is =
         let at_link : other ≡ link = same_link other link same in
         let it : where_to ≡ place.Client admits.key = (let both : Some where_to ≡ Some (place.Client admits.key) = sym is ∙ ap (place_of new) at_link ∙ admits.placed.same in cc) in
-        subst (λ (p : Place). IsPlaced new other p) (sym it) (first_session link (counted old.accepted), admits.sets.changed, sym at_link)
+        subst (λ (p : Place). IsPlaced new other p) (sym it) (first_session link (counted old.accepted) salt old.setup, admits.sets.changed, sym at_link)
     placed_in other where_to false apart is = was-placed other where_to (links.placed other where_to (sym (place-kept other apart) ∙ is))
 
-    others_in : (n key : ℕ) (other : LinkId) (session : Session) → (client_link n log ≡ Some other) ⊎ ((n ≡ suc (length (accepted_links log))) × (link ≡ other)) → IsThere key session → nat_eq n session.number.0 ≡ false → nat_eq session.link.0 other.0 ≡ false
+    others_in : (n key : ℕ) (other : LinkId) (session : Session) → (client_link n log ≡ Some other) ⊎ ((n ≡ suc (length (accepted_links log))) × (link ≡ other)) → IsThere key session → nat_eq n session.client.number.0 ≡ false → nat_eq session.link.0 other.0 ≡ false
     others_in n key other session (inl before) (Before at) apart = links.others n key other session before at apart
     others_in n key other session (inl before) (Now at_key is) apart = ap (λ (s : Session). nat_eq s.link.0 other.0) is ∙ nat_eq-sym other.0 link.0 (fresh-client old refused log sessions links link may.fits.fresh n other before)
     others_in n key other session (inr now) (Before at) apart = ap (λ (l : LinkId). nat_eq session.link.0 l.0) (sym now.1) ∙ fresh-session old refused log sessions links link may.fits.fresh key session at
-    others_in n key other session (inr now) (Now at_key is) apart = absurd (differ-by n session.number.0 apart (now.0 ∙ sym is-suc ∙ sym (ap (λ (s : Session). s.number.0) is)))
+    others_in n key other session (inr now) (Now at_key is) apart = absurd (differ-by n session.client.number.0 apart (now.0 ∙ sym is-suc ∙ sym (ap (λ (s : Session). s.client.number.0) is)))
 
     servers_in : (n key : ℕ) (other up : LinkId) (session : Session) → (client_link n log ≡ Some other) ⊎ ((n ≡ suc (length (accepted_links log))) × (link ≡ other)) → IsThere key session → upstream_link session.upstream ≡ Some up → nat_eq up.0 other.0 ≡ false
     servers_in n key other up session (inl before) (Before at) has_up = links.servers n key other up session before at has_up

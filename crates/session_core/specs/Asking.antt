@@ -12,18 +12,18 @@ use Rattle.client_session.specs.declared.parting.SessionAct.{SessionAct}
 use Rattle.client_session.specs.declared.parting.SessionAct.TheVariants as session_act
 use Rattle.client_session.specs.declared.phase.LinkState.{LinkState}
 use Rattle.client_session.specs.declared.phase.LinkState.TheVariants as link_state
-use Rattle.client_session.specs.declared.phase.Phase.TheVariants.{Working}
 use Rattle.client_session.specs.declared.phase.Upstream.{Upstream}
 use Rattle.client_session.specs.declared.phase.Upstream.TheVariants as upstream
 use Rattle.client_session.specs.declared.session.Session.{Session}
 use Rattle.client_session.specs.Acts.{act_by, act_of, client_act, asked_for, wants_link, open_if}
 use Rattle.client_session.specs.Parted.{closed_of}
-use Rattle.client_session.specs.Stands.{IsUnsent, IsServedBy}
+use Rattle.client_session.specs.Setups.{Setup, has_server}
 use Rattle.session_core.specs.declared.router.Core.{Core}
-use Rattle.session_core.specs.declared.router.ServerAt.{ServerAt}
+use Rattle.client_session.specs.declared.setup.ServerAt.{ServerAt}
 use Rattle.session_core.specs.declared.place.Place.{Place}
 use Rattle.session_core.specs.Cores.{session_at, target_of, SetsPlace, SetsSession, KeepsSessions, KeepsPlaces}
 use Rattle.session_core.specs.Acting.{target_if, session_awaits, turn_awaits, awaited, sends, Tidies, Asked, AskedAt, ClosesServer as ClosesUpstream, KeepsLinks as KeepsAllLinks, ActsOn, OpensTo, TurnActs}
+use Rattle.session_core.specs.Connecting.{wants-unsent}
 use Rattle.session_core.specs.Closing.{ClosesServer, closes-server, ClosesClient, closes-client}
 use Rattle.session_core.specs.Sessions.{differ-by}
 use Rattle.session_core.specs.Stands.{service_of, Stands, due_in}
@@ -95,7 +95,7 @@ asked-same old new key session what log at asked same held =
       places = asked.places;
       refused = asked.refused;
       calm = λ k s is calm. elim (calm) [ inl turn ↦ inl (asked.turn ∙ turn) | inr quiet ↦ inr quiet ];
-    }) asked.counts.service.target asked.counts.accepted held
+    }) asked.counts.service.setup asked.counts.accepted held
 
 none-asked : (what : SessionAct) → ◌≡◌ {A = Option SessionAct} (Some what) None → ⊥
 none-asked what is = cc
@@ -110,7 +110,7 @@ up-closed tidied mid new key session link at turn asked act closes = record {
   refused = closes.tables.refused ∙ asked.refused;
   turn = closes.turn ∙ asked.turn ∙ turn;
   was_turn = turn;
-  target = closes.tables.counts.service.target ∙ asked.counts.service.target;
+  setup = closes.tables.counts.service.setup ∙ asked.counts.service.setup;
   accepted = closes.tables.counts.accepted ∙ asked.counts.accepted;
 }
 
@@ -124,7 +124,7 @@ door-closed tidied mid new key session link at turn asked act closes = record {
   refused = closes.tables.refused ∙ asked.refused;
   turn = closes.turn ∙ asked.turn ∙ turn;
   was_turn = turn;
-  target = closes.tables.counts.service.target ∙ asked.counts.service.target;
+  setup = closes.tables.counts.service.setup ∙ asked.counts.service.setup;
   accepted = closes.tables.counts.accepted ∙ asked.counts.accepted;
 }
 
@@ -161,20 +161,16 @@ module _ (old tidied mid new : Core) (key : ℕ) (turn : old.turn ≡ Some key) 
   closes-door link (Some session) at asked closes = closes-after old tidied new link tidy (closes-client_of tidied new key session link (client-by session.upstream session link (sym asked.is)).1 (door-closed tidied mid new key session link at turn-tidied asked (sym asked.is) closes))
 
   -- a link is asked for only where a server is configured
-  no-target : (s : Option Session) → session_at tidied key ≡ s → AskedAt tidied mid key s (Some session_act.Open) → mid.target ≡ None → (log : Log) → Stands old log → ⊥
+  no-target : (s : Option Session) → session_at tidied key ≡ s → AskedAt tidied mid key s (Some session_act.Open) → mid.setup.target ≡ None → (log : Log) → Stands old log → ⊥
   no-target None at asked none log held = (let no : ◌≡◌ {A = Option SessionAct} (Some session_act.Open) None = asked.0 in cc)
   no-target (Some session) at asked none log held =
       let wants = wants-open session (sym asked.is) in
       let stood = tidy log held in
-      let has = stood.upholds.sessions.has key session at in
-      let unsent : IsUnsent (service_of tidied stood.upholds.refused) session.number.0 session.arrived wants.command log =
-      subst (λ (u : Upstream). IsServedBy (service_of tidied stood.upholds.refused) link_state.Open (Working wants.command) session.number.0 session.arrived u log) wants.absent
-      (subst (λ p. IsServedBy (service_of tidied stood.upholds.refused) link_state.Open p session.number.0 session.arrived session.upstream log) wants.working
-      (subst (λ (l : LinkState). IsServedBy (service_of tidied stood.upholds.refused) l session.phase session.number.0 session.arrived session.upstream log) wants.opened has.served)) in
-      let no : true ≡ false = sym unsent.serves ∙ ap (λ (t : Option ServerAt). is_some t) (sym asked.counts.service.target ∙ none) in
+      let unsent = wants-unsent (service_of tidied stood.upholds.refused) session log wants (stood.upholds.sessions.has key session at) in
+      let no : true ≡ false = sym unsent.serves ∙ ap (λ (t : Setup). has_server t) (sym asked.counts.service.setup) ∙ ap (λ (t : Option ServerAt). is_some t) none in
       absurd (cc)
 
-  turned-away : (s : Option Session) → session_at tidied key ≡ s → AskedAt tidied mid key s (Some session_act.Open) → (target : Option ServerAt) → mid.target ≡ target → (asked : Option Act) → OpensTo target mid new asked → Acts Stands due_in sends old new asked
+  turned-away : (s : Option Session) → session_at tidied key ≡ s → AskedAt tidied mid key s (Some session_act.Open) → (target : Option ServerAt) → mid.setup.target ≡ target → (asked : Option Act) → OpensTo target mid new asked → Acts Stands due_in sends old new asked
   turned-away s at asks_it None none asked opens = subst (λ (a : Option Act). Acts Stands due_in sends old new a) (sym opens.0) (record { kept = λ log held. absurd (no-target s at asks_it none log held) })
   turned-away s at asks_it (Some server) some asked opens = subst (λ (a : Option Act). Acts Stands due_in sends old new a) (sym opens.0)
       (record { kept = λ log held. subst (λ (c : Core). Stands c log) (sym opens.1) (keeps-asked (Some session_act.Open) s at asks_it asks-open log held) })
@@ -182,7 +178,7 @@ module _ (old tidied mid new : Core) (key : ℕ) (turn : old.turn ≡ Some key) 
   acts-on : (what : Option SessionAct) → AskedAt tidied mid key (session_at tidied key) what → (asked : Option Act) → ActsOn what mid new asked → Acts Stands due_in sends old new asked
   acts-on None asks_it asked acts = subst (λ (a : Option Act). Acts Stands due_in sends old new a) (sym acts.0)
       (record { kept = λ log held. subst (λ (c : Core). Stands c log) (sym acts.1) (keeps-asked None (session_at tidied key) refl asks_it asks-none log held) })
-  acts-on (Some session_act.Open) asks_it asked acts = turned-away (session_at tidied key) refl asks_it mid.target refl asked acts
+  acts-on (Some session_act.Open) asks_it asked acts = turned-away (session_at tidied key) refl asks_it mid.setup.target refl asked acts
   acts-on (Some (session_act.CloseServer link)) asks_it asked acts = subst (λ (a : Option Act). Acts Stands due_in sends old new a) (sym acts.0) (closes-up link (session_at tidied key) refl asks_it acts.1)
   acts-on (Some (session_act.CloseClient link)) asks_it asked acts = subst (λ (a : Option Act). Acts Stands due_in sends old new a) (sym acts.0) (closes-door link (session_at tidied key) refl asks_it acts.1)
 
@@ -194,18 +190,18 @@ turn-acts old new asked acts = by old.turn refl acts where
 
 -- The open that is then awaited.
 
-awaits-opened : (key : ℕ) (tidied mid new : Core) (server : ServerAt) (s : Option Session) → session_at tidied key ≡ s → AskedAt tidied mid key s (Some session_act.Open) → tidied.turn ≡ Some key → mid.target ≡ Some server → new ≡ mid
+awaits-opened : (key : ℕ) (tidied mid new : Core) (server : ServerAt) (s : Option Session) → session_at tidied key ≡ s → AskedAt tidied mid key s (Some session_act.Open) → tidied.turn ≡ Some key → mid.setup.target ≡ Some server → new ≡ mid
     → awaited new ≡ Some (record { server = server.server; address = server.address })
 awaits-opened key tidied mid new server None at asked turn target same = (let no : ◌≡◌ {A = Option SessionAct} (Some session_act.Open) None = asked.0 in cc)
 awaits-opened key tidied mid new server (Some session) at asked turn target same =
     let act : act_of session ≡ Some session_act.Open = sym asked.is in
     let there : session_at mid key ≡ Some session = asked.sets.changed ∙ ap (λ a. Some (asked_for a session)) act in
-    ap awaited same ∙ ap (turn_awaits mid) (asked.turn ∙ turn) ∙ ap (session_awaits mid) there ∙ ap (λ a. target_if a mid.target) act ∙ ap target_of target
+    ap awaited same ∙ ap (turn_awaits mid) (asked.turn ∙ turn) ∙ ap (session_awaits mid) there ∙ ap (λ a. target_if a mid.setup.target) act ∙ ap target_of target
 
 pub awaits-asked : (old new : Core) (asked : Act) → TurnActs old.turn old new (Some asked) → IsAwaited (awaited new) asked
 awaits-asked old new (act.Close link) acts = tt
 awaits-asked old new (act.Open server address) acts = by old.turn refl acts where
-  opens : (key : ℕ) (tidied mid : Core) (target : Option ServerAt) → mid.target ≡ target → old.turn ≡ Some key → Tidies old tidied key (session_at old key) → AskedAt tidied mid key (session_at tidied key) (Some session_act.Open) → OpensTo target mid new (Some (act.Open server address))
+  opens : (key : ℕ) (tidied mid : Core) (target : Option ServerAt) → mid.setup.target ≡ target → old.turn ≡ Some key → Tidies old tidied key (session_at old key) → AskedAt tidied mid key (session_at tidied key) (Some session_act.Open) → OpensTo target mid new (Some (act.Open server address))
       → awaited new ≡ Some (record { server = server; address = address })
   opens key tidied mid None none turn tidies asks_it opened = (let no : ◌≡◌ {A = Option Act} (Some (act.Open server address)) None = opened.0 in cc)
   opens key tidied mid (Some at) some turn tidies asks_it opened =
@@ -216,6 +212,6 @@ awaits-asked old new (act.Open server address) acts = by old.turn refl acts wher
   by : (turn : Option ℕ) → old.turn ≡ turn → TurnActs turn old new (Some (act.Open server address)) → awaited new ≡ Some (record { server = server; address = address })
   by None none same = (let no : ◌≡◌ {A = Option Act} (Some (act.Open server address)) None = same.0 in cc)
   by (Some key) some (tidied, mid, None, tidies, asks_it, on) = (let no : ◌≡◌ {A = Option Act} (Some (act.Open server address)) None = on.0 in cc)
-  by (Some key) some (tidied, mid, Some session_act.Open, tidies, asks_it, on) = opens key tidied mid mid.target refl some tidies asks_it on
+  by (Some key) some (tidied, mid, Some session_act.Open, tidies, asks_it, on) = opens key tidied mid mid.setup.target refl some tidies asks_it on
   by (Some key) some (tidied, mid, Some (session_act.CloseServer link), tidies, asks_it, on) = (let no : ◌≡◌ {A = Option Act} (Some (act.Open server address)) (Some (act.Close link)) = on.0 in cc)
   by (Some key) some (tidied, mid, Some (session_act.CloseClient link), tidies, asks_it, on) = (let no : ◌≡◌ {A = Option Act} (Some (act.Open server address)) (Some (act.Close link)) = on.0 in cc)

@@ -6,7 +6,7 @@ use Rattle.client_session.specs.declared.session.Session.{Session}
 use Rattle.client_session.specs.Headline.{client_link, None_yet, IsServed}
 use Rattle.session_core.specs.declared.router.Core.{Core}
 use Rattle.session_core.specs.declared.place.Place.{Place}
-use Rattle.session_core.specs.Cores.{session_at, target_of, is_among, IsEmpty}
+use Rattle.session_core.specs.Cores.{session_at, is_among, IsEmpty}
 use Rattle.session_core.specs.Stands.{AreDistinct, TracksSessions, TracksLinks, Stands}
 use Rattle.session_core.specs.Upholding.{sessions-served}
 
@@ -41,7 +41,7 @@ links-begin core empty = record {
   calm = λ key session at. absurd (no-session core key session empty at);
 }
 
-always-begin : (core : Core) → IsEmpty core → (n : ℕ) → IsServed (target_of core.target) (take n [])
+always-begin : (core : Core) → IsEmpty core → (n : ℕ) → IsServed core.setup (take n [])
 always-begin core empty zero = sessions-served core [] [] (sessions-begin core empty)
 always-begin core empty (suc n) = sessions-served core [] [] (sessions-begin core empty)
 

@@ -1,34 +1,36 @@
 -- What the core carries over bytes and losses of its links.
-use Rattle.std.specs.Prelude.{◌≡◌, ◌⊎◌, ℕ, true, false, is_some, List, [], ◌∷◌, ◌++◌, Option, Some, None, IsSome, refl}
+use Rattle.std.specs.Prelude.{◌≡◌, ◌⊎◌, ℕ, true, false, List, [], ◌∷◌, ◌++◌, Option, Some, None, IsSome, refl}
 use Rattle.std.proofs.Common.{sym, ◌∙◌, ap, subst, inl, inr}
 use Rattle.mx_base.specs.declared.names.LinkId.{LinkId}
-use Rattle.mx_wire.specs.Log.{Log, link_of}
+use Rattle.mx_wire.specs.Log.{Log}
 use Rattle.mx_wire.specs.Tells.{IsOpen, MayFollow}
 use Rattle.mx_wire.specs.declared.entry.Entry.{Entry}
 use Rattle.mx_wire.specs.declared.entry.Entry.TheVariants as entry
 use Rattle.ready_loop.specs.Machine.{CarriesOver}
-use Rattle.client_session.specs.declared.hear.Server.{Server}
+use Rattle.client_session.specs.declared.phase.Server.{Server}
 use Rattle.client_session.specs.declared.phase.LinkState.TheVariants as link_state
-use Rattle.client_session.specs.declared.phase.Upstream.{Upstream}
 use Rattle.client_session.specs.declared.phase.Upstream.TheVariants as upstream
 use Rattle.client_session.specs.declared.session.Session.{Session}
-use Rattle.client_session.specs.Answered.{IsLoss, session-server_says, session-server_lost}
+use Rattle.client_session.specs.Answered.{turn_of}
+use Rattle.client_session.specs.Told.{Stood, Stays, Refuses, IsLoss, session-server_says, session-server_lost}
 use Rattle.client_session.specs.Events.{ClientSays, ServerSays, ServerLost, client_lost, is_begun}
-use Rattle.client_session.specs.Headline.{IsRefusing, Passes as PassesOn, is_failure, IsLawful}
+use Rattle.client_session.specs.Headline.{IsRefusing, Passes as PassesOn, FailsIn, is_failure, IsLawful}
 use Rattle.client_session.specs.Kept.{KeepsEnds, client_says-kept, server_says-kept, server_lost-kept, client_lost-kept}
 use Rattle.client_session.specs.Parted.{session-lost_client}
-use Rattle.client_session.specs.Passing.{IsApart, HearsNothing, session-stays}
+use Rattle.client_session.specs.Passing.{hears-apart, session-stays}
 use Rattle.client_session.specs.Said.{session-said}
+use Rattle.client_session.specs.Sending.{sending}
+use Rattle.client_session.specs.Setups.{Setup}
+use Rattle.client_session.specs.Still.{with_refused, refused-other, replies-refused}
 use Rattle.client_session.specs.Stands.{HasSession, upstream_link, is_closed}
 use Rattle.session_core.specs.declared.router.Core.{Core}
-use Rattle.session_core.specs.declared.router.ServerAt.{ServerAt}
 use Rattle.session_core.specs.declared.place.Place.{Place}
 use Rattle.session_core.specs.declared.place.Place.TheVariants as place
-use Rattle.session_core.specs.Cores.{place_of, session_at, target_of, is_among, KeepsPlaces, Steps, StepsAt}
+use Rattle.session_core.specs.Cores.{place_of, session_at, is_among, KeepsPlaces, Steps, StepsAt}
 use Rattle.session_core.specs.Acting.{asks}
 use Rattle.session_core.specs.Links.{Relinks, none-refused, quiet-session}
 use Rattle.session_core.specs.Opening.{KeepsOpen}
-use Rattle.session_core.specs.Passing.{IsEmpty, passes-empty, hears-empty, same-service}
+use Rattle.session_core.specs.Passing.{IsEmpty, passes-empty, same-service}
 use Rattle.session_core.specs.Resting.{quiet-open, placed-open, upstream-open, quiet-act, rests-due}
 use Rattle.session_core.specs.Sessions.{LeavesOthers, SameOthers, same_others}
 use Rattle.session_core.specs.Stands.{service_of, TracksLinks, Stands, due_in}
@@ -39,34 +41,62 @@ use Rattle.session_core.specs.Upholding.{few-more, few-counted}
 -- A step of a session whose links stay.
 pub record IsStep (old new : Core) (key : ℕ) (session later : Session) : Type 0 where
   pub relinks : Relinks old new key session later
-  pub target : new.target ≡ old.target
+  pub setup : new.setup ≡ old.setup
   pub accepted : new.accepted ≡ old.accepted
 
 pub a-step : (Step : Session → Session → Type 0) (old new : Core) (key : ℕ) (session : Session) → session_at old key ≡ Some session → (steps : Steps Step old new key session) → KeepsPlaces old new → (old.turn ≡ Some key) ⊎ (asks old ≡ false)
-    → steps.later.link ≡ session.link → steps.later.number ≡ session.number → is_closed steps.later.state ≡ is_closed session.state → upstream_link steps.later.upstream ≡ upstream_link session.upstream → IsStep old new key session steps.later
+    → steps.later.link ≡ session.link → steps.later.client.number ≡ session.client.number → is_closed steps.later.state ≡ is_closed session.state → upstream_link steps.later.upstream ≡ upstream_link session.upstream → IsStep old new key session steps.later
 a-step Step old new key session at steps places acted link number closed up = record {
   relinks = record { at = at; sets = steps.sets; link = link; number = number; closed = closed; upstream = up; places = places; refused = steps.refused; turn = steps.marks.turn; acted = acted };
-  target = steps.service.target;
+  setup = steps.service.setup;
   accepted = steps.accepted;
 }
 
 -- what carries over an entry of which one session alone is told
 pub over-entry : (old new : Core) (key : ℕ) (session later : Session) (log : Log) (e : Entry) → (held : Stands old log) → IsStep old new key session later → LeavesOthers old key session log e → KeepsOpen e → is_failure e ≡ false
-    → MayFollow log e → due_in old log e → IsLawful (target_of old.target) log e → HasSession (service_of old held.upholds.refused) later (log ++ e ∷ []) → Stands new (log ++ e ∷ [])
+    → MayFollow log e → due_in old log e → IsLawful old.setup log e → HasSession (service_of old held.upholds.refused) later (log ++ e ∷ []) → Stands new (log ++ e ∷ [])
 over-entry old new key session later log e held step leaves keeps no_failure may is_due law has = steps-over old new key session later held.upholds.refused log e (record {
   held = held;
   relinks = step.relinks;
-  target = step.target;
+  setup = step.setup;
   accepted = step.accepted;
   leaves = leaves;
-  same = subst (λ service. SameOthers (service_of old held.upholds.refused) service session.number.0 log e) (sym (same-service old new held.upholds.refused step.target)) (same_others (service_of old held.upholds.refused) session.number.0 log e);
-  refusing = subst (λ (t : Option ServerAt). IsRefusing (is_some t) held.upholds.refused (log ++ e ∷ [])) (sym step.target) (PassesOn held.upholds.refused log e held.upholds.sessions.refusing no_failure);
-  has = subst (λ service. HasSession service later (log ++ e ∷ [])) (sym (same-service old new held.upholds.refused step.target)) has;
+  same = subst (λ service. SameOthers (service_of old held.upholds.refused) service session.client.number.0 log e) (sym (same-service old new held.upholds.refused step.setup)) (same_others (service_of old held.upholds.refused) session.client.number.0 log e);
+  refusing = subst (λ (t : Setup). IsRefusing t held.upholds.refused (log ++ e ∷ [])) (sym step.setup) (PassesOn held.upholds.refused log e held.upholds.sessions.refusing no_failure);
+  has = subst (λ service. HasSession service later (log ++ e ∷ [])) (sym (same-service old new held.upholds.refused step.setup)) has;
   keeps = keeps;
   few = few-more log e may held.upholds.few;
   law = law;
   rest = rests-due old log e is_due held;
 })
+
+-- the same where the entry refuses the session's command
+pub over-refused : (old new : Core) (key : ℕ) (session later : Session) (log : Log) (e : Entry) → (held : Stands old log) → IsStep old new key session later → LeavesOthers old key session log e → KeepsOpen e → MayFollow log e → due_in old log e → IsLawful old.setup log e
+    → sending session.client.number.0 session.client.arrived log ≡ None → IsRefusing old.setup (held.upholds.refused ++ turn_of session ∷ []) (log ++ e ∷ []) → HasSession (with_refused (service_of old held.upholds.refused) (turn_of session)) later (log ++ e ∷ []) → Stands new (log ++ e ∷ [])
+over-refused old new key session later log e held step leaves keeps may is_due law unsent refusing has = steps-over old new key session later (held.upholds.refused ++ turn_of session ∷ []) log e (record {
+  held = held;
+  relinks = step.relinks;
+  setup = step.setup;
+  accepted = step.accepted;
+  leaves = leaves;
+  same = subst (λ (s : Setup). SameOthers (service_of old held.upholds.refused) (record { setup = s; refused = held.upholds.refused ++ turn_of session ∷ [] }) session.client.number.0 log e) (sym step.setup) (record {
+    same = λ n apart. record { setup = refl; refused = λ i. refused-other n i (service_of old held.upholds.refused) (turn_of session) apart };
+    stay = λ n apart. replies-refused (service_of old held.upholds.refused) (turn_of session) n log e unsent;
+  });
+  refusing = subst (λ (s : Setup). IsRefusing s (held.upholds.refused ++ turn_of session ∷ []) (log ++ e ∷ [])) (sym step.setup) refusing;
+  has = subst (λ (s : Setup). HasSession (record { setup = s; refused = held.upholds.refused ++ turn_of session ∷ [] }) later (log ++ e ∷ [])) (sym step.setup) has;
+  keeps = keeps;
+  few = few-more log e may held.upholds.few;
+  law = law;
+  rest = rests-due old log e is_due held;
+})
+
+-- the same of an entry that the session stands for, or that ends the login for which its command waits
+over-stood : (old new : Core) (key : ℕ) (session later : Session) (log : Log) (e : Entry) → (held : Stands old log) → IsStep old new key session later → LeavesOthers old key session log e → KeepsOpen e → is_failure e ≡ false
+    → MayFollow log e → due_in old log e → IsLawful old.setup log e → Stood (service_of old held.upholds.refused) session later log e → Stands new (log ++ e ∷ [])
+over-stood old new key session later log e held step leaves keeps no_failure may is_due law (Stays has) = over-entry old new key session later log e held step leaves keeps no_failure may is_due law has
+over-stood old new key session later log e held step leaves keeps no_failure may is_due law (Refuses waits has) =
+    over-refused old new key session later log e held step leaves keeps may is_due law waits.unsent (FailsIn held.upholds.refused (turn_of session) log e held.upholds.sessions.refusing no_failure waits) has
 
 -- where the core asks for nothing, an open link is placed
 pub open-placed : (core : Core) (log : Log) (link : LinkId) → TracksLinks core log → asks core ≡ false → IsOpen link log → place_of core link ≡ None → ⊥
@@ -115,29 +145,27 @@ heard core log key link links none is =
 got-keeps : (link : LinkId) (bytes : List ℕ) → KeepsOpen (entry.Got link bytes)
 got-keeps link bytes = record { keeps = refl; opens_none = refl }
 
-client-got : (old new : Core) (key : ℕ) (session : Session) (log : Log) (bytes : List ℕ) → asks old ≡ false → IsSpoken old key session session.link → StepsAt (λ s later. ClientSays (is_some old.target) s.phase s bytes later) old new key (session_at old key)
+client-got : (old new : Core) (key : ℕ) (session : Session) (log : Log) (bytes : List ℕ) → asks old ≡ false → IsSpoken old key session session.link → StepsAt (λ s later. ClientSays old.setup s.phase s bytes later) old new key (session_at old key)
     → MayFollow log (entry.Got session.link bytes) → due_in old log (entry.Got session.link bytes) → Stands old log → Stands new (log ++ entry.Got session.link bytes ∷ [])
 client-got old new key session log bytes none is steps may is_due held =
-    let it = steps-at (λ s later. ClientSays (is_some old.target) s.phase s bytes later) old new key session is.at steps in
+    let it = steps-at (λ s later. ClientSays old.setup s.phase s bytes later) old new key session is.at steps in
     let e : Entry = entry.Got session.link bytes in
     over-entry old new key session it.0.later log e held
-    (step-of (λ s later. ClientSays (is_some old.target) s.phase s bytes later) old new key session is.at it.0 it.1 none (client_says-kept (is_some old.target) session.phase session bytes it.0.later it.0.step))
+    (step-of (λ s later. ClientSays old.setup s.phase s bytes later) old new key session is.at it.0 it.1 none (client_says-kept old.setup session.phase session bytes it.0.later (ap is_closed is.opened) it.0.step))
     (leaves-client old held.upholds.refused log held.upholds.sessions held.links key session is.at e refl refl (λ n i apart. refl))
     (got-keeps session.link bytes) refl may is_due tt
     (session-said (service_of old held.upholds.refused) session it.0.later log bytes is.opened
-    (hears-empty_of session.upstream e refl (upstream-apart old held.upholds.refused log held.upholds.sessions held.links key session is.at key session is.at))
-    (few-counted log e session.link may (few-more log e may held.upholds.few)) (held.upholds.sessions.has key session is.at) it.0.step) where
-      hears-empty_of : (up : Upstream) (x : Entry) → link_of x ≡ Some session.link → IsApart (upstream_link up) session.link → HearsNothing up x
-      hears-empty_of up x of apart = hears-empty up session.link x of apart
+    (hears-apart session.upstream session.link log e refl (upstream-apart old held.upholds.refused log held.upholds.sessions held.links key session is.at key session is.at))
+    (few-counted log e session.link may (few-more log e may held.upholds.few)) (held.upholds.sessions.has key session is.at) it.0.step)
 
-server-got : (old new : Core) (key : ℕ) (session : Session) (log : Log) (link : LinkId) (bytes : List ℕ) → asks old ≡ false → (is : IsHeard old key session link) → StepsAt (λ s later. ServerSays (is_some old.target) (is_begun s.phase) s bytes later) old new key (session_at old key)
+server-got : (old new : Core) (key : ℕ) (session : Session) (log : Log) (link : LinkId) (bytes : List ℕ) → asks old ≡ false → (is : IsHeard old key session link) → StepsAt (λ s later. ServerSays old.setup s bytes later) old new key (session_at old key)
     → MayFollow log (entry.Got is.server.link bytes) → due_in old log (entry.Got is.server.link bytes) → Stands old log → Stands new (log ++ entry.Got is.server.link bytes ∷ [])
 server-got old new key session log link bytes none is steps may is_due held =
-    let it = steps-at (λ s later. ServerSays (is_some old.target) (is_begun s.phase) s bytes later) old new key session is.at steps in
+    let it = steps-at (λ s later. ServerSays old.setup s bytes later) old new key session is.at steps in
     let e : Entry = entry.Got is.server.link bytes in
     let up : upstream_link session.upstream ≡ Some is.server.link = ap upstream_link is.on in
-    over-entry old new key session it.0.later log e held
-    (step-of (λ s later. ServerSays (is_some old.target) (is_begun s.phase) s bytes later) old new key session is.at it.0 it.1 none (server_says-kept (is_some old.target) (is_begun session.phase) session bytes it.0.later it.0.step))
+    over-stood old new key session it.0.later log e held
+    (step-of (λ s later. ServerSays old.setup s bytes later) old new key session is.at it.0 it.1 none (server_says-kept old.setup session bytes it.0.later it.0.step))
     (leaves-server old held.upholds.refused log held.upholds.sessions held.links key session is.at is.server.link up e refl refl (λ n i apart. refl))
     (got-keeps is.server.link bytes) refl may is_due tt
     (session-server_says (service_of old held.upholds.refused) session it.0.later is.server log bytes is.on
@@ -165,15 +193,15 @@ pub record LosesLink (link : LinkId) (e : Entry) : Type 0 where
   pub keeps : KeepsOpen e
   pub opened : (log : Log) → MayFollow log e → IsOpen link log
   pub due_all : (core : Core) (log : Log) → due_in core log e
-  pub law : (core : Core) (log : Log) → IsLawful (target_of core.target) log e
+  pub law : (core : Core) (log : Log) → IsLawful core.setup log e
 
-client-lost : (old new : Core) (key : ℕ) (session : Session) (log : Log) (e : Entry) → asks old ≡ false → IsSpoken old key session session.link → StepsAt (λ s later. later ≡ client_lost (is_begun s.phase) s) old new key (session_at old key) → LosesLink session.link e
+client-lost : (old new : Core) (key : ℕ) (session : Session) (log : Log) (e : Entry) → asks old ≡ false → IsSpoken old key session session.link → StepsAt (λ s later. later ≡ client_lost (is_begun s) s) old new key (session_at old key) → LosesLink session.link e
     → MayFollow log e → Stands old log → Stands new (log ++ e ∷ [])
 client-lost old new key session log e none is steps loses may held =
-    let it = steps-at (λ s later. later ≡ client_lost (is_begun s.phase) s) old new key session is.at steps in
-    let kept : KeepsEnds session it.0.later = subst (λ (s : Session). KeepsEnds session s) (sym it.0.step) (client_lost-kept (is_begun session.phase) session is.opened) in
+    let it = steps-at (λ s later. later ≡ client_lost (is_begun s) s) old new key session is.at steps in
+    let kept : KeepsEnds session it.0.later = subst (λ (s : Session). KeepsEnds session s) (sym it.0.step) (client_lost-kept (is_begun session) session is.opened) in
     over-entry old new key session it.0.later log e held
-    (step-of (λ s later. later ≡ client_lost (is_begun s.phase) s) old new key session is.at it.0 it.1 none kept)
+    (step-of (λ s later. later ≡ client_lost (is_begun s) s) old new key session is.at it.0 it.1 none kept)
     (leaves-client old held.upholds.refused log held.upholds.sessions held.links key session is.at e loses.loss.of loses.empty.no_client (λ n i apart. loses.loss.nothing n i))
     loses.keeps loses.empty.no_failure may (loses.due_all old log) (loses.law old log)
     (subst (λ (s : Session). HasSession (service_of old held.upholds.refused) s (log ++ e ∷ [])) (sym it.0.step)
@@ -182,13 +210,13 @@ client-lost old new key session log e none is steps loses may held =
     (passes-empty session log e session.link loses.empty (upstream-apart old held.upholds.refused log held.upholds.sessions held.links key session is.at key session is.at))
     (held.upholds.sessions.has key session is.at))))
 
-server-lost : (old new : Core) (key : ℕ) (session : Session) (log : Log) (link : LinkId) (e : Entry) → asks old ≡ false → (is : IsHeard old key session link) → StepsAt (λ s later. ServerLost (is_some old.target) (is_begun s.phase) s later) old new key (session_at old key)
+server-lost : (old new : Core) (key : ℕ) (session : Session) (log : Log) (link : LinkId) (e : Entry) → asks old ≡ false → (is : IsHeard old key session link) → StepsAt (λ s later. ServerLost old.setup s later) old new key (session_at old key)
     → LosesLink is.server.link e → MayFollow log e → Stands old log → Stands new (log ++ e ∷ [])
 server-lost old new key session log link e none is steps loses may held =
-    let it = steps-at (λ s later. ServerLost (is_some old.target) (is_begun s.phase) s later) old new key session is.at steps in
+    let it = steps-at (λ s later. ServerLost old.setup s later) old new key session is.at steps in
     let up : upstream_link session.upstream ≡ Some is.server.link = ap upstream_link is.on in
-    over-entry old new key session it.0.later log e held
-    (step-of (λ s later. ServerLost (is_some old.target) (is_begun s.phase) s later) old new key session is.at it.0 it.1 none (server_lost-kept (is_some old.target) (is_begun session.phase) session it.0.later it.0.step))
+    over-stood old new key session it.0.later log e held
+    (step-of (λ s later. ServerLost old.setup s later) old new key session is.at it.0 it.1 none (server_lost-kept old.setup session it.0.later it.0.step))
     (leaves-server old held.upholds.refused log held.upholds.sessions held.links key session is.at is.server.link up e loses.loss.of loses.empty.no_client (λ n i apart. loses.loss.nothing n i))
     loses.keeps loses.empty.no_failure may (loses.due_all old log) (loses.law old log)
     (session-server_lost (service_of old held.upholds.refused) session it.0.later is.server log e is.on
@@ -208,7 +236,7 @@ lost-carries old new link e none loses_link loses = record { carried = λ log ma
 
 pub ended-loses : (link : LinkId) → LosesLink link (entry.Ended link)
 ended-loses link = record {
-  loss = record { of = refl; no_read = refl; no_write = refl; nothing = λ n i. refl; lost = λ bytes. refl };
+  loss = record { of = refl; no_read = refl; no_write = refl; nothing = λ n i. refl; lost = λ bytes. refl; ends = λ user log. refl };
   empty = record { of = refl; no_client = refl; no_failure = refl; no_read = refl; no_write = refl; nothing = λ n i. refl };
   keeps = record { keeps = refl; opens_none = refl };
   opened = λ log may. may.fits;
@@ -218,7 +246,7 @@ ended-loses link = record {
 
 pub read_failed-loses : (link : LinkId) → LosesLink link (entry.ReadFailed link)
 read_failed-loses link = record {
-  loss = record { of = refl; no_read = refl; no_write = refl; nothing = λ n i. refl; lost = λ bytes. refl };
+  loss = record { of = refl; no_read = refl; no_write = refl; nothing = λ n i. refl; lost = λ bytes. refl; ends = λ user log. refl };
   empty = record { of = refl; no_client = refl; no_failure = refl; no_read = refl; no_write = refl; nothing = λ n i. refl };
   keeps = record { keeps = refl; opens_none = refl };
   opened = λ log may. may.fits;
@@ -228,7 +256,7 @@ read_failed-loses link = record {
 
 pub write_failed-loses : (link : LinkId) → LosesLink link (entry.WriteFailed link)
 write_failed-loses link = record {
-  loss = record { of = refl; no_read = refl; no_write = refl; nothing = λ n i. refl; lost = λ bytes. refl };
+  loss = record { of = refl; no_read = refl; no_write = refl; nothing = λ n i. refl; lost = λ bytes. refl; ends = λ user log. refl };
   empty = record { of = refl; no_client = refl; no_failure = refl; no_read = refl; no_write = refl; nothing = λ n i. refl };
   keeps = record { keeps = refl; opens_none = refl };
   opened = λ log may. may.fits;

@@ -1,5 +1,5 @@
 -- Each close that the core asks for.
-use Rattle.std.specs.Prelude.{◌≡◌, ◌⊎◌, ℕ, Bool, true, false, nat_eq, nat_lt, ◌||◌, is_some, List, [], ◌∷◌, ◌++◌, cond, length, take, Option, Some, None, IsSome, refl}
+use Rattle.std.specs.Prelude.{◌≡◌, ◌⊎◌, ℕ, Bool, true, false, nat_eq, nat_lt, ◌||◌, List, [], ◌∷◌, ◌++◌, cond, length, take, Option, Some, None, IsSome, refl}
 use Rattle.std.proofs.Common.{sym, ◌∙◌, ap, subst, inl, inr}
 use Rattle.std.proofs.lemmas.Bool.{eqb-true}
 use Rattle.mx_base.specs.declared.names.LinkId.{LinkId}
@@ -15,14 +15,15 @@ use Rattle.ready_loop.specs.Sent.{Sent}
 use Rattle.client_session.specs.declared.phase.LinkState.TheVariants as link_state
 use Rattle.client_session.specs.declared.phase.Upstream.TheVariants as upstream
 use Rattle.client_session.specs.declared.session.Session.{Session}
+use Rattle.client_session.specs.Dues.{session-link}
 use Rattle.client_session.specs.Growth.{client_link-same}
 use Rattle.client_session.specs.Headline.{client_link, IsRefusing, Passes as PassesOn}
 use Rattle.client_session.specs.Parted.{closed_of, session-absent, session-closed, session-farewell}
-use Rattle.client_session.specs.Passing.{IsApart}
+use Rattle.client_session.specs.Passing.{IsApart, hears-apart}
 use Rattle.client_session.specs.Sends.{reply_left}
 use Rattle.client_session.specs.Stands.{HasSession, upstream_link, is_closed}
 use Rattle.session_core.specs.declared.router.Core.{Core}
-use Rattle.session_core.specs.declared.router.ServerAt.{ServerAt}
+use Rattle.client_session.specs.Setups.{Setup}
 use Rattle.session_core.specs.declared.place.Place.{Place}
 use Rattle.session_core.specs.declared.place.Place.TheVariants as place
 use Rattle.session_core.specs.Cores.{place_of, session_at, is_among, SetsPlace, SetsSession, KeepsPlaces, KeepsSessions}
@@ -30,7 +31,7 @@ use Rattle.session_core.specs.Acting.{session_asks, client_sends, sends_at, send
 use Rattle.session_core.specs.Links.{or-false, asks-same}
 use Rattle.session_core.specs.Opening.{closed-shut, closed-other, same_link}
 use Rattle.session_core.specs.Parting.{NoUpstream, upholds-closed, closes-silently, upholds-silent, links-behind, HasNumbers, numbers-of, numbers-more}
-use Rattle.session_core.specs.Passing.{same-service, sessions-set, sessions-kept, hears-empty}
+use Rattle.session_core.specs.Passing.{same-service, sessions-set, sessions-kept}
 use Rattle.session_core.specs.Quiet.{upholds-marks}
 use Rattle.session_core.specs.Refusing.{among-end, or-cases, or-first}
 use Rattle.session_core.specs.Sessions.{apart-from, differ-by, SameOthers, same_others, sessions-touched}
@@ -58,7 +59,7 @@ pub record DropsRefused (old new : Core) (link : LinkId) : Type 0 where
   pub sessions : KeepsSessions old new
   pub places : KeepsPlaces old new
   pub turn : new.turn ≡ old.turn
-  pub target : new.target ≡ old.target
+  pub setup : new.setup ≡ old.setup
   pub accepted : new.accepted ≡ old.accepted
 
 distinct-front : (links : List LinkId) (link : LinkId) → AreDistinct (links ++ link ∷ []) → AreDistinct links × (is_among link links ≡ false)
@@ -138,7 +139,7 @@ module _ (old new : Core) (link : LinkId) (drops : DropsRefused old new link) wh
   pub closes-refused : Closes Stands due_in old new (sends new link) link
   closes-refused = closes-silently old new link drop-links
       (λ log held. (held.links.refused link is-refused).opened)
-      (λ log held. (upholds-as old new log drops.target held.upholds (sessions-kept old new held.upholds.refused log drops.sessions drops.target drops.accepted held.upholds.sessions), drop-upstream log held.links))
+      (λ log held. (upholds-as old new log drops.setup held.upholds (sessions-kept old new held.upholds.refused log drops.sessions drops.setup drops.accepted held.upholds.sessions), drop-upstream log held.links))
       (λ log held. ap (λ (p : Option Place). sends_at new p link) (drops.places.same link ∙ (held.links.refused link is-refused).unplaced))
 
 -- The link to a server.
@@ -151,7 +152,7 @@ pub record ClosesServer (old new : Core) (key : ℕ) (session : Session) (link :
   pub refused : new.refused.items ≡ old.refused.items
   pub turn : new.turn ≡ Some key
   pub was_turn : old.turn ≡ Some key
-  pub target : new.target ≡ old.target
+  pub setup : new.setup ≡ old.setup
   pub accepted : new.accepted ≡ old.accepted
 
 module _ (old new : Core) (key : ℕ) (session : Session) (link : LinkId) (closes : ClosesServer old new key session link) where
@@ -181,7 +182,7 @@ module _ (old new : Core) (key : ℕ) (session : Session) (link : LinkId) (close
 
   -- and no client has it
   client-apart : (log : Log) → TracksLinks old log → HasNumbers old log → (k : ℕ) (s : Session) → session_at old k ≡ Some s → nat_eq s.link.0 link.0 ≡ false
-  client-apart log links numbers k s is = nat_eq-sym link.0 s.link.0 (links.servers s.number.0 key s.link link session (numbers.each k s is) closes.at has-up)
+  client-apart log links numbers k s is = nat_eq-sym link.0 s.link.0 (links.servers s.client.number.0 key s.link link session (numbers.each k s is) closes.at has-up)
 
   kept-place : (other : LinkId) → nat_eq other.0 link.0 ≡ false → place_of new other ≡ place_of old other
   kept-place other apart = closes.placed.others other (nat_eq-sym other.0 link.0 apart)
@@ -264,9 +265,9 @@ module _ (old new : Core) (key : ℕ) (session : Session) (link : LinkId) (close
     placed_in other where_to true same is = (let no : ◌≡◌ {A = Option Place} None (Some where_to) = sym closes.placed.same ∙ ap (place_of new) (sym (same_link other link same)) ∙ is in cc)
     placed_in other where_to false apart is = placed-on other where_to apart (links.placed other where_to (sym (kept-place other apart) ∙ is))
 
-    others_in : (n k : ℕ) (other : LinkId) (s : Session) → client_link n log ≡ Some other → IsLeft k s → nat_eq n s.number.0 ≡ false → nat_eq s.link.0 other.0 ≡ false
+    others_in : (n k : ℕ) (other : LinkId) (s : Session) → client_link n log ≡ Some other → IsLeft k s → nat_eq n s.client.number.0 ≡ false → nat_eq s.link.0 other.0 ≡ false
     others_in n k other s is (Other there differs) apart = links.others n k other s is there apart
-    others_in n k other s is (Here at_key same) apart = ap (λ (x : Session). nat_eq x.link.0 other.0) same ∙ links.others n key other session is closes.at (ap (λ (x : Session). nat_eq n x.number.0) (sym same) ∙ apart)
+    others_in n k other s is (Here at_key same) apart = ap (λ (x : Session). nat_eq x.link.0 other.0) same ∙ links.others n key other session is closes.at (ap (λ (x : Session). nat_eq n x.client.number.0) (sym same) ∙ apart)
 
     servers_in : (n k : ℕ) (other up : LinkId) (s : Session) → client_link n log ≡ Some other → IsLeft k s → upstream_link s.upstream ≡ Some up → nat_eq up.0 other.0 ≡ false
     servers_in n k other up s is (Other there differs) has_it = links.servers n k other up s is there has_it
@@ -280,8 +281,8 @@ module _ (old new : Core) (key : ℕ) (session : Session) (link : LinkId) (close
     calm_in k s (Here at_key same) = inl (closes.turn ∙ ap (λ (m : ℕ). Some m) (sym at_key))
 
   server-upholds : (log : Log) → Stands old log → Upholds new log
-  server-upholds log held = upholds-as old new log closes.target held.upholds
-      (sessions-set old new key session (record session { upstream = upstream.Absent }) held.upholds.refused log (record { at = closes.at; sets = closes.sets; number = refl; target = closes.target; accepted = closes.accepted })
+  server-upholds log held = upholds-as old new log closes.setup held.upholds
+      (sessions-set old new key session (record session { upstream = upstream.Absent }) held.upholds.refused log (record { at = closes.at; sets = closes.sets; number = refl; setup = closes.setup; accepted = closes.accepted })
       (session-absent (service_of old held.upholds.refused) session link log closes.is (held.upholds.sessions.has key session closes.at)) held.upholds.sessions)
 
   server-silent : sends new link ≡ None
@@ -303,7 +304,7 @@ pub record ClosesClient (old new : Core) (key : ℕ) (session : Session) : Type 
   pub refused : new.refused.items ≡ old.refused.items
   pub turn : new.turn ≡ Some key
   pub was_turn : old.turn ≡ Some key
-  pub target : new.target ≡ old.target
+  pub setup : new.setup ≡ old.setup
   pub accepted : new.accepted ≡ old.accepted
 
 module _ (old new : Core) (key : ℕ) (session : Session) (closes : ClosesClient old new key session) where
@@ -323,12 +324,12 @@ module _ (old new : Core) (key : ℕ) (session : Session) (closes : ClosesClient
   is-connected log links = links.client key session closes.at (ap is_closed closes.is)
 
   -- no other session has it
-  other-apart : (log : Log) → TracksLinks old log → HasNumbers old log → (k : ℕ) (s : Session) → session_at old k ≡ Some s → (k ≡ key → ⊥) → (s.number.0 ≡ session.number.0 → k ≡ key) → nat_eq s.link.0 session.link.0 ≡ false
+  other-apart : (log : Log) → TracksLinks old log → HasNumbers old log → (k : ℕ) (s : Session) → session_at old k ≡ Some s → (k ≡ key → ⊥) → (s.client.number.0 ≡ session.client.number.0 → k ≡ key) → nat_eq s.link.0 session.link.0 ≡ false
   other-apart log links numbers k s is differs same_key =
-      nat_eq-sym session.link.0 s.link.0 (links.others s.number.0 key s.link session (numbers.each k s is) closes.at (apart-from s.number.0 session.number.0 (λ same. differs (same_key same))))
+      nat_eq-sym session.link.0 s.link.0 (links.others s.client.number.0 key s.link session (numbers.each k s is) closes.at (apart-from s.client.number.0 session.client.number.0 (λ same. differs (same_key same))))
 
   up-other : (log : Log) → TracksLinks old log → HasNumbers old log → (k : ℕ) (s : Session) (up : LinkId) → session_at old k ≡ Some s → upstream_link s.upstream ≡ Some up → nat_eq up.0 session.link.0 ≡ false
-  up-other log links numbers k s up is at_up = links.servers session.number.0 k session.link up s (numbers.each key session closes.at) is at_up
+  up-other log links numbers k s up is at_up = links.servers session.client.number.0 k session.link up s (numbers.each key session closes.at) is at_up
 
   was-up : (k : ℕ) (s : Session) (up : LinkId) → IsStill k s → upstream_link s.upstream ≡ Some up → (t : Session) × (session_at old k ≡ Some t) × (upstream_link t.upstream ≡ Some up)
   was-up k s up (Other is differs) at_up = (s, is, at_up)
@@ -341,7 +342,7 @@ module _ (old new : Core) (key : ℕ) (session : Session) (closes : ClosesClient
     by (Some up) is = (let was = was-up k s up (still k s at) is in up-other log links numbers k was.0 up was.1 was.2)
 
   SameKeys : Type 0
-  SameKeys = (k : ℕ) (s : Session) → session_at old k ≡ Some s → s.number.0 ≡ session.number.0 → k ≡ key
+  SameKeys = (k : ℕ) (s : Session) → session_at old k ≡ Some s → s.client.number.0 ≡ session.client.number.0 → k ≡ key
 
   client-links : SameKeys → (log : Log) → HasNumbers old log → TracksLinks old log → TracksLinks new (log ++ entry.Closed session.link ∷ [])
   unfolding SameKeys
@@ -396,9 +397,9 @@ module _ (old new : Core) (key : ℕ) (session : Session) (closes : ClosesClient
       | inr differs ↦ (s, closes.sets.others k (differ-by k key differs) ∙ is, up)
     ]
 
-    others_in : (n k : ℕ) (other : LinkId) (s : Session) → client_link n log ≡ Some other → IsStill k s → nat_eq n s.number.0 ≡ false → nat_eq s.link.0 other.0 ≡ false
+    others_in : (n k : ℕ) (other : LinkId) (s : Session) → client_link n log ≡ Some other → IsStill k s → nat_eq n s.client.number.0 ≡ false → nat_eq s.link.0 other.0 ≡ false
     others_in n k other s is (Other there differs) apart = links.others n k other s is there apart
-    others_in n k other s is (Here at_key same) apart = ap (λ (x : Session). nat_eq x.link.0 other.0) same ∙ links.others n key other session is closes.at (ap (λ (x : Session). nat_eq n x.number.0) (sym same) ∙ apart)
+    others_in n k other s is (Here at_key same) apart = ap (λ (x : Session). nat_eq x.link.0 other.0) same ∙ links.others n key other session is closes.at (ap (λ (x : Session). nat_eq n x.client.number.0) (sym same) ∙ apart)
 
     calm_in : (k : ℕ) (s : Session) → IsStill k s → (new.turn ≡ Some k) ⊎ (session_asks new (Some s) ≡ false)
     calm_in k s (Other is differs) = elim (links.calm k s is) [
@@ -413,29 +414,29 @@ module _ (old new : Core) (key : ℕ) (session : Session) (closes : ClosesClient
 
   -- without a farewell
   client-upholds : (log : Log) → Upholds old log → Upholds new log
-  client-upholds log held = upholds-as old new log closes.target held
-      (sessions-set old new key session (closed_of session) held.refused log (record { at = closes.at; sets = closes.sets; number = refl; target = closes.target; accepted = closes.accepted })
+  client-upholds log held = upholds-as old new log closes.setup held
+      (sessions-set old new key session (closed_of session) held.refused log (record { at = closes.at; sets = closes.sets; number = refl; setup = closes.setup; accepted = closes.accepted })
       (session-closed (service_of old held.refused) session log closes.is (held.sessions.has key session closes.at)) held.sessions)
 
   -- with bytes for it
-  client-farewell : (log : Log) (n : ℕ) → MayFollow log (entry.Wrote session.link Reply (take n session.outgoing)) → Stands old log → Upholds new (log ++ entry.Wrote session.link Reply (take n session.outgoing) ∷ [])
+  client-farewell : (log : Log) (n : ℕ) → MayFollow log (entry.Wrote session.link Reply (take n session.client.outgoing)) → Stands old log → Upholds new (log ++ entry.Wrote session.link Reply (take n session.client.outgoing) ∷ [])
   client-farewell log n may held =
-      let e : Entry = entry.Wrote session.link Reply (take n session.outgoing) in
+      let e : Entry = entry.Wrote session.link Reply (take n session.client.outgoing) in
       let has = held.upholds.sessions.has key session closes.at in
-      upholds-more old new held.upholds.refused log e closes.target (few-more log e may held.upholds.few) held.upholds (session.number.0, has.number) tt
-      (sessions-touched old new key session (closed_of session) (record { at = closes.at; sets = closes.sets; number = refl; target = closes.target; accepted = closes.accepted })
+      upholds-more old new held.upholds.refused log e closes.setup (few-more log e may held.upholds.few) held.upholds (session.client.number.0, session-link (service_of old held.upholds.refused) session log has.client) tt
+      (sessions-touched old new key session (closed_of session) (record { at = closes.at; sets = closes.sets; number = refl; setup = closes.setup; accepted = closes.accepted })
       held.upholds.refused held.upholds.refused log e
       (leaves-client old held.upholds.refused log held.upholds.sessions held.links key session closes.at e refl refl (λ m i apart. refl))
-      (subst (λ service. SameOthers (service_of old held.upholds.refused) service session.number.0 log e) (sym (same-service old new held.upholds.refused closes.target)) (same_others (service_of old held.upholds.refused) session.number.0 log e))
-      (subst (λ (t : Option ServerAt). IsRefusing (is_some t) held.upholds.refused (log ++ e ∷ [])) (sym closes.target) (PassesOn held.upholds.refused log e held.upholds.sessions.refusing refl))
-      (subst (λ service. HasSession service (closed_of session) (log ++ e ∷ [])) (sym (same-service old new held.upholds.refused closes.target))
-      (session-farewell (service_of old held.upholds.refused) session n log closes.is (hears-empty session.upstream session.link e refl (upstream-apart old held.upholds.refused log held.upholds.sessions held.links key session closes.at key session closes.at)) has))
+      (subst (λ service. SameOthers (service_of old held.upholds.refused) service session.client.number.0 log e) (sym (same-service old new held.upholds.refused closes.setup)) (same_others (service_of old held.upholds.refused) session.client.number.0 log e))
+      (subst (λ (t : Setup). IsRefusing t held.upholds.refused (log ++ e ∷ [])) (sym closes.setup) (PassesOn held.upholds.refused log e held.upholds.sessions.refusing refl))
+      (subst (λ service. HasSession service (closed_of session) (log ++ e ∷ [])) (sym (same-service old new held.upholds.refused closes.setup))
+      (session-farewell (service_of old held.upholds.refused) session n log closes.is (hears-apart session.upstream session.link log e refl (upstream-apart old held.upholds.refused log held.upholds.sessions held.links key session closes.at key session closes.at)) has))
       held.upholds.sessions)
 
-  client-sends : (log : Log) → TracksLinks old log → sends new session.link ≡ reply_left session.outgoing
+  client-sends : (log : Log) → TracksLinks old log → sends new session.link ≡ reply_left session.client.outgoing
   client-sends log links =
       ap (λ (p : Option Place). sends_at new p session.link) (closes.places.same session.link ∙ (is-connected log links).placed) ∙ ap (λ (s : Option Session). client_sends s session.link) closes.sets.changed
-      ∙ ap (λ b. cond b (reply_left session.outgoing) None) (same_number session.link.0)
+      ∙ ap (λ b. cond b (reply_left session.client.outgoing) None) (same_number session.link.0)
 
   lent-part : (bytes : List ℕ) (sent : Sent) → reply_left bytes ≡ Some sent → (sent.tag ≡ Reply) × (sent.bytes ≡ bytes)
   lent-part bytes sent is = by (nat_lt 0 (length bytes)) is where
@@ -446,8 +447,8 @@ module _ (old new : Core) (key : ℕ) (session : Session) (closes : ClosesClient
   farewell-upholds : (log : Log) (e : Entry) → IsFarewell (sends new session.link) session.link e → MayFollow log e → Stands old log → Upholds new (log ++ e ∷ [])
   farewell-upholds log (entry.Wrote to tag bytes) farewell may held =
       let part = farewell.1 in
-      let said = lent-part session.outgoing part.sent (sym (client-sends log held.links) ∙ part.is) in
-      let is : entry.Wrote to tag bytes ≡ entry.Wrote session.link Reply (take part.front.0 session.outgoing) =
+      let said = lent-part session.client.outgoing part.sent (sym (client-sends log held.links) ∙ part.is) in
+      let is : entry.Wrote to tag bytes ≡ entry.Wrote session.link Reply (take part.front.0 session.client.outgoing) =
       ap (λ (l : LinkId). entry.Wrote l tag bytes) farewell.0 ∙ ap (λ (t : Tag). entry.Wrote session.link t bytes) (part.same_tag ∙ said.0) ∙ ap (λ xs. entry.Wrote session.link Reply xs) (part.front.1 ∙ ap (take part.front.0) said.1) in
       subst (λ (x : Entry). Upholds new (log ++ x ∷ [])) (sym is) (client-farewell log part.front.0 (subst (λ (x : Entry). MayFollow log x) is may) held)
   farewell-upholds log (entry.WriteNothing to) farewell may held =

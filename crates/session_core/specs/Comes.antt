@@ -1,15 +1,16 @@
 -- What links that come change of the core.
-use Rattle.std.specs.Prelude.{◌≡◌, ℕ, Bool, true, false, nat_lt, ◌&&◌, [], ◌∷◌, ◌++◌, Option, Some, None, is_some}
+use Rattle.std.specs.Prelude.{◌≡◌, ℕ, ◌<◌, Bool, true, false, nat_lt, ◌&&◌, List, [], ◌∷◌, ◌++◌, Option, Some, None}
 use Rattle.mx_base.specs.declared.names.LinkId.{LinkId}
 use Rattle.mx_base.specs.declared.names.Port.{Port}
 use Rattle.mx_base.specs.declared.names.Port.TheVariants.{Traffic, Admin}
-use Rattle.client_session.specs.declared.phase.Phase.TheVariants.{Idle}
+use Rattle.packet_frame.specs.Packets.{longest}
+use Rattle.client_side.specs.Client.{new_client, counted}
+use Rattle.client_session.specs.declared.phase.Phase.TheVariants.{LoggingIn}
 use Rattle.client_session.specs.declared.phase.LinkState.TheVariants as link_state
 use Rattle.client_session.specs.declared.phase.Upstream.TheVariants as upstream
 use Rattle.client_session.specs.declared.session.Session.{Session}
-use Rattle.client_session.specs.Count.{counted}
 use Rattle.client_session.specs.Events.{opened_on, OpenFails}
-use Rattle.client_session.specs.Steps.{reading}
+use Rattle.client_session.specs.Setups.{Setup}
 use Rattle.session_core.specs.declared.router.Core.{Core}
 use Rattle.session_core.specs.declared.place.Place.TheVariants as place
 use Rattle.session_core.specs.Cores.{session_at, SetsPlace, SetsSession, KeepsSessions, KeepsPlaces, SameService, KeepsAll, Steps, StepsAt}
@@ -20,16 +21,18 @@ is_traffic Admin = false
 
 -- a client is served where it came to the port of clients, and fewer than the most are connected
 abbrev pub is_admitted : Core → Port → Bool
-is_admitted core port = is_traffic port && nat_lt core.clients core.max_clients
+is_admitted core port = is_traffic port && nat_lt core.clients core.setup.max_clients
 
-abbrev pub first_session : LinkId → ℕ → Session
-first_session link number = record { link = link; number = record { 0 = number }; framer = reading []; arrived = 0; outgoing = []; phase = Idle; state = link_state.Open; upstream = upstream.Absent }
+abbrev pub first_session : LinkId → ℕ → (salt : List ℕ) → Setup → Session
+first_session link number salt setup =
+    record { link = link; client = new_client (record { 0 = number }) salt setup.limit setup.version; phase = LoggingIn; state = link_state.Open; account = None; upstream = upstream.Absent }
 
 -- a client is served
-pub record Admits (old : Core) (link : LinkId) (new : Core) : Type 0 where
+pub record Admits (old : Core) (link : LinkId) (salt : List ℕ) (new : Core) : Type 0 where
   pub key : ℕ
+  pub short : old.setup.limit < longest
   pub vacant : session_at old key ≡ None
-  pub sets : SetsSession old new key (Some (first_session link (counted old.accepted)))
+  pub sets : SetsSession old new key (Some (first_session link (counted old.accepted) salt old.setup))
   pub placed : SetsPlace old new link (Some (place.Client key))
   pub accepted : new.accepted ≡ counted old.accepted
   pub service : SameService old new
@@ -47,9 +50,9 @@ pub record Refuses (old : Core) (link : LinkId) (new : Core) : Type 0 where
   pub turn : new.turn ≡ old.turn
   pub changed : new.changed.items ≡ old.changed.items
 
-abbrev pub Comes : Bool → Core → LinkId → Core → Type 0
-Comes true old link new = Admits old link new
-Comes false old link new = Refuses old link new
+abbrev pub Comes : Bool → Core → LinkId → (salt : List ℕ) → Core → Type 0
+Comes true old link salt new = Admits old link salt new
+Comes false old link salt new = Refuses old link new
 
 -- a link to the server is open
 abbrev pub OpensAt : Core → Core → ℕ → LinkId → Option Session → Type 0
@@ -62,4 +65,4 @@ OpensBy old new link (Some key) = OpensAt old new key link (session_at old key)
 
 abbrev pub FailsBy : Core → Core → Option ℕ → Type 0
 FailsBy old new None = new ≡ old
-FailsBy old new (Some key) = StepsAt (OpenFails (is_some old.target)) old new key (session_at old key)
+FailsBy old new (Some key) = StepsAt (OpenFails old.setup) old new key (session_at old key)

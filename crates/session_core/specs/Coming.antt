@@ -5,24 +5,28 @@ use Rattle.std.proofs.Common.{sym, ◌∙◌, ap, subst, inl, inr, arith, length
 use Rattle.std.proofs.lemmas.Bool.{eqb-true}
 use Rattle.mx_base.specs.declared.names.LinkId.{LinkId}
 use Rattle.mx_base.specs.declared.names.Port.{Port}
-use Rattle.mx_wire.specs.Log.{Log, link_of, is_link, of_link, got_bytes, wrote_bytes, read_of, written_of, accepted_link, accepted_links}
+use Rattle.mx_wire.specs.Log.{Log, link_of, is_link, of_link, got_bytes, wrote_bytes, written_of, accepted_link, accepted_links}
 use Rattle.mx_wire.specs.Tells.{IsNew, IsOpen, MayFollow}
 use Rattle.mx_wire.specs.Growth.{bool_cases, same_number, nat_eq-sym, bytes-idle}
 use Rattle.mx_wire.specs.declared.entry.Entry.{Entry}
 use Rattle.mx_wire.specs.declared.entry.Entry.TheVariants as entry
 use Rattle.client_session.specs.declared.session.Session.{Session}
-use Rattle.client_session.specs.Count.{counted, counted-one}
+use Rattle.client_side.specs.Client.{counted}
+use Rattle.client_session.specs.Arriving.{counted-one}
+use Rattle.client_session.specs.Dues.{session-link}
 use Rattle.client_session.specs.Growth.{accepted_links-new}
-use Rattle.client_session.specs.Headline.{client_link, Turn, replies_to, Passes as PassesOn}
+use Rattle.client_session.specs.Headline.{client_link, Turn, Service, due, IsPrefix}
 use Rattle.client_session.specs.Passing.{same_for, Passes, IsApart, passes-other, session-stays, next-passes}
 use Rattle.client_session.specs.Sending.{carrier}
-use Rattle.client_session.specs.Stands.{WasAnswered, HasSession, upstream_link, is_closed}
-use Rattle.client_session.specs.Still.{replies-stay, was_answered-stays}
+use Rattle.client_session.specs.Stands.{HasSession, IsNext, upstream_link}
+use Rattle.client_session.specs.Still.{replies-stay}
 use Rattle.session_core.specs.declared.router.Core.{Core}
 use Rattle.session_core.specs.declared.place.Place.{Place}
 use Rattle.session_core.specs.declared.place.Place.TheVariants as place
 use Rattle.session_core.specs.Cores.{place_of, session_at}
 use Rattle.session_core.specs.Opening.{new-shut, open-apart}
+use Rattle.session_core.specs.Passing.{over-more}
+use Rattle.session_core.specs.Sessions.{arrived-at}
 use Rattle.session_core.specs.Stands.{service_of, TracksSessions, TracksLinks}
 
 -- A client that came is named by the log.
@@ -48,7 +52,7 @@ known-at (e ∷ log) n link has new = comes (accepted_link e) refl n has (λ m l
 
 pub client-known : (n : ℕ) (log : Log) (link : LinkId) → client_link n log ≡ Some link → IsNew link log → ⊥
 client-known zero log link has new = cc
-client-known (suc n) log link has new = known-at log n link has new
+client-known (suc n) log link has new = known-at log n link (arrived-at log n link has) new
 
 -- a link that is new is none that is known
 new-apart : (known link : LinkId) (log : Log) → (IsNew known log → ⊥) → IsNew link log → nat_eq known.0 link.0 ≡ false
@@ -63,7 +67,7 @@ module _ (core : Core) (refused : List Turn) (log : Log) (sessions : TracksSessi
   fresh-client n link is = new-apart link new log (client-known n log link is) fresh
 
   pub fresh-session : (key : ℕ) (session : Session) → session_at core key ≡ Some session → nat_eq session.link.0 new.0 ≡ false
-  fresh-session key session at = fresh-client session.number.0 session.link (sessions.has key session at).number
+  fresh-session key session at = fresh-client session.client.number.0 session.link (session-link (service_of core refused) session log (sessions.has key session at).client)
 
   pub fresh-open : (link : LinkId) → IsOpen link log → nat_eq link.0 new.0 ≡ false
   fresh-open link opened = nat_eq-sym new.0 link.0 (open-apart new link log (new-shut new log fresh) opened)
@@ -92,7 +96,7 @@ module _ (core : Core) (refused : List Turn) (log : Log) (sessions : TracksSessi
 
   -- an entry by which it comes passes the sessions
   pub fresh-passes : (e : Entry) → link_of e ≡ Some new → ((n i : ℕ) → carrier n i e ≡ None) → (key : ℕ) (session : Session) → session_at core key ≡ Some session → Passes session log e
-  fresh-passes e of nothing key session at = passes-other session log e new of (fresh-session key session at) (fresh-apart key session at) (λ i. nothing session.number.0 i)
+  fresh-passes e of nothing key session at = passes-other session log e new of (fresh-session key session at) (fresh-apart key session at) (λ i. nothing session.client.number.0 i)
 
 -- nothing was read of a new link, and nothing was written on it
 pub new-bytes : (f : Entry → List ℕ) (link : LinkId) (log : Log) (e : Entry) → f e ≡ [] → IsNew link log → flat_map f (of_link link (log ++ e ∷ [])) ≡ []
@@ -124,14 +128,13 @@ module _ (old : Core) (log : Log) (port : Port) (link : LinkId) (salt : List ℕ
   number-is = (let c = counted-clients in let m = more-clients in omega arith)
 
   -- the clients that were there
-  pub session-on : (service : Rattle.client_session.specs.Headline.Service) (key : ℕ) (session : Session) → session_at old key ≡ Some session → HasSession service session log → HasSession service session (log ++ entry.Accepted port link salt ∷ [])
+  pub session-on : (service : Service) (key : ℕ) (session : Session) → session_at old key ≡ Some session → HasSession service session log → HasSession service session (log ++ entry.Accepted port link salt ∷ [])
   session-on service key session at has = session-stays service session log (entry.Accepted port link salt) (fresh-passes old refused log sessions links link fresh (entry.Accepted port link salt) refl (λ n i. refl) key session at) has
 
-  pub over-on : (service : Rattle.client_session.specs.Headline.Service) (n : ℕ) (other : LinkId) → client_link n log ≡ Some other → WasAnswered (replies_to service n log) (read_of other log) (written_of other log)
-      → WasAnswered (replies_to service n (log ++ entry.Accepted port link salt ∷ [])) (read_of other (log ++ entry.Accepted port link salt ∷ [])) (written_of other (log ++ entry.Accepted port link salt ∷ []))
-  over-on service n other is was = subst (λ (xs : List ℕ). WasAnswered (replies_to service n (log ++ entry.Accepted port link salt ∷ [])) xs (written_of other (log ++ entry.Accepted port link salt ∷ []))) (sym (bytes-idle got_bytes other log (entry.Accepted port link salt) refl))
-      (subst (λ (xs : List ℕ). WasAnswered (replies_to service n (log ++ entry.Accepted port link salt ∷ [])) (read_of other log) xs) (sym (bytes-idle wrote_bytes other log (entry.Accepted port link salt) refl))
-      (was_answered-stays (replies_to service n log) (replies_to service n (log ++ entry.Accepted port link salt ∷ [])) (read_of other log) (written_of other log) (replies-stay service n log (entry.Accepted port link salt)) was))
+  pub over-on : (service : Service) (n : ℕ) (other : LinkId) → client_link n log ≡ Some other → IsPrefix (written_of other log) (due service n log)
+      → IsPrefix (written_of other (log ++ entry.Accepted port link salt ∷ [])) (due service n (log ++ entry.Accepted port link salt ∷ []))
+  over-on service n other is was = over-more service service n other log (entry.Accepted port link salt) is refl (bytes-idle got_bytes other log (entry.Accepted port link salt) refl) (bytes-idle wrote_bytes other log (entry.Accepted port link salt) refl)
+      (replies-stay service n log (entry.Accepted port link salt)) was
 
-  pub later-on : (n i : ℕ) → length (accepted_links (log ++ entry.Accepted port link salt ∷ [])) < n → Rattle.client_session.specs.Stands.IsNext (service_of old refused) n i (log ++ entry.Accepted port link salt ∷ [])
+  pub later-on : (n i : ℕ) → length (accepted_links (log ++ entry.Accepted port link salt ∷ [])) < n → IsNext (service_of old refused) n i (log ++ entry.Accepted port link salt ∷ [])
   later-on n i more = next-passes (service_of old refused) (service_of old refused) n i log (entry.Accepted port link salt) (same_for (service_of old refused) n) refl (sessions.later n i (let m = more-clients in omega arith))

@@ -1,15 +1,19 @@
 -- The core's tables.
-use Rattle.std.specs.Prelude.{◌≡◌, ℕ, Bool, false, nat_eq, ◌||◌, List, [], ◌∷◌, ◌++◌, Option, Some, None}
+use Rattle.std.specs.Prelude.{◌≡◌, ℕ, Bool, false, nat_eq, ◌||◌, List, [], ◌∷◌, ◌++◌, Option, Some, None, min, map, All}
 use Rattle.std.specs.HashMap as map
 use Rattle.slab.specs.Slab as slab
 use Rattle.mx_base.specs.declared.names.LinkId.{LinkId}
 use Rattle.ready_loop.specs.Machine.{Target}
+use Rattle.handshake.specs.Spelling.{IsText}
 use Rattle.hostgroups.specs.declared.row.ServerRow.{ServerRow}
 use Rattle.client_session.specs.declared.phase.Upstream.{Upstream}
 use Rattle.client_session.specs.declared.phase.Upstream.TheVariants as upstream
 use Rattle.client_session.specs.declared.session.Session.{Session}
 use Rattle.session_core.specs.declared.router.Core.{Core}
-use Rattle.session_core.specs.declared.router.ServerAt.{ServerAt}
+use Rattle.client_session.specs.declared.setup.ServerAt.{ServerAt}
+use Rattle.client_session.specs.Setups.{User, Setup}
+use Rattle.mx_config.specs.declared.config.Config.{Config}
+use Rattle.mx_config.specs.declared.config.UserRow.{UserRow}
 use Rattle.session_core.specs.declared.place.Place.{Place}
 
 -- whose a link is, and the session under a key
@@ -23,6 +27,27 @@ session_at core key = slab.get core.sessions key
 abbrev pub server_of : List ServerRow → Option ServerAt
 server_of [] = None
 server_of (row ∷ rows) = Some (record { server = record { 0 = 1 }; address = row.address })
+
+-- who may log in
+abbrev pub user_of : UserRow → User
+user_of row = record { name = row.name; password = row.password }
+
+abbrev pub users_of : List UserRow → List User
+users_of rows = map user_of rows
+
+-- no name has a NUL
+abbrev pub AreTexts : List UserRow → Type 0
+AreTexts rows = All (λ (row : UserRow). IsText row.name) rows
+
+-- what sessions go by, where this is configured: each message of a client is one packet
+abbrev pub setup_of : Config → Setup
+setup_of config = record {
+  version = config.proxy.server_version;
+  users = users_of config.users;
+  limit = min config.proxy.max_packet 16777214;
+  max_clients = config.proxy.max_clients;
+  target = server_of config.servers;
+}
 
 abbrev pub target_of : Option ServerAt → Option Target
 target_of None = None
@@ -56,8 +81,7 @@ pub record KeepsSessions (old new : Core) : Type 0 where
 
 -- what the core serves by
 pub record SameService (old new : Core) : Type 0 where
-  pub target : new.target ≡ old.target
-  pub max_clients : new.max_clients ≡ old.max_clients
+  pub setup : new.setup ≡ old.setup
   pub listen : new.listen ≡ old.listen
   pub admin_listen : new.admin_listen ≡ old.admin_listen
 

@@ -1,4 +1,5 @@
 pub mod Cores
+pub mod Settings
 pub mod Takes
 pub mod Comes
 pub mod Acting

@@ -51,7 +51,7 @@ pub record Relinks (old new : Core) (key : ℕ) (session later : Session) : Type
   pub at : session_at old key ≡ Some session
   pub sets : SetsSession old new key (Some later)
   pub link : later.link ≡ session.link
-  pub number : later.number ≡ session.number
+  pub number : later.client.number ≡ session.client.number
   pub closed : is_closed later.state ≡ is_closed session.state
   pub upstream : upstream_link later.upstream ≡ upstream_link session.upstream
   pub places : KeepsPlaces old new
@@ -61,12 +61,12 @@ pub record Relinks (old new : Core) (key : ℕ) (session later : Session) : Type
 
 module _ (old new : Core) (key : ℕ) (session later : Session) (relinks : Relinks old new key session later) where
   -- what was under a key
-  was-there : (k : ℕ) (s : Session) → session_at new k ≡ Some s → (t : Session) × (session_at old k ≡ Some t) × (s.link ≡ t.link) × (s.number ≡ t.number) × (is_closed s.state ≡ is_closed t.state) × (upstream_link s.upstream ≡ upstream_link t.upstream)
+  was-there : (k : ℕ) (s : Session) → session_at new k ≡ Some s → (t : Session) × (session_at old k ≡ Some t) × (s.link ≡ t.link) × (s.client.number ≡ t.client.number) × (is_closed s.state ≡ is_closed t.state) × (upstream_link s.upstream ≡ upstream_link t.upstream)
   was-there k s is = elim (bool_cases (nat_eq k key)) [
     | inl here ↦ (
         let at_key : k ≡ key = eqb-true k key here in
         let it : s ≡ later = (let both : Some s ≡ Some later = sym (ap (session_at new) (sym at_key) ∙ is) ∙ relinks.sets.changed in cc) in
-        (session, ap (session_at old) at_key ∙ relinks.at, ap (λ (x : Session). x.link) it ∙ relinks.link, ap (λ (x : Session). x.number) it ∙ relinks.number, ap (λ (x : Session). is_closed x.state) it ∙ relinks.closed, ap (λ (x : Session). upstream_link x.upstream) it ∙ relinks.upstream))
+        (session, ap (session_at old) at_key ∙ relinks.at, ap (λ (x : Session). x.link) it ∙ relinks.link, ap (λ (x : Session). x.client.number) it ∙ relinks.number, ap (λ (x : Session). is_closed x.state) it ∙ relinks.closed, ap (λ (x : Session). upstream_link x.upstream) it ∙ relinks.upstream))
     | inr differs ↦ (s, sym (relinks.sets.others k (differ-by k key differs)) ∙ is, refl, refl, refl, refl)
   ]
 

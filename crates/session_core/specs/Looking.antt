@@ -9,15 +9,13 @@ use Rattle.ready_loop.specs.Sent.{Sent}
 use Rattle.ready_loop.specs.declared.machines.Act.{Act}
 use Rattle.client_session.specs.declared.parting.SessionAct.{SessionAct}
 use Rattle.client_session.specs.declared.parting.SessionAct.TheVariants as session_act
-use Rattle.client_session.specs.declared.phase.Upstream.{Upstream}
-use Rattle.client_session.specs.declared.phase.Upstream.TheVariants as upstream
 use Rattle.client_session.specs.declared.session.Session.{Session}
-use Rattle.client_session.specs.Acts.{act_by, act_of, asked_for, is_over}
-use Rattle.client_session.specs.Count.{counted}
+use Rattle.client_session.specs.Acts.{act_of, asked_for, is_over}
+use Rattle.client_side.specs.Client.{counted}
 use Rattle.client_session.specs.Stands.{is_closed}
-use Rattle.client_session.specs.Sends.{is_read, reply_left, command_left}
+use Rattle.client_session.specs.Sends.{is_read, reply_left, server_left}
 use Rattle.session_core.specs.declared.router.Core.{Core}
-use Rattle.session_core.specs.declared.router.ServerAt.{ServerAt}
+use Rattle.client_session.specs.declared.setup.ServerAt.{ServerAt}
 use Rattle.session_core.specs.declared.place.Place.{Place}
 use Rattle.session_core.specs.declared.place.Place.TheVariants as place
 use Rattle.session_core.specs.Cores.{place_of, session_at, is_among, open_link, is_link_of, listed, changed, SetsSession, KeepsSessions, KeepsPlaces, Marks, StepsAt}
@@ -151,19 +149,18 @@ fewer-set old new key now sets places fewer same = record { each = λ link. look
 -- A session that asks.
 
 -- it reads and sends the same, where its links, its phase and its bytes are the same
-fewer-as : (was now : Session) → now.link ≡ was.link → now.number ≡ was.number → now.arrived ≡ was.arrived → now.phase ≡ was.phase → now.outgoing ≡ was.outgoing → open_link now.upstream ≡ open_link was.upstream → Fewer (Some was) (Some now)
-fewer-as was now link number arrived phase outgoing up = record {
+fewer-as : (was now : Session) → now.link ≡ was.link → now.phase ≡ was.phase → now.client.outgoing ≡ was.client.outgoing → now.upstream ≡ was.upstream → Fewer (Some was) (Some now)
+fewer-as was now link phase outgoing up = record {
   client_read = λ l wanted. rw (link, phase) at wanted;
   server_read = λ l wanted. rw up at wanted;
   client_sent = λ l some. rw (link, outgoing) at some;
-  server_sent = λ l some. rw (up, number, arrived, phase) at some;
+  server_sent = λ l some. rw up at some;
 }
 
-asked-fewer : (up : Upstream) (session : Session) → session.upstream ≡ up → (asked : Option SessionAct) → act_by up session ≡ asked → Fewer (Some session) (Some (asked_for asked session))
-asked-fewer up session at None is = fewer-as session session refl refl refl refl refl refl
-asked-fewer up session at (Some session_act.Open) is = fewer-as session session refl refl refl refl refl refl
-asked-fewer upstream.Absent session at (Some (session_act.CloseServer link)) is = fewer-as session (record session { upstream = upstream.Absent }) refl refl refl refl refl (sym (ap open_link at))
-asked-fewer (upstream.Open server) session at (Some (session_act.CloseServer link)) is = record {
+asked-fewer : (session : Session) (asked : Option SessionAct) → Fewer (Some session) (Some (asked_for asked session))
+asked-fewer session None = fewer-as session session refl refl refl refl
+asked-fewer session (Some session_act.Open) = fewer-as session session refl refl refl refl
+asked-fewer session (Some (session_act.CloseServer link)) = record {
   client_read = λ l wanted. wanted;
   server_read = λ l wanted. (let no : false ≡ true = wanted in absurd (cc));
   client_sent = λ l some. some;
@@ -171,8 +168,7 @@ asked-fewer (upstream.Open server) session at (Some (session_act.CloseServer lin
 } where
   nothing : IsSome {T = Sent} None → ⊥
   nothing some = cc
-asked-fewer (upstream.Closing other) session at (Some (session_act.CloseServer link)) is = fewer-as session (record session { upstream = upstream.Absent }) refl refl refl refl refl (sym (ap open_link at))
-asked-fewer up session at (Some (session_act.CloseClient link)) is = fewer-as session (asked_for (Some (session_act.CloseClient link)) session) refl refl refl refl refl refl
+asked-fewer session (Some (session_act.CloseClient link)) = fewer-as session (asked_for (Some (session_act.CloseClient link)) session) refl refl refl refl
 
 -- Asking.
 
@@ -207,7 +203,7 @@ asked-shrinks old new key what asked = by (session_at old key) refl asked where
   by : (s : Option Session) → session_at old key ≡ s → AskedAt old new key s what → Shrinks old new
   by None at same = shrinks-same old new same.1
   by (Some session) at asks_it = fewer-set old new key (Some (asked_for (act_of session) session)) asks_it.sets asks_it.places
-      (subst (λ (s : Option Session). Fewer s (Some (asked_for (act_of session) session))) (sym at) (asked-fewer session.upstream session refl (act_of session) refl)) asks_it.counts.changed
+      (subst (λ (s : Option Session). Fewer s (Some (asked_for (act_of session) session))) (sym at) (asked-fewer session (act_of session))) asks_it.counts.changed
 
 opens-shrinks : (old new : Core) (target : Option ServerAt) (asked : Option Act) → OpensTo target old new asked → Shrinks old new
 opens-shrinks old new None asked opens = shrinks-kept old new opens.1.tables.sessions opens.1.places opens.1.tables.counts.changed
@@ -215,7 +211,7 @@ opens-shrinks old new (Some at) asked opens = shrinks-same old new opens.1
 
 acts-shrinks : (old new : Core) (what : Option SessionAct) (asked : Option Act) → ActsOn what old new asked → Shrinks old new
 acts-shrinks old new None asked acts = shrinks-same old new acts.1
-acts-shrinks old new (Some session_act.Open) asked acts = opens-shrinks old new old.target asked acts
+acts-shrinks old new (Some session_act.Open) asked acts = opens-shrinks old new old.setup.target asked acts
 acts-shrinks old new (Some (session_act.CloseServer link)) asked acts = record {
   each = λ other. elim (bool_cases (nat_eq link.0 other.0)) [
     | inl here ↦ looks-nowhere old new other (ap (place_of new) (sym (same_link link other here)) ∙ acts.1.places.same)
@@ -270,8 +266,8 @@ silent-fewer old was later link calm =
     let apart : nat_eq later.link.0 link.0 ≡ false = nat_eq-sym link.0 later.link.0 calm.client in (
       ap (λ b. b && is_read later.phase) apart,
       calm.server,
-      ap (λ b. cond b (reply_left later.outgoing) None) apart,
-      ap (λ b. cond b (command_left later later.phase) None) calm.server,
+      ap (λ b. cond b (reply_left later.client.outgoing) None) apart,
+      ap (λ b. cond b (server_left later.upstream) None) calm.server,
     )
 
 looks-silent : (old new : Core) (key : ℕ) (later : Session) (p : Option Place) (link : LinkId) → SetsSession old new key (Some later) → IsCalm old later link → (reads_at new p link ≡ true → reads_at old p link ≡ true) × (IsSome (sends_at new p link) → IsSome (sends_at old p link))
@@ -332,6 +328,20 @@ pub fails-only : (old new : Core) (turn : Option ℕ) → FailsBy old new turn �
 fails-only old new None same = shrinks-only old new (shrinks-same old new same)
 fails-only old new (Some key) steps = steps-only _ old new key (session_at old key) steps
 
+-- where it is the link to a server of the session
+leaves-silent : (old new : Core) (key : ℕ) (later : Session) (link : LinkId) → SetsSession old new key (Some later) → IsCalm old later link → place_of new link ≡ Some (place.Server key) → LeavesBe changed reads sends old new link
+leaves-silent old new key later link sets calm at =
+    let silent = silent-fewer old (Some later) later link calm in
+    let unread : reads new link ≡ false = ap (λ (p : Option Place). reads_at new p link) at ∙ ap (λ (s : Option Session). server_reads s link) sets.changed ∙ silent.1 in
+    let unsent : sends new link ≡ None = ap (λ (p : Option Place). sends_at new p link) at ∙ ap (λ (s : Option Session). server_sends s link) sets.changed ∙ silent.3 in
+    record {
+      read = λ wanted. (let no : false ≡ true = sym unread ∙ wanted in absurd (cc));
+      written = λ some. absurd (nothing (sends new link) unsent some);
+    } where
+      nothing : (o : Option Sent) → o ≡ None → IsSome o → ⊥
+      nothing None is some = cc
+      nothing (Some sent) is some = cc
+
 pub opens-only : (old new : Core) (link : LinkId) (turn : Option ℕ) → OpensBy old new link turn → ChangesOnly changed reads sends old new
 opens-only old new link None same = shrinks-only old new (shrinks-same old new same)
 opens-only old new link (Some key) opens = by (session_at old key) opens where
@@ -340,18 +350,19 @@ opens-only old new link (Some key) opens = by (session_at old key) opens where
   by (Some session) (steps, placed) = record {
     others = λ other quiet. (
         let calm = calm-of old new steps.later key other steps.marks quiet in
-        let up : open_link steps.later.upstream ≡ Some link = ap (λ (s : Session). open_link s.upstream) steps.step in
-        let apart : nat_eq link.0 other.0 ≡ false = sym (ap (is_link_of other) up) ∙ calm.server in
-        leaves-placed old new key steps.later other steps.sets calm (placed.others other apart));
+        elim (bool_cases (nat_eq link.0 other.0)) [
+          | inl here ↦ leaves-silent old new key steps.later other steps.sets calm (ap (place_of new) (sym (same_link link other here)) ∙ placed.same)
+          | inr apart ↦ leaves-placed old new key steps.later other steps.sets calm (placed.others other apart)
+        ]);
   }
 
 -- A client comes.
 
-pub comes-only : (old new : Core) (link : LinkId) (admitted : Bool) → Comes admitted old link new → ChangesOnly changed reads sends old new
-comes-only old new link true admits = record {
+pub comes-only : (old new : Core) (link : LinkId) (salt : List ℕ) (admitted : Bool) → Comes admitted old link salt new → ChangesOnly changed reads sends old new
+comes-only old new link salt true admits = record {
   others = λ other quiet. (
       let both = none-of (is_among other old.changed.items) (nat_eq other.0 link.0) (sym (among-end other link old.changed.items) ∙ sym (ap (is_among other) admits.changed) ∙ quiet) in
-      let calm : IsCalm old (first_session link (counted old.accepted)) other = record { before = both.0; client = both.1; server = refl } in
-      leaves-placed old new admits.key (first_session link (counted old.accepted)) other admits.sets calm (admits.placed.others other (nat_eq-sym other.0 link.0 both.1)));
+      let calm : IsCalm old (first_session link (counted old.accepted) salt old.setup) other = record { before = both.0; client = both.1; server = refl } in
+      leaves-placed old new admits.key (first_session link (counted old.accepted) salt old.setup) other admits.sets calm (admits.placed.others other (nat_eq-sym other.0 link.0 both.1)));
 }
-comes-only old new link false refuses = shrinks-only old new (shrinks-kept old new refuses.sessions refuses.places refuses.changed)
+comes-only old new link salt false refuses = shrinks-only old new (shrinks-kept old new refuses.sessions refuses.places refuses.changed)

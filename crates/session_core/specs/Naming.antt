@@ -24,7 +24,7 @@ pub record SameTables (old new : Core) : Type 0 where
   pub sessions : new.sessions ≡ old.sessions
   pub places : new.places ≡ old.places
   pub turn : new.turn ≡ old.turn
-  pub target : new.target ≡ old.target
+  pub setup : new.setup ≡ old.setup
   pub accepted : new.accepted ≡ old.accepted
 
 kept-sessions : (old new : Core) → SameTables old new → KeepsSessions old new
@@ -34,7 +34,7 @@ kept-places : (old new : Core) → SameTables old new → KeepsPlaces old new
 kept-places old new same = record { same = λ link. ap (λ m. Rattle.std.specs.HashMap.get nat_eq m link.0) same.places }
 
 pub drops-one : (old new : Core) (link : LinkId) → SameTables old new → old.refused.items ≡ new.refused.items ++ link ∷ [] → Closes Stands due_in old new (sends new link) link
-drops-one old new link same refused = closes-refused old new link (record { refused = refused; sessions = kept-sessions old new same; places = kept-places old new same; turn = same.turn; target = same.target; accepted = same.accepted })
+drops-one old new link same refused = closes-refused old new link (record { refused = refused; sessions = kept-sessions old new same; places = kept-places old new same; turn = same.turn; setup = same.setup; accepted = same.accepted })
 
 pub drop-only : (old new : Core) → SameTables old new → new.changed.items ≡ old.changed.items → ChangesOnly changed reads sends old new
 drop-only old new same listed = shrinks-only old new (shrinks-kept old new (kept-sessions old new same) (kept-places old new same) listed)
@@ -47,7 +47,7 @@ names-keep old new same refused = record {
     places = kept-places old new same;
     refused = refused;
     calm = λ key session at calm. elim (calm) [ inl turn ↦ inl (same.turn ∙ turn) | inr quiet ↦ inr quiet ];
-  }) same.target same.accepted held;
+  }) same.setup same.accepted held;
 }
 
 or-false : (a b : Bool) → a ≡ false → (a || b) ≡ b

@@ -9,6 +9,7 @@ use Rattle.mx_wire.specs.declared.entry.Entry.TheVariants as entry
 use Rattle.ready_loop.specs.Machine.{Closes, IsFarewell}
 use Rattle.ready_loop.specs.Sent.{Sent}
 use Rattle.client_session.specs.declared.session.Session.{Session}
+use Rattle.client_session.specs.Dues.{session-link}
 use Rattle.client_session.specs.Growth.{client_link-append}
 use Rattle.client_session.specs.Headline.{client_link, is_failure, IsLawful}
 use Rattle.client_session.specs.Passing.{IsApart}
@@ -16,13 +17,13 @@ use Rattle.client_session.specs.Rest.{RestsAt}
 use Rattle.client_session.specs.Sending.{carrier}
 use Rattle.client_session.specs.Stands.{upstream_link}
 use Rattle.session_core.specs.declared.router.Core.{Core}
-use Rattle.session_core.specs.Cores.{session_at, target_of}
+use Rattle.session_core.specs.Cores.{session_at}
 use Rattle.session_core.specs.Acting.{sends}
 use Rattle.session_core.specs.Links.{links-passed}
 use Rattle.session_core.specs.Opening.{KeepsOpen}
 use Rattle.session_core.specs.Passing.{IsEmpty, passes-all_empty, sessions-passed}
 use Rattle.session_core.specs.Quiet.{upholds-marks, links-marks}
-use Rattle.session_core.specs.Stands.{TracksLinks, Upholds, Stands, due_in}
+use Rattle.session_core.specs.Stands.{service_of, TracksLinks, Upholds, Stands, due_in}
 use Rattle.session_core.specs.Upholding.{few-still, upholds-more}
 
 -- Entries of a link to which no session sends.
@@ -31,7 +32,7 @@ use Rattle.session_core.specs.Upholding.{few-still, upholds-more}
 abbrev pub NoUpstream : Core → LinkId → Type 0
 NoUpstream core link = (key : ℕ) (session : Session) → session_at core key ≡ Some session → IsApart (upstream_link session.upstream) link
 
-upholds-empty : (core : Core) (link : LinkId) (log : Log) (e : Entry) → NoUpstream core link → IsEmpty e link → IsLawful (target_of core.target) log e → RestsAt (target_of core.target) log e → Upholds core log → Upholds core (log ++ e ∷ [])
+upholds-empty : (core : Core) (link : LinkId) (log : Log) (e : Entry) → NoUpstream core link → IsEmpty e link → IsLawful core.setup log e → RestsAt core.setup log e → Upholds core log → Upholds core (log ++ e ∷ [])
 upholds-empty core link log e none empty law rest held = upholds-more core core held.refused log e refl (few-still log e empty.no_read held.few) held law rest
     (sessions-passed core held.refused log e (passes-all_empty core log e link empty none) held.sessions)
 
@@ -64,13 +65,13 @@ links-behind core lent link log e marks farewell all links =
 
 -- each session's client has its number
 pub record HasNumbers (core : Core) (log : Log) : Type 0 where
-  pub each : (key : ℕ) (session : Session) → session_at core key ≡ Some session → client_link session.number.0 log ≡ Some session.link
+  pub each : (key : ℕ) (session : Session) → session_at core key ≡ Some session → client_link session.client.number.0 log ≡ Some session.link
 
 pub numbers-of : (core : Core) (log : Log) → Upholds core log → HasNumbers core log
-numbers-of core log held = record { each = λ key session at. (held.sessions.has key session at).number }
+numbers-of core log held = record { each = λ key session at. session-link (service_of core held.refused) session log (held.sessions.has key session at).client }
 
 pub numbers-more : (core : Core) (log more : Log) → HasNumbers core log → HasNumbers core (log ++ more)
-numbers-more core log more numbers = record { each = λ key session at. client_link-append session.number.0 log more session.link (numbers.each key session at) }
+numbers-more core log more numbers = record { each = λ key session at. client_link-append session.client.number.0 log more session.link (numbers.each key session at) }
 
 pub closes-silently : (old new : Core) (link : LinkId) → ((log : Log) → HasNumbers old log → TracksLinks old log → TracksLinks new (log ++ entry.Closed link ∷ [])) → ((log : Log) → Stands old log → IsOpen link log) → ((log : Log) → Stands old log → Upholds new log × NoUpstream new link) → ((log : Log) → Stands old log → sends new link ≡ None)
     → Closes Stands due_in old new (sends new link) link

@@ -4,20 +4,18 @@ use Rattle.std.proofs.Common.{sym, ◌∙◌, ap, subst, inl, inr}
 use Rattle.std.proofs.lemmas.Bool.{eqb-true}
 use Rattle.mx_base.specs.declared.names.LinkId.{LinkId}
 use Rattle.mx_base.specs.declared.names.ClientNo.{ClientNo}
-use Rattle.mx_wire.specs.Log.{Log, link_of, is_link, got_bytes, wrote_bytes, read_of, written_of, accepted_link}
+use Rattle.mx_wire.specs.Log.{Log, link_of, got_bytes, wrote_bytes, read_of, written_of, accepted_link}
 use Rattle.mx_wire.specs.Growth.{bool_cases, bytes-idle}
 use Rattle.mx_wire.specs.declared.entry.Entry.{Entry}
-use Rattle.client_session.specs.declared.phase.LinkState.{LinkState}
-use Rattle.client_session.specs.declared.phase.LinkState.TheVariants as link_state
-use Rattle.client_session.specs.declared.phase.Upstream.{Upstream}
-use Rattle.client_session.specs.declared.phase.Upstream.TheVariants as upstream
 use Rattle.client_session.specs.declared.session.Session.{Session}
-use Rattle.client_session.specs.Growth.{client_link-same, accepted_links-same, heard-other}
-use Rattle.client_session.specs.Headline.{client_link, Turn, replies_to, Passes as PassesOn, IsPrefix, is_failure}
-use Rattle.client_session.specs.Passing.{HearsNothing, same_for, Passes, IsStill, IsApart, next-passes, session-stays, passes-still}
+use Rattle.client_session.specs.Growth.{client_link-same, accepted_links-same}
+use Rattle.client_session.specs.Dues.{session-link, session-due, due-stays}
+use Rattle.client_session.specs.Headline.{client_link, Turn, Service, replies_to, due, Passes as PassesOn, IsPrefix, is_failure}
+use Rattle.client_session.specs.Past.{Stay}
+use Rattle.client_session.specs.Passing.{same_for, Passes, IsStill, IsApart, hears-apart, next-passes, session-stays, passes-still}
 use Rattle.client_session.specs.Sending.{carrier}
-use Rattle.client_session.specs.Stands.{WasAnswered, IsTold, HasSession, upstream_link, is_closed}
-use Rattle.client_session.specs.Still.{replies-stay, was_answered-stays, at-answers}
+use Rattle.client_session.specs.Stands.{HasSession, upstream_link, is_closed}
+use Rattle.client_session.specs.Still.{replies-stay}
 use Rattle.session_core.specs.declared.router.Core.{Core}
 use Rattle.session_core.specs.Cores.{session_at, SetsSession, KeepsSessions}
 use Rattle.session_core.specs.Stands.{service_of, IsLive, TracksSessions}
@@ -33,6 +31,12 @@ pub record PassesAll (core : Core) (log : Log) (e : Entry) : Type 0 where
   pub written : (n : ℕ) (link : LinkId) → client_link n log ≡ Some link → written_of link (log ++ e ∷ []) ≡ written_of link log
   pub carries : (n i : ℕ) → carrier n i e ≡ None
 
+-- what was written to a client stays a beginning of what it is due
+pub over-more : (was now : Service) (n : ℕ) (link : LinkId) (log : Log) (e : Entry) → client_link n log ≡ Some link → now.setup ≡ was.setup → read_of link (log ++ e ∷ []) ≡ read_of link log → written_of link (log ++ e ∷ []) ≡ written_of link log
+    → Stay (replies_to was n log) (replies_to now n (log ++ e ∷ [])) → IsPrefix (written_of link log) (due was n log) → IsPrefix (written_of link (log ++ e ∷ [])) (due now n (log ++ e ∷ []))
+over-more was now n link log e is setup read written stay over =
+    subst (λ (xs : List ℕ). IsPrefix xs (due now n (log ++ e ∷ []))) (sym written) (due-stays was now n log e link (written_of link log) is setup read stay over)
+
 pub sessions-passed : (core : Core) (refused : List Turn) (log : Log) (e : Entry) → PassesAll core log e → TracksSessions core refused log → TracksSessions core refused (log ++ e ∷ [])
 sessions-passed core refused log e passes tracks = record {
   accepted = tracks.accepted ∙ sym (ap length (accepted_links-same log e passes.no_client));
@@ -43,9 +47,7 @@ sessions-passed core refused log e passes tracks = record {
       let before : client_link n log ≡ Some link = sym (client_link-same n log e passes.no_client) ∙ is in
       elim (tracks.ended n link before) [
         | inl live ↦ inl live
-        | inr over ↦ inr (subst (λ (xs : List ℕ). WasAnswered (replies_to (service_of core refused) n (log ++ e ∷ [])) xs (written_of link (log ++ e ∷ []))) (sym (passes.read n link before))
-            (subst (λ (xs : List ℕ). WasAnswered (replies_to (service_of core refused) n (log ++ e ∷ [])) (read_of link log) xs) (sym (passes.written n link before))
-            (was_answered-stays (replies_to (service_of core refused) n log) (replies_to (service_of core refused) n (log ++ e ∷ [])) (read_of link log) (written_of link log) (replies-stay (service_of core refused) n log e) over)))
+        | inr over ↦ inr (over-more (service_of core refused) (service_of core refused) n link log e before refl (passes.read n link before) (passes.written n link before) (replies-stay (service_of core refused) n log e) over)
       ]);
   later = λ n i more. next-passes (service_of core refused) (service_of core refused) n i log e (same_for (service_of core refused) n) (passes.carries n i)
       (tracks.later n i (subst (λ k. k < n) (ap length (accepted_links-same log e passes.no_client)) more));
@@ -71,17 +73,12 @@ pub record IsEmpty (e : Entry) (link : LinkId) : Type 0 where
   pub no_write : wrote_bytes e ≡ []
   pub nothing : (n i : ℕ) → carrier n i e ≡ None
 
-pub hears-empty : (up : Upstream) (link : LinkId) (e : Entry) → link_of e ≡ Some link → IsApart (upstream_link up) link → HearsNothing up e
-hears-empty upstream.Absent link e of apart = tt
-hears-empty (upstream.Open server) link e of apart = λ since. heard-other server.link since e (let other : is_link server.link (link_of e) ≡ false = rw of apart in other)
-hears-empty (upstream.Closing other) link e of apart = tt
-
 pub passes-empty : (session : Session) (log : Log) (e : Entry) (link : LinkId) → IsEmpty e link → IsApart (upstream_link session.upstream) link → Passes session log e
 passes-empty session log e link empty apart = record {
   read = bytes-idle got_bytes session.link log e empty.no_read;
   written = bytes-idle wrote_bytes session.link log e empty.no_write;
-  heard = hears-empty session.upstream link e empty.of apart;
-  carries = λ i. empty.nothing session.number.0 i;
+  heard = hears-apart session.upstream link log e empty.of apart;
+  carries = λ i. empty.nothing session.client.number.0 i;
 }
 
 pub passes-all_empty : (core : Core) (log : Log) (e : Entry) (link : LinkId) → IsEmpty e link → ((key : ℕ) (session : Session) → session_at core key ≡ Some session → IsApart (upstream_link session.upstream) link) → PassesAll core log e
@@ -99,18 +96,18 @@ passes-all_empty core log e link empty apart = record {
 pub record Sets (old new : Core) (key : ℕ) (session later : Session) : Type 0 where
   pub at : session_at old key ≡ Some session
   pub sets : SetsSession old new key (Some later)
-  pub number : later.number ≡ session.number
-  pub target : new.target ≡ old.target
+  pub number : later.client.number ≡ session.client.number
+  pub setup : new.setup ≡ old.setup
   pub accepted : new.accepted ≡ old.accepted
 
-pub same-service : (old new : Core) (refused : List Turn) → new.target ≡ old.target → service_of new refused ≡ service_of old refused
+pub same-service : (old new : Core) (refused : List Turn) → new.setup ≡ old.setup → service_of new refused ≡ service_of old refused
 same-service old new refused same = rw same refl
 
 pub sessions-set : (old new : Core) (key : ℕ) (session later : Session) (refused : List Turn) (log : Log) → Sets old new key session later → HasSession (service_of old refused) later log → TracksSessions old refused log → TracksSessions new refused log
 sessions-set old new key session later refused log sets has tracks = record {
   accepted = sets.accepted ∙ tracks.accepted;
-  refusing = rw sets.target tracks.refusing;
-  has = λ other there is. subst (λ service. HasSession service there log) (sym (same-service old new refused sets.target)) (elim (bool_cases (nat_eq other key)) [
+  refusing = rw sets.setup tracks.refusing;
+  has = λ other there is. subst (λ service. HasSession service there log) (sym (same-service old new refused sets.setup)) (elim (bool_cases (nat_eq other key)) [
     | inl here ↦ subst (λ (s : Session). HasSession (service_of old refused) s log) (sym (here-is other there here is)) has
     | inr differs ↦ tracks.has other there (sym (sets.sets.others other (differ-by other key differs)) ∙ is)
   ]);
@@ -120,16 +117,16 @@ sessions-set old new key session later refused log sets has tracks = record {
       tracks.numbers k other first.0 second.0 first.1 second.1 (sym first.2 ∙ equal ∙ second.2));
   ended = λ n link is. elim (tracks.ended n link is) [
     | inl live ↦ inl (live-on n live)
-    | inr over ↦ inr (subst (λ service. WasAnswered (replies_to service n log) (read_of link log) (written_of link log)) (sym (same-service old new refused sets.target)) over)
+    | inr over ↦ inr (subst (λ service. IsPrefix (written_of link log) (due service n log)) (sym (same-service old new refused sets.setup)) over)
   ];
-  later = λ n i more. subst (λ service. Rattle.client_session.specs.Stands.IsNext service n i log) (sym (same-service old new refused sets.target)) (tracks.later n i more);
+  later = λ n i more. subst (λ service. Rattle.client_session.specs.Stands.IsNext service n i log) (sym (same-service old new refused sets.setup)) (tracks.later n i more);
 } where
   here-is : (other : ℕ) (there : Session) → nat_eq other key ≡ true → session_at new other ≡ Some there → there ≡ later
   here-is other there here is = (let same : Some there ≡ Some later = sym (ap (session_at new) (sym (eqb-true other key here)) ∙ is) ∙ sets.sets.changed in cc)
 
-  number-of : (k : ℕ) (s : Session) → session_at new k ≡ Some s → (t : Session) × (session_at old k ≡ Some t) × (s.number.0 ≡ t.number.0)
+  number-of : (k : ℕ) (s : Session) → session_at new k ≡ Some s → (t : Session) × (session_at old k ≡ Some t) × (s.client.number.0 ≡ t.client.number.0)
   number-of k s is = elim (bool_cases (nat_eq k key)) [
-    | inl here ↦ (session, ap (session_at old) (eqb-true k key here) ∙ sets.at, ap (λ (x : Session). x.number.0) (here-is k s here is) ∙ ap (λ (c : ClientNo). c.0) sets.number)
+    | inl here ↦ (session, ap (session_at old) (eqb-true k key here) ∙ sets.at, ap (λ (x : Session). x.client.number.0) (here-is k s here is) ∙ ap (λ (c : ClientNo). c.0) sets.number)
     | inr differs ↦ (s, sym (sets.sets.others k (differ-by k key differs)) ∙ is, refl)
   ]
 
@@ -137,12 +134,12 @@ sessions-set old new key session later refused log sets has tracks = record {
   live-on n live = elim (bool_cases (nat_eq live.key key)) [
     | inl here ↦ (
         let it : live.session ≡ session = (let both : Some live.session ≡ Some session = sym live.at ∙ ap (session_at old) (eqb-true live.key key here) ∙ sets.at in cc) in
-        record { key = key; session = later; at = sets.sets.changed; number = ap (λ (c : ClientNo). c.0) sets.number ∙ sym (ap (λ (s : Session). s.number.0) it) ∙ live.number })
+        record { key = key; session = later; at = sets.sets.changed; number = ap (λ (c : ClientNo). c.0) sets.number ∙ sym (ap (λ (s : Session). s.client.number.0) it) ∙ live.number })
     | inr differs ↦ record { key = live.key; session = live.session; at = sets.sets.others live.key (differ-by live.key key differs) ∙ live.at; number = live.number }
   ]
 
 -- nothing changes of the sessions
-pub sessions-kept : (old new : Core) (refused : List Turn) (log : Log) → KeepsSessions old new → new.target ≡ old.target → new.accepted ≡ old.accepted → TracksSessions old refused log → TracksSessions new refused log
+pub sessions-kept : (old new : Core) (refused : List Turn) (log : Log) → KeepsSessions old new → new.setup ≡ old.setup → new.accepted ≡ old.accepted → TracksSessions old refused log → TracksSessions new refused log
 sessions-kept old new refused log keeps target accepted tracks = record {
   accepted = accepted ∙ tracks.accepted;
   refusing = rw target tracks.refusing;
@@ -150,26 +147,14 @@ sessions-kept old new refused log keeps target accepted tracks = record {
   numbers = λ k other a b is_a is_b equal. tracks.numbers k other a b (sym (keeps.same k) ∙ is_a) (sym (keeps.same other) ∙ is_b) equal;
   ended = λ n link is. elim (tracks.ended n link is) [
     | inl live ↦ inl (record { key = live.key; session = live.session; at = keeps.same live.key ∙ live.at; number = live.number })
-    | inr over ↦ inr (subst (λ service. WasAnswered (replies_to service n log) (read_of link log) (written_of link log)) (sym (same-service old new refused target)) over)
+    | inr over ↦ inr (subst (λ service. IsPrefix (written_of link log) (due service n log)) (sym (same-service old new refused target)) over)
   ];
   later = λ n i more. subst (λ service. Rattle.client_session.specs.Stands.IsNext service n i log) (sym (same-service old new refused target)) (tracks.later n i more);
 }
 
--- A session is forgotten: what was written to its client is a beginning of its answers.
+-- A session is forgotten: what was written to its client is a beginning of what it is due.
 
-told-front : (state : LinkState) (outgoing written told : List ℕ) → IsTold state outgoing written told → IsPrefix written (told ++ outgoing)
-told-front link_state.Open outgoing written told is = record { rest = outgoing; is = ap (λ xs. xs ++ outgoing) is }
-told-front link_state.Closing outgoing written told is = record { rest = outgoing; is = ap (λ xs. xs ++ outgoing) is }
-told-front link_state.Closed outgoing written told is = is
-
-pub was-answered : (core : Core) (refused : List Turn) (session : Session) (log : Log) → HasSession (service_of core refused) session log → WasAnswered (replies_to (service_of core refused) session.number.0 log) (read_of session.link log) (written_of session.link log)
-was-answered core refused session log has = record {
-  bytes = has.told ++ session.outgoing;
-  front = told-front session.state session.outgoing (written_of session.link log) has.told has.written;
-  answers = at-answers session.phase session (replies_to (service_of core refused) session.number.0 log) (read_of session.link log) has.told has.at;
-}
-
-pub sessions-removed : (old new : Core) (key : ℕ) (session : Session) (refused : List Turn) (log : Log) → session_at old key ≡ Some session → SetsSession old new key None → new.target ≡ old.target → new.accepted ≡ old.accepted
+pub sessions-removed : (old new : Core) (key : ℕ) (session : Session) (refused : List Turn) (log : Log) → session_at old key ≡ Some session → SetsSession old new key None → new.setup ≡ old.setup → new.accepted ≡ old.accepted
     → TracksSessions old refused log → TracksSessions new refused log
 sessions-removed old new key session refused log at sets target accepted tracks = record {
   accepted = accepted ∙ tracks.accepted;
@@ -180,15 +165,15 @@ sessions-removed old new key session refused log at sets target accepted tracks 
     | inl live ↦ (elim (bool_cases (nat_eq live.key key)) [
       | inl here ↦ inr (
           let it : live.session ≡ session = (let both : Some live.session ≡ Some session = sym live.at ∙ ap (session_at old) (eqb-true live.key key here) ∙ at in cc) in
-          let number : session.number.0 ≡ n = sym (ap (λ (s : Session). s.number.0) it) ∙ live.number in
+          let number : session.client.number.0 ≡ n = sym (ap (λ (s : Session). s.client.number.0) it) ∙ live.number in
           let has = tracks.has key session at in
-          let same : session.link ≡ link = (let both : Some session.link ≡ Some link = sym has.number ∙ ap (λ m. client_link m log) number ∙ is in cc) in
-          subst (λ service. WasAnswered (replies_to service n log) (read_of link log) (written_of link log)) (sym (same-service old new refused target))
-          (subst (λ (l : LinkId). WasAnswered (replies_to (service_of old refused) n log) (read_of l log) (written_of l log)) same
-          (subst (λ m. WasAnswered (replies_to (service_of old refused) m log) (read_of session.link log) (written_of session.link log)) number (was-answered old refused session log has))))
+          let same : session.link ≡ link = (let both : Some session.link ≡ Some link = sym (session-link (service_of old refused) session log has.client) ∙ ap (λ m. client_link m log) number ∙ is in cc) in
+          subst (λ service. IsPrefix (written_of link log) (due service n log)) (sym (same-service old new refused target))
+          (subst (λ (l : LinkId). IsPrefix (written_of l log) (due (service_of old refused) n log)) same
+          (subst (λ m. IsPrefix (written_of session.link log) (due (service_of old refused) m log)) number (session-due (service_of old refused) session log has))))
       | inr differs ↦ inl (record { key = live.key; session = live.session; at = sets.others live.key (differ-by live.key key differs) ∙ live.at; number = live.number })
     ])
-    | inr over ↦ inr (subst (λ service. WasAnswered (replies_to service n log) (read_of link log) (written_of link log)) (sym (same-service old new refused target)) over)
+    | inr over ↦ inr (subst (λ service. IsPrefix (written_of link log) (due service n log)) (sym (same-service old new refused target)) over)
   ];
   later = λ n i more. subst (λ service. Rattle.client_session.specs.Stands.IsNext service n i log) (sym (same-service old new refused target)) (tracks.later n i more);
 } where

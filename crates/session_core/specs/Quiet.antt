@@ -10,7 +10,6 @@ use Rattle.client_session.specs.Passing.{IsStill}
 use Rattle.client_session.specs.Rest.{RestsAt}
 use Rattle.client_session.specs.Sending.{carrier, SoFar, Part, Heard, hear_step}
 use Rattle.session_core.specs.declared.router.Core.{Core}
-use Rattle.session_core.specs.Cores.{target_of}
 use Rattle.session_core.specs.Links.{links-passed}
 use Rattle.session_core.specs.Opening.{KeepsOpen}
 use Rattle.session_core.specs.Passing.{sessions-passed, passes-all_still}
@@ -24,13 +23,13 @@ pub record PassesBy (e : Entry) : Type 0 where
   pub keeps : KeepsOpen e
   pub no_client : accepted_link e ≡ None
   pub no_failure : is_failure e ≡ false
-  pub law : (core : Core) (log : Log) → IsLawful (target_of core.target) log e
+  pub law : (core : Core) (log : Log) → IsLawful core.setup log e
 
-pub upholds-past : (core : Core) (log : Log) (e : Entry) → PassesBy e → RestsAt (target_of core.target) log e → Upholds core log → Upholds core (log ++ e ∷ [])
+pub upholds-past : (core : Core) (log : Log) (e : Entry) → PassesBy e → RestsAt core.setup log e → Upholds core log → Upholds core (log ++ e ∷ [])
 upholds-past core log e passes rest held = upholds-more core core held.refused log e refl (few-still log e passes.still.no_read held.few) held (passes.law core log) rest
     (sessions-passed core held.refused log e (passes-all_still core log e passes.no_client passes.no_failure passes.still) held.sessions)
 
-pub stands-past : (core : Core) (log : Log) (e : Entry) → PassesBy e → RestsAt (target_of core.target) log e → Stands core log → Stands core (log ++ e ∷ [])
+pub stands-past : (core : Core) (log : Log) (e : Entry) → PassesBy e → RestsAt core.setup log e → Stands core log → Stands core (log ++ e ∷ [])
 stands-past core log e passes rest held = record { upholds = upholds-past core log e passes rest held.upholds; links = links-passed core log e passes.keeps passes.no_client held.links }
 
 pub past-carries : (core : Core) (e : Entry) → PassesBy e → CarriesOver Stands due_in core core e
@@ -45,7 +44,7 @@ unheard-by : (e : Entry) → IsUnheard e → (heard : SoFar) → hear_step heard
 unheard-by e unheard (Part bytes) = unheard bytes
 unheard-by e unheard (Heard payload) = refl
 
-pub passes-by : (e : Entry) → got_bytes e ≡ [] → wrote_bytes e ≡ [] → ((n i : ℕ) → carrier n i e ≡ None) → IsUnheard e → KeepsOpen e → accepted_link e ≡ None → is_failure e ≡ false → ((core : Core) (log : Log) → IsLawful (target_of core.target) log e) → PassesBy e
+pub passes-by : (e : Entry) → got_bytes e ≡ [] → wrote_bytes e ≡ [] → ((n i : ℕ) → carrier n i e ≡ None) → IsUnheard e → KeepsOpen e → accepted_link e ≡ None → is_failure e ≡ false → ((core : Core) (log : Log) → IsLawful core.setup log e) → PassesBy e
 passes-by e no_read no_write nothing unheard keeps no_client no_failure law = record {
   still = record { no_read = no_read; no_write = no_write; nothing = nothing; unheard = unheard-by e unheard };
   keeps = keeps;
@@ -85,7 +84,7 @@ mark-passes (entry.Exec link) mark = quiet-passes (entry.Exec link) tt
 mark-passes (entry.Drop link) mark = quiet-passes (entry.Drop link) tt
 mark-passes _ mark = absurd mark
 
-mark-rests : (core : Core) (log : Log) (e : Entry) → IsMark e → RestsAt (target_of core.target) log e
+mark-rests : (core : Core) (log : Log) (e : Entry) → IsMark e → RestsAt core.setup log e
 mark-rests core log (entry.Exec link) mark = tt
 mark-rests core log (entry.Drop link) mark = tt
 mark-rests core log _ mark = absurd mark

@@ -1,19 +1,18 @@
 -- What the core carries over a client that isn't served.
-use Rattle.std.specs.Prelude.{◌≡◌, ◌⊎◌, ℕ, suc, Bool, true, false, nat_eq, ◌||◌, is_some, List, [], ◌∷◌, ◌++◌, length, Option, Some, None, IsSome, refl}
+use Rattle.std.specs.Prelude.{◌≡◌, ◌⊎◌, ℕ, Bool, true, false, nat_eq, ◌||◌, List, [], ◌∷◌, ◌++◌, Option, Some, None, IsSome, refl}
 use Rattle.std.proofs.Common.{sym, ◌∙◌, ap, subst, inl, inr}
 use Rattle.mx_base.specs.declared.names.LinkId.{LinkId}
 use Rattle.mx_base.specs.declared.names.Port.{Port}
-use Rattle.mx_wire.specs.Log.{Log, accepted_links, got_bytes, wrote_bytes, read_of, written_of, is_open}
+use Rattle.mx_wire.specs.Log.{Log, wrote_bytes, written_of, is_open}
 use Rattle.mx_wire.specs.Tells.{MayFollow}
 use Rattle.mx_wire.specs.Growth.{bool_cases, same_number, nat_eq-sym}
 use Rattle.mx_wire.specs.declared.entry.Entry.TheVariants as entry
 use Rattle.ready_loop.specs.Machine.{CarriesOver}
 use Rattle.client_session.specs.declared.session.Session.{Session}
 use Rattle.client_session.specs.Growth.{client_link-back}
-use Rattle.client_session.specs.Headline.{Turn, Service, replies_to, IsRefusing, Passes as PassesOn}
-use Rattle.client_session.specs.Past.{Past, past-none}
-use Rattle.client_session.specs.Past.IsLast.{None_yet}
-use Rattle.client_session.specs.Stands.{WasAnswered, IsNext, HasSession}
+use Rattle.client_session.specs.Setups.{Setup}
+use Rattle.client_session.specs.Headline.{Turn, Service, due, IsPrefix, IsRefusing, Passes as PassesOn}
+use Rattle.client_session.specs.Stands.{IsNext, HasSession}
 use Rattle.session_core.specs.declared.router.Core.{Core}
 use Rattle.session_core.specs.declared.place.Place.{Place}
 use Rattle.session_core.specs.declared.place.Place.TheVariants as place
@@ -61,41 +60,25 @@ distinct-end (link ∷ links) new apart distinct =
     (among-end link new links ∙ or-neither (is_among link links) (nat_eq link.0 new.0) distinct.0 (nat_eq-sym new.0 link.0 both.0), distinct-end links new both.1 distinct.1)
 
 module _ (old new : Core) (log : Log) (port : Port) (link : LinkId) (salt : List ℕ) (refused : List Turn) (may : MayFollow log (entry.Accepted port link salt)) (sessions : TracksSessions old refused log) (links : TracksLinks old log) (refuses : Refuses old link new) where
-  silent : (service : Service) → WasAnswered (replies_to service (suc (length (accepted_links log))) (log ++ entry.Accepted port link salt ∷ [])) (read_of link (log ++ entry.Accepted port link salt ∷ [])) (written_of link (log ++ entry.Accepted port link salt ∷ []))
-  silent service = record {
-    bytes = [];
-    front = record { rest = []; is = ap (λ xs. xs ++ []) (new-bytes wrote_bytes link log (entry.Accepted port link salt) refl may.fits.fresh) };
-    answers = record {
-      done = [];
-      waiting = [];
-      last = [];
-      so_far = record {
-        past = subst (λ (xs : List ℕ). Past xs [] []) (sym (new-bytes got_bytes link log (entry.Accepted port link salt) refl may.fits.fresh)) past-none;
-        before = [];
-        answered = refl;
-        is_last = None_yet;
-        is = refl;
-      };
-    };
-  }
+  silent : (service : Service) (n : ℕ) → IsPrefix (written_of link (log ++ entry.Accepted port link salt ∷ [])) (due service n (log ++ entry.Accepted port link salt ∷ []))
+  silent service n = record { rest = due service n (log ++ entry.Accepted port link salt ∷ []); is = ap (λ xs. xs ++ due service n (log ++ entry.Accepted port link salt ∷ [])) (new-bytes wrote_bytes link log (entry.Accepted port link salt) refl may.fits.fresh) }
 
   pub sessions-refused : TracksSessions new refused (log ++ entry.Accepted port link salt ∷ [])
   sessions-refused = record {
     accepted = refuses.accepted ∙ counted-clients old log port link salt refused may sessions links;
-    refusing = subst (λ t. IsRefusing (is_some t) refused (log ++ entry.Accepted port link salt ∷ [])) (sym refuses.service.target) (PassesOn refused log (entry.Accepted port link salt) sessions.refusing refl);
-    has = λ key session at. subst (λ service. HasSession service session (log ++ entry.Accepted port link salt ∷ [])) (sym (same-service old new refused refuses.service.target))
+    refusing = subst (λ (t : Setup). IsRefusing t refused (log ++ entry.Accepted port link salt ∷ [])) (sym refuses.service.setup) (PassesOn refused log (entry.Accepted port link salt) sessions.refusing refl);
+    has = λ key session at. subst (λ service. HasSession service session (log ++ entry.Accepted port link salt ∷ [])) (sym (same-service old new refused refuses.service.setup))
         (session-on old log port link salt refused may sessions links (service_of old refused) key session (sym (refuses.sessions.same key) ∙ at) (sessions.has key session (sym (refuses.sessions.same key) ∙ at)));
     numbers = λ key other a b at_a at_b same. sessions.numbers key other a b (sym (refuses.sessions.same key) ∙ at_a) (sym (refuses.sessions.same other) ∙ at_b) same;
-    ended = λ n other is. elim (client_link-back n log (entry.Accepted port link salt) link other refl is) [
+    ended = λ n other is. elim (client_link-back n log port link salt other is) [
       | inl before ↦ elim (sessions.ended n other before) [
         | inl live ↦ inl (record { key = live.key; session = live.session; at = refuses.sessions.same live.key ∙ live.at; number = live.number })
-        | inr over ↦ inr (subst (λ service. WasAnswered (replies_to service n (log ++ entry.Accepted port link salt ∷ [])) (read_of other (log ++ entry.Accepted port link salt ∷ [])) (written_of other (log ++ entry.Accepted port link salt ∷ []))) (sym (same-service old new refused refuses.service.target))
+        | inr over ↦ inr (subst (λ service. IsPrefix (written_of other (log ++ entry.Accepted port link salt ∷ [])) (due service n (log ++ entry.Accepted port link salt ∷ []))) (sym (same-service old new refused refuses.service.setup))
             (over-on old log port link salt refused may sessions links (service_of old refused) n other before over))
       ]
-      | inr now ↦ inr (subst (λ (l : LinkId). WasAnswered (replies_to (service_of new refused) n (log ++ entry.Accepted port link salt ∷ [])) (read_of l (log ++ entry.Accepted port link salt ∷ [])) (written_of l (log ++ entry.Accepted port link salt ∷ []))) now.1
-          (subst (λ m. WasAnswered (replies_to (service_of new refused) m (log ++ entry.Accepted port link salt ∷ [])) (read_of link (log ++ entry.Accepted port link salt ∷ [])) (written_of link (log ++ entry.Accepted port link salt ∷ []))) (sym now.0) (silent (service_of new refused))))
+      | inr now ↦ inr (subst (λ (l : LinkId). IsPrefix (written_of l (log ++ entry.Accepted port link salt ∷ [])) (due (service_of new refused) n (log ++ entry.Accepted port link salt ∷ []))) now.1 (silent (service_of new refused) n))
     ];
-    later = λ n i more. subst (λ service. IsNext service n i (log ++ entry.Accepted port link salt ∷ [])) (sym (same-service old new refused refuses.service.target)) (later-on old log port link salt refused may sessions links n i more);
+    later = λ n i more. subst (λ service. IsNext service n i (log ++ entry.Accepted port link salt ∷ [])) (sym (same-service old new refused refuses.service.setup)) (later-on old log port link salt refused may sessions links n i more);
   }
 
   open-on : (other : LinkId) → nat_eq other.0 link.0 ≡ false → is_open other (log ++ entry.Accepted port link salt ∷ []) ≡ is_open other log
@@ -136,11 +119,11 @@ module _ (old new : Core) (log : Log) (port : Port) (link : LinkId) (salt : List
           (record { unplaced = refuses.places.same link ∙ unplaced; opened = open-new link log (entry.Accepted port link salt) refl refl })
     ];
     distinct = subst AreDistinct (sym refuses.refused) (distinct-end old.refused.items link (not-among (is_among link old.refused.items) refl) links.distinct);
-    others = λ n key other session is at apart. elim (client_link-back n log (entry.Accepted port link salt) link other refl is) [
+    others = λ n key other session is at apart. elim (client_link-back n log port link salt other is) [
       | inl before ↦ links.others n key other session before (before-at key session at) apart
       | inr now ↦ ap (λ (l : LinkId). nat_eq session.link.0 l.0) (sym now.1) ∙ fresh-session old refused log sessions links link may.fits.fresh key session (before-at key session at)
     ];
-    servers = λ n key other up session is at has_up. elim (client_link-back n log (entry.Accepted port link salt) link other refl is) [
+    servers = λ n key other up session is at has_up. elim (client_link-back n log port link salt other is) [
       | inl before ↦ links.servers n key other up session before (before-at key session at) has_up
       | inr now ↦ ap (λ (l : LinkId). nat_eq up.0 l.0) (sym now.1) ∙ fresh-upstream old refused log sessions links link may.fits.fresh key session up (before-at key session at) has_up
     ];
@@ -157,17 +140,17 @@ module _ (old new : Core) (log : Log) (port : Port) (link : LinkId) (salt : List
     not-among false among = among
 
 -- a client comes
-pub comes-carries : (old new : Core) (port : Port) (link : LinkId) (salt : List ℕ) (admitted : Bool) → Comes admitted old link new → CarriesOver Stands due_in old new (entry.Accepted port link salt)
+pub comes-carries : (old new : Core) (port : Port) (link : LinkId) (salt : List ℕ) (admitted : Bool) → Comes admitted old link salt new → CarriesOver Stands due_in old new (entry.Accepted port link salt)
 comes-carries old new port link salt true admits = record {
   carried = λ log may is_due held. record {
-    upholds = upholds-more old new held.upholds.refused log (entry.Accepted port link salt) admits.service.target (few-more log (entry.Accepted port link salt) may held.upholds.few) held.upholds tt (rests-due old log (entry.Accepted port link salt) is_due held)
+    upholds = upholds-more old new held.upholds.refused log (entry.Accepted port link salt) admits.service.setup (few-more log (entry.Accepted port link salt) may held.upholds.few) held.upholds tt (rests-due old log (entry.Accepted port link salt) is_due held)
         (sessions-admitted old new log port link salt held.upholds.refused may held.upholds.sessions held.links admits);
     links = links-admitted old new log port link salt held.upholds.refused may held.upholds.sessions held.links admits;
   };
 }
 comes-carries old new port link salt false refuses = record {
   carried = λ log may is_due held. record {
-    upholds = upholds-more old new held.upholds.refused log (entry.Accepted port link salt) refuses.service.target (few-more log (entry.Accepted port link salt) may held.upholds.few) held.upholds tt (rests-due old log (entry.Accepted port link salt) is_due held)
+    upholds = upholds-more old new held.upholds.refused log (entry.Accepted port link salt) refuses.service.setup (few-more log (entry.Accepted port link salt) may held.upholds.few) held.upholds tt (rests-due old log (entry.Accepted port link salt) is_due held)
         (sessions-refused old new log port link salt held.upholds.refused may held.upholds.sessions held.links refuses);
     links = links-refused old new log port link salt held.upholds.refused may held.upholds.sessions held.links refuses;
   };

@@ -12,7 +12,7 @@ use Rattle.client_session.specs.declared.session.Session.{Session}
 use Rattle.client_session.specs.Acts.{act_of, asked_for, over_by, is_over}
 use Rattle.client_session.specs.Stands.{is_closed}
 use Rattle.session_core.specs.declared.router.Core.{Core}
-use Rattle.session_core.specs.declared.router.ServerAt.{ServerAt}
+use Rattle.client_session.specs.declared.setup.ServerAt.{ServerAt}
 use Rattle.session_core.specs.declared.place.Place.{Place}
 use Rattle.session_core.specs.Cores.{place_of, session_at}
 use Rattle.session_core.specs.Acting.{is_any, session_asks, turn_asks, asks, Tidies, TidiesIf, Forgets, SessionIf, AskedAt, OpensTo, TurnActs}
@@ -103,6 +103,6 @@ turn-none old new empty acts = by old.turn refl acts where
       let here : mid.turn ≡ Some key = kept.1 ∙ tidied-turn old tidied key tidies ∙ some in
       subst (λ (c : Core). asks c ≡ false) (sym on.1)
       (refused-none mid (kept.0 ∙ tidied-refused tidied key tidies) (ap (turn_asks mid) here ∙ asked-quiet tidied mid key asks_it (tidied-tidy old tidied key tidies)))
-  by (Some key) some (tidied, mid, Some session_act.Open, tidies, asks_it, on) = opens-none mid mid.target ((asked-refused tidied mid key (Some session_act.Open) asks_it).0 ∙ tidied-refused tidied key tidies) on
+  by (Some key) some (tidied, mid, Some session_act.Open, tidies, asks_it, on) = opens-none mid mid.setup.target ((asked-refused tidied mid key (Some session_act.Open) asks_it).0 ∙ tidied-refused tidied key tidies) on
   by (Some key) some (tidied, mid, Some (session_act.CloseServer link), tidies, asks_it, on) = (let no : ◌≡◌ {A = Option Act} None (Some (act.Close link)) = on.0 in cc)
   by (Some key) some (tidied, mid, Some (session_act.CloseClient link), tidies, asks_it, on) = (let no : ◌≡◌ {A = Option Act} None (Some (act.Close link)) = on.0 in cc)

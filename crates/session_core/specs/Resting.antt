@@ -9,34 +9,29 @@ use Rattle.mx_wire.specs.Growth.{bool_cases, same_number}
 use Rattle.mx_wire.specs.declared.entry.Entry.{Entry}
 use Rattle.mx_wire.specs.declared.entry.Entry.TheVariants as entry
 use Rattle.ready_loop.specs.Drained.{read_dry, write_dry, IsDrained, MayWait}
-use Rattle.client_session.specs.declared.hear.Server.{Server}
-use Rattle.client_session.specs.declared.phase.Command.{Command}
+use Rattle.server_side.specs.Backend.{Left, left}
+use Rattle.client_session.specs.declared.phase.Server.{Server}
 use Rattle.client_session.specs.declared.phase.Phase.{Phase}
-use Rattle.client_session.specs.declared.phase.Phase.TheVariants.{Idle, Working, Ending}
+use Rattle.client_session.specs.declared.phase.Phase.TheVariants as phase
 use Rattle.client_session.specs.declared.phase.LinkState.{LinkState}
 use Rattle.client_session.specs.declared.phase.LinkState.TheVariants as link_state
 use Rattle.client_session.specs.declared.phase.Upstream.{Upstream}
 use Rattle.client_session.specs.declared.phase.Upstream.TheVariants as upstream
 use Rattle.client_session.specs.declared.session.Session.{Session}
 use Rattle.client_session.specs.Acts.{act_by, act_of, client_act, wants_link, open_if, is_over}
-use Rattle.client_session.specs.Headline.{client_link, Turn, Service, IsRefusing}
+use Rattle.client_session.specs.Headline.{client_link, Turn, Service}
+use Rattle.client_session.specs.Dues.{session-link}
 use Rattle.client_session.specs.Rest.{IsAnswered, IsAtRest, RestsAt}
 use Rattle.client_session.specs.Resting.{IsLeft, session-answered}
-use Rattle.client_session.specs.Sends.{is_read, reply_left, command_left}
-use Rattle.client_session.specs.Stands.{IsDryIn, upstream_link, is_closed}
+use Rattle.client_session.specs.Sends.{is_read, reply_left, as_sent, server_left}
+use Rattle.client_session.specs.Stands.{IsDryIn, talk_of, HasSession, upstream_link, is_closed}
 use Rattle.session_core.specs.declared.router.Core.{Core}
-use Rattle.session_core.specs.declared.router.ServerAt.{ServerAt}
 use Rattle.session_core.specs.declared.place.Place.{Place}
 use Rattle.session_core.specs.declared.place.Place.TheVariants as place
-use Rattle.session_core.specs.Cores.{place_of, session_at, target_of, is_among, open_link, is_link_of}
+use Rattle.session_core.specs.Cores.{place_of, session_at, is_among, open_link, is_link_of}
 use Rattle.session_core.specs.Acting.{session_asks, asks, client_reads, server_reads, reads_at, reads, client_sends, server_sends, sends_at, sends}
-use Rattle.session_core.specs.Stands.{service_of, IsLive, TracksSessions, IsPlaced, TracksLinks, Upholds, Stands, due_in}
+use Rattle.session_core.specs.Stands.{service_of, IsLive, TracksSessions, IsPlaced, IsConnected, TracksLinks, Stands, due_in}
 use Rattle.session_core.specs.Links.{or-false, none-refused, quiet-session}
-
--- whether a server is configured
-pub some-target : (target : Option ServerAt) → is_some (target_of target) ≡ is_some target
-some-target None = refl
-some-target (Some at) = refl
 
 -- A session that asks for nothing.
 
@@ -76,66 +71,87 @@ upstream-open session link none is = by session.upstream refl none is where
   by (upstream.Closing other) at quiet there = (let no : true ≡ false = quiet in absurd (cc))
 
 -- a command in work of an open client has a link to a server
-working-upstream : (session : Session) (command : Command) → is_some (act_of session) ≡ false → session.state ≡ link_state.Open → session.phase ≡ Working command → (server : Server) × (session.upstream ≡ upstream.Open server)
-working-upstream session command none opened working = by session.upstream refl none where
+working-upstream : (session : Session) (payload : List ℕ) → is_some (act_of session) ≡ false → session.state ≡ link_state.Open → session.phase ≡ phase.Working payload → (server : Server) × (session.upstream ≡ upstream.Open server)
+working-upstream session payload none opened working = by session.upstream refl none where
   by : (up : Upstream) → session.upstream ≡ up → is_some (act_by up session) ≡ false → (server : Server) × (session.upstream ≡ upstream.Open server)
   by upstream.Absent at quiet = (
       let act : is_some (client_act link_state.Open session) ≡ false = subst (λ (s : LinkState). is_some (client_act s session) ≡ false) opened quiet in
-      let wants : is_some (open_if (wants_link (Working command) upstream.Absent)) ≡ false = subst (λ (u : Upstream). is_some (open_if (wants_link (Working command) u)) ≡ false) at (subst (λ (p : Phase). is_some (open_if (wants_link p session.upstream)) ≡ false) working act) in
+      let wants : is_some (open_if (wants_link (phase.Working payload) upstream.Absent)) ≡ false = subst (λ (u : Upstream). is_some (open_if (wants_link (phase.Working payload) u)) ≡ false) at (subst (λ (p : Phase). is_some (open_if (wants_link p session.upstream)) ≡ false) working act) in
       let no : true ≡ false = wants in absurd (cc))
   by (upstream.Open server) at quiet = (server, at)
   by (upstream.Closing link) at quiet = (let no : true ≡ false = quiet in absurd (cc))
 
 -- What the loop leaves of it.
 
-client-sends : (core : Core) (key : ℕ) (session : Session) → session_at core key ≡ Some session → place_of core session.link ≡ Some (place.Client key) → sends core session.link ≡ reply_left session.outgoing
-client-sends core key session at placed = ap (λ (p : Option Place). sends_at core p session.link) placed ∙ ap (λ (s : Option Session). client_sends s session.link) at ∙ ap (λ b. cond b (reply_left session.outgoing) None) (same_number session.link.0)
+client-sends : (core : Core) (key : ℕ) (session : Session) → session_at core key ≡ Some session → place_of core session.link ≡ Some (place.Client key) → sends core session.link ≡ reply_left session.client.outgoing
+client-sends core key session at placed = ap (λ (p : Option Place). sends_at core p session.link) placed ∙ ap (λ (s : Option Session). client_sends s session.link) at ∙ ap (λ b. cond b (reply_left session.client.outgoing) None) (same_number session.link.0)
 
 some-left : (bytes : List ℕ) → 0 < length bytes → IsSome (reply_left bytes)
 some-left bytes some = (let more : nat_lt 0 (length bytes) ≡ true = search arith in rw more refl)
 
-client-dry : (core : Core) (log : Log) (key : ℕ) (session : Session) → TracksLinks core log → IsDrained (reads core) (sends core) log → session_at core key ≡ Some session → is_closed session.state ≡ false → 0 < length session.outgoing → write_dry session.link log ≡ true
+client-dry : (core : Core) (log : Log) (key : ℕ) (session : Session) → TracksLinks core log → IsDrained (reads core) (sends core) log → session_at core key ≡ Some session → is_closed session.state ≡ false → 0 < length session.client.outgoing → write_dry session.link log ≡ true
 client-dry core log key session links drained at shut some =
     let connected = links.client key session at shut in
-    drained.written session.link connected.opened (subst (λ o. IsSome o) (sym (client-sends core key session at connected.placed)) (some-left session.outgoing some))
+    drained.written session.link connected.opened (subst (λ o. IsSome o) (sym (client-sends core key session at connected.placed)) (some-left session.client.outgoing some))
 
-server-sends : (core : Core) (key : ℕ) (session : Session) (server : Server) → session_at core key ≡ Some session → session.upstream ≡ upstream.Open server → place_of core server.link ≡ Some (place.Server key) → sends core server.link ≡ command_left session session.phase
+server-sends : (core : Core) (key : ℕ) (session : Session) (server : Server) → session_at core key ≡ Some session → session.upstream ≡ upstream.Open server → place_of core server.link ≡ Some (place.Server key) → sends core server.link ≡ server_left session.upstream
 server-sends core key session server at on placed =
     ap (λ (p : Option Place). sends_at core p server.link) placed ∙ ap (λ (s : Option Session). server_sends s server.link) at
-    ∙ ap (λ (u : Upstream). cond (is_link_of server.link (open_link u)) (command_left session session.phase) None) on ∙ ap (λ b. cond b (command_left session session.phase) None) (same_number server.link.0)
+    ∙ ap (λ (u : Upstream). cond (is_link_of server.link (open_link u)) (server_left session.upstream) None) on ∙ ap (λ b. cond b (server_left session.upstream) None) (same_number server.link.0)
 
-command-dry : (core : Core) (log : Log) (key : ℕ) (session : Session) (command : Command) (server : Server) → TracksLinks core log → IsDrained (reads core) (sends core) log → session_at core key ≡ Some session → session.phase ≡ Working command
-    → session.upstream ≡ upstream.Open server → command.sent < length command.bytes → write_dry server.link log ≡ true
-command-dry core log key session command server links drained at working on less =
+some-sent : (o : Option Left) → IsSome o → IsSome (as_sent o)
+some-sent None some = cc
+some-sent (Some left) some = refl
+
+server-dry : (core : Core) (log : Log) (key : ℕ) (session : Session) (server : Server) → TracksLinks core log → IsDrained (reads core) (sends core) log → session_at core key ≡ Some session → session.upstream ≡ upstream.Open server → IsSome (left server.backend)
+    → write_dry server.link log ≡ true
+server-dry core log key session server links drained at on some =
     let there = links.server key session server.link at (ap upstream_link on) in
-    drained.written server.link there.opened (subst (λ o. IsSome o) (sym (server-sends core key session server at on there.placed ∙ ap (command_left session) working))
-    (let more : nat_lt command.sent (length command.bytes) ≡ true = search arith in rw more refl))
+    drained.written server.link there.opened (subst (λ o. IsSome o) (sym (server-sends core key session server at on there.placed ∙ ap server_left on)) (some-sent (left server.backend) some))
+
+-- nothing is left to be written there, or the link takes no more
+left-or-dry : (o : Option Left) → ((o ≡ None) ⊎ IsSome o)
+left-or-dry None = inl refl
+left-or-dry (Some left) = inr refl
 
 left-of : (core : Core) (log : Log) (key : ℕ) (session : Session) → TracksLinks core log → IsDrained (reads core) (sends core) log → session_asks core (Some session) ≡ false → session_at core key ≡ Some session → session.state ≡ link_state.Open → IsLeft session log
 left-of core log key session links drained quiet at opened = record {
   written = λ some. client-dry core log key session links drained at (ap is_closed opened) some;
-  works = λ command working. (
-      let up = working-upstream session command (quiet-act core session quiet) opened working in
+  works = λ payload working. (
+      let up = working-upstream session payload (quiet-act core session quiet) opened working in
       let there = links.server key session up.0.link at (ap upstream_link up.1) in
-      record { server = up.0; on = up.1; opened = there.opened; dry = λ less. command-dry core log key session command up.0 links drained at working up.1 less });
+      record {
+        server = up.0;
+        on = up.1;
+        opened = there.opened;
+        dry = elim (left-or-dry (left up.0.backend)) [
+          | inl none ↦ inl none
+          | inr some ↦ inr (server-dry core log key session up.0 links drained at up.1 some)
+        ];
+      });
 }
 
 -- Each open link is read dry, or takes no more.
 
-client-read : (core : Core) (log : Log) (key : ℕ) (session : Session) → TracksLinks core log → IsDrained (reads core) (sends core) log → session_at core key ≡ Some session → session.state ≡ link_state.Open → IsDryIn session.state session.phase session
-    → (read_dry session.link log ≡ true) ⊎ (write_dry session.link log ≡ true)
-client-read core log key session links drained at opened dry = by session.phase refl (subst (λ (s : LinkState). IsDryIn s session.phase session) opened dry) where
-  connected : Rattle.session_core.specs.Stands.IsConnected core key session.link log
+client-read : (core : Core) (log : Log) (key : ℕ) (session : Session) → TracksLinks core log → IsDrained (reads core) (sends core) log → session_at core key ≡ Some session → session.state ≡ link_state.Open
+    → (session.phase ≡ phase.Ending → 0 < length session.client.outgoing) → (read_dry session.link log ≡ true) ⊎ (write_dry session.link log ≡ true)
+client-read core log key session links drained at opened left = by session.phase refl where
+  connected : IsConnected core key session.link log
   connected = links.client key session at (ap is_closed opened)
 
   read : is_read session.phase ≡ true → (read_dry session.link log ≡ true) ⊎ (write_dry session.link log ≡ true)
   read wanted = inl (drained.read session.link connected.opened (
       ap (λ (p : Option Place). reads_at core p session.link) connected.placed ∙ ap (λ (s : Option Session). client_reads s session.link) at ∙ ap (λ b. b && is_read session.phase) (same_number session.link.0) ∙ wanted))
 
-  by : (phase : Phase) → session.phase ≡ phase → IsDryIn link_state.Open phase session → (read_dry session.link log ≡ true) ⊎ (write_dry session.link log ≡ true)
-  by Idle is left = read (ap is_read is)
-  by (Working command) is left = read (ap is_read is)
-  by Ending is left = inr (client-dry core log key session links drained at (ap is_closed opened) left)
+  by : (p : Phase) → session.phase ≡ p → (read_dry session.link log ≡ true) ⊎ (write_dry session.link log ≡ true)
+  by phase.LoggingIn is = read (ap is_read is)
+  by phase.Idle is = read (ap is_read is)
+  by (phase.Working payload) is = read (ap is_read is)
+  by phase.Ending is = inr (client-dry core log key session links drained at (ap is_closed opened) (left is))
+
+-- an open one that ends has bytes to be written
+ending-left : (service : Service) (session : Session) (log : Log) → session.state ≡ link_state.Open → HasSession service session log → session.phase ≡ phase.Ending → 0 < length session.client.outgoing
+ending-left service session log opened has ending = subst (λ (p : Phase). IsDryIn link_state.Open p session (talk_of service session log) has.told) ending (subst (λ (s : LinkState). IsDryIn s session.phase session (talk_of service session log) has.told) opened has.dry)
 
 server-read : (core : Core) (log : Log) (key : ℕ) (session : Session) (link : LinkId) → TracksLinks core log → IsDrained (reads core) (sends core) log → session_asks core (Some session) ≡ false → session_at core key ≡ Some session → upstream_link session.upstream ≡ Some link
     → read_dry link log ≡ true
@@ -164,7 +180,7 @@ module _ (core : Core) (log : Log) (refused : List Turn) (sessions : TracksSessi
   read-placed link (place.Client key) placed (session, at, same) =
       let here : place_of core session.link ≡ Some (place.Client key) = ap (place_of core) same ∙ placed in
       let opened = quiet-open core session (quiet key session at) (placed-open core key session (quiet key session at) here) in
-      subst (λ (l : LinkId). (read_dry l log ≡ true) ⊎ (write_dry l log ≡ true)) same (client-read core log key session links may.drained at opened (sessions.has key session at).dry)
+      subst (λ (l : LinkId). (read_dry l log ≡ true) ⊎ (write_dry l log ≡ true)) same (client-read core log key session links may.drained at opened (λ ending. ending-left (service_of core refused) session log opened (sessions.has key session at) ending))
   read-placed link (place.Server key) placed (session, at, up) = inl (server-read core log key session link links may.drained (quiet key session at) at up)
 
   read-open : (link : LinkId) → IsOpen link log → (read_dry link log ≡ true) ⊎ (write_dry link log ≡ true)
@@ -179,7 +195,7 @@ module _ (core : Core) (log : Log) (refused : List Turn) (sessions : TracksSessi
   answered-live : (n : ℕ) (link : LinkId) → client_link n log ≡ Some link → IsOpen link log → IsLive core n → IsAnswered (service_of core refused) n link log
   answered-live n link is opened live =
       let has = sessions.has live.key live.session live.at in
-      let same : live.session.link ≡ link = (let both : Some live.session.link ≡ Some link = sym has.number ∙ ap (λ m. client_link m log) live.number ∙ is in cc) in
+      let same : live.session.link ≡ link = (let both : Some live.session.link ≡ Some link = sym (session-link (service_of core refused) live.session log has.client) ∙ ap (λ m. client_link m log) live.number ∙ is in cc) in
       let asks_none = quiet live.key live.session live.at in
       let shut : is_closed live.session.state ≡ false = by_open live.key live.session live.at (subst (λ (l : LinkId). IsOpen l log) (sym same) opened) (is_closed live.session.state) refl in
       let open_state = quiet-open core live.session asks_none shut in
@@ -191,8 +207,8 @@ module _ (core : Core) (log : Log) (refused : List Turn) (sessions : TracksSessi
         by_open key session at open_link_now false closed = closed
 
   over-placed : (n : ℕ) (link : LinkId) (where_to : Place) → client_link n log ≡ Some link → IsPlaced core link where_to → IsLive core n
-  over-placed n link (place.Client key) is (session, at, same) = elim (bool_cases (nat_eq n session.number.0)) [
-    | inl here ↦ record { key = key; session = session; at = at; number = sym (eqb-true n session.number.0 here) }
+  over-placed n link (place.Client key) is (session, at, same) = elim (bool_cases (nat_eq n session.client.number.0)) [
+    | inl here ↦ record { key = key; session = session; at = at; number = sym (eqb-true n session.client.number.0 here) }
     | inr apart ↦ (let no : true ≡ false = sym (same_number link.0) ∙ sym (ap (λ (l : LinkId). nat_eq l.0 link.0) same) ∙ links.others n key link session is at apart in absurd (cc))
   ]
   over-placed n link (place.Server key) is (session, at, up) = (let no : true ≡ false = sym (same_number link.0) ∙ links.servers n key link link session is at up in absurd (cc))
@@ -206,17 +222,17 @@ module _ (core : Core) (log : Log) (refused : List Turn) (sessions : TracksSessi
     by None at some = cc
     by (Some where_to) at some = over-placed n link where_to is (links.placed link where_to at)
 
-  at-rest : IsAtRest (target_of core.target) log
+  at-rest : IsAtRest core.setup log
   at-rest = record {
     accepted = may.drained.accepted;
     named = may.drained.named;
     read = read-open;
     refused = refused;
-    refusing = subst (λ b. IsRefusing b refused log) (sym (some-target core.target)) sessions.refusing;
-    answered = λ n link is opened. subst (λ b. let service : Service = record { has_server = b; refused = refused } in IsAnswered service n link log) (sym (some-target core.target)) (answered-open n link is opened);
+    refusing = sessions.refusing;
+    answered = answered-open;
   }
 
-pub rests-due : (core : Core) (log : Log) (e : Entry) → due_in core log e → Stands core log → RestsAt (target_of core.target) log e
+pub rests-due : (core : Core) (log : Log) (e : Entry) → due_in core log e → Stands core log → RestsAt core.setup log e
 rests-due core log (entry.Woke until_ms now_ms) may held = at-rest core log held.upholds.refused held.upholds.sessions held.links may
 rests-due core log entry.WaitFailed may held = at-rest core log held.upholds.refused held.upholds.sessions held.links may
 rests-due core log entry.Over may held = at-rest core log held.upholds.refused held.upholds.sessions held.links may

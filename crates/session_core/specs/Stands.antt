@@ -1,5 +1,5 @@
 -- The state of the core after a log.
-use Rattle.std.specs.Prelude.{◌≡◌, ◌⊎◌, ℕ, ◌<◌, ◌≤◌, ◌*◌, true, false, nat_eq, is_some, List, [], ◌∷◌, length, Some, None, IsSome}
+use Rattle.std.specs.Prelude.{◌≡◌, ◌⊎◌, ℕ, ◌<◌, ◌≤◌, ◌*◌, true, false, nat_eq, List, [], ◌∷◌, length, Some, None, IsSome}
 use Rattle.mx_base.specs.declared.names.LinkId.{LinkId}
 use Rattle.mx_wire.specs.Log.{Log, accepted_links, read_of, written_of, is_open}
 use Rattle.mx_wire.specs.Tells.{IsOpen}
@@ -7,35 +7,35 @@ use Rattle.mx_wire.specs.Moments.{AtEachMoment, AllLawful}
 use Rattle.mx_wire.specs.declared.entry.Entry.{Entry}
 use Rattle.ready_loop.specs.Drained.{IsDue}
 use Rattle.client_session.specs.declared.session.Session.{Session}
-use Rattle.client_session.specs.Headline.{client_link, Turn, Service, replies_to, IsRefusing, IsServed, IsLawful}
+use Rattle.client_session.specs.Headline.{client_link, Turn, Service, due, IsPrefix, IsRefusing, IsServed, IsLawful}
 use Rattle.client_session.specs.Rest.{RestsAt}
-use Rattle.client_session.specs.Stands.{WasAnswered, IsNext, HasSession, upstream_link, is_closed}
+use Rattle.client_session.specs.Stands.{IsNext, HasSession, upstream_link, is_closed}
 use Rattle.session_core.specs.declared.router.Core.{Core}
 use Rattle.session_core.specs.declared.place.Place.{Place}
 use Rattle.session_core.specs.declared.place.Place.TheVariants as place
-use Rattle.session_core.specs.Cores.{place_of, session_at, target_of, is_among}
+use Rattle.session_core.specs.Cores.{place_of, session_at, is_among}
 use Rattle.session_core.specs.Acting.{session_asks, asks, reads, sends}
 
 -- The sessions.
 
 -- what the core serves by, where these commands were refused
 abbrev pub service_of : Core → List Turn → Service
-service_of core refused = record { has_server = is_some core.target; refused = refused }
+service_of core refused = record { setup = core.setup; refused = refused }
 
 -- client n has a session
 pub record IsLive (core : Core) (n : ℕ) : Type 0 where
   pub key : ℕ
   pub session : Session
   pub at : session_at core key ≡ Some session
-  pub number : session.number.0 ≡ n
+  pub number : session.client.number.0 ≡ n
 
--- each session stands for the log, and what was written to a client without one is a beginning of its answers
+-- each session stands for the log, and what was written to a client without one is a beginning of what it is due
 pub record TracksSessions (core : Core) (refused : List Turn) (log : Log) : Type 0 where
   pub accepted : core.accepted ≡ length (accepted_links log)
-  pub refusing : IsRefusing (is_some core.target) refused log
+  pub refusing : IsRefusing core.setup refused log
   pub has : (key : ℕ) (session : Session) → session_at core key ≡ Some session → HasSession (service_of core refused) session log
-  pub numbers : (key other : ℕ) (session there : Session) → session_at core key ≡ Some session → session_at core other ≡ Some there → session.number.0 ≡ there.number.0 → key ≡ other
-  pub ended : (n : ℕ) (link : LinkId) → client_link n log ≡ Some link → IsLive core n ⊎ WasAnswered (replies_to (service_of core refused) n log) (read_of link log) (written_of link log)
+  pub numbers : (key other : ℕ) (session there : Session) → session_at core key ≡ Some session → session_at core other ≡ Some there → session.client.number.0 ≡ there.client.number.0 → key ≡ other
+  pub ended : (n : ℕ) (link : LinkId) → client_link n log ≡ Some link → IsLive core n ⊎ IsPrefix (written_of link log) (due (service_of core refused) n log)
   pub later : (n i : ℕ) → length (accepted_links log) < n → IsNext (service_of core refused) n i log
 
 -- The links.
@@ -75,7 +75,7 @@ pub record TracksLinks (core : Core) (log : Log) : Type 0 where
   pub refused : (link : LinkId) → is_among link core.refused.items ≡ true → IsUnplaced core link log
   pub distinct : AreDistinct core.refused.items
   -- no other client has the link of a session, and no client that to a server
-  pub others : (n key : ℕ) (link : LinkId) (session : Session) → client_link n log ≡ Some link → session_at core key ≡ Some session → nat_eq n session.number.0 ≡ false → nat_eq session.link.0 link.0 ≡ false
+  pub others : (n key : ℕ) (link : LinkId) (session : Session) → client_link n log ≡ Some link → session_at core key ≡ Some session → nat_eq n session.client.number.0 ≡ false → nat_eq session.link.0 link.0 ≡ false
   pub servers : (n key : ℕ) (link up : LinkId) (session : Session) → client_link n log ≡ Some link → session_at core key ≡ Some session → upstream_link session.upstream ≡ Some up → nat_eq up.0 link.0 ≡ false
   -- one session at most asks for something: the one that has its turn
   pub calm : (key : ℕ) (session : Session) → session_at core key ≡ Some session → (core.turn ≡ Some key) ⊎ (session_asks core (Some session) ≡ false)
@@ -91,9 +91,9 @@ pub record Upholds (core : Core) (log : Log) : Type 0 where
   pub few : IsFew log
   pub refused : List Turn
   pub sessions : TracksSessions core refused log
-  pub always : AtEachMoment (IsServed (target_of core.target)) log
-  pub lawful : AllLawful (IsLawful (target_of core.target)) log
-  pub rests : AllLawful (RestsAt (target_of core.target)) log
+  pub always : AtEachMoment (IsServed core.setup) log
+  pub lawful : AllLawful (IsLawful core.setup) log
+  pub rests : AllLawful (RestsAt core.setup) log
 
 pub record Stands (core : Core) (log : Log) : Type 0 where
   pub upholds : Upholds core log

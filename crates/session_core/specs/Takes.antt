@@ -1,5 +1,5 @@
 -- What bytes and losses of a link change of the core.
-use Rattle.std.specs.Prelude.{◌≡◌, ℕ, List, Option, Some, None, is_some}
+use Rattle.std.specs.Prelude.{◌≡◌, ℕ, List, Option, Some, None}
 use Rattle.client_session.specs.declared.session.Session.{Session}
 use Rattle.client_session.specs.Events.{ClientSays, ServerSays, ServerLost, client_lost, is_begun}
 use Rattle.session_core.specs.declared.router.Core.{Core}
@@ -23,10 +23,10 @@ MarksAt old new key (Some session) = MarksOnly old new session key
 
 abbrev pub TakesBytes : Option Place → Core → List ℕ → Core → Type 0
 TakesBytes None old bytes new = new ≡ old
-TakesBytes (Some (place.Client key)) old bytes new = StepsAt (λ session later. ClientSays (is_some old.target) session.phase session bytes later) old new key (session_at old key)
-TakesBytes (Some (place.Server key)) old bytes new = StepsAt (λ session later. ServerSays (is_some old.target) (is_begun session.phase) session bytes later) old new key (session_at old key)
+TakesBytes (Some (place.Client key)) old bytes new = StepsAt (λ session later. ClientSays old.setup session.phase session bytes later) old new key (session_at old key)
+TakesBytes (Some (place.Server key)) old bytes new = StepsAt (λ session later. ServerSays old.setup session bytes later) old new key (session_at old key)
 
 abbrev pub Loses : Option Place → Core → Core → Type 0
 Loses None old new = new ≡ old
-Loses (Some (place.Client key)) old new = StepsAt (λ session later. later ≡ client_lost (is_begun session.phase) session) old new key (session_at old key)
-Loses (Some (place.Server key)) old new = StepsAt (λ session later. ServerLost (is_some old.target) (is_begun session.phase) session later) old new key (session_at old key)
+Loses (Some (place.Client key)) old new = StepsAt (λ session later. later ≡ client_lost (is_begun session) session) old new key (session_at old key)
+Loses (Some (place.Server key)) old new = StepsAt (λ session later. ServerLost old.setup session later) old new key (session_at old key)

@@ -12,6 +12,7 @@ use Rattle.client_session.specs.declared.phase.Upstream.{Upstream}
 use Rattle.client_session.specs.declared.phase.Upstream.TheVariants as upstream
 use Rattle.client_session.specs.declared.session.Session.{Session}
 use Rattle.client_session.specs.Acts.{over_by, is_over}
+use Rattle.client_session.specs.Dues.{session-link}
 use Rattle.client_session.specs.Headline.{Turn}
 use Rattle.client_session.specs.Stands.{upstream_link, is_closed}
 use Rattle.session_core.specs.declared.router.Core.{Core}
@@ -23,7 +24,7 @@ use Rattle.session_core.specs.Links.{asks-same}
 use Rattle.session_core.specs.Opening.{open-apart, same_link}
 use Rattle.session_core.specs.Passing.{sessions-kept, sessions-removed}
 use Rattle.session_core.specs.Sessions.{apart-from, differ-by}
-use Rattle.session_core.specs.Stands.{TracksSessions, IsPlaced, AreDistinct, TracksLinks, Stands}
+use Rattle.session_core.specs.Stands.{service_of, TracksSessions, IsPlaced, AreDistinct, TracksLinks, Stands}
 use Rattle.session_core.specs.Upholding.{upholds-as}
 
 -- Nothing changes but what is in reserve.
@@ -59,7 +60,7 @@ links-kept old new log keeps was = record {
   placed-on link (place.Client k) (s, is, same) = (s, keeps.sessions.same k ∙ is, same)
   placed-on link (place.Server k) (s, is, up) = (s, keeps.sessions.same k ∙ is, up)
 
-pub stands-kept : (old new : Core) (log : Log) → KeepsLinks old new → new.target ≡ old.target → new.accepted ≡ old.accepted → Stands old log → Stands new log
+pub stands-kept : (old new : Core) (log : Log) → KeepsLinks old new → new.setup ≡ old.setup → new.accepted ≡ old.accepted → Stands old log → Stands new log
 stands-kept old new log keeps target accepted held = record {
   upholds = upholds-as old new log target held.upholds (sessions-kept old new held.upholds.refused log keeps.sessions target accepted held.upholds.sessions);
   links = links-kept old new log keeps held.links;
@@ -110,8 +111,8 @@ module _ (old new : Core) (key : ℕ) (session : Session) (log : Log) (at : sess
   pub sessions-tidied : TracksSessions new refused log
   sessions-tidied = by over sessions where
     by : (b : Bool) → SessionIf b old new key → TracksSessions new refused log
-    by true removed = sessions-removed old new key session refused log at removed forgets.counts.service.target forgets.counts.accepted tracks
-    by false kept = sessions-kept old new refused log kept forgets.counts.service.target forgets.counts.accepted tracks
+    by true removed = sessions-removed old new key session refused log at removed forgets.counts.service.setup forgets.counts.accepted tracks
+    by false kept = sessions-kept old new refused log kept forgets.counts.service.setup forgets.counts.accepted tracks
 
   pub links-tidied : TracksLinks new log
   links-tidied = record {
@@ -159,8 +160,8 @@ module _ (old new : Core) (key : ℕ) (session : Session) (log : Log) (at : sess
       | inr differs ↦ elim (links.calm k s is) [
         | inl at_turn ↦ inl (forgets.turn ∙ at_turn)
         | inr calm ↦ inr (
-            let differ : s.number.0 ≡ session.number.0 → ⊥ = λ same. differ-by k key differs (tracks.numbers k key s session is at same) in
-            let apart : nat_eq session.link.0 s.link.0 ≡ false = links.others s.number.0 key s.link session (tracks.has k s is).number at (apart-from s.number.0 session.number.0 differ) in
+            let differ : s.client.number.0 ≡ session.client.number.0 → ⊥ = λ same. differ-by k key differs (tracks.numbers k key s session is at same) in
+            let apart : nat_eq session.link.0 s.link.0 ≡ false = links.others s.client.number.0 key s.link session (session-link (service_of old refused) s log (tracks.has k s is).client) at (apart-from s.client.number.0 session.client.number.0 differ) in
             asks-same old new s (forgets.places.others s.link apart) ∙ calm)
       ]
     ]
@@ -170,7 +171,7 @@ pub stands-tidied : (old new : Core) (key : ℕ) (log : Log) → old.turn ≡ So
 stands-tidied old new key log turn tidies held = by (session_at old key) refl tidies where
   in_state : (session : Session) (closed : Bool) → session_at old key ≡ Some session → is_closed session.state ≡ closed → TidiesIf closed old new key session → Stands new log
   in_state session true at shut (forgets, sessions) = record {
-    upholds = upholds-as old new log forgets.counts.service.target held.upholds (sessions-tidied old new key session log at shut turn forgets (is_over session) refl sessions held.upholds.refused held.upholds.sessions held.links);
+    upholds = upholds-as old new log forgets.counts.service.setup held.upholds (sessions-tidied old new key session log at shut turn forgets (is_over session) refl sessions held.upholds.refused held.upholds.sessions held.links);
     links = links-tidied old new key session log at shut turn forgets (is_over session) refl sessions held.upholds.refused held.upholds.sessions held.links;
   }
   in_state session false at shut same = subst (λ (c : Core). Stands c log) (sym same) held

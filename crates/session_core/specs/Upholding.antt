@@ -1,5 +1,5 @@
 -- What the router promises of a log holds of it with one entry more.
-use Rattle.std.specs.Prelude.{◌≡◌, ℕ, ◌+◌, ◌<◌, ◌≤◌, List, [], ◌∷◌, ◌++◌, length, Option, Some}
+use Rattle.std.specs.Prelude.{◌≡◌, ℕ, ◌+◌, ◌<◌, ◌≤◌, List, [], ◌∷◌, ◌++◌, length, Some}
 use Rattle.std.proofs.Common.{sym, ◌∙◌, ap, subst, inl, inr, arith, length-append}
 use Rattle.mx_base.specs.declared.names.LinkId.{LinkId}
 use Rattle.mx_wire.specs.Log.{Log, link_of, is_link, got_bytes, read_of, written_of}
@@ -8,15 +8,12 @@ use Rattle.mx_wire.specs.Moments.{AtEachMoment, AllLawful, moment-more, lawful-m
 use Rattle.mx_wire.specs.Growth.{bool_cases, bytes-same, bytes-other, bytes-idle}
 use Rattle.mx_wire.specs.declared.entry.Entry.{Entry}
 use Rattle.mx_wire.specs.declared.entry.Entry.TheVariants as entry
-use Rattle.client_session.specs.Headline.{client_link, Turn, Service, replies_to, due, IsRefusing, IsPrefix, IsServed, IsLawful}
+use Rattle.client_session.specs.Headline.{client_link, Turn, due, IsPrefix, IsServed, IsLawful}
+use Rattle.client_session.specs.Dues.{session-link, session-due}
 use Rattle.client_session.specs.Rest.{RestsAt}
-use Rattle.client_session.specs.Still.{was_answered-due}
+use Rattle.client_session.specs.Setups.{Setup}
 use Rattle.session_core.specs.declared.router.Core.{Core}
-use Rattle.session_core.specs.declared.router.ServerAt.{ServerAt}
-use Rattle.session_core.specs.Cores.{target_of}
 use Rattle.session_core.specs.Stands.{service_of, TracksSessions, IsFew, Upholds}
-use Rattle.session_core.specs.Passing.{was-answered}
-use Rattle.session_core.specs.Resting.{some-target}
 
 -- Reads of a log are short.
 
@@ -51,45 +48,44 @@ few-counted log e link may few = omega (arith, few.read link, may.bounded, lengt
 -- What the sessions stand for is served.
 
 module _ (core : Core) (refused : List Turn) (log : Log) (tracks : TracksSessions core refused log) where
-  prefix-of : (n : ℕ) (link : LinkId) → client_link n log ≡ Some link → IsPrefix (written_of link log) (due (service_of core refused) n link log)
+  prefix-of : (n : ℕ) (link : LinkId) → client_link n log ≡ Some link → IsPrefix (written_of link log) (due (service_of core refused) n log)
   prefix-of n link is = elim (tracks.ended n link is) [
     | inl live ↦ (
         let has = tracks.has live.key live.session live.at in
-        let same : live.session.link ≡ link = (let both : Some live.session.link ≡ Some link = sym has.number ∙ ap (λ m. client_link m log) live.number ∙ is in cc) in
-        subst (λ (l : LinkId). IsPrefix (written_of l log) (due (service_of core refused) n l log)) same
-        (subst (λ m. IsPrefix (written_of live.session.link log) (due (service_of core refused) m live.session.link log)) live.number
-        (was_answered-due (replies_to (service_of core refused) live.session.number.0 log) (read_of live.session.link log) (written_of live.session.link log) (was-answered core refused live.session log has))))
-    | inr over ↦ was_answered-due (replies_to (service_of core refused) n log) (read_of link log) (written_of link log) over
+        let same : live.session.link ≡ link = (let both : Some live.session.link ≡ Some link = sym (session-link (service_of core refused) live.session log has.client) ∙ ap (λ m. client_link m log) live.number ∙ is in cc) in
+        subst (λ (l : LinkId). IsPrefix (written_of l log) (due (service_of core refused) n log)) same
+        (subst (λ m. IsPrefix (written_of live.session.link log) (due (service_of core refused) m log)) live.number (session-due (service_of core refused) live.session log has)))
+    | inr over ↦ over
   ]
 
-  pub sessions-served : IsServed (target_of core.target) log
+  pub sessions-served : IsServed core.setup log
   sessions-served = record {
     refused = refused;
     so = record {
-      refusing = subst (λ b. IsRefusing b refused log) (sym (some-target core.target)) tracks.refusing;
-      each = λ n link is. subst (λ b. let service : Service = record { has_server = b; refused = refused } in IsPrefix (written_of link log) (due service n link log)) (sym (some-target core.target)) (prefix-of n link is);
+      refusing = tracks.refusing;
+      each = prefix-of;
     };
   }
 
-pub upholds-more : (old new : Core) (now : List Turn) (log : Log) (e : Entry) → new.target ≡ old.target → IsFew (log ++ e ∷ []) → Upholds old log → IsLawful (target_of old.target) log e → RestsAt (target_of old.target) log e → TracksSessions new now (log ++ e ∷ [])
+pub upholds-more : (old new : Core) (now : List Turn) (log : Log) (e : Entry) → new.setup ≡ old.setup → IsFew (log ++ e ∷ []) → Upholds old log → IsLawful old.setup log e → RestsAt old.setup log e → TracksSessions new now (log ++ e ∷ [])
     → Upholds new (log ++ e ∷ [])
 upholds-more old new now log e same few held law rest tracks = record {
   few = few;
   refused = now;
   sessions = tracks;
-  always = subst (λ (t : Option ServerAt). AtEachMoment (IsServed (target_of t)) (log ++ e ∷ [])) (sym same)
-      (moment-more (IsServed (target_of old.target)) log e held.always (subst (λ (t : Option ServerAt). IsServed (target_of t) (log ++ e ∷ [])) same (sessions-served new now (log ++ e ∷ []) tracks)));
-  lawful = subst (λ (t : Option ServerAt). AllLawful (IsLawful (target_of t)) (log ++ e ∷ [])) (sym same) (lawful-more (IsLawful (target_of old.target)) log e held.lawful law);
-  rests = subst (λ (t : Option ServerAt). AllLawful (RestsAt (target_of t)) (log ++ e ∷ [])) (sym same) (lawful-more (RestsAt (target_of old.target)) log e held.rests rest);
+  always = subst (λ (t : Setup). AtEachMoment (IsServed t) (log ++ e ∷ [])) (sym same)
+      (moment-more (IsServed old.setup) log e held.always (subst (λ (t : Setup). IsServed t (log ++ e ∷ [])) same (sessions-served new now (log ++ e ∷ []) tracks)));
+  lawful = subst (λ (t : Setup). AllLawful (IsLawful t) (log ++ e ∷ [])) (sym same) (lawful-more (IsLawful old.setup) log e held.lawful law);
+  rests = subst (λ (t : Setup). AllLawful (RestsAt t) (log ++ e ∷ [])) (sym same) (lawful-more (RestsAt old.setup) log e held.rests rest);
 }
 
 -- the sessions of another core stand for the same log
-pub upholds-as : (old new : Core) (log : Log) → new.target ≡ old.target → (held : Upholds old log) → TracksSessions new held.refused log → Upholds new log
+pub upholds-as : (old new : Core) (log : Log) → new.setup ≡ old.setup → (held : Upholds old log) → TracksSessions new held.refused log → Upholds new log
 upholds-as old new log same held tracks = record {
   few = held.few;
   refused = held.refused;
   sessions = tracks;
-  always = subst (λ (t : Option ServerAt). AtEachMoment (IsServed (target_of t)) log) (sym same) held.always;
-  lawful = subst (λ (t : Option ServerAt). AllLawful (IsLawful (target_of t)) log) (sym same) held.lawful;
-  rests = subst (λ (t : Option ServerAt). AllLawful (RestsAt (target_of t)) log) (sym same) held.rests;
+  always = subst (λ (t : Setup). AtEachMoment (IsServed t) log) (sym same) held.always;
+  lawful = subst (λ (t : Setup). AllLawful (IsLawful t) log) (sym same) held.lawful;
+  rests = subst (λ (t : Setup). AllLawful (RestsAt t) log) (sym same) held.rests;
 }

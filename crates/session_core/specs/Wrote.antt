@@ -1,13 +1,15 @@
 -- Which links may have something new, once bytes are written.
-use Rattle.std.specs.Prelude.{◌≡◌, ℕ, ◌+◌, ◌<◌, Bool, true, false, nat_eq, nat_lt, ◌&&◌, List, cond, length, drop, Option, Some, None, IsSome, refl}
+use Rattle.std.specs.Prelude.{◌≡◌, ℕ, ◌+◌, ◌<◌, Bool, true, false, nat_eq, nat_lt, List, [], ◌∷◌, cond, length, drop, Option, Some, None, IsSome, refl}
 use Rattle.std.proofs.Common.{sym, ◌∙◌, ap, subst, arith, length-drop}
 use Rattle.mx_base.specs.declared.tag.Tag.TheVariants.{Reply}
 use Rattle.ready_loop.specs.Changes.{ChangesOnly}
-use Rattle.client_session.specs.declared.phase.Phase.{Phase}
-use Rattle.client_session.specs.declared.phase.Phase.TheVariants.{Idle, Working, Ending}
+use Rattle.server_side.specs.declared.command.Command.{Command}
+use Rattle.server_side.specs.Backend.{BackendState, Left, left, left_by, command_left, command_taken, taken_by, taken}
+use Rattle.client_session.specs.declared.phase.Upstream.{Upstream}
+use Rattle.client_session.specs.declared.phase.Upstream.TheVariants as upstream
 use Rattle.client_session.specs.declared.session.Session.{Session}
 use Rattle.client_session.specs.Events.{written_in, sent_in}
-use Rattle.client_session.specs.Sends.{is_read, reply_left, command_left}
+use Rattle.client_session.specs.Sends.{reply_left, as_sent, server_left}
 use Rattle.session_core.specs.declared.router.Core.{Core}
 use Rattle.session_core.specs.declared.place.Place.{Place}
 use Rattle.session_core.specs.declared.place.Place.TheVariants as place
@@ -43,32 +45,48 @@ written-fewer session n = record {
   client_read = λ link wanted. wanted;
   server_read = λ link wanted. wanted;
   client_sent = λ link some. (
-      let both = some-if (nat_eq session.link.0 link.0) (reply_left (drop n session.outgoing)) some in
-      if-some (nat_eq session.link.0 link.0) (reply_left session.outgoing) both.0 (reply-fewer session.outgoing n both.1));
+      let both = some-if (nat_eq session.link.0 link.0) (reply_left (drop n session.client.outgoing)) some in
+      if-some (nat_eq session.link.0 link.0) (reply_left session.client.outgoing) both.0 (reply-fewer session.client.outgoing n both.1));
   server_sent = λ link some. some;
 }
 
-command-fewer : (phase : Phase) (session later : Session) (n : ℕ) → IsSome (command_left later (sent_in phase n)) → IsSome (command_left session phase)
-command-fewer Idle session later n some = some
-command-fewer (Working command) session later n some =
+command-fewer : (command : Option Command) (n : ℕ) → IsSome (command_left (command_taken n command)) → IsSome (command_left command)
+command-fewer None n some = some
+command-fewer (Some command) n some =
     let more = some-if (nat_lt (command.sent + n) (length command.bytes)) _ some in
     let left : command.sent + n < length command.bytes = less (command.sent + n) (length command.bytes) more.0 in
     if-some (nat_lt command.sent (length command.bytes)) _ (is-less command.sent (length command.bytes) (omega arith)) refl
-command-fewer Ending session later n some = some
 
-sent-read : (phase : Phase) (n : ℕ) → is_read (sent_in phase n) ≡ is_read phase
-sent-read Idle n = refl
-sent-read (Working command) n = refl
-sent-read Ending n = refl
+left-fewer : (own : List ℕ) (n : ℕ) (backend : BackendState) → backend.own ≡ own → IsSome (left (taken_by n own backend)) → IsSome (left backend)
+left-fewer [] n backend is some = subst (λ (xs : List ℕ). IsSome (left_by xs backend.command)) (sym is) (command-fewer backend.command n (subst (λ (xs : List ℕ). IsSome (left_by xs (command_taken n backend.command))) is some))
+left-fewer (byte ∷ own) n backend is some = subst (λ (xs : List ℕ). IsSome (left_by xs backend.command)) (sym is) refl
 
-sent-fewer : (session : Session) (n : ℕ) → Fewer (Some session) (Some (record session { phase = sent_in session.phase n }))
+as-some : (o : Option Left) → IsSome o → IsSome (as_sent o)
+as-some None some = cc
+as-some (Some bytes) some = refl
+
+some-as : (o : Option Left) → IsSome (as_sent o) → IsSome o
+some-as None some = some
+some-as (Some bytes) some = refl
+
+server-fewer : (up : Upstream) (n : ℕ) → IsSome (server_left (sent_in up n)) → IsSome (server_left up)
+server-fewer upstream.Absent n some = some
+server-fewer (upstream.Open server) n some = as-some (left server.backend) (left-fewer server.backend.own n server.backend refl (some-as (left (taken n server.backend)) some))
+server-fewer (upstream.Closing link) n some = some
+
+sent-open : (up : Upstream) (n : ℕ) → open_link (sent_in up n) ≡ open_link up
+sent-open upstream.Absent n = refl
+sent-open (upstream.Open server) n = refl
+sent-open (upstream.Closing link) n = refl
+
+sent-fewer : (session : Session) (n : ℕ) → Fewer (Some session) (Some (record session { upstream = sent_in session.upstream n }))
 sent-fewer session n = record {
-  client_read = λ link wanted. sym (ap (λ b. nat_eq session.link.0 link.0 && b) (sent-read session.phase n)) ∙ wanted;
-  server_read = λ link wanted. wanted;
+  client_read = λ link wanted. wanted;
+  server_read = λ link wanted. ap (is_link_of link) (sym (sent-open session.upstream n)) ∙ wanted;
   client_sent = λ link some. some;
   server_sent = λ link some. (
-      let both = some-if (is_link_of link (open_link session.upstream)) (command_left (record session { phase = sent_in session.phase n }) (sent_in session.phase n)) some in
-      if-some (is_link_of link (open_link session.upstream)) (command_left session session.phase) both.0 (command-fewer session.phase session (record session { phase = sent_in session.phase n }) n both.1));
+      let both = some-if (is_link_of link (open_link (sent_in session.upstream n))) (server_left (sent_in session.upstream n)) some in
+      if-some (is_link_of link (open_link session.upstream)) (server_left session.upstream) (ap (is_link_of link) (sym (sent-open session.upstream n)) ∙ both.0) (server-fewer session.upstream n both.1));
 }
 
 at-key : (step : Session → Session) (old new : Core) (key : ℕ) → ((session : Session) → Fewer (Some session) (Some (step session))) → TakesAt step old new key (session_at old key) → ChangesOnly changed reads sends old new
@@ -80,4 +98,4 @@ at-key step old new key fewer takes = by (session_at old key) refl takes where
 pub taken-only : (old new : Core) (n : ℕ) (p : Option Place) → TakenAt n p old new → ChangesOnly changed reads sends old new
 taken-only old new n None same = shrinks-only old new (shrinks-same old new same)
 taken-only old new n (Some (place.Client key)) takes = at-key (λ session. written_in session n) old new key (λ session. written-fewer session n) takes
-taken-only old new n (Some (place.Server key)) takes = at-key (λ session. record session { phase = sent_in session.phase n }) old new key (λ session. sent-fewer session n) takes
+taken-only old new n (Some (place.Server key)) takes = at-key (λ session. record session { upstream = sent_in session.upstream n }) old new key (λ session. sent-fewer session n) takes

@@ -6,18 +6,19 @@ ghost use Rattle.session_core.specs.Comes.{is_admitted, Admits, Comes, OpensAt, 
 
 use crate::place::Place;
 use crate::router::Core;
-use crate::taking::mark;
-use client_session::{fail_upstream, new_session, one_more, open_upstream};
+use crate::taking::{counted, mark};
+use client_session::{fail_upstream, new_session, open_upstream};
 use mx_base::{ClientNo, LinkId, OutOfMemory, Port};
 
 // A client is served.
-fn admit(core: &mut Core, link: LinkId) -> Result<(), OutOfMemory>
+fn admit(core: &mut Core, link: LinkId, salt: [u8; 20]) -> Result<(), OutOfMemory>
     requires { core.old.clients < 4294967295 }
-    ensures changes { OnOk result (Admits core.old link core.new) }
-    ensures target { core.new.target ≡ core.old.target }
+    ensures changes { OnOk result (Admits core.old link salt core.new) }
+    ensures setup { core.new.setup ≡ core.old.setup }
 {
-    core.accepted = one_more(core.accepted);
-    let session = new_session(core.alloc, link, ClientNo(core.accepted));
+    core.accepted = counted(core.accepted);
+    let number = ClientNo(core.accepted);
+    let session = new_session(core.alloc, link, number, salt, &core.setup)?;
     let key = core.sessions.insert(session)?;
     core.places.insert(link.0, Place::Client(key))?;
     core.changed.push(link)?;
@@ -27,16 +28,21 @@ fn admit(core: &mut Core, link: LinkId) -> Result<(), OutOfMemory>
 
 /// A client comes. It is served where it came to the port of clients and fewer than the most are connected, and else its link is
 /// to be closed.
-pub fn client_comes(core: &mut Core, port: Port, link: LinkId) -> Result<(), OutOfMemory>
-    ensures changes { OnOk result (Comes (is_admitted core.old port) core.old link core.new) }
-    ensures target { core.new.target ≡ core.old.target }
+pub fn client_comes(
+    core: &mut Core,
+    port: Port,
+    link: LinkId,
+    salt: [u8; 20],
+) -> Result<(), OutOfMemory>
+    ensures changes { OnOk result (Comes (is_admitted core.old port) core.old link salt core.new) }
+    ensures setup { core.new.setup ≡ core.old.setup }
 {
-    if port == Port::Traffic && core.clients < core.max_clients {
-        admit(core, link)?;
+    if port == Port::Traffic && core.clients < core.setup.max_clients() {
+        admit(core, link, salt)?;
         Ok(())
     } else {
         core.refused.push(link)?;
-        core.accepted = one_more(core.accepted);
+        core.accepted = counted(core.accepted);
         Ok(())
     }
 }
@@ -44,11 +50,11 @@ pub fn client_comes(core: &mut Core, port: Port, link: LinkId) -> Result<(), Out
 // A link to the server is open for the session under the key.
 fn open_at(core: &mut Core, key: usize, link: LinkId) -> Result<(), OutOfMemory>
     ensures changes { OnOk result (OpensAt core.old core.new key link (session_at core.old key)) }
-    ensures target { core.new.target ≡ core.old.target }
+    ensures setup { core.new.setup ≡ core.old.setup }
 {
     let alloc = core.alloc;
     if let Some(session) = core.sessions.get_mut(key) {
-        open_upstream(alloc, session, link);
+        open_upstream(alloc, session, link)?;
         core.places.insert(link.0, Place::Server(key))?;
         mark(core, key)?;
     }
@@ -58,7 +64,7 @@ fn open_at(core: &mut Core, key: usize, link: LinkId) -> Result<(), OutOfMemory>
 /// A link to the server is open for the session that has its turn.
 pub fn link_opens(core: &mut Core, link: LinkId) -> Result<(), OutOfMemory>
     ensures changes { OnOk result (OpensBy core.old core.new link core.old.turn) }
-    ensures target { core.new.target ≡ core.old.target }
+    ensures setup { core.new.setup ≡ core.old.setup }
 {
     match core.turn {
         Some(key) => {
@@ -71,13 +77,12 @@ pub fn link_opens(core: &mut Core, link: LinkId) -> Result<(), OutOfMemory>
 
 // No link to the server could be opened for the session under the key.
 fn fail_at(core: &mut Core, key: usize) -> Result<(), OutOfMemory>
-    ensures changes { OnOk result (StepsAt (OpenFails (is_some core.old.target)) core.old core.new key (session_at core.old key)) }
-    ensures target { core.new.target ≡ core.old.target }
+    ensures changes { OnOk result (StepsAt (OpenFails core.old.setup) core.old core.new key (session_at core.old key)) }
+    ensures setup { core.new.setup ≡ core.old.setup }
 {
     let alloc = core.alloc;
-    let has_server = core.target.is_some();
     if let Some(session) = core.sessions.get_mut(key) {
-        fail_upstream(alloc, session, has_server)?;
+        fail_upstream(alloc, session, &core.setup)?;
         mark(core, key)?;
     }
     Ok(())
@@ -86,7 +91,7 @@ fn fail_at(core: &mut Core, key: usize) -> Result<(), OutOfMemory>
 /// No link to the server could be opened for the session that has its turn.
 pub fn open_fails(core: &mut Core) -> Result<(), OutOfMemory>
     ensures changes { OnOk result (FailsBy core.old core.new core.old.turn) }
-    ensures target { core.new.target ≡ core.old.target }
+    ensures setup { core.new.setup ≡ core.old.setup }
 {
     match core.turn {
         Some(key) => {

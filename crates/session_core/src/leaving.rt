@@ -18,7 +18,7 @@ fn is_closed(session: &Session) -> bool
 // A client's link that was closed is no session's any more, and a session without a link is forgotten.
 fn tidy(core: &mut Core, key: usize)
     ensures changes { Tidies core.old core.new key (session_at core.old key) }
-    ensures target { core.new.target ≡ core.old.target }
+    ensures setup { core.new.setup ≡ core.old.setup }
 {
     let Some(session) = core.sessions.get(key) else {
         return;
@@ -37,7 +37,7 @@ fn tidy(core: &mut Core, key: usize)
 // Asks the session under the key.
 fn ask(core: &mut Core, key: usize) -> Option<SessionAct>
     ensures changes { AskedAt core.old core.new key (session_at core.old key) result }
-    ensures target { core.new.target ≡ core.old.target }
+    ensures setup { core.new.setup ≡ core.old.setup }
 {
     match core.sessions.get_mut(key) {
         Some(session) => client_session::next_act(session),
@@ -47,10 +47,10 @@ fn ask(core: &mut Core, key: usize) -> Option<SessionAct>
 
 // A link to the server is to be opened.
 fn open_act(core: &mut Core) -> Option<Act>
-    ensures changes { OpensTo core.old.target core.old core.new result }
-    ensures target { core.new.target ≡ core.old.target }
+    ensures changes { OpensTo core.old.setup.target core.old core.new result }
+    ensures setup { core.new.setup ≡ core.old.setup }
 {
-    match core.target {
+    match core.setup.target() {
         Some(at) => Some(Act::Open {
             server: at.server,
             address: at.address,
@@ -65,7 +65,7 @@ fn open_act(core: &mut Core) -> Option<Act>
 // What a session asks for is asked of the loop.
 fn act_on(core: &mut Core, asked: Option<SessionAct>) -> Option<Act>
     ensures changes { ActsOn asked core.old core.new result }
-    ensures target { core.new.target ≡ core.old.target }
+    ensures setup { core.new.setup ≡ core.old.setup }
 {
     match asked {
         Some(SessionAct::Open) => open_act(core),
@@ -84,7 +84,7 @@ fn act_on(core: &mut Core, asked: Option<SessionAct>) -> Option<Act>
 /// What the session that has its turn asks for.
 pub fn turn_act(core: &mut Core) -> Option<Act>
     ensures changes { TurnActs core.old.turn core.old core.new result }
-    ensures target { core.new.target ≡ core.old.target }
+    ensures setup { core.new.setup ≡ core.old.setup }
 {
     match core.turn {
         Some(key) => {

@@ -13,4 +13,4 @@ mod tests;
 mod writing;
 
 pub use place::Place;
-pub use router::{Core, ServerAt};
+pub use router::Core;

@@ -1,11 +1,11 @@
 // The core as a machine that the loop tells of events.
-ghost use Rattle.std.specs.Prelude.{◌≡◌, length, ℕ, false, Option, OnOk};
+ghost use Rattle.std.specs.Prelude.{◌≡◌, length, ℕ, false, OnOk};
 ghost use Rattle.mx_base.specs.declared.names.Port.{Port};
 ghost use Rattle.mx_base.specs.declared.names.Address.{Address};
 ghost use Rattle.mx_wire.specs.declared.entry.Entry.{Entry};
 ghost use Rattle.ready_loop.specs.Changes.{ChangesOnly};
 ghost use Rattle.ready_loop.specs.Machine.{CarriesOver, IsHeard, HasActed, IsToldOf};
-ghost use Rattle.session_core.specs.declared.router.ServerAt.{ServerAt};
+ghost use Rattle.client_session.specs.Setups.{Setup};
 ghost use Rattle.session_core.specs.Stands.{Stands, due_in};
 ghost use Rattle.session_core.specs.Quiet.{quiet};
 ghost use Rattle.session_core.specs.Cores.{changed};
@@ -25,16 +25,16 @@ use ready_loop::{Act, Event, Machine, Piece};
 const OTHER_LINKS: u32 = 10_018;
 
 // The event changes the core. What is told of it is carried over its entry.
-fn handle(core: &mut Core, event: Event, bytes: &[u8]) -> Result<(), OutOfMemory>
+fn handle(core: &mut Core, event: Event, bytes: &mut [u8]) -> Result<(), OutOfMemory>
     requires heard { IsHeard (awaited core.old) event }
     requires acted { HasActed (asks core.old) event }
-    ensures carries { OnOk result ((e : Entry) → IsToldOf 18446744073709551615 (awaited core.old) event bytes.now e → CarriesOver Stands due_in core.old core.new e) }
+    ensures carries { OnOk result ((e : Entry) → IsToldOf 18446744073709551615 (awaited core.old) event bytes.old e → CarriesOver Stands due_in core.old core.new e) }
     ensures changes { OnOk result (ChangesOnly changed reads sends core.old core.new) }
-    ensures target { core.new.target ≡ core.old.target }
+    ensures setup { core.new.setup ≡ core.old.setup }
 {
     match event {
-        Event::Accepted { port, link, .. } => {
-            client_comes(core, port, link)?;
+        Event::Accepted { port, link, salt } => {
+            client_comes(core, port, link, salt)?;
             Ok(())
         }
         Event::Opened { link, .. } => {
@@ -84,9 +84,9 @@ impl Machine for Core {
 
     ghost most = { most_of };
 
-    ghost Service = { Option ServerAt };
+    ghost Service = { Setup };
 
-    ghost serves_by = { λ core. core.target };
+    ghost serves_by = { λ core. core.setup };
 
     ghost quiet = { quiet };
 
@@ -134,6 +134,6 @@ impl Machine for Core {
     }
 
     fn most_links(&self) -> u32 {
-        self.max_clients.saturating_add(OTHER_LINKS)
+        self.setup.max_clients().saturating_add(OTHER_LINKS)
     }
 }

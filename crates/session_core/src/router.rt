@@ -1,22 +1,21 @@
 // The core.
-ghost use Rattle.std.specs.Prelude.{◌≡◌, [], None, IfOk};
-ghost use Rattle.session_core.specs.Cores.{place_of, server_of, IsEmpty};
+ghost use Rattle.std.specs.Prelude.{◌≡◌, ◌≤◌, [], None, length, IfOk};
+ghost use Rattle.handshake.specs.Spelling.{IsText};
+ghost use Rattle.mx_config.specs.Lawful.{IsLawful};
+ghost use Rattle.client_session.specs.Setups.{Setup};
+ghost use Rattle.session_core.specs.Cores.{place_of, server_of, users_of, setup_of, AreTexts, IsEmpty};
 ghost use Rattle.session_core.specs.Stands.{Stands};
 
 use crate::place::Place;
-use client_session::Session;
-use mx_base::{Address, LinkId, OutOfMemory, ServerId};
-use mx_config::Config;
+use client_session::{ServerAt, Session, Setup, User};
+use mx_base::{Address, Bytes, LinkId, OutOfMemory, ServerId};
+use mx_config::{Config, UserRow};
 use slab::Slab;
 use std::alloc::Global;
 use std::collections::HashMap;
 
-/// A server, and where it stands.
-#[derive(Clone, Copy, Debug, PartialEq, Eq)]
-pub struct ServerAt {
-    pub server: ServerId,
-    pub address: Address,
-}
+/// The longest payload that is one packet, in bytes.
+const MOST_PAYLOAD: u64 = 16_777_214;
 
 /// The router's core: the sessions of the clients, and whose each link is.
 #[derive(Drop)]
@@ -25,10 +24,8 @@ pub struct Core {
     /// Where clients and administrators connect.
     pub listen: Address,
     pub admin_listen: Address,
-    /// How many clients may be connected.
-    pub max_clients: u32,
-    /// The server that queries go to, where one is configured.
-    pub target: Option<ServerAt>,
+    /// What the sessions go by.
+    pub setup: Setup,
     /// How many clients were accepted.
     pub accepted: u64,
     /// How many clients are connected.
@@ -44,17 +41,18 @@ pub struct Core {
 }
 
 impl Core {
-    /// A core to which no client came. It serves by the addresses, the first server and the number of clients of the
-    /// configuration. Takes no memory.
+    /// A core to which no client came. It serves by the addresses, the version, the users, the limits and the first server of
+    /// the configuration.
     pub fn new(alloc: Global, config: &Config) -> Result<Self, OutOfMemory>
+        requires { IsLawful config.now }
         ensures empty { IfOk result IsEmpty }
         ensures stands { IfOk result (λ core. Stands core []) }
         ensures listen { IfOk result (λ core. core.listen ≡ config.now.proxy.listen) }
         ensures admin_listen { IfOk result (λ core. core.admin_listen ≡ config.now.proxy.admin_listen) }
-        ensures max_clients { IfOk result (λ core. core.max_clients ≡ config.now.proxy.max_clients) }
-        ensures target { IfOk result (λ core. core.target ≡ server_of config.now.servers) }
+        ensures setup { IfOk result (λ core. core.setup ≡ setup_of config.now) }
     {
-        Ok(empty(alloc, config))
+        let setup = setup_of(alloc, config)?;
+        Ok(empty(alloc, config, setup))
     }
 
     /// Whose the link is.
@@ -66,19 +64,17 @@ impl Core {
 }
 
 // Before any client.
-fn empty(alloc: Global, config: &Config) -> Core
+fn empty(alloc: Global, config: &Config, setup: Setup) -> Core
     ensures empty { IsEmpty result }
     ensures listen { result.listen ≡ config.now.proxy.listen }
     ensures admin_listen { result.admin_listen ≡ config.now.proxy.admin_listen }
-    ensures max_clients { result.max_clients ≡ config.now.proxy.max_clients }
-    ensures target { result.target ≡ server_of config.now.servers }
+    ensures setup { result.setup ≡ setup }
 {
     Core {
         alloc,
         listen: config.proxy.listen,
         admin_listen: config.proxy.admin_listen,
-        max_clients: config.proxy.max_clients,
-        target: first_server(config),
+        setup,
         accepted: 0,
         clients: 0,
         sessions: Slab::new(alloc),
@@ -87,6 +83,34 @@ fn empty(alloc: Global, config: &Config) -> Core
         turn: None,
         changed: Vec::new(alloc),
     }
+}
+
+// What sessions go by.
+fn setup_of(alloc: Global, config: &Config) -> Result<Setup, OutOfMemory>
+    requires version { IsText config.now.proxy.server_version }
+    requires short { length config.now.proxy.server_version ≤ 255 }
+    requires names { AreTexts config.now.users }
+    ensures { IfOk result (λ setup. setup ≡ setup_of config.now) }
+{
+    let version = Bytes::from_slice(alloc, config.proxy.server_version.as_slice())?;
+    let users = users_of(alloc, config.users.as_slice())?;
+    let limit = config.proxy.max_packet.min(MOST_PAYLOAD);
+    let target = first_server(config);
+    Ok(Setup::new(version, users, limit, config.proxy.max_clients, target))
+}
+
+// Who may log in.
+fn users_of(alloc: Global, rows: &[UserRow]) -> Result<Vec<User>, OutOfMemory>
+    requires { AreTexts rows.now }
+    ensures { IfOk result (λ users. users.items ≡ users_of rows.now) }
+{
+    let mut users = Vec::new(alloc);
+    for row in rows {
+        let name = Bytes::from_slice(alloc, row.name.as_slice())?;
+        let password = Bytes::from_slice(alloc, row.password.as_slice())?;
+        users.push(User::new(name, password))?;
+    }
+    Ok(users)
 }
 
 // The first server of the configuration, which has the number 1.

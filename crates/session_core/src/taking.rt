@@ -1,5 +1,6 @@
 // Bytes and losses of links.
-ghost use Rattle.std.specs.Prelude.{◌≡◌, ◌∷◌, ◌++◌, [], OnOk, is_some};
+ghost use Rattle.std.specs.Prelude.{◌≡◌, ◌∷◌, ◌++◌, [], OnOk};
+ghost use Rattle.client_side.specs.Client.{counted};
 ghost use Rattle.client_session.specs.Events.{ClientSays, ServerSays, ServerLost, client_lost, is_begun};
 ghost use Rattle.session_core.specs.Cores.{place_of, session_at, open_link, listed, StepsAt};
 ghost use Rattle.session_core.specs.Takes.{TakesBytes, Loses, MarksAt};
@@ -39,7 +40,7 @@ fn push_links(
 /// The session has its turn, and its links may have something new.
 pub fn mark(core: &mut Core, key: usize) -> Result<(), OutOfMemory>
     ensures changes { OnOk result (MarksAt core.old core.new key (session_at core.old key)) }
-    ensures target { core.new.target ≡ core.old.target }
+    ensures setup { core.new.setup ≡ core.old.setup }
 {
     let Some(session) = core.sessions.get(key) else {
         return Ok(());
@@ -51,38 +52,43 @@ pub fn mark(core: &mut Core, key: usize) -> Result<(), OutOfMemory>
     Ok(())
 }
 
+/// One more, unless it is the last value.
+pub fn counted(count: u64) -> u64
+    ensures { result ≡ counted count }
+{
+    if count < u64::MAX { count + 1 } else { count }
+}
+
 // Bytes of a client come.
 fn client_bytes(core: &mut Core, key: usize, bytes: &[u8]) -> Result<(), OutOfMemory>
-    ensures changes { OnOk result (StepsAt (λ session later. ClientSays (is_some core.old.target) session.phase session bytes.now later) core.old core.new key (session_at core.old key)) }
-    ensures target { core.new.target ≡ core.old.target }
+    ensures changes { OnOk result (StepsAt (λ session later. ClientSays core.old.setup session.phase session bytes.now later) core.old core.new key (session_at core.old key)) }
+    ensures setup { core.new.setup ≡ core.old.setup }
 {
     let alloc = core.alloc;
-    let has_server = core.target.is_some();
     if let Some(session) = core.sessions.get_mut(key) {
-        client_says(alloc, session, bytes, has_server)?;
+        client_says(alloc, session, bytes, &core.setup)?;
         mark(core, key)?;
     }
     Ok(())
 }
 
 // Bytes of a server come.
-fn server_bytes(core: &mut Core, key: usize, bytes: &[u8]) -> Result<(), OutOfMemory>
-    ensures changes { OnOk result (StepsAt (λ session later. ServerSays (is_some core.old.target) (is_begun session.phase) session bytes.now later) core.old core.new key (session_at core.old key)) }
-    ensures target { core.new.target ≡ core.old.target }
+fn server_bytes(core: &mut Core, key: usize, bytes: &mut [u8]) -> Result<(), OutOfMemory>
+    ensures changes { OnOk result (StepsAt (λ session later. ServerSays core.old.setup session bytes.old later) core.old core.new key (session_at core.old key)) }
+    ensures setup { core.new.setup ≡ core.old.setup }
 {
     let alloc = core.alloc;
-    let has_server = core.target.is_some();
     if let Some(session) = core.sessions.get_mut(key) {
-        server_says(alloc, session, bytes, has_server)?;
+        server_says(alloc, session, bytes, &core.setup)?;
         mark(core, key)?;
     }
     Ok(())
 }
 
 /// Bytes of a link come.
-pub fn take_bytes(core: &mut Core, link: LinkId, bytes: &[u8]) -> Result<(), OutOfMemory>
-    ensures changes { OnOk result (TakesBytes (place_of core.old link) core.old bytes.now core.new) }
-    ensures target { core.new.target ≡ core.old.target }
+pub fn take_bytes(core: &mut Core, link: LinkId, bytes: &mut [u8]) -> Result<(), OutOfMemory>
+    ensures changes { OnOk result (TakesBytes (place_of core.old link) core.old bytes.old core.new) }
+    ensures setup { core.new.setup ≡ core.old.setup }
 {
     match core.place_of(link) {
         Some(Place::Client(key)) => {
@@ -99,8 +105,8 @@ pub fn take_bytes(core: &mut Core, link: LinkId, bytes: &[u8]) -> Result<(), Out
 
 // The link of a client is lost.
 fn client_goes(core: &mut Core, key: usize) -> Result<(), OutOfMemory>
-    ensures changes { OnOk result (StepsAt (λ session later. later ≡ client_lost (is_begun session.phase) session) core.old core.new key (session_at core.old key)) }
-    ensures target { core.new.target ≡ core.old.target }
+    ensures changes { OnOk result (StepsAt (λ session later. later ≡ client_lost (is_begun session) session) core.old core.new key (session_at core.old key)) }
+    ensures setup { core.new.setup ≡ core.old.setup }
 {
     if let Some(session) = core.sessions.get_mut(key) {
         lose_client(session);
@@ -111,13 +117,12 @@ fn client_goes(core: &mut Core, key: usize) -> Result<(), OutOfMemory>
 
 // The link of a server is lost.
 fn server_goes(core: &mut Core, key: usize) -> Result<(), OutOfMemory>
-    ensures changes { OnOk result (StepsAt (λ session later. ServerLost (is_some core.old.target) (is_begun session.phase) session later) core.old core.new key (session_at core.old key)) }
-    ensures target { core.new.target ≡ core.old.target }
+    ensures changes { OnOk result (StepsAt (λ session later. ServerLost core.old.setup session later) core.old core.new key (session_at core.old key)) }
+    ensures setup { core.new.setup ≡ core.old.setup }
 {
     let alloc = core.alloc;
-    let has_server = core.target.is_some();
     if let Some(session) = core.sessions.get_mut(key) {
-        lose_server(alloc, session, has_server)?;
+        lose_server(alloc, session, &core.setup)?;
         mark(core, key)?;
     }
     Ok(())
@@ -126,7 +131,7 @@ fn server_goes(core: &mut Core, key: usize) -> Result<(), OutOfMemory>
 /// A link is lost, by its end or by a failure.
 pub fn lose(core: &mut Core, link: LinkId) -> Result<(), OutOfMemory>
     ensures changes { OnOk result (Loses (place_of core.old link) core.old core.new) }
-    ensures target { core.new.target ≡ core.old.target }
+    ensures setup { core.new.setup ≡ core.old.setup }
 {
     match core.place_of(link) {
         Some(Place::Client(key)) => {

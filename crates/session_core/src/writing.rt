@@ -8,7 +8,7 @@ ghost use Rattle.session_core.specs.Acting.{client_reads, server_reads, client_s
 use crate::place::Place;
 use crate::router::Core;
 use crate::taking::open_link;
-use client_session::{Session, client_taken, command_left, command_taken, is_read, reply_left};
+use client_session::{Session, client_taken, is_read, reply_left, server_left, server_taken};
 use mx_base::LinkId;
 use ready_loop::Piece;
 
@@ -76,7 +76,7 @@ fn left_for_server(core: &Core, key: usize, link: LinkId) -> Option<Piece<'_>>
     match core.sessions.get(key) {
         Some(session) => {
             if is_upstream(session, link) {
-                command_left(session)
+                server_left(session)
             } else {
                 None
             }
@@ -100,7 +100,7 @@ pub fn left(core: &Core, link: LinkId) -> Option<Piece<'_>>
 fn client_took(core: &mut Core, key: usize, link: LinkId, n: usize)
     requires { MayTake (client_sends (session_at core.old key) link) n }
     ensures changes { TakesAt (λ session. written_in session n) core.old core.new key (session_at core.old key) }
-    ensures target { core.new.target ≡ core.old.target }
+    ensures setup { core.new.setup ≡ core.old.setup }
 {
     if let Some(session) = core.sessions.get_mut(key) {
         client_taken(session, n);
@@ -108,14 +108,14 @@ fn client_took(core: &mut Core, key: usize, link: LinkId, n: usize)
     }
 }
 
-// So many bytes of the command in work were written.
+// So many bytes of the server's were written.
 fn server_took(core: &mut Core, key: usize, link: LinkId, n: usize)
     requires { MayTake (server_sends (session_at core.old key) link) n }
-    ensures changes { TakesAt (λ session. record session { phase = sent_in session.phase n }) core.old core.new key (session_at core.old key) }
-    ensures target { core.new.target ≡ core.old.target }
+    ensures changes { TakesAt (λ session. record session { upstream = sent_in session.upstream n }) core.old core.new key (session_at core.old key) }
+    ensures setup { core.new.setup ≡ core.old.setup }
 {
     if let Some(session) = core.sessions.get_mut(key) {
-        command_taken(session, n);
+        server_taken(session, n);
         core.turn = Some(key);
     }
 }
@@ -124,7 +124,7 @@ fn server_took(core: &mut Core, key: usize, link: LinkId, n: usize)
 pub fn took(core: &mut Core, link: LinkId, n: usize)
     requires { MayTake (sends core.old link) n }
     ensures changes { TakenAt n (place_of core.old link) core.old core.new }
-    ensures target { core.new.target ≡ core.old.target }
+    ensures setup { core.new.setup ≡ core.old.setup }
 {
     match core.place_of(link) {
         Some(Place::Client(key)) => client_took(core, key, link, n),

@@ -1,9 +1,9 @@
-use Rattle.std.proofs.Common.{length}
 use Rattle.client_session.specs.Pumping.{LeadsTo}
+use Rattle.client_session.specs.Steps.{left_to_say}
 use Rattle.client_session.proofs.pump.pump.Given as goal
 
 abbrev pub invariant-loop : goal.invariant-loop
-invariant-loop l = LeadsTo l.fn.has_server l.fn.session l.session
+invariant-loop l = LeadsTo l.fn.setup l.fn.session l.session
 
 abbrev pub decreases-loop : goal.decreases-loop
-decreases-loop l = length l.session.framer.kept
+decreases-loop l = left_to_say l.session

@@ -1,4 +1,4 @@
-use Rattle.std.specs.Prelude.{◌≡◌, ◌⊎◌, ℕ, ◌+◌, ◌*◌, ◌≤◌, [], ◌∷◌, ◌++◌, Option}
+use Rattle.std.specs.Prelude.{◌≡◌, ◌⊎◌, ℕ, ◌+◌, ◌*◌, ◌≤◌, [], ◌∷◌, ◌++◌}
 use Rattle.std.proofs.Common.{inl, inr, subst, ap, sym, ◌∙◌}
 use Rattle.mx_wire.specs.Log.{Log}
 use Rattle.mx_wire.specs.declared.entry.Entry.{Entry}
@@ -7,12 +7,10 @@ use Rattle.ready_loop.specs.declared.ends.ServeEnd.TheVariants as ended
 use Rattle.mem_wire.specs.Play.{IsPlay}
 use Rattle.ready_loop.specs.Round.{calls_since_wake, wakes_of}
 use Rattle.ready_loop.specs.Serving.{IsOver, IsOut, IsBusy}
-use Rattle.ready_loop.specs.Machine.{Target}
 use Rattle.mx_wire.specs.Moments.{AtEachMoment, AllLawful}
+use Rattle.client_session.specs.Setups.{Setup}
 use Rattle.client_session.specs.Headline.{IsServed, IsLawful}
 use Rattle.client_session.specs.Rest.{RestsAt}
-use Rattle.session_core.specs.declared.router.ServerAt.{ServerAt}
-use Rattle.session_core.specs.Cores.{target_of}
 use Rattle.mx_proxy.proofs.Turns.{spent-busy}
 use Rattle.mx_proxy.proofs.replay.play.Goals as goal
 
@@ -24,9 +22,9 @@ spends : (turns : ℕ) (reads : _) (sends : _) (log : Log) → IsOut turns reads
 spends turns reads sends log (inl out) = inl out.woke
 spends turns reads sends log (inr busy) = inr busy
 
--- what holds by the server that the core ends with holds by the one it began with
-by-target : (P : Option Target → Type 0) (old new begun : Option ServerAt) → new ≡ old → old ≡ begun → P (target_of new) → P (target_of begun)
-by-target P old new begun kept from held = subst (λ (at : Option ServerAt). P (target_of at)) (kept ∙ from) held
+-- what holds by the setup that the core ends with holds by the one it began with
+by-setup : (P : Setup → Type 0) (old new begun : Setup) → new ≡ old → old ≡ begun → P new → P begun
+by-setup P old new begun kept from held = subst P (kept ∙ from) held
 
 pub returns-in-Over-clause-ok : goal.returns-in-Over-clause-ok
 returns-in-Over-clause-ok c = record {
@@ -34,9 +32,9 @@ returns-in-Over-clause-ok c = record {
   serves = λ log is.
       let stands = (c.serve.ensures.stands (λ ran_out. let h : ended.Over ≡ ended.OutOfMemory = sym c.in-Over.is ∙ ran_out in cc)).holds log is in
       record {
-        served = by-target (λ target. AtEachMoment (IsServed target) log) _ _ _ c.serve.ensures.serves_by c.in_ok-core.ensures.target stands.upholds.always;
-        lawful = by-target (λ target. AllLawful (IsLawful target) log) _ _ _ c.serve.ensures.serves_by c.in_ok-core.ensures.target stands.upholds.lawful;
-        rests = by-target (λ target. AllLawful (RestsAt target) log) _ _ _ c.serve.ensures.serves_by c.in_ok-core.ensures.target stands.upholds.rests;
+        served = by-setup (λ setup. AtEachMoment (IsServed setup) log) _ _ _ c.serve.ensures.serves_by c.in_ok-core.ensures.setup stands.upholds.always;
+        lawful = by-setup (λ setup. AllLawful (IsLawful setup) log) _ _ _ c.serve.ensures.serves_by c.in_ok-core.ensures.setup stands.upholds.lawful;
+        rests = by-setup (λ setup. AllLawful (RestsAt setup) log) _ _ _ c.serve.ensures.serves_by c.in_ok-core.ensures.setup stands.upholds.rests;
         before = (ends log ((c.serve.ensures.over c.in-Over.is).last log is)).0;
         over = (ends log ((c.serve.ensures.over c.in-Over.is).last log is)).1;
       };
@@ -52,9 +50,9 @@ returns-in-Some-clause-err c =
       log,
       record {
         play = play;
-        served = by-target (λ target. AtEachMoment (IsServed target) log) _ _ _ c.serve.ensures.serves_by c.in_ok-core.ensures.target stands.upholds.always;
-        lawful = by-target (λ target. AllLawful (IsLawful target) log) _ _ _ c.serve.ensures.serves_by c.in_ok-core.ensures.target stands.upholds.lawful;
-        rests = by-target (λ target. AllLawful (RestsAt target) log) _ _ _ c.serve.ensures.serves_by c.in_ok-core.ensures.target stands.upholds.rests;
+        served = by-setup (λ setup. AtEachMoment (IsServed setup) log) _ _ _ c.serve.ensures.serves_by c.in_ok-core.ensures.setup stands.upholds.always;
+        lawful = by-setup (λ setup. AllLawful (IsLawful setup) log) _ _ _ c.serve.ensures.serves_by c.in_ok-core.ensures.setup stands.upholds.lawful;
+        rests = by-setup (λ setup. AllLawful (RestsAt setup) log) _ _ _ c.serve.ensures.serves_by c.in_ok-core.ensures.setup stands.upholds.rests;
         spent = spent-busy c.args.entries.items log play (subst (λ n. (wakes_of log ≡ 2 * n + 16) ⊎ (4294967296 ≤ calls_since_wake log)) (c.len.ensures ∙ c.args.entries.ok.0) spent);
       },
     )

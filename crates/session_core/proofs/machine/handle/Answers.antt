@@ -13,7 +13,7 @@ pub returns-in_ok-client_comes-in-Accepted-clause-carries : goal.returns-in_ok-c
 returns-in_ok-client_comes-in-Accepted-clause-carries c = λ e is. subst (λ (x : Entry). CarriesOver Stands due_in c.args.core.now c.client_comes.new.core x) (sym (rw c.in-Accepted.is at is)) (comes-carries _ _ _ _ _ _ c.in_ok-client_comes-in-Accepted.ensures.changes)
 
 pub returns-in_ok-client_comes-in-Accepted-clause-changes : goal.returns-in_ok-client_comes-in-Accepted-clause-changes
-returns-in_ok-client_comes-in-Accepted-clause-changes c = comes-only _ _ _ _ c.in_ok-client_comes-in-Accepted.ensures.changes
+returns-in_ok-client_comes-in-Accepted-clause-changes c = comes-only _ _ _ _ _ c.in_ok-client_comes-in-Accepted.ensures.changes
 
 pub returns-in_ok-link_opens-in-Opened-clause-carries : goal.returns-in_ok-link_opens-in-Opened-clause-carries
 returns-in_ok-link_opens-in-Opened-clause-carries c = λ e is.

@@ -1,0 +1,28 @@
+-- Who a client is.
+use Rattle.std.specs.Prelude.{ℕ, Bool, not, nat_eq, bit_and, bytes_eq, List, [], ◌∷◌, Option, Some, None, if◌then◌else◌}
+use Rattle.handshake.specs.declared.response.Response.{Response}
+use Rattle.native_auth.specs.Native.{answer_of, bytes_of}
+use Rattle.server_side.specs.Account.{Account}
+use Rattle.client_session.specs.Setups.{User}
+
+-- the user of this name
+abbrev pub find_user : (name : List ℕ) → List User → Option User
+find_user name [] = None
+find_user name (user ∷ users) = if bytes_eq user.name name then Some user else find_user name users
+
+-- an UPDATE tells of the rows that it found
+abbrev pub finds_rows : (capabilities : ℕ) → Bool
+finds_rows capabilities = not (nat_eq (bit_and capabilities 2) 0)
+
+-- the answer is that of the user's password
+abbrev pub answers_for : (salt : List ℕ) → Response → User → Bool
+answers_for salt response user = bytes_eq response.answer (bytes_of (answer_of user.password salt))
+
+abbrev pub account_by : (salt : List ℕ) → Response → Option User → Option Account
+account_by salt response None = None
+account_by salt response (Some user) =
+    if answers_for salt response user then Some (record { user = user.name; password = user.password; found_rows = finds_rows response.capabilities }) else None
+
+-- the user that the client names, where its answer to the salt is right
+unfoldable pub account_of : List User → (salt : List ℕ) → Response → Option Account
+account_of users salt response = account_by salt response (find_user response.user users)

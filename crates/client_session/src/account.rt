@@ -1,0 +1,70 @@
+// Who a client is.
+ghost use Rattle.std.specs.Prelude.{◌≡◌, IfOk};
+ghost use Rattle.std.specs.Option.{option_copied};
+ghost use Rattle.client_session.specs.Accounts.{find_user, answers_for, account_by, account_of};
+
+use crate::setup::{Setup, User};
+use handshake::Response;
+use mx_base::{Bytes, OutOfMemory};
+use native_auth::check;
+use server_side::Account;
+use std::alloc::Global;
+
+/// FOUND_ROWS: an UPDATE tells of the rows that it found (client/server protocol, "Capabilities Flags").
+const FOUND_ROWS: u32 = 0x0000_0002;
+
+// The user of the name.
+fn find_user<'a>(users: &'a [User], name: &[u8]) -> Option<&'a User>
+    ensures { option_copied result ≡ find_user name.now users.now }
+{
+    for user in users {
+        if user.name() == name {
+            return Some(user);
+        }
+    }
+    None
+}
+
+// Whether the answer is that of the user's password.
+#[tactic(auto, using(crate::proofs::Checks::decided))]
+fn answers_for(salt: &[u8; 20], response: &Response, user: &User) -> bool
+    ensures { result ≡ answers_for salt.now response.now user.now }
+{
+    check(user.password(), salt, response.answer.as_slice())
+}
+
+// The user that the client names, where its answer is right.
+fn account_by(
+    alloc: Global,
+    salt: &[u8; 20],
+    response: &Response,
+    user: Option<&User>,
+) -> Result<Option<Account>, OutOfMemory>
+    ensures { IfOk result (λ account. account ≡ account_by salt.now response.now (option_copied user.entry)) }
+{
+    let Some(user) = user else {
+        return Ok(None);
+    };
+    if answers_for(salt, response, user) {
+        let name = Bytes::from_slice(alloc, user.name())?;
+        let password = Bytes::from_slice(alloc, user.password())?;
+        let found_rows = response.capabilities & FOUND_ROWS != 0;
+        Ok(Some(Account::new(name, password, found_rows)))
+    } else {
+        Ok(None)
+    }
+}
+
+/// Who the client is: the user that it names, where its answer to the salt is that of the user's password; else nobody.
+#[tactic(auto, unfolding(crate::specs::Accounts::account_of))]
+pub fn account_of(
+    alloc: Global,
+    setup: &Setup,
+    response: &Response,
+    salt: &[u8; 20],
+) -> Result<Option<Account>, OutOfMemory>
+    ensures { IfOk result (λ account. account ≡ account_of setup.now.users salt.now response.now) }
+{
+    let user = find_user(setup.users(), response.user.as_slice());
+    account_by(alloc, salt, response, user)
+}

@@ -1,0 +1,6 @@
+use Rattle.std.proofs.Common.{◌≡◌, take}
+use Rattle.session_core.specs.Cores.{users_of}
+use Rattle.session_core.proofs.router.users_of.Given as goal
+
+abbrev pub invariant-loop-row : goal.invariant-loop-row
+invariant-loop-row l = l.users.items ≡ users_of (take l.row-index l.rows)
