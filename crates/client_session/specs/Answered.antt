@@ -17,14 +17,14 @@ use Rattle.client_session.specs.declared.phase.Upstream.TheVariants as upstream
 use Rattle.client_session.specs.declared.session.Session.{Session}
 use Rattle.client_session.specs.Setups.{has_server}
 use Rattle.client_session.specs.Errors.{no_server, connection_refused}
-use Rattle.client_session.specs.Answers.{Talk, query_by, is_query, answer_by, answer_to}
+use Rattle.client_session.specs.Answers.{Stay, Talk, query_by, is_query, answer_by, answer_to}
 use Rattle.command_parse.specs.Meaning.{Meaning, parsed}
 use Rattle.command_parse.specs.Meaning.Meaning.{Query}
 use Rattle.command_parse.specs.declared.fault.CommandFault.{CommandFault}
 use Rattle.client_session.specs.Sending.{carrier, first_carried, reply_to}
 use Rattle.client_session.specs.Headline.{Turn, is_refused, Service, replies_to}
 use Rattle.client_session.specs.Growth.{sending-now}
-use Rattle.client_session.specs.Past.{Stay, past-one, all_answered-stays, all_answered-one}
+use Rattle.client_session.specs.Past.{past-one, all_answered-stays, all_answered-one}
 use Rattle.client_session.specs.Arriving.{in-as, short-limit}
 use Rattle.client_session.specs.Events.{dropped, kept_or_dropped, answered_with, GoesOn}
 use Rattle.client_session.specs.Stands.{front_to, IsIdle, IsWorking, MayBeFree, IsNext, IsTold, talk_of, HasSession}
@@ -84,7 +84,7 @@ answered-ready : (was now : Service) (session : Session) (payload answer : List 
     → MayBeFree session.account (kept_or_dropped keeps up) (log ++ e ∷ []) → IsReady now (answered_with (with_up session up) (spelling 1 answer) keeps) (log ++ e ∷ [])
 answered-ready was now session payload answer up keeps log e answers free = record {
   opened = answers.opened;
-  come = (let come = came-more was now session log e answers.same answers.has.client in record { came = come.came });
+  come = came-more was now session log e answers.same answers.has.client;
   at = subst (λ (t : Talk). IsIdle (answered_with (with_up session up) (spelling 1 answer) keeps) (replies_to now session.client.number.0 (log ++ e ∷ [])) t (written_of session.link (log ++ e ∷ []))) (sym (talk-same was now session log (log ++ e ∷ []) answers.same answers.read))
       (subst (λ (xs : List ℕ). IsIdle (answered_with (with_up session up) (spelling 1 answer) keeps) (replies_to now session.client.number.0 (log ++ e ∷ [])) (talk_of was session log) xs) (sym (answers.written ∙ told))
       (idle-again session (answered_with (with_up session up) (spelling 1 answer) keeps) payload (replies_to was session.client.number.0 log) (replies_to now session.client.number.0 (log ++ e ∷ [])) (talk_of was session log) answers.has.told answer

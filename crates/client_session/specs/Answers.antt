@@ -140,3 +140,7 @@ abbrev pub AllAnswered : (ℕ → Option (List ℕ)) → ℕ → List Framed →
 AllAnswered reply i [] bytes = bytes ≡ []
 AllAnswered reply i (message ∷ messages) bytes =
     (payload : List ℕ) × (later : List ℕ) × (answer_to (reply i) message.payload ≡ Some payload) × (bytes ≡ spelling (next_id message.last) payload ++ later) × AllAnswered reply (i + 1) messages later
+
+-- the replies that are there stay, and others may come
+abbrev pub Stay : (old new : ℕ → Option (List ℕ)) → Type 0
+Stay old new = (i : ℕ) (payload : List ℕ) → old i ≡ Some payload → new i ≡ Some payload

@@ -1,24 +1,55 @@
 -- How clients come.
-use Rattle.std.specs.Prelude.{ℕ, zero, suc, List, slice_get, Option, Some, None}
-use Rattle.std.specs.List.{filter_map}
+use Rattle.std.specs.Prelude.{ℕ, zero, suc, Bool, true, false, nat_eq, nat_lt, not, ◌&&◌, List, [], ◌∷◌, ◌++◌, length, filter, fold, slice_get, Option, Some, None}
+use Rattle.std.specs.List.{cons_option}
 use Rattle.mx_base.specs.declared.names.LinkId.{LinkId}
+use Rattle.mx_base.specs.declared.names.Port.{Port}
+use Rattle.mx_base.specs.declared.names.Port.TheVariants.{Traffic, Admin}
 use Rattle.mx_wire.specs.Log.{Log}
 use Rattle.mx_wire.specs.declared.entry.Entry.{Entry}
-use Rattle.mx_wire.specs.declared.entry.Entry.TheVariants.{Accepted}
+use Rattle.mx_wire.specs.declared.entry.Entry.TheVariants.{Accepted, Closed}
+use Rattle.client_session.specs.Setups.{Setup}
 
--- on which link a client came, and with which salt
+-- The clients that are connected: each from its Accepted entry at the port of clients to its Closed entry.
+
+abbrev pub without : LinkId → List LinkId → List LinkId
+without link links = filter (λ other. not (nat_eq other.0 link.0)) links
+
+abbrev pub connected_step : List LinkId → Entry → List LinkId
+connected_step links (Accepted Traffic link salt) = links ++ link ∷ []
+connected_step links (Closed link) = without link links
+connected_step links _ = links
+
+abbrev pub connected : Log → List LinkId
+connected log = fold connected_step [] log
+
+-- at which port and on which link a client came, with which salt, and how many clients were connected then
 pub record Arrival : Type 0 where
+  pub port : Port
   pub link : LinkId
   pub salt : List ℕ
+  pub others : ℕ
 
-abbrev pub arrival_in : Entry → Option Arrival
-arrival_in (Accepted port link salt) = Some (record { link = link; salt = salt })
-arrival_in _ = None
+abbrev pub arrival_in : (before : Log) → Entry → Option Arrival
+arrival_in before (Accepted port link salt) = Some (record { port = port; link = link; salt = salt; others = length (connected before) })
+arrival_in before _ = None
+
+-- those of the entries that stand behind these
+abbrev pub arrivals_behind : (before : Log) → Log → List Arrival
+arrivals_behind before [] = []
+arrivals_behind before (e ∷ log) = cons_option (arrival_in before e) (arrivals_behind (before ++ e ∷ []) log)
 
 abbrev pub arrivals : Log → List Arrival
-arrivals log = filter_map arrival_in log
+arrivals log = arrivals_behind [] log
 
 -- that of the n-th client, counted from 1
 abbrev pub arrival_of : ℕ → Log → Option Arrival
 arrival_of zero log = None
 arrival_of (suc n) log = slice_get (arrivals log) n
+
+abbrev pub is_traffic : Port → Bool
+is_traffic Traffic = true
+is_traffic Admin = false
+
+-- a client is served where it came to the port of clients, and fewer than the most were connected
+abbrev pub is_served : Setup → Arrival → Bool
+is_served setup came = is_traffic came.port && nat_lt came.others setup.max_clients

@@ -25,10 +25,10 @@ use Rattle.client_session.specs.declared.session.Session.{Session}
 use Rattle.client_session.specs.Setups.{Setup, has_server}
 use Rattle.client_session.specs.Accounts.{account_of}
 use Rattle.client_session.specs.Errors.{own_ok, unknown_command, malformed_command, no_server, access_denied}
-use Rattle.client_session.specs.Answers.{Talk, heard_more, opening_of, commands_in, client_messages, messages_of, greeted, login_answer, fault_error, front_in, query_by, is_query, is_quit, answer_by, answer_to, fault_answer, answers_to, due_in, AllAnswered}
+use Rattle.client_session.specs.Answers.{Stay, Talk, heard_more, opening_of, commands_in, client_messages, messages_of, greeted, login_answer, fault_error, front_in, query_by, is_query, is_quit, answer_by, answer_to, fault_answer, answers_to, due_in, AllAnswered}
 use Rattle.client_session.specs.Asked.{query_of, asked_by, asked_of}
 use Rattle.client_session.specs.Openings.{opening-shorter}
-use Rattle.client_session.specs.Past.{Stay, client_message, Answers, past-fed, past-one, past-next, all_answered-one, all_answered-stays, answers-next, answers-faulty}
+use Rattle.client_session.specs.Past.{client_message, Answers, past-fed, past-one, past-next, all_answered-one, all_answered-stays, answers-next, answers-faulty}
 use Rattle.client_session.specs.Stands.{IsComing, IsIn, front_to, IsIdle, Answered, Quit as QuitEnd, IsEnding}
 use Rattle.client_session.specs.Steps.{fed_with, past, started, answered_by, ended, admitted, denied, refused_within, IsPumped, Serves}
 

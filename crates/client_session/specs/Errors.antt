@@ -7,6 +7,10 @@ use Rattle.reply_text.specs.Replies.{ok_payload, err_payload}
 unfoldable pub own_ok : List ℕ
 own_ok = ok_payload 2 []
 
+-- there is no room for one client more
+unfoldable pub too_many_connections : List ℕ
+too_many_connections = err_payload 1040 (codes "08004") (codes "Too many connections")
+
 unfoldable pub bad_handshake : List ℕ
 bad_handshake = err_payload 1043 (codes "08S01") (codes "Bad handshake")
 

@@ -1,18 +1,21 @@
 -- What one more entry changes of the clients of a log, and of what is sent for them.
-use Rattle.std.specs.Prelude.{false, true, ◌≡◌, ◌⊎◌, ℕ, zero, suc, List, [], ◌∷◌, ◌++◌, length, slice_get, Option, Some, None, refl}
+use Rattle.std.specs.Prelude.{Bool, false, true, ◌||◌, cond, ◌≡◌, ◌⊎◌, ℕ, zero, suc, List, [], ◌∷◌, ◌++◌, length, map, slice_get, Option, Some, None, refl}
+use Rattle.std.specs.List.{cons_option, list_any}
 use Rattle.std.specs.Option.{option_and_then, option_map}
-use Rattle.std.proofs.Common.{sym, ◌∙◌, ap, append-nil, inl, inr}
-use Rattle.std.proofs.lemmas.List.Elements.{filter_map-append}
+use Rattle.std.proofs.Common.{sym, ◌∙◌, ap, append-nil, append_assoc, inl, inr}
+use Rattle.std.proofs.lemmas.List.{length-map}
+use Rattle.std.proofs.lemmas.List.Elements.{filter-append, filter_map-append}
+use Rattle.std.proofs.lemmas.List.Folds.{list_any-append}
 use Rattle.std.proofs.lemmas.Grind.{flat_map-append}
 use Rattle.mx_base.specs.declared.names.LinkId.{LinkId}
 use Rattle.mx_base.specs.declared.names.Port.{Port}
-use Rattle.mx_wire.specs.Log.{Log, link_of, is_link, accepted_link, accepted_links}
-use Rattle.mx_wire.specs.Growth.{bool_cases, step-same, step-other}
+use Rattle.mx_wire.specs.Log.{Log, link_of, is_link, of_link, accepted_link, accepted_links}
+use Rattle.mx_wire.specs.Growth.{bool_cases, same_number, step-same, step-other}
 use Rattle.mx_wire.specs.declared.entry.Entry.{Entry}
 use Rattle.mx_wire.specs.declared.entry.Entry.TheVariants.{Accepted}
-use Rattle.client_session.specs.Arrivals.{Arrival, arrival_in, arrivals, arrival_of}
+use Rattle.client_session.specs.Arrivals.{Arrival, connected, arrival_in, arrivals_behind, arrivals, arrival_of}
 use Rattle.client_session.specs.Sending.{carrier, command_bytes, command_sent, Sending, first_carried, sending, SoFar, Part, Heard, hear_step, heard_on, answer_in, reply_on, reply_to}
-use Rattle.client_session.specs.Headline.{client_link}
+use Rattle.client_session.specs.Headline.{client_link, is_loss, was_lost, is_write, was_offered}
 
 -- an element of a list, with more behind it
 pub slice_get-more : {X : Type 0} (xs ys : List X) (i : ℕ) (x : X) → slice_get xs i ≡ Some x → slice_get (xs ++ ys) i ≡ Some x
@@ -23,6 +26,11 @@ slice_get-more (y ∷ xs) ys (suc i) x is = slice_get-more xs ys i x is
 pub slice_get-at : {X : Type 0} (xs : List X) (x : X) (ys : List X) → slice_get (xs ++ x ∷ ys) (length xs) ≡ Some x
 slice_get-at [] x ys = refl
 slice_get-at (y ∷ xs) x ys = slice_get-at xs x ys
+
+slice_get-map : {X Y : Type 0} (f : X → Y) (xs : List X) (i : ℕ) → slice_get (map f xs) i ≡ option_map f (slice_get xs i)
+slice_get-map f [] i = refl
+slice_get-map f (x ∷ xs) zero = refl
+slice_get-map f (x ∷ xs) (suc i) = slice_get-map f xs i
 
 -- an element of a list with one more: it was there before, or is the new one
 slice_get-back : {X : Type 0} (xs : List X) (y : X) (i : ℕ) (x : X) → slice_get (xs ++ y ∷ []) i ≡ Some x → (slice_get xs i ≡ Some x) ⊎ ((i ≡ length xs) × (y ≡ x))
@@ -42,10 +50,20 @@ accepted_links-same log e none = rw (filter_map-append, none) (append-nil (accep
 
 -- Clients.
 
+one-behind : (o : Option Arrival) (all behind more : List Arrival) → all ≡ behind ++ more → cons_option o all ≡ cons_option o behind ++ more
+one-behind None all behind more is = is
+one-behind (Some came) all behind more is = ap (λ (list : List Arrival). came ∷ list) is
+
+arrivals-append : (before log more : Log) → arrivals_behind before (log ++ more) ≡ arrivals_behind before log ++ arrivals_behind (before ++ log) more
+arrivals-append before [] more = ap (λ (l : Log). arrivals_behind l more) (sym (append-nil before))
+arrivals-append before (e ∷ log) more =
+    one-behind (arrival_in before e) (arrivals_behind (before ++ e ∷ []) (log ++ more)) (arrivals_behind (before ++ e ∷ []) log) (arrivals_behind (before ++ e ∷ log) more)
+    (arrivals-append (before ++ e ∷ []) log more ∙ ap (λ (l : Log). arrivals_behind (before ++ e ∷ []) log ++ arrivals_behind l more) (append_assoc before (e ∷ []) log))
+
 -- a client keeps its number, and how it came
 pub arrival-append : (n : ℕ) (log more : Log) (came : Arrival) → arrival_of n log ≡ Some came → arrival_of n (log ++ more) ≡ Some came
 arrival-append zero log more came is = cc
-arrival-append (suc n) log more came is = rw (filter_map-append arrival_in log more) (slice_get-more (arrivals log) (arrivals more) n came is)
+arrival-append (suc n) log more came is = rw (arrivals-append [] log more) (slice_get-more (arrivals log) (arrivals_behind log more) n came is)
 
 pub arrival-more : (n : ℕ) (log : Log) (e : Entry) (came : Arrival) → arrival_of n log ≡ Some came → arrival_of n (log ++ e ∷ []) ≡ Some came
 arrival-more n log e came is = arrival-append n log (e ∷ []) came is
@@ -63,12 +81,12 @@ pub client_link-more : (n : ℕ) (log : Log) (e : Entry) (link : LinkId) → cli
 client_link-more n log e link is = client_link-append n log (e ∷ []) link is
 
 -- no client comes with this entry
-nobody : (e : Entry) → accepted_link e ≡ None → arrival_in e ≡ None
-nobody (Accepted port link salt) is = cc
-nobody _ is = refl
+nobody : (before : Log) (e : Entry) → accepted_link e ≡ None → arrival_in before e ≡ None
+nobody before (Accepted port link salt) is = cc
+nobody before _ is = refl
 
 pub arrivals-same : (log : Log) (e : Entry) → accepted_link e ≡ None → arrivals (log ++ e ∷ []) ≡ arrivals log
-arrivals-same log e none = rw (filter_map-append, nobody e none) (append-nil (arrivals log))
+arrivals-same log e none = arrivals-append [] log (e ∷ []) ∙ ap (λ (o : Option Arrival). arrivals log ++ cons_option o []) (nobody log e none) ∙ append-nil (arrivals log)
 
 pub arrival-same : (n : ℕ) (log : Log) (e : Entry) → accepted_link e ≡ None → arrival_of n (log ++ e ∷ []) ≡ arrival_of n log
 arrival-same zero log e none = refl
@@ -77,31 +95,36 @@ arrival-same (suc n) log e none = ap (λ (came : List Arrival). slice_get came n
 pub client_link-same : (n : ℕ) (log : Log) (e : Entry) → accepted_link e ≡ None → client_link n (log ++ e ∷ []) ≡ client_link n log
 client_link-same n log e none = ap (option_map (λ (came : Arrival). came.link)) (arrival-same n log e none)
 
--- as many came as links were accepted
-one-count : (log : Log) (e : Entry) → length (arrivals log) ≡ length (accepted_links log) → length (arrivals (e ∷ log)) ≡ length (accepted_links (e ∷ log))
-one-count log (Accepted port link salt) later = ap suc later
-one-count log _ later = later
+-- as many came as links were accepted, in that order
+came-as : (before log : Log) → map (λ (came : Arrival). came.link) (arrivals_behind before log) ≡ accepted_links log
+came-as before [] = refl
+came-as before (e ∷ log) = by e (came-as (before ++ e ∷ []) log) where
+  by : (x : Entry) → map (λ (came : Arrival). came.link) (arrivals_behind (before ++ e ∷ []) log) ≡ accepted_links log → map (λ (came : Arrival). came.link) (cons_option (arrival_in before x) (arrivals_behind (before ++ e ∷ []) log)) ≡ cons_option (accepted_link x) (accepted_links log)
+  by (Accepted port link salt) later = ap (λ (links : List LinkId). link ∷ links) later
+  by _ later = later
 
 pub arrivals-count : (log : Log) → length (arrivals log) ≡ length (accepted_links log)
-arrivals-count [] = refl
-arrivals-count (e ∷ log) = one-count log e (arrivals-count log)
+arrivals-count log = sym (length-map (arrivals log) (λ (came : Arrival). came.link)) ∙ ap length (came-as [] log)
+
+pub arrived-at : (log : Log) (n : ℕ) (link : LinkId) → option_map (λ (came : Arrival). came.link) (slice_get (arrivals log) n) ≡ Some link → slice_get (accepted_links log) n ≡ Some link
+arrived-at log n link is = ap (λ (links : List LinkId). slice_get links n) (sym (came-as [] log)) ∙ slice_get-map (λ (came : Arrival). came.link) (arrivals log) n ∙ is
 
 -- a client comes, with the next number
-abbrev pub new_arrival : LinkId → (salt : List ℕ) → Arrival
-new_arrival link salt = record { link = link; salt = salt }
+abbrev pub new_arrival : Log → Port → LinkId → (salt : List ℕ) → Arrival
+new_arrival log port link salt = record { port = port; link = link; salt = salt; others = length (connected log) }
 
-pub arrivals-new : (log : Log) (port : Port) (link : LinkId) (salt : List ℕ) → arrivals (log ++ Accepted port link salt ∷ []) ≡ arrivals log ++ new_arrival link salt ∷ []
-arrivals-new log port link salt = filter_map-append arrival_in log (Accepted port link salt ∷ [])
+pub arrivals-new : (log : Log) (port : Port) (link : LinkId) (salt : List ℕ) → arrivals (log ++ Accepted port link salt ∷ []) ≡ arrivals log ++ new_arrival log port link salt ∷ []
+arrivals-new log port link salt = arrivals-append [] log (Accepted port link salt ∷ [])
 
-pub arrival-new : (log : Log) (port : Port) (link : LinkId) (salt : List ℕ) → arrival_of (suc (length (accepted_links log))) (log ++ Accepted port link salt ∷ []) ≡ Some (new_arrival link salt)
+pub arrival-new : (log : Log) (port : Port) (link : LinkId) (salt : List ℕ) → arrival_of (suc (length (accepted_links log))) (log ++ Accepted port link salt ∷ []) ≡ Some (new_arrival log port link salt)
 arrival-new log port link salt =
     ap (λ (n : ℕ). slice_get (arrivals (log ++ Accepted port link salt ∷ [])) n) (sym (arrivals-count log))
-    ∙ ap (λ (came : List Arrival). slice_get came (length (arrivals log))) (arrivals-new log port link salt) ∙ slice_get-at (arrivals log) (new_arrival link salt) []
+    ∙ ap (λ (came : List Arrival). slice_get came (length (arrivals log))) (arrivals-new log port link salt) ∙ slice_get-at (arrivals log) (new_arrival log port link salt) []
 
 pub arrival-back : (n : ℕ) (log : Log) (port : Port) (link : LinkId) (salt : List ℕ) (came : Arrival) → arrival_of n (log ++ Accepted port link salt ∷ []) ≡ Some came
-    → (arrival_of n log ≡ Some came) ⊎ ((n ≡ suc (length (accepted_links log))) × (new_arrival link salt ≡ came))
+    → (arrival_of n log ≡ Some came) ⊎ ((n ≡ suc (length (accepted_links log))) × (new_arrival log port link salt ≡ came))
 arrival-back zero log port link salt came has = cc
-arrival-back (suc n) log port link salt came has = elim (slice_get-back (arrivals log) (new_arrival link salt) n came (rw (arrivals-new log port link salt) at has)) [
+arrival-back (suc n) log port link salt came has = elim (slice_get-back (arrivals log) (new_arrival log port link salt) n came (rw (arrivals-new log port link salt) at has)) [
   | inl before ↦ inl before
   | inr now ↦ inr (ap suc (now.0 ∙ arrivals-count log), now.1)
 ]
@@ -116,6 +139,31 @@ client_link-back n log port new salt link has =
       | inl before ↦ inl (ap (option_map (λ (came : Arrival). came.link)) before ∙ ap (λ (l : LinkId). Some l) of.2)
       | inr now ↦ inr (now.0, ap (λ (came : Arrival). came.link) now.1 ∙ of.2)
     ]
+
+-- a link that was lost stays so, and one on which a write was tried
+any-append : (p : Entry → Bool) (link : LinkId) (log more : Log) → list_any p (of_link link (log ++ more)) ≡ (list_any p (of_link link log) || list_any p (of_link link more))
+any-append p link log more = ap (list_any p) (filter-append (λ e. is_link link (link_of e)) log more) ∙ list_any-append p (of_link link log) (of_link link more)
+
+pub lost-append : (link : LinkId) (log more : Log) → was_lost link log ≡ true → was_lost link (log ++ more) ≡ true
+lost-append link log more lost = any-append is_loss link log more ∙ ap (λ b. b || was_lost link more) lost
+
+or-true : (a : Bool) → (a || true) ≡ true
+or-true true = refl
+or-true false = refl
+
+-- an entry of the link by which it is lost, or by which a write is tried
+any-now : (p : Entry → Bool) (link : LinkId) (log : Log) (e : Entry) (more : Log) → link_of e ≡ Some link → p e ≡ true → list_any p (of_link link (log ++ e ∷ more)) ≡ true
+any-now p link log e more of is =
+    let here : is_link link (link_of e) ≡ true = ap (is_link link) of ∙ same_number link.0 in
+    any-append p link log (e ∷ more)
+    ∙ ap (λ (b : Bool). list_any p (of_link link log) || list_any p (cond b (e ∷ of_link link more) (of_link link more))) here
+    ∙ ap (λ (b : Bool). list_any p (of_link link log) || (b || list_any p (of_link link more))) is ∙ or-true (list_any p (of_link link log))
+
+pub lost-now : (link : LinkId) (log : Log) (e : Entry) → link_of e ≡ Some link → is_loss e ≡ true → was_lost link (log ++ e ∷ []) ≡ true
+lost-now link log e of is = any-now is_loss link log e [] of is
+
+pub offered-now : (link : LinkId) (log : Log) (e : Entry) (more : Log) → link_of e ≡ Some link → is_write e ≡ true → was_offered link (log ++ e ∷ more) ≡ true
+offered-now link log e more of is = any-now is_write link log e more of is
 
 -- the first byte of a command was written before, is written now, or isn't yet
 pub sending-before : (n i : ℕ) (log : Log) (e : Entry) (sent : Sending) → sending n i log ≡ Some sent → sending n i (log ++ e ∷ []) ≡ Some (record { link = sent.link; since = sent.since ++ e ∷ [] })

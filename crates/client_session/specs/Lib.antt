@@ -33,3 +33,5 @@ pub mod Events
 pub mod Acts
 pub mod Sends
 pub mod Rest
+pub mod TurnedAway
+pub mod Leaving

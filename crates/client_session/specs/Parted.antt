@@ -1,6 +1,6 @@
 -- What a session stands for as its links come and go.
 use Rattle.std.specs.Prelude.{◌≡◌, ℕ, ◌<◌, Bool, true, false, nat_eq, not, List, [], ◌∷◌, ◌++◌, take, drop, Option, Some, refl}
-use Rattle.std.proofs.Common.{sym, ◌∙◌, ap, subst, append_assoc, take-append-drop, arith}
+use Rattle.std.proofs.Common.{sym, ◌∙◌, ap, subst, append_assoc, take-append-drop, inl, arith}
 use Rattle.mx_base.specs.declared.names.ClientNo.{ClientNo}
 use Rattle.mx_base.specs.declared.names.LinkId.{LinkId}
 use Rattle.mx_base.specs.declared.tag.Tag.TheVariants.{Reply}
@@ -23,12 +23,12 @@ use Rattle.client_session.specs.declared.phase.Upstream.{Upstream}
 use Rattle.client_session.specs.declared.phase.Upstream.TheVariants as upstream
 use Rattle.client_session.specs.declared.session.Session.{Session}
 use Rattle.client_session.specs.Answers.{Talk}
-use Rattle.client_session.specs.Headline.{Service, replies_to, IsPrefix}
+use Rattle.client_session.specs.Headline.{Service, replies_to, IsPrefix, was_lost}
 use Rattle.client_session.specs.Logins.{own_of}
 use Rattle.client_session.specs.Events.{dropped, without_upstream, begun_on, is_begun, client_lost, opened_on, opened_as}
-use Rattle.client_session.specs.Stands.{IsAt, IsNext, IsCarried, Awaits, Unsent, Begun, IsUnsent, IsWaiting, IsServedOn, IsServedBy, IsTold, talk_of, HasCome, HasSession}
+use Rattle.client_session.specs.Stands.{IsAt, IsParting, IsNext, IsCarried, Awaits, Unsent, Begun, IsUnsent, IsWaiting, IsServedOn, IsServedBy, IsTold, talk_of, HasCome, HasSession}
 use Rattle.client_session.specs.Still.{replies-stay, at-stays, at-as, dry_in-as}
-use Rattle.client_session.specs.Passing.{HearsNothing, same_for, next-passes, served-passes, talk-same, came-more}
+use Rattle.client_session.specs.Passing.{HearsNothing, same_for, next-passes, served-passes, talk-same, came-more, parting-more}
 
 -- The server's link is to be closed.
 
@@ -62,10 +62,11 @@ dropped-served service state phase account number i (upstream.Closing link) log 
 -- where an open client's command isn't begun, the server's link may go
 pub session-dropped : (service : Service) (session : Session) (log : Log) → (session.state ≡ link_state.Open → is_begun session ≡ false) → HasSession service session log → HasSession service (without_upstream session) log
 session-dropped service session log idle has = record {
-  client = record { came = has.client.came };
+  client = has.client;
   told = has.told;
   written = has.written;
   at = at-as session.phase session (without_upstream session) (replies_to service session.client.number.0 log) (talk_of service session log) has.told refl refl has.at;
+  parting = has.parting;
   dry = dry_in-as session.state session.phase session (without_upstream session) (talk_of service session log) has.told refl has.dry;
   served = dropped-served service session.state session.phase session.account session.client.number session.client.arrived session.upstream log idle has.served;
   next = has.next;
@@ -82,25 +83,26 @@ closing-served service state phase account number i (upstream.Closing link) log 
 closing_of : Session → Session
 closing_of session = record session { state = link_state.Closing }
 
-session-closing : (service : Service) (session : Session) (log : Log) → session.state ≡ link_state.Open → HasSession service session log → HasSession service (closing_of session) log
+session-closing : (service : Service) (session : Session) (log : Log) → session.state ≡ link_state.Open → was_lost session.link log ≡ true → HasSession service session log → HasSession service (closing_of session) log
 unfolding closing_of
-session-closing service session log opened has = record {
-  client = record { came = has.client.came };
+session-closing service session log opened lost has = record {
+  client = has.client;
   told = has.told;
   written = subst (λ (s : LinkState). IsTold s session.client.outgoing (written_of session.link log) has.told) opened has.written;
   at = at-as session.phase session (closing_of session) (replies_to service session.client.number.0 log) (talk_of service session log) has.told refl refl has.at;
+  parting = inl lost;
   dry = tt;
   served = closing-served service session.state session.phase session.account session.client.number session.client.arrived session.upstream log has.served;
   next = has.next;
 }
 
 -- the client's link is lost: what runs for it runs on
-pub session-lost_client : (service : Service) (session : Session) (log : Log) → session.state ≡ link_state.Open → HasSession service session log → HasSession service (client_lost (is_begun session) session) log
+pub session-lost_client : (service : Service) (session : Session) (log : Log) → session.state ≡ link_state.Open → was_lost session.link log ≡ true → HasSession service session log → HasSession service (client_lost (is_begun session) session) log
 unfolding closing_of
-session-lost_client service session log opened has = by (is_begun session) where
+session-lost_client service session log opened lost has = by (is_begun session) where
   by : (begun : Bool) → HasSession service (client_lost begun session) log
-  by true = session-closing service session log opened has
-  by false = session-dropped service (closing_of session) log (λ open_still. cc) (session-closing service session log opened has)
+  by true = session-closing service session log opened lost has
+  by false = session-dropped service (closing_of session) log (λ open_still. cc) (session-closing service session log opened lost has)
 
 -- A link to the server opens.
 
@@ -132,10 +134,11 @@ opened-served service payload account user number i up link log absent known new
 pub session-opened : (service : Service) (session : Session) (payload : List ℕ) (link : LinkId) (log : Log) → session.state ≡ link_state.Open → session.phase ≡ phase.Working payload → session.upstream ≡ upstream.Absent → IsNew link log
     → HasSession service session log → HasSession service (opened_on session link) log
 session-opened service session payload link log opened working absent new has = as_it (record {
-  client = record { came = has.client.came };
+  client = has.client;
   told = has.told;
   written = has.written;
   at = at-as session.phase session later (replies_to service session.client.number.0 log) (talk_of service session log) has.told refl refl has.at;
+  parting = has.parting;
   dry = dry_in-as session.state session.phase session later (talk_of service session log) has.told refl has.dry;
   served = subst (λ (s : LinkState). IsServedBy service s session.phase session.account session.client.number session.client.arrived later.upstream log) (sym opened)
       (subst (λ (p : Phase). IsServedBy service link_state.Open p session.account session.client.number session.client.arrived later.upstream log) (sym working)
@@ -157,10 +160,11 @@ session-opened service session payload link log opened working absent new has = 
 
 pub session-absent : (service : Service) (session : Session) (link : LinkId) (log : Log) → session.upstream ≡ upstream.Closing link → HasSession service session log → HasSession service (record session { upstream = upstream.Absent }) log
 session-absent service session link log closing has = record {
-  client = record { came = has.client.came };
+  client = has.client;
   told = has.told;
   written = has.written;
   at = at-as session.phase session (record session { upstream = upstream.Absent }) (replies_to service session.client.number.0 log) (talk_of service session log) has.told refl refl has.at;
+  parting = has.parting;
   dry = dry_in-as session.state session.phase session (record session { upstream = upstream.Absent }) (talk_of service session log) has.told refl has.dry;
   served = subst (λ (u : Upstream). IsServedBy service session.state session.phase session.account session.client.number session.client.arrived u log) closing has.served;
   next = has.next;
@@ -175,25 +179,26 @@ abbrev pub closed_of : Session → Session
 closed_of session = record session { state = link_state.Closed }
 
 closes-at : (service : Service) (session : Session) (log : Log) (told : List ℕ) → session.state ≡ link_state.Closing → HasCome service session log → IsPrefix (written_of session.link log) (told ++ session.client.outgoing)
-    → IsAt session.phase session (replies_to service session.client.number.0 log) (talk_of service session log) told
+    → IsAt session.phase session (replies_to service session.client.number.0 log) (talk_of service session log) told → IsParting session.state session.link session.phase session.client.outgoing log
     → IsServedBy service session.state session.phase session.account session.client.number session.client.arrived session.upstream log → ((i : ℕ) → session.client.arrived < i → IsNext service session.client.number.0 i log) → HasSession service (closed_of session) log
-closes-at service session log told closing come front at served next = record {
-  client = record { came = come.came };
+closes-at service session log told closing come front at parting served next = record {
+  client = come;
   told = told;
   written = front;
   at = at-as session.phase session (closed_of session) (replies_to service session.client.number.0 log) (talk_of service session log) told refl refl at;
+  parting = subst (λ (s : LinkState). IsParting s session.link session.phase session.client.outgoing log) closing parting;
   dry = tt;
   served = closed-served service session.phase session.account session.client.number session.client.arrived session.upstream log (subst (λ (s : LinkState). IsServedBy service s session.phase session.account session.client.number session.client.arrived session.upstream log) closing served);
   next = next;
 }
 
-told-closing : (service : Service) (session : Session) (log : Log) → session.state ≡ link_state.Closing → (has : HasSession service session log) → written_of session.link log ≡ has.told
+pub told-closing : (service : Service) (session : Session) (log : Log) → session.state ≡ link_state.Closing → (has : HasSession service session log) → written_of session.link log ≡ has.told
 told-closing service session log closing has = subst (λ (s : LinkState). IsTold s session.client.outgoing (written_of session.link log) has.told) closing has.written
 
 -- the client's link closes without a farewell
 pub session-closed : (service : Service) (session : Session) (log : Log) → session.state ≡ link_state.Closing → HasSession service session log → HasSession service (closed_of session) log
 session-closed service session log closing has =
-    closes-at service session log has.told closing has.client (record { rest = session.client.outgoing; is = ap (λ xs. xs ++ session.client.outgoing) (told-closing service session log closing has) }) has.at has.served has.next
+    closes-at service session log has.told closing has.client (record { rest = session.client.outgoing; is = ap (λ xs. xs ++ session.client.outgoing) (told-closing service session log closing has) }) has.at has.parting has.served has.next
 
 -- and behind one: a beginning of the bytes that are left
 pub session-farewell : (service : Service) (session : Session) (n : ℕ) (log : Log) → session.state ≡ link_state.Closing → HearsNothing session.upstream log (entry.Wrote session.link Reply (take n session.client.outgoing)) → HasSession service session log
@@ -207,5 +212,6 @@ session-farewell service session n log closing heard has =
     })
     (subst (λ (t : Talk). IsAt session.phase session (replies_to service session.client.number.0 (log ++ e ∷ [])) t has.told) (sym (talk-same service service session log (log ++ e ∷ []) refl (bytes-idle got_bytes session.link log e refl)))
     (at-stays session.phase session (replies_to service session.client.number.0 log) (replies_to service session.client.number.0 (log ++ e ∷ [])) (talk_of service session log) has.told (replies-stay service session.client.number.0 log e) has.at))
+    (parting-more session log e has.parting)
     (served-passes service service session.state session.phase session.account session.client.number session.client.arrived session.upstream log e (same_for service session.client.number.0) refl heard has.served)
     (λ i later. next-passes service service session.client.number.0 i log e (same_for service session.client.number.0) refl (has.next i later))

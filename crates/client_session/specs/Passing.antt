@@ -1,5 +1,5 @@
 -- Entries that leave a session as it is.
-use Rattle.std.specs.Prelude.{◌≡◌, ℕ, Bool, true, false, nat_eq, List, [], ◌∷◌, ◌++◌, cond, Option, Some, None, refl}
+use Rattle.std.specs.Prelude.{◌≡◌, ℕ, Bool, true, false, nat_eq, nat_lt, List, [], ◌∷◌, ◌++◌, cond, Option, Some, None, refl}
 use Rattle.std.proofs.Common.{sym, ◌∙◌, ap, subst, append-nil, inl, inr}
 use Rattle.mx_base.specs.declared.names.ClientNo.{ClientNo}
 use Rattle.mx_base.specs.declared.names.LinkId.{LinkId}
@@ -18,14 +18,13 @@ use Rattle.client_session.specs.declared.phase.LinkState.TheVariants as link_sta
 use Rattle.client_session.specs.declared.phase.Upstream.{Upstream}
 use Rattle.client_session.specs.declared.phase.Upstream.TheVariants as upstream
 use Rattle.client_session.specs.declared.session.Session.{Session}
-use Rattle.client_session.specs.Answers.{Talk}
+use Rattle.client_session.specs.Answers.{Stay, Talk}
 use Rattle.client_session.specs.Logins.{own_bytes, own_of}
 use Rattle.client_session.specs.Sending.{is_command, carrier, command_bytes, command_sent, first_carried, SoFar, hear_step, heard_on}
 use Rattle.client_session.specs.Setups.{Setup, has_server}
 use Rattle.client_session.specs.Headline.{Service, is_refused, replies_to}
-use Rattle.client_session.specs.Growth.{arrival-more, sending-before, sending-now, command_sent-more, heard-same, heard-other}
-use Rattle.client_session.specs.Past.{Stay}
-use Rattle.client_session.specs.Stands.{IsLoggingInOn, IsInOn, IsFree, IsNext, IsCarried, Awaits, Unsent, Begun, IsWaiting, IsServedOn, IsServedBy, IsTold, IsAt, IsDryIn, talk_of, HasCome, HasSession, upstream_link}
+use Rattle.client_session.specs.Growth.{arrival-more, lost-append, sending-before, sending-now, command_sent-more, heard-same, heard-other}
+use Rattle.client_session.specs.Stands.{IsLoggingInOn, IsInOn, IsFree, IsNext, IsCarried, Awaits, Unsent, Begun, IsWaiting, IsServedOn, IsServedBy, IsTold, IsParting, IsAt, IsDryIn, talk_of, HasCome, HasSession, upstream_link}
 use Rattle.client_session.specs.Still.{at-stays, replies-stay}
 
 -- what is known of the servers says the same of a client's commands
@@ -133,7 +132,20 @@ talk-same was now session log later setup read =
     ∙ ap (λ (xs : List ℕ). record { setup = was.setup; number = session.client.number.0; salt = session.client.salt; read = xs }) read
 
 pub came-more : (was now : Service) (session : Session) (log : Log) (e : Entry) → now.setup ≡ was.setup → HasCome was session log → HasCome now session (log ++ e ∷ [])
-came-more was now session log e setup come = record { came = arrival-more session.client.number.0 log e _ come.came }
+came-more was now session log e setup come = record {
+  others = come.others;
+  room = ap (λ (s : Setup). nat_lt come.others s.max_clients) setup ∙ come.room;
+  came = arrival-more session.client.number.0 log e _ come.came;
+}
+
+-- why it is to be closed stays
+pub parting-append : (state : LinkState) (link : LinkId) (how : Phase) (outgoing : List ℕ) (log more : Log) → IsParting state link how outgoing log → IsParting state link how outgoing (log ++ more)
+parting-append link_state.Open link how outgoing log more parting = tt
+parting-append link_state.Closing link how outgoing log more parting = elim (parting) [ inl lost ↦ inl (lost-append link log more lost) | inr said ↦ inr said ]
+parting-append link_state.Closed link how outgoing log more parting = elim (parting) [ inl lost ↦ inl (lost-append link log more lost) | inr said ↦ inr said ]
+
+pub parting-more : (session : Session) (log : Log) (e : Entry) → IsParting session.state session.link session.phase session.client.outgoing log → IsParting session.state session.link session.phase session.client.outgoing (log ++ e ∷ [])
+parting-more session log e parting = parting-append session.state session.link session.phase session.client.outgoing log (e ∷ []) parting
 
 pub session-passes : (was now : Service) (session : Session) (log : Log) (e : Entry) → SameFor was now session.client.number.0 → Stay (replies_to was session.client.number.0 log) (replies_to now session.client.number.0 (log ++ e ∷ []))
     → Passes session log e → HasSession was session log → HasSession now session (log ++ e ∷ [])
@@ -145,6 +157,7 @@ session-passes was now session log e same stay passes has =
       written = subst (λ (xs : List ℕ). IsTold session.state session.client.outgoing xs has.told) (sym passes.written) has.written;
       at = subst (λ (t : Talk). IsAt session.phase session (replies_to now session.client.number.0 (log ++ e ∷ [])) t has.told) (sym talk)
           (at-stays session.phase session (replies_to was session.client.number.0 log) (replies_to now session.client.number.0 (log ++ e ∷ [])) (talk_of was session log) has.told stay has.at);
+      parting = parting-more session log e has.parting;
       dry = subst (λ (t : Talk). IsDryIn session.state session.phase session t has.told) (sym talk) has.dry;
       served = served-passes was now session.state session.phase session.account session.client.number session.client.arrived session.upstream log e same (passes.carries session.client.arrived) passes.heard has.served;
       next = λ i later. next-passes was now session.client.number.0 i log e same (passes.carries i) (has.next i later);

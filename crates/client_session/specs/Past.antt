@@ -9,7 +9,7 @@ use Rattle.packet_frame.specs.Laws.{split-nothing, split-whole, split-faulty, fi
 use Rattle.command_parse.specs.Meaning.{Meaning, parsed}
 use Rattle.command_parse.specs.Meaning.Meaning.{Query}
 use Rattle.command_parse.specs.declared.fault.CommandFault.{CommandFault}
-use Rattle.client_session.specs.Answers.{client_messages, answer_by, answer_to, fault_answer, answered, answers, answers_to, AllAnswered}
+use Rattle.client_session.specs.Answers.{Stay, client_messages, answer_by, answer_to, fault_answer, answered, answers, answers_to, AllAnswered}
 use Rattle.client_session.specs.Growth.{slice_get-at}
 use Rattle.client_session.specs.Headline.{IsPrefix}
 
@@ -53,9 +53,7 @@ past-at limit read done waiting message rest past is = rw (past-next limit read 
 pub past-take : (limit : ℕ) (read : List ℕ) (done : List Framed) (waiting : List ℕ) → Past limit read done waiting → take (length done) (client_messages limit read).messages ≡ done
 past-take limit read done waiting past = rw (past-now limit read done waiting past) (take-append_seam done (client_messages limit waiting).messages)
 
--- an answer stays where replies stay
-abbrev pub Stay : (old new : ℕ → Option (List ℕ)) → Type 0
-Stay old new = (i : ℕ) (payload : List ℕ) → old i ≡ Some payload → new i ≡ Some payload
+-- An answer stays where replies stay.
 
 answer_by-stays : (old new : Option (List ℕ)) (meaning : Result Meaning CommandFault) (payload : List ℕ) → (old ≡ Some payload → new ≡ Some payload) → answer_by old meaning ≡ Some payload → answer_by new meaning ≡ Some payload
 answer_by-stays old new (Ok (Query text)) payload stays is = stays is

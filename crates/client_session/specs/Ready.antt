@@ -1,7 +1,8 @@
 -- What a session stands for once its client has said what it may.
 use Rattle.std.specs.Prelude.{◌≡◌, ℕ, ◌<◌, ◌≤◌, Bool, true, false, List, [], ◌∷◌, ◌++◌, cond, length, Option, Some, None, refl}
-use Rattle.std.proofs.Common.{sym, ◌∙◌, ap, subst, append-nil, arith}
+use Rattle.std.proofs.Common.{sym, ◌∙◌, ap, subst, append-nil, inr, arith}
 use Rattle.mx_base.specs.declared.names.ClientNo.{ClientNo}
+use Rattle.mx_base.specs.declared.names.Port.TheVariants.{Traffic}
 use Rattle.mx_base.specs.declared.names.LinkId.{LinkId}
 use Rattle.mx_base.specs.declared.tag.Tag.TheVariants.{For}
 use Rattle.mx_wire.specs.Log.{Log, read_of, written_of}
@@ -18,12 +19,13 @@ use Rattle.client_session.specs.declared.phase.LinkState.TheVariants as link_sta
 use Rattle.client_session.specs.declared.phase.Upstream.{Upstream}
 use Rattle.client_session.specs.declared.phase.Upstream.TheVariants as upstream
 use Rattle.client_session.specs.declared.session.Session.{Session}
+use Rattle.client_session.specs.Arrivals.{arrival_of}
 use Rattle.client_session.specs.Setups.{Setup, has_server}
 use Rattle.client_session.specs.Accounts.{account_of}
 use Rattle.client_session.specs.Answers.{Talk}
 use Rattle.client_session.specs.Sending.{carrier, command_bytes, command_sent, first_carried, sending}
 use Rattle.client_session.specs.Headline.{Service, replies_to}
-use Rattle.client_session.specs.Stands.{IsComing, IsIn, IsIdle, IsWorking, IsEnding, IsAt, IsDry, IsDryIn, IsInOn, IsFree, MayBeFree, IsNext, command_of, IsCarried, Awaits, Unsent, Begun, IsOnItsWay, IsServedBy, IsTold, talk_of, HasCome, HasSession}
+use Rattle.client_session.specs.Stands.{IsComing, IsIn, IsIdle, IsWorking, IsEnding, IsAt, IsDry, IsDryIn, IsInOn, IsFree, MayBeFree, IsNext, command_of, IsCarried, Awaits, Unsent, Begun, IsOnItsWay, IsServedBy, IsTold, IsParting, talk_of, HasCome, HasSession}
 use Rattle.client_session.specs.Steps.{IsPumped, MaySpeak, SameLinks}
 use Rattle.client_session.specs.Events.{dropped, state_behind, settled, takes_command, commanded_by, upstream_sent, sent_on, GoesOn}
 use Rattle.client_session.specs.Passing.{no-bytes}
@@ -134,16 +136,21 @@ told-by link_state.Closing outgoing written is = refl
 told-by link_state.Closed outgoing written is = cc
 
 went-on : (service : Service) (old mid : Session) (state : LinkState) (up : Upstream) (log : Log) → IsReady service old log → SameLinks old mid → old.client.arrived ≤ mid.client.arrived
-    → IsTold state mid.client.outgoing (written_of old.link log) (written_of old.link log)
+    → IsTold state mid.client.outgoing (written_of old.link log) (written_of old.link log) → IsParting state old.link mid.phase mid.client.outgoing log
     → IsAt mid.phase mid (replies_to service old.client.number.0 log) (talk_of service old log) (written_of old.link log) → IsDryIn state mid.phase mid (talk_of service old log) (written_of old.link log)
     → IsServedBy service state mid.phase mid.account mid.client.number mid.client.arrived up log → HasSession service (named old mid state up) log
-went-on service old mid state up log ready same later told at dry served = record {
-  client = record { came = ap (λ (c : ClientNo). Rattle.client_session.specs.Arrivals.arrival_of c.0 log) same.number ∙ ready.come.came ∙ ap (λ (salt : List ℕ). Some (record { link = old.link; salt = salt })) (sym same.salt) };
+went-on service old mid state up log ready same later told parting at dry served = record {
+  client = record {
+    others = ready.come.others;
+    room = ready.come.room;
+    came = ap (λ (c : ClientNo). arrival_of c.0 log) same.number ∙ ready.come.came ∙ ap (λ (salt : List ℕ). Some (record { port = Traffic; link = old.link; salt = salt; others = ready.come.others })) (sym same.salt);
+  };
   told = written_of old.link log;
   written = told;
   at = at-as mid.phase mid (named old mid state up) (replies_to service mid.client.number.0 log) (talk_of service (named old mid state up) log) (written_of old.link log) refl refl
       (subst (λ (t : Talk). IsAt mid.phase mid (replies_to service mid.client.number.0 log) t (written_of old.link log)) (sym talk)
       (subst (λ (c : ClientNo). IsAt mid.phase mid (replies_to service c.0 log) (talk_of service old log) (written_of old.link log)) (sym same.number) at));
+  parting = parting;
   dry = dry_in-as state mid.phase mid (named old mid state up) (talk_of service (named old mid state up) log) (written_of old.link log) refl
       (subst (λ (t : Talk). IsDryIn state mid.phase mid t (written_of old.link log)) (sym talk) dry);
   served = served;
@@ -161,6 +168,10 @@ ending-told : (outgoing written : List ℕ) → IsTold (state_behind phase.Endin
 ending-told [] written = refl
 ending-told (byte ∷ bytes) written = refl
 
+ending-parting : (how : Phase) (link : LinkId) (outgoing : List ℕ) (log : Log) → how ≡ phase.Ending → IsParting (state_behind phase.Ending link_state.Open outgoing) link how outgoing log
+ending-parting how link [] log is = inr (record { ending = is; none = refl })
+ending-parting how link (byte ∷ bytes) log is = tt
+
 ending-dry : (mid : Session) (outgoing : List ℕ) (talk : Talk) (written : List ℕ) → mid.client.outgoing ≡ outgoing → IsDryIn (state_behind phase.Ending link_state.Open outgoing) phase.Ending mid talk written
 ending-dry mid [] talk written is = tt
 ending-dry mid (byte ∷ bytes) talk written is = rw is (search arith)
@@ -172,7 +183,7 @@ waits-not talk waits says response id rest one two = (let no : Waits waits ≡ S
 settled-as : (service : Service) (old mid : Session) (log : Log) → IsReady service old log → SameLinks old mid → (phase : Phase) → mid.phase ≡ phase
     → IsPumped service.setup phase old.client.arrived mid (replies_to service old.client.number.0 log) (talk_of service old log) (written_of old.link log) → HasSession service (sent_on (settled phase mid)) log
 settled-as service old mid log ready same phase.LoggingIn is pumped = subst (λ (s : Session). HasSession service s log) as_it
-    (went-on service old mid link_state.Open old.upstream log ready same pumped.0 refl
+    (went-on service old mid link_state.Open old.upstream log ready same pumped.0 refl tt
     (subst (λ (p : Phase). IsAt p mid (replies_to service old.client.number.0 log) (talk_of service old log) (written_of old.link log)) (sym is) pumped.1)
     (subst (λ (p : Phase). IsDry p mid (talk_of service old log) (written_of old.link log)) (sym is) pumped.2)
     (subst (λ (p : Phase). IsServedBy service link_state.Open p mid.account mid.client.number mid.client.arrived old.upstream log) (sym is)
@@ -188,7 +199,7 @@ settled-as service old mid log ready same phase.LoggingIn is pumped = subst (λ 
       as_it = is-named old mid link_state.Open old.upstream same.link ∙ ap (λ (state : LinkState). record mid { state = state; upstream = old.upstream }) (sym ready.opened ∙ sym same.state)
           ∙ ap (λ (u : Upstream). record mid { upstream = u }) (sym same.upstream ∙ sym (ap (λ (p : Phase). upstream_sent p mid.client mid.upstream) is))
 settled-as service old mid log ready same phase.Idle is pumped = subst (λ (s : Session). HasSession service s log) as_it
-    (went-on service old mid link_state.Open old.upstream log ready same pumped.0 refl
+    (went-on service old mid link_state.Open old.upstream log ready same pumped.0 refl tt
     (subst (λ (p : Phase). IsAt p mid (replies_to service old.client.number.0 log) (talk_of service old log) (written_of old.link log)) (sym is) pumped.1)
     (subst (λ (p : Phase). IsDry p mid (talk_of service old log) (written_of old.link log)) (sym is) pumped.2)
     (subst (λ (p : Phase). IsServedBy service link_state.Open p mid.account mid.client.number mid.client.arrived old.upstream log) (sym is)
@@ -198,7 +209,7 @@ settled-as service old mid log ready same phase.Idle is pumped = subst (λ (s : 
       as_it = is-named old mid link_state.Open old.upstream same.link ∙ ap (λ (state : LinkState). record mid { state = state; upstream = old.upstream }) (sym ready.opened ∙ sym same.state)
           ∙ ap (λ (u : Upstream). record mid { upstream = u }) (sym same.upstream ∙ sym (ap (λ (p : Phase). upstream_sent p mid.client mid.upstream) is))
 settled-as service old mid log ready same (phase.Working payload) is pumped = subst (λ (s : Session). HasSession service s log) as_it
-    (went-on service old mid link_state.Open (upstream_sent (phase.Working payload) mid.client old.upstream) log ready same (omega (arith, pumped.0)) refl
+    (went-on service old mid link_state.Open (upstream_sent (phase.Working payload) mid.client old.upstream) log ready same (omega (arith, pumped.0)) refl tt
     (subst (λ (p : Phase). IsAt p mid (replies_to service old.client.number.0 log) (talk_of service old log) (written_of old.link log)) (sym is) pumped.2)
     (subst (λ (p : Phase). IsDry p mid (talk_of service old log) (written_of old.link log)) (sym is) tt)
     (subst (λ (p : Phase). IsServedBy service link_state.Open p mid.account mid.client.number mid.client.arrived (upstream_sent (phase.Working payload) mid.client old.upstream) log) (sym is)
@@ -209,7 +220,7 @@ settled-as service old mid log ready same (phase.Working payload) is pumped = su
           ∙ ap (λ (state : LinkState). record mid { state = state; upstream = upstream_sent (phase.Working payload) mid.client old.upstream }) (sym ready.opened ∙ sym same.state)
           ∙ ap (λ (u : Upstream). record mid { upstream = upstream_sent (phase.Working payload) mid.client u }) (sym same.upstream) ∙ ap (λ (p : Phase). record mid { upstream = upstream_sent p mid.client mid.upstream }) (sym is)
 settled-as service old mid log ready same phase.Ending is pumped = subst (λ (s : Session). HasSession service s log) as_it
-    (went-on service old mid (state_behind phase.Ending link_state.Open mid.client.outgoing) (dropped old.upstream) log ready same pumped.0 (ending-told mid.client.outgoing (written_of old.link log))
+    (went-on service old mid (state_behind phase.Ending link_state.Open mid.client.outgoing) (dropped old.upstream) log ready same pumped.0 (ending-told mid.client.outgoing (written_of old.link log)) (ending-parting mid.phase old.link mid.client.outgoing log is)
     (subst (λ (p : Phase). IsAt p mid (replies_to service old.client.number.0 log) (talk_of service old log) (written_of old.link log)) (sym is) pumped.1)
     (subst (λ (p : Phase). IsDryIn (state_behind phase.Ending link_state.Open mid.client.outgoing) p mid (talk_of service old log) (written_of old.link log)) (sym is) (ending-dry mid mid.client.outgoing (talk_of service old log) (written_of old.link log) refl))
     (subst (λ (p : Phase). IsServedBy service (state_behind phase.Ending link_state.Open mid.client.outgoing) p mid.account mid.client.number mid.client.arrived (dropped old.upstream) log) (sym is)

@@ -3,9 +3,10 @@ use Rattle.std.specs.Prelude.{ℕ, List}
 use Rattle.packet_frame.specs.declared.fault.FrameFault.TheVariants.{OutOfOrder, TooLarge}
 use Rattle.client_session.specs.declared.refusal.Refusal.{Refusal}
 use Rattle.client_session.specs.declared.refusal.Refusal.TheVariants as refusal
-use Rattle.client_session.specs.Errors.{unknown_command, malformed_command, bad_handshake, no_server, connection_lost, connection_refused, bad_server_bytes, packet_too_large, packet_out_of_order}
+use Rattle.client_session.specs.Errors.{too_many_connections, unknown_command, malformed_command, bad_handshake, no_server, connection_lost, connection_refused, bad_server_bytes, packet_too_large, packet_out_of_order}
 
 abbrev pub payload_of : Refusal → List ℕ
+payload_of refusal.TooManyConnections = too_many_connections
 payload_of refusal.UnknownCommand = unknown_command
 payload_of refusal.MalformedCommand = malformed_command
 payload_of refusal.BadHandshake = bad_handshake

@@ -15,15 +15,14 @@ use Rattle.client_session.specs.declared.phase.LinkState.TheVariants as link_sta
 use Rattle.client_session.specs.declared.phase.Upstream.{Upstream}
 use Rattle.client_session.specs.declared.phase.Upstream.TheVariants as upstream
 use Rattle.client_session.specs.declared.session.Session.{Session}
-use Rattle.client_session.specs.Answers.{Talk, heard_more, messages_of, due_in}
+use Rattle.client_session.specs.Answers.{Stay, Talk, heard_more, messages_of, due_in}
 use Rattle.client_session.specs.Headline.{Service, replies_to}
-use Rattle.client_session.specs.Past.{Stay}
 use Rattle.client_session.specs.Arriving.{in-fed, answers-fed, idle-fed, coming-fed}
 use Rattle.client_session.specs.Steps.{fed_with, MaySpeak}
 use Rattle.client_session.specs.Events.{GoesOn, ClientSays}
-use Rattle.client_session.specs.Stands.{IsWorking, HasEnded, IsEnding, IsAt, IsDryIn, MayBeFree, IsServedBy, IsTold, talk_of, HasCome, HasSession}
+use Rattle.client_session.specs.Stands.{IsWorking, HasEnded, IsEnding, IsAt, IsDryIn, MayBeFree, IsServedBy, IsTold, talk_of, HasSession}
 use Rattle.client_session.specs.Still.{replies-stay, idle-stays, at-stays}
-use Rattle.client_session.specs.Passing.{HearsNothing, same_for, next-passes, free-passes, served-passes, came-more}
+use Rattle.client_session.specs.Passing.{HearsNothing, same_for, next-passes, free-passes, served-passes, came-more, parting-more}
 use Rattle.client_session.specs.Ready.{ready-on}
 
 -- More bytes of a client that aren't taken.
@@ -72,9 +71,6 @@ dry-working link_state.Open payload session talk written = tt
 dry-working link_state.Closing payload session talk written = tt
 dry-working link_state.Closed payload session talk written = tt
 
-come-fed : (service : Service) (session : Session) (bytes : List ℕ) (log : Log) → HasCome service session log → HasCome service (fed_with session bytes) log
-come-fed service session bytes log come = record { came = come.came }
-
 -- a command is in work
 said-working : (service : Service) (old : Session) (payload : List ℕ) (log : Log) (bytes : List ℕ) → old.phase ≡ phase.Working payload → HearsNothing old.upstream log (read_entry old bytes) → HasSession service old log
     → HasSession service (fed_with old bytes) (log ++ read_entry old bytes ∷ [])
@@ -82,13 +78,14 @@ said-working service old payload log bytes working heard has =
     let e : Entry = read_entry old bytes in
     let was : IsWorking old payload (replies_to service old.client.number.0 log) (talk_of service old log) has.told = subst (λ (p : Phase). IsAt p old (replies_to service old.client.number.0 log) (talk_of service old log) has.told) working has.at in
     record {
-      client = come-fed service old bytes (log ++ e ∷ []) (came-more service service old log e refl has.client);
+      client = came-more service service old log e refl has.client;
       told = has.told;
       written = subst (λ (xs : List ℕ). IsTold old.state old.client.outgoing xs has.told) (sym (written-here old log bytes)) has.written;
       at = subst (λ (p : Phase). IsAt p (fed_with old bytes) (replies_to service old.client.number.0 (log ++ e ∷ [])) (talk_of service (fed_with old bytes) (log ++ e ∷ [])) has.told) (sym working)
           (subst (λ (t : Talk). IsAt (phase.Working payload) (fed_with old bytes) (replies_to service old.client.number.0 (log ++ e ∷ [])) t has.told) (sym (talk-here service old (fed_with old bytes) log bytes refl refl refl))
           (at-stays (phase.Working payload) (fed_with old bytes) (replies_to service old.client.number.0 log) (replies_to service old.client.number.0 (log ++ e ∷ [])) (heard_more (talk_of service old log) bytes) has.told (replies-stay service old.client.number.0 log e)
           (working-fed old payload bytes (replies_to service old.client.number.0 log) (talk_of service old log) has.told was)));
+      parting = parting-more old log e has.parting;
       dry = subst (λ (p : Phase). IsDryIn old.state p (fed_with old bytes) (talk_of service (fed_with old bytes) (log ++ e ∷ [])) has.told) (sym working) (dry-working old.state payload (fed_with old bytes) (talk_of service (fed_with old bytes) (log ++ e ∷ [])) has.told);
       served = served-passes service service old.state old.phase old.account old.client.number old.client.arrived old.upstream log e (same_for service old.client.number.0) refl heard has.served;
       next = λ i later. next-passes service service old.client.number.0 i log e (same_for service old.client.number.0) refl (has.next i later);
@@ -113,6 +110,7 @@ said-ending service old log bytes ending heard has =
           (subst (λ (t : Talk). IsAt phase.Ending old (replies_to service old.client.number.0 (log ++ e ∷ [])) t has.told) (sym (talk-here service old old log bytes refl refl refl))
           (at-stays phase.Ending old (replies_to service old.client.number.0 log) (replies_to service old.client.number.0 (log ++ e ∷ [])) (heard_more (talk_of service old log) bytes) has.told (replies-stay service old.client.number.0 log e)
           (ending-fed old (replies_to service old.client.number.0 log) (talk_of service old log) has.told bytes was)));
+      parting = parting-more old log e has.parting;
       dry = subst (λ (p : Phase). IsDryIn old.state p old (talk_of service old (log ++ e ∷ [])) has.told) (sym ending)
           (dry-ending old.state old (talk_of service old log) (talk_of service old (log ++ e ∷ [])) has.told (subst (λ (p : Phase). IsDryIn old.state p old (talk_of service old log) has.told) ending has.dry));
       served = served-passes service service old.state old.phase old.account old.client.number old.client.arrived old.upstream log e (same_for service old.client.number.0) refl heard has.served;
@@ -150,7 +148,7 @@ said-speaking service old new log bytes opened heard few has speaks goes =
     let told : written_of old.link log ≡ has.told = subst (λ (s : LinkState). IsTold s old.client.outgoing (written_of old.link log) has.told) opened has.written in
     ready-on service (fed_with old bytes) new (log ++ e ∷ []) (record {
       opened = opened;
-      come = come-fed service old bytes (log ++ e ∷ []) (came-more service service old log e refl has.client);
+      come = came-more service service old log e refl has.client;
       at = subst (λ (t : Talk). MaySpeak old.phase (fed_with old bytes) (replies_to service old.client.number.0 (log ++ e ∷ [])) t (written_of old.link (log ++ e ∷ []))) (sym (talk-here service old (fed_with old bytes) log bytes refl refl refl))
           (subst (λ (xs : List ℕ). MaySpeak old.phase (fed_with old bytes) (replies_to service old.client.number.0 (log ++ e ∷ [])) (heard_more (talk_of service old log) bytes) xs) (sym (written-here old log bytes ∙ told))
           (speaks-fed old.phase old bytes (replies_to service old.client.number.0 log) (replies_to service old.client.number.0 (log ++ e ∷ [])) (talk_of service old log) has.told (replies-stay service old.client.number.0 log e) speaks));

@@ -1,7 +1,8 @@
 -- What a session stands for after a log.
-use Rattle.std.specs.Prelude.{◌≡◌, ℕ, suc, ◌<◌, ◌≤◌, Bool, true, false, List, [], ◌∷◌, ◌++◌, length, take, Option, Some, None}
+use Rattle.std.specs.Prelude.{◌≡◌, ◌⊎◌, ℕ, suc, ◌<◌, ◌≤◌, nat_lt, Bool, true, false, List, [], ◌∷◌, ◌++◌, length, take, Option, Some, None}
 use Rattle.mx_base.specs.declared.names.LinkId.{LinkId}
 use Rattle.mx_base.specs.declared.names.ClientNo.{ClientNo}
+use Rattle.mx_base.specs.declared.names.Port.TheVariants.{Traffic}
 use Rattle.mx_base.specs.declared.tag.Tag.TheVariants.{For}
 use Rattle.mx_wire.specs.Log.{Log, read_of, written_of}
 use Rattle.packet_frame.specs.Packets.{Framed, spelling}
@@ -25,13 +26,13 @@ use Rattle.client_session.specs.declared.phase.Upstream.TheVariants as upstream
 use Rattle.client_session.specs.declared.session.Session.{Session}
 use Rattle.client_session.specs.Accounts.{account_of}
 use Rattle.client_session.specs.Arrivals.{arrival_of}
-use Rattle.client_session.specs.Answers.{Talk, heard_more, greeted, messages_of, is_query, is_quit, due_in, AllAnswered}
+use Rattle.client_session.specs.Answers.{Stay, Talk, heard_more, greeted, messages_of, is_query, is_quit, due_in, AllAnswered}
 use Rattle.client_session.specs.Errors.{own_ok}
 use Rattle.client_session.specs.Logins.{own_of, login_on}
 use Rattle.client_session.specs.Sending.{sending, command_sent, Part, heard_on}
-use Rattle.client_session.specs.Headline.{Service, is_refused, replies_to, IsPrefix}
-use Rattle.client_session.specs.Setups.{has_server}
-use Rattle.client_session.specs.Past.{Stay, client_message, Answers}
+use Rattle.client_session.specs.Headline.{Service, is_refused, replies_to, IsPrefix, was_lost}
+use Rattle.client_session.specs.Setups.{Setup, has_server}
+use Rattle.client_session.specs.Past.{client_message, Answers}
 
 -- What the client says.
 
@@ -189,19 +190,35 @@ abbrev pub IsTold : LinkState → (outgoing written told : List ℕ) → Type 0
 IsTold link_state.Closed outgoing written told = IsPrefix written (told ++ outgoing)
 IsTold _ outgoing written told = written ≡ told
 
+-- all that it is due was written
+pub record IsSaid (how : Phase) (outgoing : List ℕ) : Type 0 where
+  pub ending : how ≡ phase.Ending
+  pub none : outgoing ≡ []
+
+-- where it is to be closed it was lost, or nothing is left to be written
+abbrev pub IsParting : LinkState → LinkId → Phase → (outgoing : List ℕ) → Log → Type 0
+IsParting link_state.Open link how outgoing log = Unit {0}
+IsParting _ link how outgoing log = (was_lost link log ≡ true) ⊎ IsSaid how outgoing
+
 -- what the session's client says
 abbrev pub talk_of : Service → Session → Log → Talk
 talk_of service session log = record { setup = service.setup; number = session.client.number.0; salt = session.client.salt; read = read_of session.link log }
 
--- how it came
-pub record HasCome (service : Service) (session : Session) (log : Log) : Type 0 where
-  pub came : arrival_of session.client.number.0 log ≡ Some (record { link = session.link; salt = session.client.salt })
+-- the n-th client came so, and is served
+pub record Came (setup : Setup) (n : ℕ) (link : LinkId) (salt : List ℕ) (log : Log) : Type 0 where
+  pub others : ℕ
+  pub room : nat_lt others setup.max_clients ≡ true
+  pub came : arrival_of n log ≡ Some (record { port = Traffic; link = link; salt = salt; others = others })
+
+abbrev pub HasCome : Service → Session → Log → Type 0
+HasCome service session log = Came service.setup session.client.number.0 session.link session.client.salt log
 
 pub record HasSession (service : Service) (session : Session) (log : Log) : Type 0 where
   pub client : HasCome service session log
   pub told : List ℕ
   pub written : IsTold session.state session.client.outgoing (written_of session.link log) told
   pub at : IsAt session.phase session (replies_to service session.client.number.0 log) (talk_of service session log) told
+  pub parting : IsParting session.state session.link session.phase session.client.outgoing log
   pub dry : IsDryIn session.state session.phase session (talk_of service session log) told
   pub served : IsServedBy service session.state session.phase session.account session.client.number session.client.arrived session.upstream log
   pub next : (i : ℕ) → session.client.arrived < i → IsNext service session.client.number.0 i log

@@ -2,6 +2,7 @@
 use Rattle.std.specs.Prelude.{◌≡◌, ℕ, ◌+◌, ◌<◌, ◌≤◌, Bool, true, false, List, ◌++◌, length, Option, Some, None}
 use Rattle.mx_base.specs.declared.names.LinkId.{LinkId}
 use Rattle.mx_base.specs.declared.names.ClientNo.{ClientNo}
+use Rattle.mx_base.specs.declared.names.Port.TheVariants.{Traffic}
 use Rattle.packet_frame.specs.Packets.{Framed, spelling}
 use Rattle.packet_frame.specs.Packets.Found.{Nothing}
 use Rattle.handshake.specs.declared.response.Response.{Response}
@@ -10,7 +11,7 @@ use Rattle.client_side.specs.declared.step.ClientStep.{ClientStep}
 use Rattle.client_side.specs.declared.step.ClientStep.TheVariants as step
 use Rattle.client_side.specs.declared.stage.Stage.{Stage}
 use Rattle.client_side.specs.declared.stage.Stage.TheVariants as stage
-use Rattle.client_side.specs.Client.{ClientState, new_client, fed, counted, past_message, login_of}
+use Rattle.client_side.specs.Client.{ClientState, told_first, new_client, fed, counted, past_message, login_of}
 use Rattle.client_side.specs.Steps.{next_of}
 use Rattle.server_side.specs.Account.{Account}
 use Rattle.client_session.specs.declared.asked.Asked.{Asked}
@@ -25,13 +26,24 @@ use Rattle.client_session.specs.Accounts.{account_of}
 use Rattle.client_session.specs.Errors.{own_ok, unknown_command, malformed_command, access_denied, no_server}
 use Rattle.client_session.specs.Answers.{Talk, fault_error}
 use Rattle.client_session.specs.Asked.{asked_of}
+use Rattle.client_session.specs.Headline.{turned_away}
 use Rattle.client_session.specs.Past.{client_message}
 use Rattle.client_session.specs.Setups.{has_server}
 use Rattle.client_session.specs.Stands.{IsComing, IsDryLogin, IsIdle, IsWorking, IsEnding}
 
-abbrev pub Opens : Session → LinkId → ClientNo → (salt : List ℕ) → Setup → Type 0
-Opens session link number salt setup =
-    session ≡ record { link = link; client = new_client number salt setup.limit setup.version; phase = phase.LoggingIn; state = link_state.Open; account = None; upstream = upstream.Absent }
+-- a client that comes, and is greeted
+abbrev pub first_session : LinkId → ClientNo → (salt : List ℕ) → Setup → Session
+first_session link number salt setup =
+    record { link = link; client = new_client number salt setup.limit setup.version; phase = phase.LoggingIn; state = link_state.Open; account = None; upstream = upstream.Absent }
+
+-- or isn't served: it is to be told so, and its link is to be closed
+abbrev pub refused_session : LinkId → ClientNo → (salt : List ℕ) → Setup → Session
+refused_session link number salt setup =
+    record { link = link; client = told_first number salt setup.limit (turned_away Traffic); phase = phase.Ending; state = link_state.Closing; account = None; upstream = upstream.Absent }
+
+abbrev pub session_if : (room : Bool) → LinkId → ClientNo → (salt : List ℕ) → Setup → Session
+session_if true link number salt setup = first_session link number salt setup
+session_if false link number salt setup = refused_session link number salt setup
 
 -- bytes are kept
 abbrev pub fed_with : Session → List ℕ → Session

@@ -19,11 +19,11 @@ use Rattle.client_session.specs.declared.phase.Phase.{Phase}
 use Rattle.client_session.specs.declared.phase.Phase.TheVariants as phase
 use Rattle.client_session.specs.declared.session.Session.{Session}
 use Rattle.client_session.specs.Errors.{no_server, connection_refused}
-use Rattle.client_session.specs.Answers.{Talk, opening_of, greeted, login_answer, fault_error, front_in, front, messages_of, client_messages, answers_to, due_in}
+use Rattle.client_session.specs.Answers.{Stay, Talk, opening_of, greeted, login_answer, fault_error, front_in, front, messages_of, client_messages, answers_to, due_in}
 use Rattle.client_session.specs.Sending.{sending, reply_on, reply_to}
 use Rattle.client_session.specs.Headline.{Turn, is_refused, Service, replies_to, IsPrefix}
 use Rattle.client_session.specs.Growth.{reply_to-stays}
-use Rattle.client_session.specs.Past.{Stay, all_answered-stays, answers-due}
+use Rattle.client_session.specs.Past.{all_answered-stays, answers-due}
 use Rattle.client_session.specs.Steps.{Serves}
 use Rattle.client_session.specs.Arriving.{in-due-now, nothing_more, in-as}
 use Rattle.client_session.specs.declared.phase.LinkState.{LinkState}

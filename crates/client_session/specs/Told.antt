@@ -43,7 +43,7 @@ use Rattle.client_session.specs.Growth.{sending-before, heard-same}
 use Rattle.client_session.specs.Events.{dropped, without_upstream, takes_command, commanded_by, upstream_sent, sent_on, kept_or_dropped, due_on, may_stay, Answers_by, RepliedBy, HeardBy, FailsBy, with_server, SameServer, TellsBy, ServerSays, ServerLost, OpenFails, is_begun}
 use Rattle.client_session.specs.Stands.{IsAt, IsDryIn, MayBeFree, IsLoggingInOn, IsInOn, IsFree, IsNext, command_of, IsCarried, Awaits, Unsent, Begun, IsOnItsWay, IsUnsent, IsServedOn, IsServedBy, IsTold, talk_of, HasSession}
 use Rattle.client_session.specs.Still.{with_refused, replies-stay, at-stays, at-as, dry_in-as}
-use Rattle.client_session.specs.Passing.{HearsNothing, Passes, same_for, next-passes, sent-passes, talk-same, came-more, session-stays}
+use Rattle.client_session.specs.Passing.{HearsNothing, Passes, same_for, next-passes, sent-passes, talk-same, came-more, parting-more, session-stays}
 use Rattle.client_session.specs.Parted.{some-sent, session-dropped}
 use Rattle.client_session.specs.Heard.{tells-of}
 use Rattle.client_session.specs.Ready.{commanded-free, commanded-account}
@@ -212,12 +212,13 @@ whole-so service old new payload server mid sent since log e answer keeps waits 
 session-with : (service : Service) (old : Session) (server later : Server) (log : Log) (e : Entry) → IsOfServer old server log e → HasSession service old log
     → IsServedOn service old.phase old.account old.client.number old.client.arrived later (log ++ e ∷ []) → HasSession service (with_server old later) (log ++ e ∷ [])
 session-with service old server later log e is has served = record {
-  client = (let come = came-more service service old log e refl has.client in record { came = come.came });
+  client = came-more service service old log e refl has.client;
   told = has.told;
   written = subst (λ (xs : List ℕ). IsTold old.state old.client.outgoing xs has.told) (sym (written-stays old server log e is)) has.written;
   at = subst (λ (t : Talk). IsAt old.phase (with_server old later) (replies_to service old.client.number.0 (log ++ e ∷ [])) t has.told) (sym talk)
       (at-as old.phase old (with_server old later) (replies_to service old.client.number.0 (log ++ e ∷ [])) (talk_of service old log) has.told refl refl
       (at-stays old.phase old (replies_to service old.client.number.0 log) (replies_to service old.client.number.0 (log ++ e ∷ [])) (talk_of service old log) has.told (replies-stay service old.client.number.0 log e) has.at));
+  parting = parting-more old log e has.parting;
   dry = subst (λ (t : Talk). IsDryIn old.state old.phase (with_server old later) t has.told) (sym talk) (dry_in-as old.state old.phase old (with_server old later) (talk_of service old log) has.told refl has.dry);
   served = served;
   next = λ i more. next-passes service service old.client.number.0 i log e (same_for service old.client.number.0) (is.nothing old.client.number.0 i) (has.next i more);

@@ -1,8 +1,8 @@
 -- What a session says of its client, and of the command in work.
-use Rattle.std.specs.Prelude.{◌≡◌, ℕ, suc, ◌-◌, List, [], length, take, slice_get, Some, refl}
+use Rattle.std.specs.Prelude.{◌≡◌, ℕ, suc, ◌-◌, List, [], cond, length, take, slice_get, Some, refl}
 use Rattle.std.proofs.Common.{sym, ◌∙◌, ap, subst, append-nil, arith}
 use Rattle.mx_wire.specs.Log.{Log}
-use Rattle.packet_frame.specs.Packets.{Split}
+use Rattle.packet_frame.specs.Packets.{Split, spelling}
 use Rattle.client_side.specs.Login.{opening}
 use Rattle.client_session.specs.declared.phase.Phase.{Phase}
 use Rattle.client_session.specs.declared.phase.Phase.TheVariants as phase
@@ -10,17 +10,20 @@ use Rattle.client_session.specs.declared.session.Session.{Session}
 use Rattle.client_session.specs.Answers.{Talk, account, account_in, messages_of, AllAnswered}
 use Rattle.client_session.specs.Headline.{Service, replies_to, due, due_by, IsClient, HasTurn}
 use Rattle.client_session.specs.Answers.{due_in}
+use Rattle.client_session.specs.Errors.{too_many_connections}
 use Rattle.client_session.specs.Arriving.{in-messages-now}
 use Rattle.client_session.specs.Past.{past-at, past-take}
 use Rattle.client_session.specs.Stands.{IsIn, IsWorking, IsAt, talk_of, HasCome, HasSession}
 
 -- the client is served
 pub is-client : (service : Service) (session : Session) (log : Log) → HasCome service session log → IsClient service.setup session.client.number.0 (talk_of service session log) log
-is-client service session log come = record { came = _; is_came = come.came; says = refl }
+is-client service session log come = record { came = _; is_came = come.came; served = come.room; says = refl }
 
 -- and due this
 pub due-of : (service : Service) (session : Session) (log : Log) → HasCome service session log → due service session.client.number.0 log ≡ due_in (replies_to service session.client.number.0 log) (talk_of service session log)
-due-of service session log come = ap (λ o. due_by service session.client.number.0 o log) come.came
+due-of service session log come =
+    ap (λ o. due_by service session.client.number.0 o log) come.came
+    ∙ ap (λ b. cond b (due_in (replies_to service session.client.number.0 log) (talk_of service session log)) (spelling 0 too_many_connections)) come.room
 
 -- who it is
 pub in-user : (session : Session) (talk : Talk) (who : IsIn session talk) → account talk ≡ Some who.user

@@ -1,6 +1,6 @@
 -- What a session stands for once bytes are written on its links.
 use Rattle.std.specs.Prelude.{◌≡◌, ℕ, zero, suc, ◌+◌, ◌-◌, ◌<◌, ◌≤◌, Bool, true, false, nat_eq, nat_lt, ◌&&◌, List, [], ◌∷◌, ◌++◌, cond, length, take, drop, Option, Some, None, refl}
-use Rattle.std.proofs.Common.{sym, ◌∙◌, ap, subst, append-nil, append_assoc, arith, take-append-drop, length-drop}
+use Rattle.std.proofs.Common.{sym, ◌∙◌, ap, subst, append-nil, append_assoc, inr, arith, take-append-drop, length-drop}
 use Rattle.std.proofs.Math.Seq.{take-add}
 use Rattle.mx_base.specs.declared.names.ClientNo.{ClientNo}
 use Rattle.mx_base.specs.declared.names.LinkId.{LinkId}
@@ -36,9 +36,9 @@ use Rattle.client_session.specs.Sending.{carrier, command_bytes, command_sent, S
 use Rattle.client_session.specs.Headline.{is_refused, Service, replies_to, IsRefusing, WaitsForLink, MaySendSo, MaySay}
 use Rattle.client_session.specs.Growth.{sending-before, sending-now, command_sent-more, heard-same}
 use Rattle.client_session.specs.Events.{state_behind, written_in, with_server}
-use Rattle.client_session.specs.Stands.{IsWorking, IsAt, IsDry, IsDryIn, IsLoggingInOn, IsInOn, IsNext, command_of, IsCarried, Awaits, Unsent, Begun, IsOnItsWay, IsServedOn, IsServedBy, IsTold, talk_of, HasSession}
+use Rattle.client_session.specs.Stands.{IsWorking, IsAt, IsDry, IsDryIn, IsLoggingInOn, IsInOn, IsNext, command_of, IsCarried, Awaits, Unsent, Begun, IsOnItsWay, IsServedOn, IsServedBy, IsTold, IsParting, talk_of, HasSession}
 use Rattle.client_session.specs.Still.{replies-stay, at-stays, at-as, dry_in-as}
-use Rattle.client_session.specs.Passing.{HearsNothing, same_for, next-passes, sent-passes, served-passes, talk-same, came-more}
+use Rattle.client_session.specs.Passing.{HearsNothing, same_for, next-passes, sent-passes, served-passes, talk-same, came-more, parting-more}
 use Rattle.client_session.specs.Arriving.{short-limit}
 use Rattle.client_session.specs.Ready.{unsent-bytes}
 use Rattle.client_session.specs.Turns.{is-client, in-user, works-on, session-turn}
@@ -109,6 +109,13 @@ written-dry (phase.Working payload) session n left talk told is dry = tt
 written-dry phase.Ending session n [] talk told is dry = tt
 written-dry phase.Ending session n (b ∷ left) talk told is dry = rw is (search arith)
 
+written-parting : (phase : Phase) (link : LinkId) (left : List ℕ) (log : Log) → IsParting (state_behind phase link_state.Open left) link phase left log
+written-parting phase.LoggingIn link left log = tt
+written-parting phase.Idle link left log = tt
+written-parting (phase.Working payload) link left log = tt
+written-parting phase.Ending link [] log = inr (record { ending = refl; none = refl })
+written-parting phase.Ending link (b ∷ left) log = tt
+
 behind-served : (service : Service) (phase : Phase) (left : List ℕ) (account : Option Account) (number : ClientNo) (i : ℕ) (up : Upstream) (log : Log) → IsServedBy service link_state.Open phase account number i up log
     → IsServedBy service (state_behind phase link_state.Open left) phase account number i up log
 behind-served service phase.LoggingIn left account number i up log served = served
@@ -130,13 +137,14 @@ session-written service session n log opened heard has =
     let dry : IsDry session.phase session (talk_of service session log) has.told = subst (λ (s : LinkState). IsDryIn s session.phase session (talk_of service session log) has.told) opened has.dry in
     let talk : talk_of service session (log ++ e ∷ []) ≡ talk_of service session log = talk-same service service session log (log ++ e ∷ []) refl (bytes-idle got_bytes session.link log e refl) in
     record {
-      client = (let come = came-more service service session log e refl has.client in record { came = come.came });
+      client = came-more service service session log e refl has.client;
       told = has.told ++ take n session.client.outgoing;
       written = subst (λ (s : LinkState). IsTold (state_behind session.phase s left) left (written_of session.link (log ++ e ∷ [])) (has.told ++ take n session.client.outgoing)) (sym opened)
           (subst (λ (xs : List ℕ). IsTold (state_behind session.phase link_state.Open left) left xs (has.told ++ take n session.client.outgoing)) (sym now) (written-told session.phase left (has.told ++ take n session.client.outgoing)));
       at = subst (λ (t : Talk). IsAt session.phase (written_in session n) (replies_to service session.client.number.0 (log ++ e ∷ [])) t (has.told ++ take n session.client.outgoing)) (sym talk)
           (at-stays session.phase (written_in session n) (replies_to service session.client.number.0 log) (replies_to service session.client.number.0 (log ++ e ∷ [])) (talk_of service session log) (has.told ++ take n session.client.outgoing) (replies-stay service session.client.number.0 log e)
           (written-at session.phase session n (replies_to service session.client.number.0 log) (talk_of service session log) has.told has.at));
+      parting = subst (λ (s : LinkState). IsParting (state_behind session.phase s left) session.link session.phase left (log ++ e ∷ [])) (sym opened) (written-parting session.phase session.link left (log ++ e ∷ []));
       dry = subst (λ (s : LinkState). IsDryIn (state_behind session.phase s left) session.phase (written_in session n) (talk_of service session (log ++ e ∷ [])) (has.told ++ take n session.client.outgoing)) (sym opened)
           (subst (λ (t : Talk). IsDryIn (state_behind session.phase link_state.Open left) session.phase (written_in session n) t (has.told ++ take n session.client.outgoing)) (sym talk)
           (written-dry session.phase session n left (talk_of service session log) has.told refl dry));
@@ -244,12 +252,13 @@ session-wrote : (service : Service) (session : Session) (later : Server) (log : 
     → ((i : ℕ) → session.client.arrived < i → carrier session.client.number.0 i e ≡ None) → HasSession service session log
     → IsServedOn service session.phase session.account session.client.number session.client.arrived later (log ++ e ∷ []) → HasSession service (with_server session later) (log ++ e ∷ [])
 session-wrote service session later log e read written nothing has served = record {
-  client = (let come = came-more service service session log e refl has.client in record { came = come.came });
+  client = came-more service service session log e refl has.client;
   told = has.told;
   written = subst (λ (xs : List ℕ). IsTold session.state session.client.outgoing xs has.told) (sym written) has.written;
   at = subst (λ (t : Talk). IsAt session.phase (with_server session later) (replies_to service session.client.number.0 (log ++ e ∷ [])) t has.told) (sym talk)
       (at-as session.phase session (with_server session later) (replies_to service session.client.number.0 (log ++ e ∷ [])) (talk_of service session log) has.told refl refl
       (at-stays session.phase session (replies_to service session.client.number.0 log) (replies_to service session.client.number.0 (log ++ e ∷ [])) (talk_of service session log) has.told (replies-stay service session.client.number.0 log e) has.at));
+  parting = parting-more session log e has.parting;
   dry = subst (λ (t : Talk). IsDryIn session.state session.phase (with_server session later) t has.told) (sym talk) (dry_in-as session.state session.phase session (with_server session later) (talk_of service session log) has.told refl has.dry);
   served = served;
   next = λ i later_one. next-passes service service session.client.number.0 i log e (same_for service session.client.number.0) (nothing i later_one) (has.next i later_one);

@@ -13,6 +13,8 @@ use std::alloc::Global;
 /// Reference"; the numbers from 9100 on are the router's own).
 #[derive(Clone, Copy, Debug, PartialEq, Eq)]
 pub enum Refusal {
+    /// 1040: there is no room for one client more.
+    TooManyConnections,
     /// 1047: a command that the router doesn't take.
     UnknownCommand,
     /// 9109: a message that is no command.
@@ -54,7 +56,7 @@ fn out_of_order_text(alloc: Global, expected: u8, found: u8) -> Result<String, O
 }
 
 /// A refusal appended to `out` as one message that begins with the sequence id `first`.
-#[tactic(auto, unfolding(crate::specs::Errors::unknown_command, crate::specs::Errors::malformed_command, crate::specs::Errors::bad_handshake, crate::specs::Errors::no_server, crate::specs::Errors::connection_lost, crate::specs::Errors::connection_refused, crate::specs::Errors::bad_server_bytes, crate::specs::Errors::packet_too_large, crate::specs::Errors::packet_out_of_order))]
+#[tactic(auto, unfolding(crate::specs::Errors::too_many_connections, crate::specs::Errors::unknown_command, crate::specs::Errors::malformed_command, crate::specs::Errors::bad_handshake, crate::specs::Errors::no_server, crate::specs::Errors::connection_lost, crate::specs::Errors::connection_refused, crate::specs::Errors::bad_server_bytes, crate::specs::Errors::packet_too_large, crate::specs::Errors::packet_out_of_order))]
 pub fn write_refusal(
     alloc: Global,
     out: &mut Vec<u8>,
@@ -64,6 +66,9 @@ pub fn write_refusal(
     ensures { OnOk result (out.new.items ≡ out.old.items ++ spelling first (payload_of refusal)) }
 {
     match refusal {
+        Refusal::TooManyConnections => {
+            write_err(out, first, 1040, b"08004", b"Too many connections")?
+        }
         Refusal::UnknownCommand => write_err(out, first, 1047, b"08S01", b"Unknown command")?,
         Refusal::MalformedCommand => write_err(out, first, 9109, b"HY000", b"Malformed command")?,
         Refusal::BadHandshake => write_err(out, first, 1043, b"08S01", b"Bad handshake")?,

@@ -1,9 +1,10 @@
 // A client, and its link to a server.
-ghost use Rattle.std.specs.Prelude.{◌<◌, IfOk};
+ghost use Rattle.std.specs.Prelude.{◌≡◌, ◌<◌, IfOk};
 ghost use Rattle.packet_frame.specs.Packets.{longest};
-ghost use Rattle.client_session.specs.Steps.{Opens};
+ghost use Rattle.client_session.specs.Steps.{first_session, refused_session, session_if};
 
 use crate::phase::{LinkState, Phase, Upstream};
+use crate::refusal::{Refusal, write_refusal};
 use crate::setup::Setup;
 use client_side::Client;
 use mx_base::{ClientNo, LinkId, OutOfMemory};
@@ -22,15 +23,34 @@ pub struct Session {
     pub upstream: Upstream,
 }
 
-/// A client of which nothing was read yet, and to which the greeting is to be written.
+/// A client that comes. Where there is room for it the greeting is to be written to it; else it is error 1040, with the sequence id
+/// 0, and the link is to be closed.
 pub fn new_session(
     alloc: Global,
     link: LinkId,
     number: ClientNo,
     salt: [u8; 20],
     setup: &Setup,
+    has_room: bool,
 ) -> Result<Session, OutOfMemory>
-    ensures opens { IfOk result (λ session. Opens session link number salt setup.now) }
+    ensures is { IfOk result (λ session. session ≡ session_if has_room link number salt setup.now) }
+    ensures short { IfOk result (λ session. session.client.framer.limit < longest) }
+{
+    if has_room {
+        greeted(alloc, link, number, salt, setup)
+    } else {
+        refused(alloc, link, number, salt, setup)
+    }
+}
+
+fn greeted(
+    alloc: Global,
+    link: LinkId,
+    number: ClientNo,
+    salt: [u8; 20],
+    setup: &Setup,
+) -> Result<Session, OutOfMemory>
+    ensures is { IfOk result (λ session. session ≡ first_session link number salt setup.now) }
     ensures short { IfOk result (λ session. session.client.framer.limit < longest) }
 {
     Ok(Session {
@@ -38,6 +58,28 @@ pub fn new_session(
         client: Client::new(alloc, number, salt, setup.limit(), setup.version())?,
         phase: Phase::LoggingIn,
         state: LinkState::Open,
+        account: None,
+        upstream: Upstream::Absent,
+    })
+}
+
+fn refused(
+    alloc: Global,
+    link: LinkId,
+    number: ClientNo,
+    salt: [u8; 20],
+    setup: &Setup,
+) -> Result<Session, OutOfMemory>
+    ensures is { IfOk result (λ session. session ≡ refused_session link number salt setup.now) }
+    ensures short { IfOk result (λ session. session.client.framer.limit < longest) }
+{
+    let mut packet = Vec::new(alloc);
+    write_refusal(alloc, &mut packet, 0, Refusal::TooManyConnections)?;
+    Ok(Session {
+        link,
+        client: Client::told(alloc, number, salt, setup.limit(), &packet)?,
+        phase: Phase::Ending,
+        state: LinkState::Closing,
         account: None,
         upstream: Upstream::Absent,
     })

@@ -56,6 +56,8 @@ const RESPONSE_OF_SECRET: &[u8; 83] = b"\x4F\0\0\x01\x0D\xA2\x0E\0\0\0\0\x01\x2D
 const OWN_RESPONSE: &[u8; 61] = b"\x39\0\0\x01\x05\xA2\x0E\0\0\0\0\x01\x2D\
     \0\0\0\0\0\0\0\0\0\0\0\0\0\0\0\0\0\0\0\0\0\0\0u\0\0mysql_native_password\0";
 
+const TOO_MANY: &[u8; 33] = b"\x1D\0\0\0\xFF\x10\x04#08004Too many connections";
+
 const WELCOME: &[u8; 11] = b"\x07\0\0\x02\0\0\0\x02\0\0\0";
 
 const DO_1: &[u8; 9] = b"\x05\0\0\0\x03DO 1";
@@ -108,7 +110,7 @@ fn say(
 
 // A session whose client has read the greeting.
 fn greeted(alloc: Global, setup: &Setup) -> Result<Session, OutOfMemory> {
-    let mut session = new_session(alloc, CLIENT, ClientNo(1), SALT, setup)?;
+    let mut session = new_session(alloc, CLIENT, ClientNo(1), SALT, setup, true)?;
     answer_all(&mut session);
     Ok(session)
 }
@@ -221,8 +223,20 @@ fn come(
 
 // The greeting.
 fn check_greeting(rt: &impl Abort, alloc: Global, setup: &Setup) -> Result<(), Fail> {
-    let session = new_session(alloc, CLIENT, ClientNo(1), SALT, setup)?;
+    let session = new_session(alloc, CLIENT, ClientNo(1), SALT, setup, true)?;
     assert_eq!(rt; left(&session), GREETING.as_slice());
+    Ok(())
+}
+
+// What a client is told for which there is no room.
+fn check_refusal(rt: &impl Abort, alloc: Global, setup: &Setup) -> Result<(), Fail> {
+    let mut session = new_session(alloc, CLIENT, ClientNo(2), SALT, setup, false)?;
+    assert_eq!(rt; left(&session), TOO_MANY.as_slice());
+    assert_eq!(rt;
+        next_act(&mut session),
+        Some(SessionAct::CloseClient { link: CLIENT })
+    );
+    check_over(rt, &session, true);
     Ok(())
 }
 
@@ -346,6 +360,7 @@ fn check_parting(rt: &impl Abort, alloc: Global, setup: &Setup) -> Result<(), Fa
 fn answers_a_login(rt: HostRuntime) -> Result<(), Fail> {
     let setup = setup(rt.alloc(), None)?;
     check_greeting(&rt, rt.alloc(), &setup)?;
+    check_refusal(&rt, rt.alloc(), &setup)?;
     let rows: [(&[u8], &[u8]); 5] = [
         (RESPONSE, WELCOME),
         (RESPONSE_OF_SECRET, WELCOME),

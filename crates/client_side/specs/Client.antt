@@ -21,9 +21,12 @@ pub record ClientState : Type 0 where
 abbrev pub reading : (limit : ℕ) → List ℕ → FramerState
 reading limit kept = record { limit = limit; kept = kept; found = None; fault = None }
 
+-- one to which these bytes are to be written first
+abbrev pub told_first : ClientNo → (salt : List ℕ) → (limit : ℕ) → (outgoing : List ℕ) → ClientState
+told_first number salt limit outgoing = record { number = number; salt = salt; framer = reading limit []; stage = stage.Response; arrived = 0; outgoing = outgoing }
+
 abbrev pub new_client : ClientNo → (salt : List ℕ) → (limit : ℕ) → (version : List ℕ) → ClientState
-new_client number salt limit version =
-    record { number = number; salt = salt; framer = reading limit []; stage = stage.Response; arrived = 0; outgoing = greeting_said number.0 salt version }
+new_client number salt limit version = told_first number salt limit (greeting_said number.0 salt version)
 
 abbrev pub fed : ClientState → List ℕ → ClientState
 fed client bytes = record client { framer = record client.framer { kept = client.framer.kept ++ bytes } }

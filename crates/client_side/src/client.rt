@@ -34,7 +34,7 @@ impl Client {
     ghost use Rattle.std.specs.Option.{option_copied};
     ghost use Rattle.packet_frame.specs.Packets.{longest, lacking, id_of_answer};
     ghost use Rattle.handshake.specs.Spelling.{IsText};
-    ghost use Rattle.client_side.specs.Client.{ClientState, new_client, fed, login_of, HasFound, IsDone};
+    ghost use Rattle.client_side.specs.Client.{ClientState, told_first, new_client, fed, login_of, HasFound, IsDone};
 
     /// A client of which nothing was read, and to which the greeting is to be written. It takes messages of at most
     /// `limit` bytes.
@@ -50,9 +50,24 @@ impl Client {
         requires short { length version.now ≤ 255 }
         ensures { IfOk result (λ client. client ≡ new_client number salt limit version.now) }
     {
-        let mut outgoing = ByteQueue::new(alloc);
         let greeting = greeting_packet(alloc, number, salt, version)?;
-        outgoing.push(&greeting)?;
+        Client::told(alloc, number, salt, limit, &greeting)
+    }
+
+    /// A client of which nothing was read, and to which these bytes are to be written in the greeting's place. It takes
+    /// messages of at most `limit` bytes.
+    pub fn told(
+        alloc: Global,
+        number: ClientNo,
+        salt: [u8; 20],
+        limit: u64,
+        first: &[u8],
+    ) -> Result<Self, OutOfMemory>
+        requires limit { limit < longest }
+        ensures { IfOk result (λ client. client ≡ told_first number salt limit first.now) }
+    {
+        let mut outgoing = ByteQueue::new(alloc);
+        outgoing.push(first)?;
         Ok(Client {
             alloc,
             number,

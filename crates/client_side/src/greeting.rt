@@ -20,8 +20,8 @@ const COLLATION: u8 = 45;
 /// SERVER_STATUS_AUTOCOMMIT (client/server protocol, "SERVER_STATUS_flags_enum").
 const AUTOCOMMIT: u16 = 0x0002;
 
-/// The packet of the greeting to a client, with the sequence id 0. The connection's number is the client's, modulo
-/// 2^32.
+/// The packet of the greeting to a client, with the sequence id 0. The connection's number is the client's,
+/// modulo 2^32.
 pub fn greeting_packet(
     alloc: Global,
     number: ClientNo,

@@ -31,7 +31,7 @@ const SWITCH: &[u8; 48] = b"\x2C\x00\x00\x02\xFEmysql_native_password\x00\
 const ANSWER: &[u8; 24] =
     b"\x14\x00\x00\x03\x22\x50\x79\xA2\x12\xD4\xE8\x82\xE5\xB3\xF4\x1A\x97\x75\x6B\xC8\xBE\xDB\x9F\x80";
 
-// A client that was read nothing of.
+// A client of which nothing was read.
 fn greeted(alloc: Global) -> Result<Client, Fail> {
     Ok(Client::new(alloc, ClientNo(1), SALT, 1_024, b"8.0.30-mx")?)
 }
@@ -56,6 +56,8 @@ fn greets(rt: HostRuntime) -> Result<(), Fail> {
     client.taken(written);
     client.answer_grown(b"\x00")?;
     assert_eq!(rt; client.outgoing(), b"\x00".as_slice());
+    let other = Client::told(rt.alloc(), ClientNo(2), SALT, 1_024, b"\x01")?;
+    assert_eq!(rt; other.outgoing(), b"\x01".as_slice());
     Ok(())
 }
 

@@ -26,7 +26,7 @@ use Rattle.mem_wire.specs.Came.{is_woke, wakes, is_accepted_at, accepted_at, nex
 use Rattle.mem_wire.specs.CameLaws.{wakes-more, accepted-more, named-more}
 use Rattle.mem_wire.specs.Play.{named_step, named_since, is_ready, is_to_name, next_named, IsAnswerOf, IsPlay}
 use Rattle.mem_wire.specs.Plays.{HasTaken, play-taken, released-all, with-link, known-before}
-use Rattle.ready_loop.specs.Drained.{accept_step, name_step, read_step, all_accepted, all_named, read_dry, write_dry}
+use Rattle.ready_loop.specs.Drained.{accept_step, name_step, read_step, all_accepted, all_named, read_dry}
 use Rattle.client_session.specs.Setups.{Setup}
 use Rattle.client_session.specs.Rest.{IsAtRest, RestsAt}
 use Rattle.mx_proxy.specs.Replay.{IsPlayedOut}

@@ -61,14 +61,9 @@ pub record IsFaulty (name : List ℕ) (held : Held) (fault : RecordFault) : Type
   pub under : HasUnder name bytes held
   pub said : recording_of bytes ≡ Err fault
 
--- What sessions go by, as the configuration says it: the version that clients are told, who may log in, the limits, and the first server,
--- where it has one. Links are opened to it alone.
-abbrev pub setup_in : Config → Setup
-setup_in config = setup_of config
-
--- At each moment of the log what was written to each client is a beginning of what it is due, which is the greeting, the answer to
--- its login, and the answers to its messages; and each byte was written as it may be. Each wait came at rest, and so did the last,
--- after which the wire has nothing more.
+-- At each moment of the log what was written to each client is a beginning of what it is due: the greeting, the answer to its login
+-- and the answers to its messages, or the error that there is no room for it. Each byte was written as it may be, and the links of
+-- clients closed as they may. Each wait came at rest, and so did the last, after which the wire has nothing more.
 pub record ServesToEnd (setup : Setup) (log : Log) : Type 0 where
   pub served : AtEachMoment (IsServed setup) log
   pub lawful : AllLawful (IsLawful setup) log
@@ -151,7 +146,7 @@ pub record IsReplay (words : List (List ℕ)) (held : Held) (log : Log) : Type 0
   pub configured : IsConfigured names.config held
   pub entries : List RecordEntry
   pub under : IsUnder names.recording held entries
-  pub replays : ReplaysTo (setup_in configured.config) entries log
+  pub replays : ReplaysTo (setup_of configured.config) entries log
 
 -- and the transcript of that log is put
 pub record Replayed (words : List (List ℕ)) (held : Held) (old new : Option (List ℕ)) : Type 0 where
@@ -184,7 +179,7 @@ pub record RanOut (words : List (List ℕ)) (held : Held) : Type 0 where
   pub entries : List RecordEntry
   pub under : IsUnder names.recording held entries
   pub log : Log
-  pub spent : IsSpent (setup_in configured.config) entries log
+  pub spent : IsSpent (setup_of configured.config) entries log
 
 pub record IsUnread (words : List (List ℕ)) (before now : ℕ) : Type 0 where
   pub names : Named

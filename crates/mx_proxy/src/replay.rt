@@ -3,7 +3,8 @@ ghost use Rattle.std.specs.Prelude.{◌≡◌, ◌≤◌, OnOk, IfOk, IfErr};
 ghost use Rattle.recording.specs.Playable.{IsPlayable};
 ghost use Rattle.mx_config.specs.Lawful.{IsLawful};
 ghost use Rattle.mx_proxy.specs.Words.{texts};
-ghost use Rattle.mx_proxy.specs.Replay.{Configures, ConfigStops, IsUnder, setup_in, HasPlayed, ReadStops, PlayStops, PutStops, Puts, Replayed, Stops};
+ghost use Rattle.session_core.specs.Cores.{setup_of};
+ghost use Rattle.mx_proxy.specs.Replay.{Configures, ConfigStops, IsUnder, HasPlayed, ReadStops, PlayStops, PutStops, Puts, Replayed, Stops};
 
 use crate::stop::Stop;
 use crate::words::replay_words;
@@ -57,8 +58,8 @@ fn read<F: Files>(alloc: Global, name: &str, files: &mut F) -> Result<Vec<Record
 fn play(alloc: Global, config: &Config, entries: Vec<RecordEntry>) -> Result<Tape, Stop>
     requires playable { IsPlayable entries.items }
     requires lawful { IsLawful config.now }
-    ensures ok { IfOk result (λ tape. HasPlayed (setup_in config.now) entries.items tape) }
-    ensures err { IfErr result (λ stop. PlayStops stop (setup_in config.now) entries.items) }
+    ensures ok { IfOk result (λ tape. HasPlayed (setup_of config.now) entries.items tape) }
+    ensures err { IfErr result (λ stop. PlayStops stop (setup_of config.now) entries.items) }
 {
     let turns = 2 * entries.len() as u64 + 16;
     let mut core = Core::new(alloc, config)?;

@@ -207,11 +207,11 @@ fn replays(rt: HostRuntime) -> Result<(), Fail> {
             "at 0\naccept c1 traffic S\nat 1\nbytes c1 A\nat 2\nbytes c1 0500000303444f2031\n",
             "link c1 traffic closed\nc1 reply GL26000004ff84042330385330315061636b657420332063616d6520776865726520302077617320647565\n",
         ),
-        // No server, and one client too many, whose link is closed.
+        // No server, and one client too many, which is told so.
         (
             "b",
             "at 0\naccept c1 traffic S\naccept c2 traffic S\nat 1\nbytes c1 A\nat 2\nbytes c1 Q\n",
-            "link c1 traffic open\nc1 reply GL21000001ff8c232348593030304e6f2073657276657220696e20686f737467726f75702030\nlink c2 traffic closed\n",
+            "link c1 traffic open\nc1 reply GL21000001ff8c232348593030304e6f2073657276657220696e20686f737467726f75702030\nlink c2 traffic closed\nc2 reply 1d000000ff1004233038303034546f6f206d616e7920636f6e6e656374696f6e73\n",
         ),
         // A message that is too long, and a client that comes behind it.
         (

@@ -90,7 +90,7 @@ keeps stands old new told held kept = record { holds = λ log is. kept.kept log 
 pub closes : {M : Type 0} (stands : M → Log → Type 0) (reads : M → LinkId → Bool) (sends : M → LinkId → Option Sent) (asks : M → Bool) → IsStill stands reads sends asks → (old new : M) (told now : Option Log) (lent : Option Sent) (link : LinkId)
     → StandsFor stands old told → Closes stands (IsDue reads sends asks) old new lent link → Parts lent link told now → StandsFor stands new now
 closes stands reads sends asks still old new told now None link held closing parts =
-    goes_on stands reads sends asks still old new told now (entry.Closed link) held (subst (λ (t : Option Log). Tells t (entry.Closed link) now) parts.offer parts.close) (λ log. tt) closing.plain
+    goes_on stands reads sends asks still old new told now (entry.Closed link) held (subst (λ (t : Option Log). Tells t (entry.Closed link) now) parts.offer parts.close) (λ log. tt) (closing.plain refl)
 closes stands reads sends asks still old new told now (Some sent) link held closing parts = record {
   holds = λ log is.
       let offer = parts.offer in
@@ -98,5 +98,5 @@ closes stands reads sends asks still old new told now (Some sent) link held clos
       let write = offer.2.appended close.0 close.1 in
       let before : stands old (write.0 ++ write.2.marks) = after_marks stands reads sends asks still old write.0 write.2.marks write.2.only_marks (few_before (write.0 ++ write.2.marks) offer.0 write.2.lawful) (held.holds write.0 write.1) in
       subst (λ (l : Log). stands new l) (ap (λ (l : Log). l ++ close.2.marks ++ entry.Closed link ∷ []) (sym write.2.is) ∙ sym close.2.is)
-      (closing.offered (write.0 ++ write.2.marks) offer.0 close.2.marks offer.1 close.2.only_marks write.2.lawful (subst (λ (l : Log). MayFollow (l ++ close.2.marks) (entry.Closed link)) write.2.is close.2.lawful) before);
+      (closing.offered refl (write.0 ++ write.2.marks) offer.0 close.2.marks offer.1 close.2.only_marks write.2.lawful (subst (λ (l : Log). MayFollow (l ++ close.2.marks) (entry.Closed link)) write.2.is close.2.lawful) before);
 }

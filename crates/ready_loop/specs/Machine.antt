@@ -1,5 +1,5 @@
 -- How a machine stands for a log.
-use Rattle.std.specs.Prelude.{◌≡◌, ◌⊎◌, ℕ, ◌<◌, ◌≤◌, Bool, false, List, [], ◌∷◌, ◌++◌, length, take, Option, Some, None}
+use Rattle.std.specs.Prelude.{◌≡◌, ◌⊎◌, ℕ, ◌<◌, ◌≤◌, Bool, false, List, [], ◌∷◌, ◌++◌, length, take, Option, Some, None, IsSome}
 use Rattle.mx_base.specs.declared.names.LinkId.{LinkId}
 use Rattle.mx_base.specs.declared.names.ServerId.{ServerId}
 use Rattle.mx_base.specs.declared.names.Address.{Address}
@@ -72,11 +72,11 @@ IsFarewell lent link (entry.WriteNothing to) = to ≡ link
 IsFarewell lent link (entry.WriteFailed to) = to ≡ link
 IsFarewell lent link _ = ⊥
 
--- an open link closes, after a farewell or without one
+-- an open link closes, after a farewell where there are bytes for it, and else without one
 pub record Closes {M : Type 0} (stands : M → Log → Type 0) (due : M → Log → Entry → Type 0) (old new : M) (lent : Option Sent) (link : LinkId) : Type 0 where
   pub opened : (log : Log) → stands old log → IsOpen link log
-  pub plain : CarriesOver stands due old new (entry.Closed link)
-  pub offered : (log : Log) (e : Entry) (marks : Log) → IsFarewell lent link e → AreMarks marks → MayFollow log e → MayFollow (log ++ e ∷ [] ++ marks) (entry.Closed link) → stands old log → stands new (log ++ e ∷ [] ++ marks ++ entry.Closed link ∷ [])
+  pub plain : lent ≡ None → CarriesOver stands due old new (entry.Closed link)
+  pub offered : IsSome lent → (log : Log) (e : Entry) (marks : Log) → IsFarewell lent link e → AreMarks marks → MayFollow log e → MayFollow (log ++ e ∷ [] ++ marks) (entry.Closed link) → stands old log → stands new (log ++ e ∷ [] ++ marks ++ entry.Closed link ∷ [])
 
 -- what an act leaves to do
 abbrev pub Acts : {M : Type 0} → (M → Log → Type 0) → (M → Log → Entry → Type 0) → (M → LinkId → Option Sent) → M → M → Option Act → Type 0

@@ -8,11 +8,12 @@ use mx_base::{Bytes, OutOfMemory};
 #[derive(Debug, Drop, PartialEq, Eq)]
 pub enum BackendFault {
     /// Bytes with which no login and no reply goes on, or which came while nothing was due, from this place of the reply on,
-    /// counted from 0; 0 in a login.
+    /// counted from 0; 0 in a login. A greeting that doesn't offer FOUND_ROWS where that is wanted is such bytes.
     BadBytes { at: u64 },
     /// The server asks for another login method than mysql_native_password.
     Plugin { name: Bytes },
-    /// The server refuses the login, by an ERR of this code; 0 where the ERR is too short for one.
+    /// The server refuses the login, by an ERR of this code, in the greeting's place or behind it; 0 where the ERR is too
+    /// short for one.
     Denied { code: u16 },
     /// Memory was refused.
     OutOfMemory,

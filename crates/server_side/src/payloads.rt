@@ -78,8 +78,8 @@ fn own_response(
     })
 }
 
-/// The packet of the response to a greeting (client/server protocol, "Protocol::HandshakeResponse41"), with the sequence id
-/// 1.
+/// The packet of the response to a greeting (client/server protocol, "Protocol::HandshakeResponse41"), with the
+/// sequence id 1.
 #[tactic(auto, unfolding(crate::specs::Login::response_said))]
 pub fn response_packet(
     alloc: Global,

@@ -20,6 +20,7 @@ stepped Step old new key session later is step marks = subst (λ (s : Option Ses
     marks = record { turn = only.marks.turn; changed = only.marks.changed };
     service = record { setup = only.service.setup; listen = only.service.listen; admin_listen = only.service.admin_listen };
     accepted = only.accepted;
+    clients = only.clients;
     refused = only.refused;
   },
   record { same = λ link. ap (λ places. get nat_eq places link.0) only.places },

@@ -1,5 +1,5 @@
 -- What the core asks for, and what it has for its links.
-use Rattle.std.specs.Prelude.{◌≡◌, ℕ, Bool, true, false, nat_eq, ◌&&◌, ◌||◌, if◌then◌else◌, List, [], ◌∷◌, Option, Some, None, is_some}
+use Rattle.std.specs.Prelude.{◌≡◌, ℕ, ◌-◌, Bool, true, false, nat_eq, ◌&&◌, ◌||◌, if◌then◌else◌, List, [], ◌∷◌, Option, Some, None, is_some}
 use Rattle.mx_base.specs.declared.names.LinkId.{LinkId}
 use Rattle.ready_loop.specs.Machine.{Target}
 use Rattle.ready_loop.specs.Sent.{Sent}
@@ -88,6 +88,7 @@ awaited core = turn_awaits core core.turn
 
 -- What asking changes.
 
+-- all that is counted but the clients
 pub record KeepsCounts (old new : Core) : Type 0 where
   pub service : SameService old new
   pub accepted : new.accepted ≡ old.accepted
@@ -97,6 +98,7 @@ pub record KeepsCounts (old new : Core) : Type 0 where
 pub record Forgets (old new : Core) (key : ℕ) (session : Session) : Type 0 where
   pub places : SetsPlace old new session.link None
   pub counts : KeepsCounts old new
+  pub clients : new.clients ≡ old.clients
   pub refused : new.refused.items ≡ old.refused.items
   pub turn : new.turn ≡ old.turn
 
@@ -118,6 +120,7 @@ pub record Asked (old new : Core) (key : ℕ) (session : Session) (asked : Optio
   pub sets : SetsSession old new key (Some (asked_for (act_of session) session))
   pub places : KeepsPlaces old new
   pub counts : KeepsCounts old new
+  pub clients : new.clients ≡ old.clients
   pub refused : new.refused.items ≡ old.refused.items
   pub turn : new.turn ≡ old.turn
 
@@ -133,16 +136,20 @@ pub record KeepsTables (old new : Core) : Type 0 where
 
 pub record ClosesServer (old new : Core) (link : LinkId) : Type 0 where
   pub tables : KeepsTables old new
+  pub clients : new.clients ≡ old.clients
   pub places : SetsPlace old new link None
   pub turn : new.turn ≡ old.turn
 
-pub record KeepsLinks (old new : Core) : Type 0 where
+-- one client fewer
+pub record ClosesClient (old new : Core) : Type 0 where
   pub tables : KeepsTables old new
+  pub clients : new.clients ≡ old.clients - 1
   pub places : KeepsPlaces old new
   pub turn : new.turn ≡ old.turn
 
 pub record TurnsAway (old new : Core) : Type 0 where
   pub tables : KeepsTables old new
+  pub clients : new.clients ≡ old.clients
   pub places : KeepsPlaces old new
   pub turn : new.turn ≡ None
 
@@ -154,7 +161,7 @@ abbrev pub ActsOn : Option SessionAct → Core → Core → Option Act → Type 
 ActsOn None old new asked = (asked ≡ None) × (new ≡ old)
 ActsOn (Some session_act.Open) old new asked = OpensTo old.setup.target old new asked
 ActsOn (Some (session_act.CloseServer link)) old new asked = (asked ≡ Some (act.Close link)) × ClosesServer old new link
-ActsOn (Some (session_act.CloseClient link)) old new asked = (asked ≡ Some (act.Close link)) × KeepsLinks old new
+ActsOn (Some (session_act.CloseClient link)) old new asked = (asked ≡ Some (act.Close link)) × ClosesClient old new
 
 -- the session under the key is tidied, and asked
 abbrev pub TurnActs : Option ℕ → Core → Core → Option Act → Type 0
@@ -169,6 +176,7 @@ pub record Takes (old new : Core) (key : ℕ) (later : Session) : Type 0 where
   pub sets : SetsSession old new key (Some later)
   pub places : KeepsPlaces old new
   pub counts : KeepsCounts old new
+  pub clients : new.clients ≡ old.clients
   pub refused : new.refused.items ≡ old.refused.items
   pub turn : new.turn ≡ Some key
 

@@ -1,5 +1,5 @@
 -- What the core stands for as it asks.
-use Rattle.std.specs.Prelude.{◌≡◌, ℕ, Bool, true, false, nat_eq, is_some, Option, Some, None, refl}
+use Rattle.std.specs.Prelude.{◌≡◌, ℕ, ◌-◌, Bool, true, false, nat_eq, is_some, Option, Some, None, refl}
 use Rattle.std.proofs.Common.{sym, ◌∙◌, ap, subst, inl, inr}
 use Rattle.std.proofs.lemmas.Bool.{eqb-true}
 use Rattle.mx_base.specs.declared.names.LinkId.{LinkId}
@@ -18,11 +18,12 @@ use Rattle.client_session.specs.declared.session.Session.{Session}
 use Rattle.client_session.specs.Acts.{act_by, act_of, client_act, asked_for, wants_link, open_if}
 use Rattle.client_session.specs.Parted.{closed_of}
 use Rattle.client_session.specs.Setups.{Setup, has_server}
+use Rattle.client_session.specs.TurnedAway.{served-open}
 use Rattle.session_core.specs.declared.router.Core.{Core}
 use Rattle.client_session.specs.declared.setup.ServerAt.{ServerAt}
 use Rattle.session_core.specs.declared.place.Place.{Place}
 use Rattle.session_core.specs.Cores.{session_at, target_of, SetsPlace, SetsSession, KeepsSessions, KeepsPlaces}
-use Rattle.session_core.specs.Acting.{target_if, session_awaits, turn_awaits, awaited, sends, Tidies, Asked, AskedAt, ClosesServer as ClosesUpstream, KeepsLinks as KeepsAllLinks, ActsOn, OpensTo, TurnActs}
+use Rattle.session_core.specs.Acting.{target_if, session_awaits, turn_awaits, awaited, sends, Tidies, Asked, AskedAt, ClosesServer as ClosesUpstream, ClosesClient as ClosesDoor, ActsOn, OpensTo, TurnActs}
 use Rattle.session_core.specs.Connecting.{wants-unsent}
 use Rattle.session_core.specs.Closing.{ClosesServer, closes-server, ClosesClient, closes-client}
 use Rattle.session_core.specs.Sessions.{differ-by}
@@ -69,8 +70,8 @@ client-by (upstream.Closing other) session link is = cc
 pub closes-after : (old mid new : Core) (link : LinkId) → ((log : Log) → Stands old log → Stands mid log) → Closes Stands due_in mid new (sends new link) link → Closes Stands due_in old new (sends new link) link
 closes-after old mid new link tidy closes = record {
   opened = λ log held. closes.opened log (tidy log held);
-  plain = record { carried = λ log may is_due held. closes.plain.carried log may tt (tidy log held) };
-  offered = λ log e marks farewell all may may_close held. closes.offered log e marks farewell all may may_close (tidy log held);
+  plain = λ none. record { carried = λ log may is_due held. (closes.plain none).carried log may tt (tidy log held) };
+  offered = λ some log e marks farewell all may may_close held. closes.offered some log e marks farewell all may may_close (tidy log held);
 }
 
 sets-then : (old mid new : Core) (key : ℕ) (s : Option Session) → SetsSession old mid key s → KeepsSessions mid new → SetsSession old new key s
@@ -93,6 +94,7 @@ asked-same old new key session what log at asked same held =
     stands-kept old new log (record {
       sessions = same-sessions old new key session at (subst (λ (s : Session). SetsSession old new key (Some s)) same asked.sets);
       places = asked.places;
+      clients = asked.clients;
       refused = asked.refused;
       calm = λ k s is calm. elim (calm) [ inl turn ↦ inl (asked.turn ∙ turn) | inr quiet ↦ inr quiet ];
     }) asked.counts.service.setup asked.counts.accepted held
@@ -107,6 +109,7 @@ up-closed tidied mid new key session link at turn asked act closes = record {
   is = server-by session.upstream session link act;
   sets = sets-then tidied mid new key (Some (record session { upstream = upstream.Absent })) (subst (λ a. SetsSession tidied mid key (Some (asked_for a session))) act asked.sets) closes.tables.sessions;
   placed = place-then tidied mid new link None asked.places closes.places;
+  clients = closes.clients ∙ asked.clients;
   refused = closes.tables.refused ∙ asked.refused;
   turn = closes.turn ∙ asked.turn ∙ turn;
   was_turn = turn;
@@ -114,13 +117,14 @@ up-closed tidied mid new key session link at turn asked act closes = record {
   accepted = closes.tables.counts.accepted ∙ asked.counts.accepted;
 }
 
-door-closed : (tidied mid new : Core) (key : ℕ) (session : Session) (link : LinkId) → session_at tidied key ≡ Some session → tidied.turn ≡ Some key → Asked tidied mid key session (Some (session_act.CloseClient link)) → act_of session ≡ Some (session_act.CloseClient link) → KeepsAllLinks mid new
+door-closed : (tidied mid new : Core) (key : ℕ) (session : Session) (link : LinkId) → session_at tidied key ≡ Some session → tidied.turn ≡ Some key → Asked tidied mid key session (Some (session_act.CloseClient link)) → act_of session ≡ Some (session_act.CloseClient link) → ClosesDoor mid new
     → ClosesClient tidied new key session
 door-closed tidied mid new key session link at turn asked act closes = record {
   at = at;
   is = (client-by session.upstream session link act).0;
   sets = sets-then tidied mid new key (Some (closed_of session)) (subst (λ a. SetsSession tidied mid key (Some (asked_for a session))) act asked.sets) closes.tables.sessions;
   places = record { same = λ other. closes.places.same other ∙ asked.places.same other };
+  clients = closes.clients ∙ ap (λ (n : ℕ). n - 1) asked.clients;
   refused = closes.tables.refused ∙ asked.refused;
   turn = closes.turn ∙ asked.turn ∙ turn;
   was_turn = turn;
@@ -156,7 +160,7 @@ module _ (old tidied mid new : Core) (key : ℕ) (turn : old.turn ≡ Some key) 
   closes-up link None at asked closes = absurd (none-asked (session_act.CloseServer link) asked.0)
   closes-up link (Some session) at asked closes = closes-after old tidied new link tidy (closes-server tidied new key session link (up-closed tidied mid new key session link at turn-tidied asked (sym asked.is) closes))
 
-  closes-door : (link : LinkId) (s : Option Session) → session_at tidied key ≡ s → AskedAt tidied mid key s (Some (session_act.CloseClient link)) → KeepsAllLinks mid new → Closes Stands due_in old new (sends new link) link
+  closes-door : (link : LinkId) (s : Option Session) → session_at tidied key ≡ s → AskedAt tidied mid key s (Some (session_act.CloseClient link)) → ClosesDoor mid new → Closes Stands due_in old new (sends new link) link
   closes-door link None at asked closes = absurd (none-asked (session_act.CloseClient link) asked.0)
   closes-door link (Some session) at asked closes = closes-after old tidied new link tidy (closes-client_of tidied new key session link (client-by session.upstream session link (sym asked.is)).1 (door-closed tidied mid new key session link at turn-tidied asked (sym asked.is) closes))
 
@@ -166,7 +170,7 @@ module _ (old tidied mid new : Core) (key : ℕ) (turn : old.turn ≡ Some key) 
   no-target (Some session) at asked none log held =
       let wants = wants-open session (sym asked.is) in
       let stood = tidy log held in
-      let unsent = wants-unsent (service_of tidied stood.upholds.refused) session log wants (stood.upholds.sessions.has key session at) in
+      let unsent = wants-unsent (service_of tidied stood.upholds.refused) session log wants (served-open (service_of tidied stood.upholds.refused) session log wants.opened (stood.upholds.sessions.has key session at)) in
       let no : true ≡ false = sym unsent.serves ∙ ap (λ (t : Setup). has_server t) (sym asked.counts.service.setup) ∙ ap (λ (t : Option ServerAt). is_some t) none in
       absurd (cc)
 

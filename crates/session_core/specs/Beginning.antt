@@ -1,13 +1,14 @@
 -- A core to which no client came stands for the empty log.
-use Rattle.std.specs.Prelude.{◌≡◌, ℕ, zero, suc, true, false, [], Option, Some, None, take, refl}
+use Rattle.std.specs.Prelude.{◌≡◌, ℕ, zero, suc, true, false, ◌&&◌, [], Option, Some, None, take, refl}
 use Rattle.std.proofs.Common.{sym, ◌∙◌, ap, subst, arith}
 use Rattle.mx_base.specs.declared.names.LinkId.{LinkId}
+use Rattle.mx_wire.specs.Log.{is_open}
 use Rattle.client_session.specs.declared.session.Session.{Session}
 use Rattle.client_session.specs.Headline.{client_link, None_yet, IsServed}
 use Rattle.session_core.specs.declared.router.Core.{Core}
 use Rattle.session_core.specs.declared.place.Place.{Place}
 use Rattle.session_core.specs.Cores.{session_at, is_among, IsEmpty}
-use Rattle.session_core.specs.Stands.{AreDistinct, TracksSessions, TracksLinks, Stands}
+use Rattle.session_core.specs.Stands.{AreDistinct, is_client, TracksSessions, TracksLinks, Stands}
 use Rattle.session_core.specs.Upholding.{sessions-served}
 
 no-session : (core : Core) (key : ℕ) (session : Session) → IsEmpty core → session_at core key ≡ Some session → ⊥
@@ -29,6 +30,7 @@ sessions-begin core empty = record {
 
 links-begin : (core : Core) → IsEmpty core → TracksLinks core []
 links-begin core empty = record {
+  clients = record { count = empty.clients; distinct = tt; among = λ link. sym (ap (λ (p : Option Place). is_client p && is_open link []) (empty.places link)) };
   client = λ key session at shut. absurd (no-session core key session empty at);
   closed = λ key session at shut. absurd (no-session core key session empty at);
   server = λ key session link at up. absurd (no-session core key session empty at);

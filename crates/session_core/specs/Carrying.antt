@@ -14,7 +14,8 @@ use Rattle.client_session.specs.declared.session.Session.{Session}
 use Rattle.client_session.specs.Answered.{turn_of}
 use Rattle.client_session.specs.Told.{Stood, Stays, Refuses, IsLoss, session-server_says, session-server_lost}
 use Rattle.client_session.specs.Events.{ClientSays, ServerSays, ServerLost, client_lost, is_begun}
-use Rattle.client_session.specs.Headline.{IsRefusing, Passes as PassesOn, FailsIn, is_failure, IsLawful}
+use Rattle.client_session.specs.Headline.{IsRefusing, Passes as PassesOn, FailsIn, is_failure, is_loss, IsLawful}
+use Rattle.client_session.specs.Growth.{lost-now}
 use Rattle.client_session.specs.Kept.{KeepsEnds, client_says-kept, server_says-kept, server_lost-kept, client_lost-kept}
 use Rattle.client_session.specs.Parted.{session-lost_client}
 use Rattle.client_session.specs.Passing.{hears-apart, session-stays}
@@ -23,6 +24,7 @@ use Rattle.client_session.specs.Sending.{sending}
 use Rattle.client_session.specs.Setups.{Setup}
 use Rattle.client_session.specs.Still.{with_refused, refused-other, replies-refused}
 use Rattle.client_session.specs.Stands.{HasSession, upstream_link, is_closed}
+use Rattle.client_session.specs.TurnedAway.{Served, served-open, served-on}
 use Rattle.session_core.specs.declared.router.Core.{Core}
 use Rattle.session_core.specs.declared.place.Place.{Place}
 use Rattle.session_core.specs.declared.place.Place.TheVariants as place
@@ -47,7 +49,7 @@ pub record IsStep (old new : Core) (key : ℕ) (session later : Session) : Type 
 pub a-step : (Step : Session → Session → Type 0) (old new : Core) (key : ℕ) (session : Session) → session_at old key ≡ Some session → (steps : Steps Step old new key session) → KeepsPlaces old new → (old.turn ≡ Some key) ⊎ (asks old ≡ false)
     → steps.later.link ≡ session.link → steps.later.client.number ≡ session.client.number → is_closed steps.later.state ≡ is_closed session.state → upstream_link steps.later.upstream ≡ upstream_link session.upstream → IsStep old new key session steps.later
 a-step Step old new key session at steps places acted link number closed up = record {
-  relinks = record { at = at; sets = steps.sets; link = link; number = number; closed = closed; upstream = up; places = places; refused = steps.refused; turn = steps.marks.turn; acted = acted };
+  relinks = record { at = at; sets = steps.sets; link = link; number = number; closed = closed; upstream = up; places = places; clients = steps.clients; refused = steps.refused; turn = steps.marks.turn; acted = acted };
   setup = steps.service.setup;
   accepted = steps.accepted;
 }
@@ -63,7 +65,7 @@ over-entry old new key session later log e held step leaves keeps no_failure may
   leaves = leaves;
   same = subst (λ service. SameOthers (service_of old held.upholds.refused) service session.client.number.0 log e) (sym (same-service old new held.upholds.refused step.setup)) (same_others (service_of old held.upholds.refused) session.client.number.0 log e);
   refusing = subst (λ (t : Setup). IsRefusing t held.upholds.refused (log ++ e ∷ [])) (sym step.setup) (PassesOn held.upholds.refused log e held.upholds.sessions.refusing no_failure);
-  has = subst (λ service. HasSession service later (log ++ e ∷ [])) (sym (same-service old new held.upholds.refused step.setup)) has;
+  has = Served (subst (λ service. HasSession service later (log ++ e ∷ [])) (sym (same-service old new held.upholds.refused step.setup)) has);
   keeps = keeps;
   few = few-more log e may held.upholds.few;
   law = law;
@@ -84,7 +86,7 @@ over-refused old new key session later log e held step leaves keeps may is_due l
     stay = λ n apart. replies-refused (service_of old held.upholds.refused) (turn_of session) n log e unsent;
   });
   refusing = subst (λ (s : Setup). IsRefusing s (held.upholds.refused ++ turn_of session ∷ []) (log ++ e ∷ [])) (sym step.setup) refusing;
-  has = subst (λ (s : Setup). HasSession (record { setup = s; refused = held.upholds.refused ++ turn_of session ∷ [] }) later (log ++ e ∷ [])) (sym step.setup) has;
+  has = Served (subst (λ (s : Setup). HasSession (record { setup = s; refused = held.upholds.refused ++ turn_of session ∷ [] }) later (log ++ e ∷ [])) (sym step.setup) has);
   keeps = keeps;
   few = few-more log e may held.upholds.few;
   law = law;
@@ -156,7 +158,7 @@ client-got old new key session log bytes none is steps may is_due held =
     (got-keeps session.link bytes) refl may is_due tt
     (session-said (service_of old held.upholds.refused) session it.0.later log bytes is.opened
     (hears-apart session.upstream session.link log e refl (upstream-apart old held.upholds.refused log held.upholds.sessions held.links key session is.at key session is.at))
-    (few-counted log e session.link may (few-more log e may held.upholds.few)) (held.upholds.sessions.has key session is.at) it.0.step)
+    (few-counted log e session.link may (few-more log e may held.upholds.few)) (served-open (service_of old held.upholds.refused) session log is.opened (held.upholds.sessions.has key session is.at)) it.0.step)
 
 server-got : (old new : Core) (key : ℕ) (session : Session) (log : Log) (link : LinkId) (bytes : List ℕ) → asks old ≡ false → (is : IsHeard old key session link) → StepsAt (λ s later. ServerSays old.setup s bytes later) old new key (session_at old key)
     → MayFollow log (entry.Got is.server.link bytes) → due_in old log (entry.Got is.server.link bytes) → Stands old log → Stands new (log ++ entry.Got is.server.link bytes ∷ [])
@@ -170,7 +172,7 @@ server-got old new key session log link bytes none is steps may is_due held =
     (got-keeps is.server.link bytes) refl may is_due tt
     (session-server_says (service_of old held.upholds.refused) session it.0.later is.server log bytes is.on
     (client-other old held.upholds.refused log held.upholds.sessions held.links key session is.at is.server.link up key session is.at)
-    (few-counted log e session.link may (few-more log e may held.upholds.few)) (held.upholds.sessions.has key session is.at) it.0.step)
+    (few-counted log e session.link may (few-more log e may held.upholds.few)) (served-on (service_of old held.upholds.refused) session is.server log is.on (held.upholds.sessions.has key session is.at)) it.0.step)
 
 pub got-carries : (old new : Core) (link : LinkId) (bytes : List ℕ) → asks old ≡ false → TakesBytes (place_of old link) old bytes new → CarriesOver Stands due_in old new (entry.Got link bytes)
 got-carries old new link bytes none takes = record { carried = λ log may is_due held. by (place_of old link) refl takes log may is_due held } where
@@ -189,6 +191,7 @@ got-carries old new link bytes none takes = record { carried = λ log may is_due
 
 pub record LosesLink (link : LinkId) (e : Entry) : Type 0 where
   pub loss : IsLoss link e
+  pub lost : is_loss e ≡ true
   pub empty : IsEmpty e link
   pub keeps : KeepsOpen e
   pub opened : (log : Log) → MayFollow log e → IsOpen link log
@@ -205,10 +208,10 @@ client-lost old new key session log e none is steps loses may held =
     (leaves-client old held.upholds.refused log held.upholds.sessions held.links key session is.at e loses.loss.of loses.empty.no_client (λ n i apart. loses.loss.nothing n i))
     loses.keeps loses.empty.no_failure may (loses.due_all old log) (loses.law old log)
     (subst (λ (s : Session). HasSession (service_of old held.upholds.refused) s (log ++ e ∷ [])) (sym it.0.step)
-    (session-lost_client (service_of old held.upholds.refused) session (log ++ e ∷ []) is.opened
+    (session-lost_client (service_of old held.upholds.refused) session (log ++ e ∷ []) is.opened (lost-now session.link log e loses.loss.of loses.lost)
     (session-stays (service_of old held.upholds.refused) session log e
     (passes-empty session log e session.link loses.empty (upstream-apart old held.upholds.refused log held.upholds.sessions held.links key session is.at key session is.at))
-    (held.upholds.sessions.has key session is.at))))
+    (served-open (service_of old held.upholds.refused) session log is.opened (held.upholds.sessions.has key session is.at)))))
 
 server-lost : (old new : Core) (key : ℕ) (session : Session) (log : Log) (link : LinkId) (e : Entry) → asks old ≡ false → (is : IsHeard old key session link) → StepsAt (λ s later. ServerLost old.setup s later) old new key (session_at old key)
     → LosesLink is.server.link e → MayFollow log e → Stands old log → Stands new (log ++ e ∷ [])
@@ -221,7 +224,7 @@ server-lost old new key session log link e none is steps loses may held =
     loses.keeps loses.empty.no_failure may (loses.due_all old log) (loses.law old log)
     (session-server_lost (service_of old held.upholds.refused) session it.0.later is.server log e is.on
     (client-other old held.upholds.refused log held.upholds.sessions held.links key session is.at is.server.link up key session is.at)
-    loses.loss (few-counted log e session.link may (few-more log e may held.upholds.few)) (held.upholds.sessions.has key session is.at) it.0.step)
+    loses.loss (few-counted log e session.link may (few-more log e may held.upholds.few)) (served-on (service_of old held.upholds.refused) session is.server log is.on (held.upholds.sessions.has key session is.at)) it.0.step)
 
 pub lost-carries : (old new : Core) (link : LinkId) (e : Entry) → asks old ≡ false → LosesLink link e → Loses (place_of old link) old new → CarriesOver Stands due_in old new e
 lost-carries old new link e none loses_link loses = record { carried = λ log may is_due held. by (place_of old link) refl loses log may held } where
@@ -237,6 +240,7 @@ lost-carries old new link e none loses_link loses = record { carried = λ log ma
 pub ended-loses : (link : LinkId) → LosesLink link (entry.Ended link)
 ended-loses link = record {
   loss = record { of = refl; no_read = refl; no_write = refl; nothing = λ n i. refl; lost = λ bytes. refl; ends = λ user log. refl };
+  lost = refl;
   empty = record { of = refl; no_client = refl; no_failure = refl; no_read = refl; no_write = refl; nothing = λ n i. refl };
   keeps = record { keeps = refl; opens_none = refl };
   opened = λ log may. may.fits;
@@ -247,6 +251,7 @@ ended-loses link = record {
 pub read_failed-loses : (link : LinkId) → LosesLink link (entry.ReadFailed link)
 read_failed-loses link = record {
   loss = record { of = refl; no_read = refl; no_write = refl; nothing = λ n i. refl; lost = λ bytes. refl; ends = λ user log. refl };
+  lost = refl;
   empty = record { of = refl; no_client = refl; no_failure = refl; no_read = refl; no_write = refl; nothing = λ n i. refl };
   keeps = record { keeps = refl; opens_none = refl };
   opened = λ log may. may.fits;
@@ -257,6 +262,7 @@ read_failed-loses link = record {
 pub write_failed-loses : (link : LinkId) → LosesLink link (entry.WriteFailed link)
 write_failed-loses link = record {
   loss = record { of = refl; no_read = refl; no_write = refl; nothing = λ n i. refl; lost = λ bytes. refl; ends = λ user log. refl };
+  lost = refl;
   empty = record { of = refl; no_client = refl; no_failure = refl; no_read = refl; no_write = refl; nothing = λ n i. refl };
   keeps = record { keeps = refl; opens_none = refl };
   opened = λ log may. may.fits;

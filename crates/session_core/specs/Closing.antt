@@ -1,8 +1,10 @@
 -- Each close that the core asks for.
-use Rattle.std.specs.Prelude.{◌≡◌, ◌⊎◌, ℕ, Bool, true, false, nat_eq, nat_lt, ◌||◌, List, [], ◌∷◌, ◌++◌, cond, length, take, Option, Some, None, IsSome, refl}
-use Rattle.std.proofs.Common.{sym, ◌∙◌, ap, subst, inl, inr}
+use Rattle.std.specs.Prelude.{◌≡◌, ◌⊎◌, ℕ, ◌-◌, ◌<◌, ◌≤◌, Bool, true, false, nat_eq, nat_lt, ◌||◌, List, [], ◌∷◌, ◌++◌, cond, length, take, Option, Some, None, IsSome, refl}
+use Rattle.std.specs.Option.{option_map}
+use Rattle.std.proofs.Common.{sym, ◌∙◌, ap, subst, append_assoc, inl, inr, arith}
 use Rattle.std.proofs.lemmas.Bool.{eqb-true}
 use Rattle.mx_base.specs.declared.names.LinkId.{LinkId}
+use Rattle.mx_base.specs.declared.names.Port.TheVariants.{Traffic, Admin}
 use Rattle.mx_base.specs.declared.tag.Tag.{Tag}
 use Rattle.mx_base.specs.declared.tag.Tag.TheVariants.{Reply}
 use Rattle.mx_wire.specs.Log.{Log, is_open}
@@ -15,27 +17,30 @@ use Rattle.ready_loop.specs.Sent.{Sent}
 use Rattle.client_session.specs.declared.phase.LinkState.TheVariants as link_state
 use Rattle.client_session.specs.declared.phase.Upstream.TheVariants as upstream
 use Rattle.client_session.specs.declared.session.Session.{Session}
-use Rattle.client_session.specs.Dues.{session-link}
-use Rattle.client_session.specs.Growth.{client_link-same}
-use Rattle.client_session.specs.Headline.{client_link, IsRefusing, Passes as PassesOn}
-use Rattle.client_session.specs.Parted.{closed_of, session-absent, session-closed, session-farewell}
+use Rattle.client_session.specs.Arrivals.{Arrival, arrival_of, is_served}
+use Rattle.client_session.specs.Growth.{arrival-append, arrival-same, client_link-same, lost-append, offered-now}
+use Rattle.client_session.specs.Headline.{client_link, IsRefusing, Passes as PassesOn, MayPart, MayClose}
+use Rattle.client_session.specs.Leaving.{IsBehind, may-part}
+use Rattle.client_session.specs.Parted.{closed_of}
 use Rattle.client_session.specs.Passing.{IsApart, hears-apart}
 use Rattle.client_session.specs.Sends.{reply_left}
-use Rattle.client_session.specs.Stands.{HasSession, upstream_link, is_closed}
+use Rattle.client_session.specs.Stands.{upstream_link, is_closed}
+use Rattle.client_session.specs.TurnedAway.{IsOfClient, client-link, client-absent, client-closed, client-farewell}
 use Rattle.session_core.specs.declared.router.Core.{Core}
 use Rattle.client_session.specs.Setups.{Setup}
 use Rattle.session_core.specs.declared.place.Place.{Place}
 use Rattle.session_core.specs.declared.place.Place.TheVariants as place
 use Rattle.session_core.specs.Cores.{place_of, session_at, is_among, SetsPlace, SetsSession, KeepsPlaces, KeepsSessions}
 use Rattle.session_core.specs.Acting.{session_asks, client_sends, sends_at, sends}
-use Rattle.session_core.specs.Links.{or-false, asks-same}
+use Rattle.session_core.specs.Counting.{counts-gone, counts-closed}
+use Rattle.session_core.specs.LinkLists.{or-cases, or-first, or-right, among-end, distinct-front}
+use Rattle.session_core.specs.Links.{asks-same}
 use Rattle.session_core.specs.Opening.{closed-shut, closed-other, same_link}
-use Rattle.session_core.specs.Parting.{NoUpstream, upholds-closed, closes-silently, upholds-silent, links-behind, HasNumbers, numbers-of, numbers-more}
+use Rattle.session_core.specs.Parting.{NoUpstream, NoClient, IsLast, farewell-last, refusing-behind, upholds-closed, closes-silently, upholds-silent, links-behind, HasNumbers, numbers-of, numbers-more}
 use Rattle.session_core.specs.Passing.{same-service, sessions-set, sessions-kept}
 use Rattle.session_core.specs.Quiet.{upholds-marks}
-use Rattle.session_core.specs.Refusing.{among-end, or-cases, or-first}
 use Rattle.session_core.specs.Sessions.{apart-from, differ-by, SameOthers, same_others, sessions-touched}
-use Rattle.session_core.specs.Stands.{service_of, IsPlaced, IsConnected, IsUpstream, AreDistinct, TracksLinks, Upholds, Stands, due_in}
+use Rattle.session_core.specs.Stands.{service_of, IsPlaced, IsConnected, IsUpstream, AreDistinct, is_client, TracksLinks, Upholds, Stands, due_in}
 use Rattle.session_core.specs.Touching.{upstream-apart, leaves-client}
 use Rattle.session_core.specs.Upholding.{few-more, upholds-more, upholds-as}
 
@@ -61,25 +66,14 @@ pub record DropsRefused (old new : Core) (link : LinkId) : Type 0 where
   pub turn : new.turn ≡ old.turn
   pub setup : new.setup ≡ old.setup
   pub accepted : new.accepted ≡ old.accepted
-
-distinct-front : (links : List LinkId) (link : LinkId) → AreDistinct (links ++ link ∷ []) → AreDistinct links × (is_among link links ≡ false)
-distinct-front [] link distinct = (tt, refl)
-distinct-front (other ∷ links) link distinct =
-    let apart = or-false (is_among other links) (nat_eq other.0 link.0) (sym (among-end other link links) ∙ distinct.0) in
-    let rest = distinct-front links link distinct.1 in
-    ((apart.0, rest.0), neither (nat_eq link.0 other.0) (is_among link links) (nat_eq-sym other.0 link.0 apart.1) rest.1) where
-      neither : (a b : Bool) → a ≡ false → b ≡ false → (a || b) ≡ false
-      neither a b first second = rw first second
+  pub clients : new.clients ≡ old.clients
 
 module _ (old new : Core) (link : LinkId) (drops : DropsRefused old new link) where
   among-old : (other : LinkId) → is_among other old.refused.items ≡ (is_among other new.refused.items || nat_eq other.0 link.0)
   among-old other = ap (is_among other) drops.refused ∙ among-end other link new.refused.items
 
   is-refused : is_among link old.refused.items ≡ true
-  is-refused = among-old link ∙ ap (λ b. is_among link new.refused.items || b) (same_number link.0) ∙ or-right (is_among link new.refused.items) where
-    or-right : (a : Bool) → (a || true) ≡ true
-    or-right true = refl
-    or-right false = refl
+  is-refused = among-old link ∙ ap (λ b. is_among link new.refused.items || b) (same_number link.0) ∙ or-right (is_among link new.refused.items)
 
   before : (key : ℕ) (session : Session) → session_at new key ≡ Some session → session_at old key ≡ Some session
   before key session at = sym (drops.sessions.same key) ∙ at
@@ -91,6 +85,12 @@ module _ (old new : Core) (link : LinkId) (drops : DropsRefused old new link) wh
 
   drop-links : (log : Log) → HasNumbers old log → TracksLinks old log → TracksLinks new (log ++ entry.Closed link ∷ [])
   drop-links log numbers links = record {
+    clients = counts-gone old new link log (record {
+      clients = drops.clients;
+      was = ap is_client (links.refused link is-refused).unplaced;
+      now = ap is_client (drops.places.same link ∙ (links.refused link is-refused).unplaced);
+      others = λ other apart. drops.places.same other;
+    }) links.clients;
     client = λ key s at shut. (
         let it = links.client key s (before key s at) shut in
         record { placed = drops.places.same s.link ∙ it.placed; opened = closed-other s.link link log (placed-apart log links s.link (place.Client key) it.placed) ∙ it.opened });
@@ -111,7 +111,7 @@ module _ (old new : Core) (link : LinkId) (drops : DropsRefused old new link) wh
     refused = λ other among. (
         let it = links.refused other (among-old other ∙ or-first (is_among other new.refused.items) (nat_eq other.0 link.0) among) in
         let apart = links-apart other link (λ same. (let no : true ≡ false = sym among ∙ ap (λ (l : LinkId). is_among l new.refused.items) (same_link other link same) ∙ (distinct-front new.refused.items link (subst AreDistinct drops.refused links.distinct)).1 in absurd (cc))) in
-        record { unplaced = drops.places.same other ∙ it.unplaced; opened = closed-other other link log apart ∙ it.opened });
+        record { unplaced = drops.places.same other ∙ it.unplaced; opened = closed-other other link log apart ∙ it.opened; admin = λ n came is. it.admin n came (sym (arrival-same n log (entry.Closed link) refl) ∙ is) });
     distinct = (distinct-front new.refused.items link (subst AreDistinct drops.refused links.distinct)).0;
     others = λ n key other s is there apart. links.others n key other s (sym (client_link-same n log (entry.Closed link) refl) ∙ is) (before key s there) apart;
     servers = λ n key other up s is there has_up. links.servers n key other up s (sym (client_link-same n log (entry.Closed link) refl) ∙ is) (before key s there) has_up;
@@ -139,7 +139,11 @@ module _ (old new : Core) (link : LinkId) (drops : DropsRefused old new link) wh
   pub closes-refused : Closes Stands due_in old new (sends new link) link
   closes-refused = closes-silently old new link drop-links
       (λ log held. (held.links.refused link is-refused).opened)
-      (λ log held. (upholds-as old new log drops.setup held.upholds (sessions-kept old new held.upholds.refused log drops.sessions drops.setup drops.accepted held.upholds.sessions), drop-upstream log held.links))
+      (λ log held. record {
+        upholds = upholds-as old new log drops.setup held.upholds (sessions-kept old new held.upholds.refused log drops.sessions drops.setup drops.accepted held.upholds.sessions);
+        no_upstream = drop-upstream log held.links;
+        no_client = λ n came is at traffic. (let no : Traffic ≡ Admin = sym traffic ∙ (held.links.refused link is-refused).admin n came is at in cc);
+      })
       (λ log held. ap (λ (p : Option Place). sends_at new p link) (drops.places.same link ∙ (held.links.refused link is-refused).unplaced))
 
 -- The link to a server.
@@ -154,6 +158,7 @@ pub record ClosesServer (old new : Core) (key : ℕ) (session : Session) (link :
   pub was_turn : old.turn ≡ Some key
   pub setup : new.setup ≡ old.setup
   pub accepted : new.accepted ≡ old.accepted
+  pub clients : new.clients ≡ old.clients
 
 module _ (old new : Core) (key : ℕ) (session : Session) (link : LinkId) (closes : ClosesServer old new key session link) where
   has-up : upstream_link session.upstream ≡ Some link
@@ -199,6 +204,12 @@ module _ (old new : Core) (key : ℕ) (session : Session) (link : LinkId) (close
 
   server-links : (log : Log) → HasNumbers old log → TracksLinks old log → TracksLinks new (log ++ entry.Closed link ∷ [])
   server-links log numbers links = record {
+    clients = counts-gone old new link log (record {
+      clients = closes.clients;
+      was = ap is_client (is-placed log links);
+      now = ap is_client closes.placed.same;
+      others = kept-place;
+    }) links.clients;
     client = λ k s at shut. client_in k s (left k s at) shut;
     closed = λ k s at shut. closed_in k s (left k s at) shut;
     server = λ k s up at has_it. server_in k s up (left k s at) has_it;
@@ -212,7 +223,7 @@ module _ (old new : Core) (key : ℕ) (session : Session) (link : LinkId) (close
     refused = λ other among. (
         let it = links.refused other (ap (is_among other) (sym closes.refused) ∙ among) in
         let apart = links-apart other link (λ same. (let no : ◌≡◌ {A = Option Place} None (Some (place.Server key)) = sym it.unplaced ∙ ap (place_of old) (same_link other link same) ∙ is-placed log links in cc)) in
-        record { unplaced = kept-place other apart ∙ it.unplaced; opened = closed-other other link log apart ∙ it.opened });
+        record { unplaced = kept-place other apart ∙ it.unplaced; opened = closed-other other link log apart ∙ it.opened; admin = λ n came is. it.admin n came (sym (arrival-same n log (entry.Closed link) refl) ∙ is) });
     distinct = subst AreDistinct (sym closes.refused) links.distinct;
     others = λ n k other s is there apart. others_in n k other s (sym (client_link-same n log (entry.Closed link) refl) ∙ is) (left k s there) apart;
     servers = λ n k other up s is there has_it. servers_in n k other up s (sym (client_link-same n log (entry.Closed link) refl) ∙ is) (left k s there) has_it;
@@ -283,7 +294,13 @@ module _ (old new : Core) (key : ℕ) (session : Session) (link : LinkId) (close
   server-upholds : (log : Log) → Stands old log → Upholds new log
   server-upholds log held = upholds-as old new log closes.setup held.upholds
       (sessions-set old new key session (record session { upstream = upstream.Absent }) held.upholds.refused log (record { at = closes.at; sets = closes.sets; number = refl; setup = closes.setup; accepted = closes.accepted })
-      (session-absent (service_of old held.upholds.refused) session link log closes.is (held.upholds.sessions.has key session closes.at)) held.upholds.sessions)
+      (client-absent (service_of old held.upholds.refused) session link log closes.is (held.upholds.sessions.has key session closes.at)) held.upholds.sessions)
+
+  no-client : (log : Log) → TracksLinks old log → NoClient link log
+  no-client log links n came is at traffic =
+      let apart : nat_eq link.0 came.link.0 ≡ false = links.servers n key came.link link session (ap (option_map (λ (c : Arrival). c.link)) is) closes.at has-up in
+      let no : true ≡ false = sym (same_number link.0) ∙ ap (λ (l : LinkId). nat_eq link.0 l.0) (sym at) ∙ apart in
+      absurd (cc)
 
   server-silent : sends new link ≡ None
   server-silent = ap (λ (p : Option Place). sends_at new p link) closes.placed.same
@@ -291,7 +308,7 @@ module _ (old new : Core) (key : ℕ) (session : Session) (link : LinkId) (close
   pub closes-server : Closes Stands due_in old new (sends new link) link
   closes-server = closes-silently old new link server-links
       (λ log held. (held.links.server key session link closes.at has-up).opened)
-      (λ log held. (server-upholds log held, no-upstream log held.links))
+      (λ log held. record { upholds = server-upholds log held; no_upstream = no-upstream log held.links; no_client = no-client log held.links })
       (λ log held. server-silent)
 
 -- The link of a client.
@@ -306,6 +323,7 @@ pub record ClosesClient (old new : Core) (key : ℕ) (session : Session) : Type 
   pub was_turn : old.turn ≡ Some key
   pub setup : new.setup ≡ old.setup
   pub accepted : new.accepted ≡ old.accepted
+  pub clients : new.clients ≡ old.clients - 1
 
 module _ (old new : Core) (key : ℕ) (session : Session) (closes : ClosesClient old new key session) where
   data IsStill (k : ℕ) (s : Session) : Type 0 where
@@ -347,6 +365,12 @@ module _ (old new : Core) (key : ℕ) (session : Session) (closes : ClosesClient
   client-links : SameKeys → (log : Log) → HasNumbers old log → TracksLinks old log → TracksLinks new (log ++ entry.Closed session.link ∷ [])
   unfolding SameKeys
   client-links keys log numbers links = record {
+    clients = counts-closed old new session.link log (record {
+      clients = closes.clients;
+      places = closes.places;
+      client = ap is_client (is-connected log links).placed;
+      opened = (is-connected log links).opened;
+    }) links.clients;
     client = λ k s at shut. client_in k s (still k s at) shut;
     closed = λ k s at shut. closed_in k s (still k s at) shut;
     server = λ k s up at has_it. (
@@ -363,7 +387,7 @@ module _ (old new : Core) (key : ℕ) (session : Session) (closes : ClosesClient
     refused = λ other among. (
         let it = links.refused other (ap (is_among other) (sym closes.refused) ∙ among) in
         let apart = links-apart other session.link (λ same. (let no : ◌≡◌ {A = Option Place} None (Some (place.Client key)) = sym it.unplaced ∙ ap (place_of old) (same_link other session.link same) ∙ (is-connected log links).placed in cc)) in
-        record { unplaced = closes.places.same other ∙ it.unplaced; opened = closed-other other session.link log apart ∙ it.opened });
+        record { unplaced = closes.places.same other ∙ it.unplaced; opened = closed-other other session.link log apart ∙ it.opened; admin = λ n came is. it.admin n came (sym (arrival-same n log (entry.Closed session.link) refl) ∙ is) });
     distinct = subst AreDistinct (sym closes.refused) links.distinct;
     others = λ n k other s is there apart. others_in n k other s (sym (client_link-same n log (entry.Closed session.link) refl) ∙ is) (still k s there) apart;
     servers = λ n k other up s is there has_it. (
@@ -416,21 +440,21 @@ module _ (old new : Core) (key : ℕ) (session : Session) (closes : ClosesClient
   client-upholds : (log : Log) → Upholds old log → Upholds new log
   client-upholds log held = upholds-as old new log closes.setup held
       (sessions-set old new key session (closed_of session) held.refused log (record { at = closes.at; sets = closes.sets; number = refl; setup = closes.setup; accepted = closes.accepted })
-      (session-closed (service_of old held.refused) session log closes.is (held.sessions.has key session closes.at)) held.sessions)
+      (client-closed (service_of old held.refused) session log closes.is (held.sessions.has key session closes.at)) held.sessions)
 
   -- with bytes for it
-  client-farewell : (log : Log) (n : ℕ) → MayFollow log (entry.Wrote session.link Reply (take n session.client.outgoing)) → Stands old log → Upholds new (log ++ entry.Wrote session.link Reply (take n session.client.outgoing) ∷ [])
-  client-farewell log n may held =
+  farewell-said : (log : Log) (n : ℕ) → MayFollow log (entry.Wrote session.link Reply (take n session.client.outgoing)) → Stands old log → Upholds new (log ++ entry.Wrote session.link Reply (take n session.client.outgoing) ∷ [])
+  farewell-said log n may held =
       let e : Entry = entry.Wrote session.link Reply (take n session.client.outgoing) in
       let has = held.upholds.sessions.has key session closes.at in
-      upholds-more old new held.upholds.refused log e closes.setup (few-more log e may held.upholds.few) held.upholds (session.client.number.0, session-link (service_of old held.upholds.refused) session log has.client) tt
+      upholds-more old new held.upholds.refused log e closes.setup (few-more log e may held.upholds.few) held.upholds (session.client.number.0, client-link (service_of old held.upholds.refused) session log has) tt
       (sessions-touched old new key session (closed_of session) (record { at = closes.at; sets = closes.sets; number = refl; setup = closes.setup; accepted = closes.accepted })
       held.upholds.refused held.upholds.refused log e
       (leaves-client old held.upholds.refused log held.upholds.sessions held.links key session closes.at e refl refl (λ m i apart. refl))
       (subst (λ service. SameOthers (service_of old held.upholds.refused) service session.client.number.0 log e) (sym (same-service old new held.upholds.refused closes.setup)) (same_others (service_of old held.upholds.refused) session.client.number.0 log e))
       (subst (λ (t : Setup). IsRefusing t held.upholds.refused (log ++ e ∷ [])) (sym closes.setup) (PassesOn held.upholds.refused log e held.upholds.sessions.refusing refl))
-      (subst (λ service. HasSession service (closed_of session) (log ++ e ∷ [])) (sym (same-service old new held.upholds.refused closes.setup))
-      (session-farewell (service_of old held.upholds.refused) session n log closes.is (hears-apart session.upstream session.link log e refl (upstream-apart old held.upholds.refused log held.upholds.sessions held.links key session closes.at key session closes.at)) has))
+      (subst (λ service. IsOfClient service (closed_of session) (log ++ e ∷ [])) (sym (same-service old new held.upholds.refused closes.setup))
+      (client-farewell (service_of old held.upholds.refused) session n log closes.is (hears-apart session.upstream session.link log e refl (upstream-apart old held.upholds.refused log held.upholds.sessions held.links key session closes.at key session closes.at)) has))
       held.upholds.sessions)
 
   client-sends : (log : Log) → TracksLinks old log → sends new session.link ≡ reply_left session.client.outgoing
@@ -450,25 +474,73 @@ module _ (old new : Core) (key : ℕ) (session : Session) (closes : ClosesClient
       let said = lent-part session.client.outgoing part.sent (sym (client-sends log held.links) ∙ part.is) in
       let is : entry.Wrote to tag bytes ≡ entry.Wrote session.link Reply (take part.front.0 session.client.outgoing) =
       ap (λ (l : LinkId). entry.Wrote l tag bytes) farewell.0 ∙ ap (λ (t : Tag). entry.Wrote session.link t bytes) (part.same_tag ∙ said.0) ∙ ap (λ xs. entry.Wrote session.link Reply xs) (part.front.1 ∙ ap (take part.front.0) said.1) in
-      subst (λ (x : Entry). Upholds new (log ++ x ∷ [])) (sym is) (client-farewell log part.front.0 (subst (λ (x : Entry). MayFollow log x) is may) held)
+      subst (λ (x : Entry). Upholds new (log ++ x ∷ [])) (sym is) (farewell-said log part.front.0 (subst (λ (x : Entry). MayFollow log x) is may) held)
   farewell-upholds log (entry.WriteNothing to) farewell may held =
       upholds-silent new None session.link log (entry.WriteNothing to) (client-no_upstream log held.links (numbers-of old log held.upholds)) refl farewell (client-upholds log held.upholds)
   farewell-upholds log (entry.WriteFailed to) farewell may held =
       upholds-silent new None session.link log (entry.WriteFailed to) (client-no_upstream log held.links (numbers-of old log held.upholds)) refl farewell (client-upholds log held.upholds)
   farewell-upholds log _ farewell may held = absurd farewell
 
+  -- its link may close
+  door-lawful : (log later : Log) (held : Stands old log) → IsBehind session log later → TracksLinks old later → IsRefusing old.setup held.upholds.refused later → MayClose new.setup session.link later
+  door-lawful log later held behind links refusing = subst (λ (t : Setup). MayClose t session.link later) (sym closes.setup) (record {
+    refused = held.upholds.refused;
+    so = record { refusing = refusing; each = λ n came is at traffic. by n came is at (nat_eq n session.client.number.0) refl };
+  }) where
+    by : (n : ℕ) (came : Arrival) → arrival_of n later ≡ Some came → came.link ≡ session.link → (b : Bool) → nat_eq n session.client.number.0 ≡ b → MayPart (is_served old.setup came) (service_of old held.upholds.refused) n came later
+    by n came is at true here =
+        let same : n ≡ session.client.number.0 = eqb-true n session.client.number.0 here in
+        subst (λ (m : ℕ). MayPart (is_served old.setup came) (service_of old held.upholds.refused) m came later) (sym same)
+        (may-part (service_of old held.upholds.refused) session log later closes.is behind (held.upholds.sessions.has key session closes.at) came (subst (λ (m : ℕ). arrival_of m later ≡ Some came) same is))
+    by n came is at false apart =
+        let other : nat_eq session.link.0 came.link.0 ≡ false = links.others n key came.link session (ap (option_map (λ (c : Arrival). c.link)) is) closes.at apart in
+        let no : true ≡ false = sym (same_number session.link.0) ∙ ap (λ (l : LinkId). nat_eq session.link.0 l.0) (sym at) ∙ other in
+        absurd (cc)
+
+  -- nothing is left where nothing is lent, and something is where it is
+  left-none : (bytes : List ℕ) → reply_left bytes ≡ None → 0 < length bytes → ⊥
+  left-none bytes none some = test (nat_lt 0 (length bytes)) refl none where
+    test : (b : Bool) → nat_lt 0 (length bytes) ≡ b → ◌≡◌ {A = Option Sent} (cond b (Some (record { tag = Reply; bytes = bytes })) None) None → ⊥
+    test true less is = cc
+    test false more is = absurd (let few : length bytes ≤ 0 = search arith in omega (some, few, arith))
+
+  left-some : (bytes : List ℕ) → IsSome (reply_left bytes) → bytes ≡ [] → ⊥
+  left-some [] some none = cc
+  left-some (b ∷ bytes) some none = cc
+
+  behind-nothing : (log : Log) → TracksLinks old log → sends new session.link ≡ None → IsBehind session log log
+  behind-nothing log links none = record {
+    came = λ arrival is. is;
+    lost = λ lost. lost;
+    same = λ empty. refl;
+    offered = λ some. absurd (left-none session.client.outgoing (sym (client-sends log links) ∙ none) some);
+  }
+
+  behind-farewell : (log : Log) (e : Entry) (marks : Log) → TracksLinks old log → IsSome (sends new session.link) → IsLast session.link e → IsBehind session log (log ++ e ∷ [] ++ marks)
+  behind-farewell log e marks links some last = subst (λ (l : Log). IsBehind session log l) (sym (append_assoc log (e ∷ []) marks)) (record {
+    came = λ arrival is. arrival-append session.client.number.0 log (e ∷ marks) arrival is;
+    lost = λ lost. lost-append session.link log (e ∷ marks) lost;
+    same = λ empty. absurd (left-some session.client.outgoing (subst (λ (s : Option Sent). IsSome s) (client-sends log links) some) empty);
+    offered = λ left. offered-now session.link log e marks last.of last.write;
+  })
+
   pub closes-client : Closes Stands due_in old new (sends new session.link) session.link
   closes-client = record {
     opened = λ log held. (is-connected log held.links).opened;
-    plain = record {
+    plain = λ none. record {
       carried = λ log may is_due held. record {
-        upholds = upholds-closed new session.link log (client-no_upstream log held.links (numbers-of old log held.upholds)) (client-upholds log held.upholds);
+        upholds = upholds-closed new session.link log (client-no_upstream log held.links (numbers-of old log held.upholds))
+            (door-lawful log log held (behind-nothing log held.links none) held.links held.upholds.sessions.refusing) (client-upholds log held.upholds);
         links = client-links (keys-of log held.upholds) log (numbers-of old log held.upholds) held.links;
       };
     };
-    offered = λ log e marks farewell all may may_close held. record {
-      upholds = upholds-closed new session.link (log ++ e ∷ [] ++ marks) (client-no_upstream log held.links (numbers-of old log held.upholds))
-          (upholds-marks new (log ++ e ∷ []) marks all (farewell-upholds log e farewell may held));
-      links = client-links (keys-of log held.upholds) (log ++ e ∷ [] ++ marks) (numbers-more old (log ++ e ∷ []) marks (numbers-more old log (e ∷ []) (numbers-of old log held.upholds))) (links-behind old (sends new session.link) session.link log e marks farewell all held.links);
-    };
+    offered = λ some log e marks farewell all may may_close held. (
+        let last = farewell-last (sends new session.link) session.link e farewell in
+        let links = links-behind old (sends new session.link) session.link log e marks farewell all held.links in
+        record {
+          upholds = upholds-closed new session.link (log ++ e ∷ [] ++ marks) (client-no_upstream log held.links (numbers-of old log held.upholds))
+              (door-lawful log (log ++ e ∷ [] ++ marks) held (behind-farewell log e marks held.links some last) links (refusing-behind old.setup held.upholds.refused session.link log e marks last all held.upholds.sessions.refusing))
+              (upholds-marks new (log ++ e ∷ []) marks all (farewell-upholds log e farewell may held));
+          links = client-links (keys-of log held.upholds) (log ++ e ∷ [] ++ marks) (numbers-more old (log ++ e ∷ []) marks (numbers-more old log (e ∷ []) (numbers-of old log held.upholds))) links;
+        });
   }

@@ -5,6 +5,7 @@ use Rattle.std.proofs.Common.{sym, ◌∙◌, ap, subst, inl, inr, arith, length
 use Rattle.std.proofs.lemmas.Bool.{eqb-true}
 use Rattle.mx_base.specs.declared.names.LinkId.{LinkId}
 use Rattle.mx_base.specs.declared.names.Port.{Port}
+use Rattle.mx_base.specs.declared.names.Port.TheVariants.{Admin}
 use Rattle.mx_wire.specs.Log.{Log, link_of, is_link, of_link, got_bytes, wrote_bytes, written_of, accepted_link, accepted_links}
 use Rattle.mx_wire.specs.Tells.{IsNew, IsOpen, MayFollow}
 use Rattle.mx_wire.specs.Growth.{bool_cases, same_number, nat_eq-sym, bytes-idle}
@@ -13,20 +14,20 @@ use Rattle.mx_wire.specs.declared.entry.Entry.TheVariants as entry
 use Rattle.client_session.specs.declared.session.Session.{Session}
 use Rattle.client_side.specs.Client.{counted}
 use Rattle.client_session.specs.Arriving.{counted-one}
-use Rattle.client_session.specs.Dues.{session-link}
-use Rattle.client_session.specs.Growth.{accepted_links-new}
+use Rattle.client_session.specs.Arrivals.{Arrival, arrival_of}
+use Rattle.client_session.specs.Growth.{arrival-back, arrived-at, accepted_links-new}
 use Rattle.client_session.specs.Headline.{client_link, Turn, Service, due, IsPrefix}
-use Rattle.client_session.specs.Passing.{same_for, Passes, IsApart, passes-other, session-stays, next-passes}
+use Rattle.client_session.specs.Passing.{same_for, Passes, IsApart, passes-other, next-passes}
 use Rattle.client_session.specs.Sending.{carrier}
-use Rattle.client_session.specs.Stands.{HasSession, IsNext, upstream_link}
+use Rattle.client_session.specs.Stands.{IsNext, upstream_link}
 use Rattle.client_session.specs.Still.{replies-stay}
+use Rattle.client_session.specs.TurnedAway.{IsOfClient, client-link, client-stays}
 use Rattle.session_core.specs.declared.router.Core.{Core}
 use Rattle.session_core.specs.declared.place.Place.{Place}
 use Rattle.session_core.specs.declared.place.Place.TheVariants as place
 use Rattle.session_core.specs.Cores.{place_of, session_at}
 use Rattle.session_core.specs.Opening.{new-shut, open-apart}
 use Rattle.session_core.specs.Passing.{over-more}
-use Rattle.session_core.specs.Sessions.{arrived-at}
 use Rattle.session_core.specs.Stands.{service_of, TracksSessions, TracksLinks}
 
 -- A client that came is named by the log.
@@ -67,7 +68,7 @@ module _ (core : Core) (refused : List Turn) (log : Log) (sessions : TracksSessi
   fresh-client n link is = new-apart link new log (client-known n log link is) fresh
 
   pub fresh-session : (key : ℕ) (session : Session) → session_at core key ≡ Some session → nat_eq session.link.0 new.0 ≡ false
-  fresh-session key session at = fresh-client session.client.number.0 session.link (session-link (service_of core refused) session log (sessions.has key session at).client)
+  fresh-session key session at = fresh-client session.client.number.0 session.link (client-link (service_of core refused) session log (sessions.has key session at))
 
   pub fresh-open : (link : LinkId) → IsOpen link log → nat_eq link.0 new.0 ≡ false
   fresh-open link opened = nat_eq-sym new.0 link.0 (open-apart new link log (new-shut new log fresh) opened)
@@ -102,6 +103,17 @@ module _ (core : Core) (refused : List Turn) (log : Log) (sessions : TracksSessi
 pub new-bytes : (f : Entry → List ℕ) (link : LinkId) (log : Log) (e : Entry) → f e ≡ [] → IsNew link log → flat_map f (of_link link (log ++ e ∷ [])) ≡ []
 new-bytes f link log e idle fresh = bytes-idle f link log e idle ∙ ap (flat_map f) fresh
 
+-- who came on a link that isn't the new one came before
+pub was-admin : (log : Log) (port : Port) (link other : LinkId) (salt : List ℕ) → nat_eq other.0 link.0 ≡ false → ((n : ℕ) (came : Arrival) → arrival_of n log ≡ Some came → came.link ≡ other → came.port ≡ Admin)
+    → (n : ℕ) (came : Arrival) → arrival_of n (log ++ entry.Accepted port link salt ∷ []) ≡ Some came → came.link ≡ other → came.port ≡ Admin
+was-admin log port link other salt apart was n came is at = elim (arrival-back n log port link salt came is) [
+  | inl before ↦ was n came before at
+  | inr now ↦ (
+      let same : link ≡ other = ap (λ (c : Arrival). c.link) now.1 ∙ at in
+      let no : true ≡ false = sym (same_number link.0) ∙ ap (λ (l : LinkId). nat_eq l.0 link.0) same ∙ apart in
+      absurd (cc))
+]
+
 -- A client comes.
 
 accepted-few : (log : Log) → length (accepted_links log) ≤ length log
@@ -128,8 +140,8 @@ module _ (old : Core) (log : Log) (port : Port) (link : LinkId) (salt : List ℕ
   number-is = (let c = counted-clients in let m = more-clients in omega arith)
 
   -- the clients that were there
-  pub session-on : (service : Service) (key : ℕ) (session : Session) → session_at old key ≡ Some session → HasSession service session log → HasSession service session (log ++ entry.Accepted port link salt ∷ [])
-  session-on service key session at has = session-stays service session log (entry.Accepted port link salt) (fresh-passes old refused log sessions links link fresh (entry.Accepted port link salt) refl (λ n i. refl) key session at) has
+  pub session-on : (service : Service) (key : ℕ) (session : Session) → session_at old key ≡ Some session → IsOfClient service session log → IsOfClient service session (log ++ entry.Accepted port link salt ∷ [])
+  session-on service key session at has = client-stays service session log (entry.Accepted port link salt) (fresh-passes old refused log sessions links link fresh (entry.Accepted port link salt) refl (λ n i. refl) key session at) has
 
   pub over-on : (service : Service) (n : ℕ) (other : LinkId) → client_link n log ≡ Some other → IsPrefix (written_of other log) (due service n log)
       → IsPrefix (written_of other (log ++ entry.Accepted port link salt ∷ [])) (due service n (log ++ entry.Accepted port link salt ∷ []))

@@ -20,7 +20,7 @@ use Rattle.client_session.specs.declared.session.Session.{Session}
 use Rattle.client_session.specs.Answered.{turn_of}
 use Rattle.client_session.specs.Told.{session-refused}
 use Rattle.client_session.specs.Events.{opened_as, opened_on, OpenFails}
-use Rattle.client_session.specs.Growth.{client_link-same}
+use Rattle.client_session.specs.Growth.{arrival-same, client_link-same}
 use Rattle.client_session.specs.Headline.{client_link, Turn, Service, replies_to, IsRefusing, Passes as PassesOn, Fails}
 use Rattle.client_session.specs.Logins.{own_bytes}
 use Rattle.client_session.specs.Setups.{Setup}
@@ -31,6 +31,7 @@ use Rattle.client_session.specs.Sending.{SoFar, Part, Heard, hear_step}
 use Rattle.client_session.specs.Stands.{IsWorking, IsUnsent, IsServedBy, talk_of, HasSession, upstream_link, is_closed}
 use Rattle.client_session.specs.Turns.{works-on}
 use Rattle.client_session.specs.Written.{session-waits}
+use Rattle.client_session.specs.TurnedAway.{Served, served-open}
 use Rattle.session_core.specs.declared.router.Core.{Core}
 use Rattle.session_core.specs.declared.place.Place.{Place}
 use Rattle.session_core.specs.declared.place.Place.TheVariants as place
@@ -38,13 +39,14 @@ use Rattle.session_core.specs.Cores.{place_of, session_at, is_among, SetsPlace, 
 use Rattle.session_core.specs.Acting.{session_asks, awaited}
 use Rattle.session_core.specs.Carrying.{a-step, over-refused}
 use Rattle.session_core.specs.Comes.{OpensAt, OpensBy, FailsBy}
-use Rattle.session_core.specs.Coming.{fresh-client, fresh-session, fresh-open, fresh-passes, new-bytes}
+use Rattle.session_core.specs.Coming.{fresh-unplaced, fresh-client, fresh-session, fresh-open, fresh-passes, new-bytes}
 use Rattle.session_core.specs.Links.{asks-same}
 use Rattle.session_core.specs.Opening.{open-new, open-other, same_link}
 use Rattle.session_core.specs.Passing.{same-service}
 use Rattle.session_core.specs.Resting.{rests-due}
 use Rattle.session_core.specs.Sessions.{differ-by, LeavesOthers, SameOthers, same_others, sessions-touched}
-use Rattle.session_core.specs.Stands.{service_of, TracksSessions, IsPlaced, IsConnected, IsUpstream, AreDistinct, TracksLinks, Stands, due_in}
+use Rattle.session_core.specs.Counting.{counts-opened}
+use Rattle.session_core.specs.Stands.{is_client, service_of, TracksSessions, IsPlaced, IsConnected, IsUpstream, AreDistinct, TracksLinks, Stands, due_in}
 use Rattle.session_core.specs.Touching.{leaves-still}
 use Rattle.session_core.specs.Upholding.{few-more, few-counted, upholds-more}
 use Rattle.session_core.specs.Waiting.{WantsLink, IsAwaiting, awaits-one}
@@ -67,8 +69,11 @@ new-link log server address link fresh = record {
 module _ (old new : Core) (log : Log) (server : ServerId) (address : Address) (link : LinkId) (refused : List Turn) (may : MayFollow log (entry.Opened server address link)) (sessions : TracksSessions old refused log) (links : TracksLinks old log)
     (key : ℕ) (session : Session) (at : session_at old key ≡ Some session) (turn : old.turn ≡ Some key) (wants : WantsLink session) (steps : Steps (λ s later. later ≡ opened_on s link) old new key session) (placed : SetsPlace old new link (Some (place.Server key))) where
   -- the session's client is logged in
-  works : IsWorking session wants.payload (replies_to (service_of old refused) session.client.number.0 log) (talk_of (service_of old refused) session log) (sessions.has key session at).told
-  works = works-on (service_of old refused) session wants.payload log wants.working (sessions.has key session at)
+  has : HasSession (service_of old refused) session log
+  has = served-open (service_of old refused) session log wants.opened (sessions.has key session at)
+
+  works : IsWorking session wants.payload (replies_to (service_of old refused) session.client.number.0 log) (talk_of (service_of old refused) session log) has.told
+  works = works-on (service_of old refused) session wants.payload log wants.working has
 
   later-is : steps.later ≡ opened_as (Some works.who.user) link session
   later-is = steps.step ∙ ap (λ (a : Option Account). opened_as a link session) works.who.is_user
@@ -88,7 +93,7 @@ module _ (old new : Core) (log : Log) (server : ServerId) (address : Address) (l
   pub has-opened : HasSession (service_of old refused) steps.later (log ++ entry.Opened server address link ∷ [])
   has-opened = subst (λ (s : Session). HasSession (service_of old refused) s (log ++ entry.Opened server address link ∷ [])) (sym steps.step)
       (session-opened (service_of old refused) session wants.payload link (log ++ entry.Opened server address link ∷ []) wants.opened wants.working wants.absent (new-link log server address link may.fits)
-      (session-stays (service_of old refused) session log (entry.Opened server address link) (fresh-passes old refused log sessions links link may.fits (entry.Opened server address link) refl (λ n i. refl) key session at) (sessions.has key session at)))
+      (session-stays (service_of old refused) session log (entry.Opened server address link) (fresh-passes old refused log sessions links link may.fits (entry.Opened server address link) refl (λ n i. refl) key session at) has))
 
   data IsNow (k : ℕ) (s : Session) : Type 0 where
     Before : session_at old k ≡ Some s → (k ≡ key → ⊥) → IsNow k s
@@ -132,6 +137,12 @@ module _ (old new : Core) (log : Log) (server : ServerId) (address : Address) (l
 
   pub links-opened : TracksLinks new (log ++ entry.Opened server address link ∷ [])
   links-opened = record {
+    clients = counts-opened old new link log (record {
+      clients = steps.clients;
+      was = ap is_client (fresh-unplaced old refused log sessions links link may.fits);
+      now = ap is_client placed.same;
+      others = place-kept;
+    }) (entry.Opened server address link) refl refl links.clients;
     client = λ k s is shut. client_in k s (now k s is) shut;
     closed = λ k s is shut. closed_in k s (now k s is) shut;
     server = λ k s up is has_up. server_in k s up (now k s is) has_up;
@@ -146,7 +157,7 @@ module _ (old new : Core) (log : Log) (server : ServerId) (address : Address) (l
     refused = λ other among. (
         let before = links.refused other (ap (is_among other) (sym steps.refused) ∙ among) in
         let apart = fresh-open old refused log sessions links link may.fits other before.opened in
-        record { unplaced = place-kept other apart ∙ before.unplaced; opened = open-on other apart ∙ before.opened });
+        record { unplaced = place-kept other apart ∙ before.unplaced; opened = open-on other apart ∙ before.opened; admin = λ n came is. before.admin n came (sym (arrival-same n log (entry.Opened server address link) refl) ∙ is) });
     distinct = subst AreDistinct (sym steps.refused) links.distinct;
     others = λ n k other s is there apart. others_in n k other s (sym (client_link-same n log (entry.Opened server address link) refl) ∙ is) (now k s there) apart;
     servers = λ n k other up s is there has_up. servers_in n k other up s (sym (client_link-same n log (entry.Opened server address link) refl) ∙ is) (now k s there) has_up;
@@ -212,8 +223,8 @@ opened-carries old new server address link is opens = record {
         (leaves-opened old new log server address link held.upholds.refused may held.upholds.sessions held.links waits.key waits.session waits.at waits.turn waits.wants it.0 it.1)
         (subst (λ service. SameOthers (service_of old held.upholds.refused) service waits.session.client.number.0 log (entry.Opened server address link)) (sym (same-service old new held.upholds.refused it.0.service.setup)) (same_others (service_of old held.upholds.refused) waits.session.client.number.0 log (entry.Opened server address link)))
         (subst (λ (t : Setup). IsRefusing t held.upholds.refused (log ++ entry.Opened server address link ∷ [])) (sym it.0.service.setup) (PassesOn held.upholds.refused log (entry.Opened server address link) held.upholds.sessions.refusing refl))
-        (subst (λ service. HasSession service it.0.later (log ++ entry.Opened server address link ∷ [])) (sym (same-service old new held.upholds.refused it.0.service.setup))
-        (has-opened old new log server address link held.upholds.refused may held.upholds.sessions held.links waits.key waits.session waits.at waits.turn waits.wants it.0 it.1))
+        (Served (subst (λ service. HasSession service it.0.later (log ++ entry.Opened server address link ∷ [])) (sym (same-service old new held.upholds.refused it.0.service.setup))
+        (has-opened old new log server address link held.upholds.refused may held.upholds.sessions held.links waits.key waits.session waits.at waits.turn waits.wants it.0 it.1)))
         held.upholds.sessions);
     links = links-opened old new log server address link held.upholds.refused may held.upholds.sessions held.links waits.key waits.session waits.at waits.turn waits.wants it.0 it.1;
   };
@@ -240,10 +251,10 @@ open_failed-carries old new server address is fails = record {
       (leaves-still old held.upholds.refused log held.upholds.sessions held.links waits.key waits.session waits.at (entry.OpenFailed server address) refl (failed-still server address))
       (record { keeps = refl; opens_none = refl }) may is_due waits.is_target (unsent log held).next.unsent
       (Fails held.upholds.refused (turn_of waits.session) log (entry.OpenFailed server address) held.upholds.sessions.refusing refl
-      (session-waits (service_of old held.upholds.refused) waits.session waits.wants.payload log waits.wants.working (unsent log held).next (held.upholds.sessions.has waits.key waits.session waits.at)))
+      (session-waits (service_of old held.upholds.refused) waits.session waits.wants.payload log waits.wants.working (unsent log held).next (has log held)))
       (session-refused (service_of old held.upholds.refused) waits.session it.0.later waits.wants.payload log (entry.OpenFailed server address) waits.wants.working waits.wants.opened waits.wants.absent refl refl (λ n i. refl)
       (few-counted log (entry.OpenFailed server address) waits.session.link may (few-more log (entry.OpenFailed server address) may held.upholds.few))
-      (held.upholds.sessions.has waits.key waits.session waits.at) it.0.step);
+      (has log held) it.0.step);
 } where
   waits : IsAwaiting old (record { server = server; address = address })
   waits = awaits-one old (record { server = server; address = address }) is
@@ -251,8 +262,11 @@ open_failed-carries old new server address is fails = record {
   it : Steps (OpenFails old.setup) old new waits.key waits.session × KeepsPlaces old new
   it = subst (λ (s : Option Session). StepsAt (OpenFails old.setup) old new waits.key s) waits.at (subst (λ (t : Option ℕ). FailsBy old new t) waits.turn fails)
 
+  has : (log : Log) (held : Stands old log) → HasSession (service_of old held.upholds.refused) waits.session log
+  has log held = served-open (service_of old held.upholds.refused) waits.session log waits.wants.opened (held.upholds.sessions.has waits.key waits.session waits.at)
+
   kept : KeepsEnds waits.session it.0.later
   kept = open_fails-kept old.setup waits.session it.0.later it.0.step
 
   unsent : (log : Log) (held : Stands old log) → IsUnsent (service_of old held.upholds.refused) waits.session.client.number.0 waits.session.client.arrived log
-  unsent log held = wants-unsent (service_of old held.upholds.refused) waits.session log waits.wants (held.upholds.sessions.has waits.key waits.session waits.at)
+  unsent log held = wants-unsent (service_of old held.upholds.refused) waits.session log waits.wants (has log held)

@@ -56,6 +56,7 @@ target_of (Some at) = Some (record { server = at.server; address = at.address })
 -- no client came
 pub record IsEmpty (core : Core) : Type 0 where
   pub accepted : core.accepted ≡ 0
+  pub clients : core.clients ≡ 0
   pub sessions : (key : ℕ) → session_at core key ≡ None
   pub places : (link : LinkId) → place_of core link ≡ None
   pub refused : core.refused.items ≡ []
@@ -118,6 +119,7 @@ pub record Steps (Step : Session → Session → Type 0) (old new : Core) (key :
   pub marks : Marks old new later key
   pub service : SameService old new
   pub accepted : new.accepted ≡ old.accepted
+  pub clients : new.clients ≡ old.clients
   pub refused : new.refused.items ≡ old.refused.items
 
 -- nothing but what the core has in reserve
@@ -126,6 +128,7 @@ pub record KeepsAll (old new : Core) : Type 0 where
   pub places : KeepsPlaces old new
   pub service : SameService old new
   pub accepted : new.accepted ≡ old.accepted
+  pub clients : new.clients ≡ old.clients
   pub refused : new.refused.items ≡ old.refused.items
   pub turn : new.turn ≡ old.turn
   pub changed : new.changed.items ≡ old.changed.items

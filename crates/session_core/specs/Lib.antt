@@ -4,9 +4,11 @@ pub mod Takes
 pub mod Comes
 pub mod Acting
 pub mod Stands
+pub mod LinkLists
 pub mod Sessions
 pub mod Passing
 pub mod Opening
+pub mod Counting
 pub mod Links
 pub mod Resting
 pub mod Upholding

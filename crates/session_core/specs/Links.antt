@@ -1,5 +1,5 @@
 -- What the core knows of its links, as a session changes.
-use Rattle.std.specs.Prelude.{◌≡◌, ◌⊎◌, ℕ, Bool, true, false, nat_eq, ◌&&◌, ◌||◌, is_some, List, [], ◌∷◌, ◌++◌, Option, Some, None, IsSome, refl}
+use Rattle.std.specs.Prelude.{◌≡◌, ◌⊎◌, ℕ, false, nat_eq, ◌&&◌, ◌||◌, is_some, List, [], ◌∷◌, ◌++◌, Option, Some, None, IsSome, refl}
 use Rattle.std.proofs.Common.{sym, ◌∙◌, ap, subst, inl, inr}
 use Rattle.std.proofs.lemmas.Bool.{eqb-true}
 use Rattle.mx_base.specs.declared.names.LinkId.{LinkId}
@@ -8,22 +8,20 @@ use Rattle.mx_wire.specs.Growth.{bool_cases}
 use Rattle.mx_wire.specs.declared.entry.Entry.{Entry}
 use Rattle.client_session.specs.declared.session.Session.{Session}
 use Rattle.client_session.specs.Acts.{act_of, is_over}
-use Rattle.client_session.specs.Growth.{client_link-same}
+use Rattle.client_session.specs.Growth.{arrival-same, client_link-same}
 use Rattle.client_session.specs.Stands.{upstream_link, is_closed}
 use Rattle.session_core.specs.declared.router.Core.{Core}
 use Rattle.session_core.specs.declared.place.Place.{Place}
 use Rattle.session_core.specs.declared.place.Place.TheVariants as place
 use Rattle.session_core.specs.Cores.{place_of, session_at, is_among, SetsSession, KeepsPlaces}
 use Rattle.session_core.specs.Acting.{is_any, session_asks, turn_asks, asks}
+use Rattle.session_core.specs.Counting.{counts-passed}
+use Rattle.session_core.specs.LinkLists.{or-false}
 use Rattle.session_core.specs.Stands.{IsPlaced, AreDistinct, TracksLinks}
 use Rattle.session_core.specs.Sessions.{differ-by}
 use Rattle.session_core.specs.Opening.{KeepsOpen, open-kept}
 
 -- Who asks.
-
-pub or-false : (a b : Bool) → (a || b) ≡ false → (a ≡ false) × (b ≡ false)
-or-false true b none = cc
-or-false false b none = (refl, none)
 
 pub none-refused : (core : Core) → asks core ≡ false → core.refused.items ≡ []
 none-refused core none = by core.refused.items (or-false (is_any core.refused.items) (turn_asks core core.turn) none).0 where
@@ -55,6 +53,7 @@ pub record Relinks (old new : Core) (key : ℕ) (session later : Session) : Type
   pub closed : is_closed later.state ≡ is_closed session.state
   pub upstream : upstream_link later.upstream ≡ upstream_link session.upstream
   pub places : KeepsPlaces old new
+  pub clients : new.clients ≡ old.clients
   pub refused : new.refused.items ≡ old.refused.items
   pub turn : new.turn ≡ Some key
   pub acted : (old.turn ≡ Some key) ⊎ (asks old ≡ false)
@@ -100,6 +99,7 @@ module _ (old new : Core) (key : ℕ) (session later : Session) (relinks : Relin
 
   pub links-touched : (log : Log) (e : Entry) → KeepsOpen e → accepted_link e ≡ None → TracksLinks old log → TracksLinks new (log ++ e ∷ [])
   links-touched log e keeps no_client was = record {
+    clients = counts-passed old new log e keeps relinks.clients relinks.places was.clients;
     client = λ k s is shut. (
         let before = was-there k s is in
         let connected = was.client k before.0 before.1 (sym before.4 ∙ shut) in
@@ -121,7 +121,7 @@ module _ (old new : Core) (key : ℕ) (session later : Session) (relinks : Relin
     ];
     refused = λ link among. (
         let before = was.refused link (ap (is_among link) (sym relinks.refused) ∙ among) in
-        record { unplaced = relinks.places.same link ∙ before.unplaced; opened = open-kept link log e keeps ∙ before.opened });
+        record { unplaced = relinks.places.same link ∙ before.unplaced; opened = open-kept link log e keeps ∙ before.opened; admin = λ n came is. before.admin n came (sym (arrival-same n log (e) no_client) ∙ is) });
     distinct = subst AreDistinct (sym relinks.refused) was.distinct;
     others = λ n k link s there is apart. (
         let before = was-there k s is in
@@ -135,12 +135,13 @@ module _ (old new : Core) (key : ℕ) (session later : Session) (relinks : Relin
 -- an entry that opens and closes no link passes
 pub links-passed : (core : Core) (log : Log) (e : Entry) → KeepsOpen e → accepted_link e ≡ None → TracksLinks core log → TracksLinks core (log ++ e ∷ [])
 links-passed core log e keeps no_client was = record {
+  clients = counts-passed core core log e keeps refl (record { same = λ link. refl }) was.clients;
   client = λ k s is shut. (let it = was.client k s is shut in record { placed = it.placed; opened = open-kept s.link log e keeps ∙ it.opened });
   closed = λ k s is shut. open-kept s.link log e keeps ∙ was.closed k s is shut;
   server = λ k s link is up. (let it = was.server k s link is up in record { placed = it.placed; opened = open-kept link log e keeps ∙ it.opened });
   placed = was.placed;
   known = λ link opened. was.known link (sym (open-kept link log e keeps) ∙ opened);
-  refused = λ link among. (let it = was.refused link among in record { unplaced = it.unplaced; opened = open-kept link log e keeps ∙ it.opened });
+  refused = λ link among. (let it = was.refused link among in record { unplaced = it.unplaced; opened = open-kept link log e keeps ∙ it.opened; admin = λ n came is. it.admin n came (sym (arrival-same n log (e) no_client) ∙ is) });
   distinct = was.distinct;
   others = λ n k link s there is apart. was.others n k link s (sym (client_link-same n log e no_client) ∙ there) is apart;
   servers = λ n k link up s there is at_up. was.servers n k link up s (sym (client_link-same n log e no_client) ∙ there) is at_up;

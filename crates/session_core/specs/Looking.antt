@@ -3,15 +3,17 @@ use Rattle.std.specs.Prelude.{◌≡◌, ℕ, Bool, true, false, nat_eq, ◌&&�
 use Rattle.std.proofs.Common.{sym, ◌∙◌, ap, subst, inl, inr}
 use Rattle.std.proofs.lemmas.Bool.{eqb-true}
 use Rattle.mx_base.specs.declared.names.LinkId.{LinkId}
+use Rattle.mx_base.specs.declared.names.Port.{Port}
+use Rattle.mx_base.specs.declared.names.Port.TheVariants.{Traffic, Admin}
 use Rattle.mx_wire.specs.Growth.{bool_cases, same_number, nat_eq-sym}
 use Rattle.ready_loop.specs.Changes.{LeavesBe, ChangesOnly}
 use Rattle.ready_loop.specs.Sent.{Sent}
 use Rattle.ready_loop.specs.declared.machines.Act.{Act}
 use Rattle.client_session.specs.declared.parting.SessionAct.{SessionAct}
 use Rattle.client_session.specs.declared.parting.SessionAct.TheVariants as session_act
+use Rattle.client_session.specs.declared.phase.Upstream.{Upstream}
 use Rattle.client_session.specs.declared.session.Session.{Session}
 use Rattle.client_session.specs.Acts.{act_of, asked_for, is_over}
-use Rattle.client_side.specs.Client.{counted}
 use Rattle.client_session.specs.Stands.{is_closed}
 use Rattle.client_session.specs.Sends.{is_read, reply_left, server_left}
 use Rattle.session_core.specs.declared.router.Core.{Core}
@@ -20,9 +22,9 @@ use Rattle.session_core.specs.declared.place.Place.{Place}
 use Rattle.session_core.specs.declared.place.Place.TheVariants as place
 use Rattle.session_core.specs.Cores.{place_of, session_at, is_among, open_link, is_link_of, listed, changed, SetsSession, KeepsSessions, KeepsPlaces, Marks, StepsAt}
 use Rattle.session_core.specs.Acting.{client_reads, server_reads, reads_at, reads, client_sends, server_sends, sends_at, sends, Tidies, TidiesIf, Forgets, SessionIf, AskedAt, ActsOn, OpensTo, TurnActs}
-use Rattle.session_core.specs.Comes.{first_session, Comes, OpensAt, OpensBy, FailsBy}
+use Rattle.session_core.specs.Comes.{next_session, next-first, Comes, OpensAt, OpensBy, FailsBy}
 use Rattle.session_core.specs.Opening.{same_link}
-use Rattle.session_core.specs.Refusing.{among-end}
+use Rattle.session_core.specs.LinkLists.{among-end}
 use Rattle.session_core.specs.Sessions.{differ-by}
 use Rattle.session_core.specs.Takes.{TakesBytes, Loses}
 
@@ -358,11 +360,12 @@ opens-only old new link (Some key) opens = by (session_at old key) opens where
 
 -- A client comes.
 
-pub comes-only : (old new : Core) (link : LinkId) (salt : List ℕ) (admitted : Bool) → Comes admitted old link salt new → ChangesOnly changed reads sends old new
-comes-only old new link salt true admits = record {
+pub comes-only : (old new : Core) (link : LinkId) (salt : List ℕ) (port : Port) → Comes port old link salt new → ChangesOnly changed reads sends old new
+comes-only old new link salt Traffic admits = record {
   others = λ other quiet. (
       let both = none-of (is_among other old.changed.items) (nat_eq other.0 link.0) (sym (among-end other link old.changed.items) ∙ sym (ap (is_among other) admits.changed) ∙ quiet) in
-      let calm : IsCalm old (first_session link (counted old.accepted) salt old.setup) other = record { before = both.0; client = both.1; server = refl } in
-      leaves-placed old new admits.key (first_session link (counted old.accepted) salt old.setup) other admits.sets calm (admits.placed.others other (nat_eq-sym other.0 link.0 both.1)));
+      let first = next-first old link salt in
+      let calm : IsCalm old (next_session old link salt) other = record { before = both.0; client = ap (λ (l : LinkId). nat_eq other.0 l.0) first.link ∙ both.1; server = ap (λ (u : Upstream). is_link_of other (open_link u)) first.absent } in
+      leaves-placed old new admits.key (next_session old link salt) other admits.sets calm (admits.placed.others other (nat_eq-sym other.0 link.0 both.1)));
 }
-comes-only old new link salt false refuses = shrinks-only old new (shrinks-kept old new refuses.sessions refuses.places refuses.changed)
+comes-only old new link salt Admin refuses = shrinks-only old new (shrinks-kept old new refuses.sessions refuses.places refuses.changed)

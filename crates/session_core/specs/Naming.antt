@@ -15,7 +15,7 @@ use Rattle.session_core.specs.Asking.{closes-after, turn-acts}
 use Rattle.session_core.specs.Closing.{closes-refused}
 use Rattle.session_core.specs.Looking.{shrinks-only, shrinks-then, shrinks-kept, turn-shrinks}
 use Rattle.session_core.specs.Opening.{same_link}
-use Rattle.session_core.specs.Refusing.{among-end}
+use Rattle.session_core.specs.LinkLists.{among-end}
 use Rattle.session_core.specs.Stands.{Stands, due_in}
 use Rattle.session_core.specs.Tidying.{stands-kept}
 
@@ -26,6 +26,7 @@ pub record SameTables (old new : Core) : Type 0 where
   pub turn : new.turn ≡ old.turn
   pub setup : new.setup ≡ old.setup
   pub accepted : new.accepted ≡ old.accepted
+  pub clients : new.clients ≡ old.clients
 
 kept-sessions : (old new : Core) → SameTables old new → KeepsSessions old new
 kept-sessions old new same = record { same = λ key. ap (λ s. Rattle.slab.specs.Slab.get s key) same.sessions }
@@ -34,7 +35,7 @@ kept-places : (old new : Core) → SameTables old new → KeepsPlaces old new
 kept-places old new same = record { same = λ link. ap (λ m. Rattle.std.specs.HashMap.get nat_eq m link.0) same.places }
 
 pub drops-one : (old new : Core) (link : LinkId) → SameTables old new → old.refused.items ≡ new.refused.items ++ link ∷ [] → Closes Stands due_in old new (sends new link) link
-drops-one old new link same refused = closes-refused old new link (record { refused = refused; sessions = kept-sessions old new same; places = kept-places old new same; turn = same.turn; setup = same.setup; accepted = same.accepted })
+drops-one old new link same refused = closes-refused old new link (record { refused = refused; sessions = kept-sessions old new same; places = kept-places old new same; turn = same.turn; setup = same.setup; accepted = same.accepted; clients = same.clients })
 
 pub drop-only : (old new : Core) → SameTables old new → new.changed.items ≡ old.changed.items → ChangesOnly changed reads sends old new
 drop-only old new same listed = shrinks-only old new (shrinks-kept old new (kept-sessions old new same) (kept-places old new same) listed)
@@ -45,6 +46,7 @@ names-keep old new same refused = record {
   kept = λ log held. stands-kept old new log (record {
     sessions = kept-sessions old new same;
     places = kept-places old new same;
+    clients = same.clients;
     refused = refused;
     calm = λ key session at calm. elim (calm) [ inl turn ↦ inl (same.turn ∙ turn) | inr quiet ↦ inr quiet ];
   }) same.setup same.accepted held;

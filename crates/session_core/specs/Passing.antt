@@ -7,15 +7,16 @@ use Rattle.mx_base.specs.declared.names.ClientNo.{ClientNo}
 use Rattle.mx_wire.specs.Log.{Log, link_of, got_bytes, wrote_bytes, read_of, written_of, accepted_link}
 use Rattle.mx_wire.specs.Growth.{bool_cases, bytes-idle}
 use Rattle.mx_wire.specs.declared.entry.Entry.{Entry}
+use Rattle.client_session.specs.Answers.{Stay}
 use Rattle.client_session.specs.declared.session.Session.{Session}
 use Rattle.client_session.specs.Growth.{client_link-same, accepted_links-same}
-use Rattle.client_session.specs.Dues.{session-link, session-due, due-stays}
+use Rattle.client_session.specs.Dues.{due-stays}
 use Rattle.client_session.specs.Headline.{client_link, Turn, Service, replies_to, due, Passes as PassesOn, IsPrefix, is_failure}
-use Rattle.client_session.specs.Past.{Stay}
-use Rattle.client_session.specs.Passing.{same_for, Passes, IsStill, IsApart, hears-apart, next-passes, session-stays, passes-still}
+use Rattle.client_session.specs.Passing.{same_for, Passes, IsStill, IsApart, hears-apart, next-passes, passes-still}
 use Rattle.client_session.specs.Sending.{carrier}
-use Rattle.client_session.specs.Stands.{HasSession, upstream_link, is_closed}
+use Rattle.client_session.specs.Stands.{upstream_link, is_closed}
 use Rattle.client_session.specs.Still.{replies-stay}
+use Rattle.client_session.specs.TurnedAway.{IsOfClient, client-link, client-due, client-stays}
 use Rattle.session_core.specs.declared.router.Core.{Core}
 use Rattle.session_core.specs.Cores.{session_at, SetsSession, KeepsSessions}
 use Rattle.session_core.specs.Stands.{service_of, IsLive, TracksSessions}
@@ -41,7 +42,7 @@ pub sessions-passed : (core : Core) (refused : List Turn) (log : Log) (e : Entry
 sessions-passed core refused log e passes tracks = record {
   accepted = tracks.accepted ∙ sym (ap length (accepted_links-same log e passes.no_client));
   refusing = PassesOn refused log e tracks.refusing passes.no_failure;
-  has = λ key session is. session-stays (service_of core refused) session log e (passes.sessions key session is) (tracks.has key session is);
+  has = λ key session is. client-stays (service_of core refused) session log e (passes.sessions key session is) (tracks.has key session is);
   numbers = tracks.numbers;
   ended = λ n link is. (
       let before : client_link n log ≡ Some link = sym (client_link-same n log e passes.no_client) ∙ is in
@@ -103,12 +104,12 @@ pub record Sets (old new : Core) (key : ℕ) (session later : Session) : Type 0 
 pub same-service : (old new : Core) (refused : List Turn) → new.setup ≡ old.setup → service_of new refused ≡ service_of old refused
 same-service old new refused same = rw same refl
 
-pub sessions-set : (old new : Core) (key : ℕ) (session later : Session) (refused : List Turn) (log : Log) → Sets old new key session later → HasSession (service_of old refused) later log → TracksSessions old refused log → TracksSessions new refused log
+pub sessions-set : (old new : Core) (key : ℕ) (session later : Session) (refused : List Turn) (log : Log) → Sets old new key session later → IsOfClient (service_of old refused) later log → TracksSessions old refused log → TracksSessions new refused log
 sessions-set old new key session later refused log sets has tracks = record {
   accepted = sets.accepted ∙ tracks.accepted;
   refusing = rw sets.setup tracks.refusing;
-  has = λ other there is. subst (λ service. HasSession service there log) (sym (same-service old new refused sets.setup)) (elim (bool_cases (nat_eq other key)) [
-    | inl here ↦ subst (λ (s : Session). HasSession (service_of old refused) s log) (sym (here-is other there here is)) has
+  has = λ other there is. subst (λ service. IsOfClient service there log) (sym (same-service old new refused sets.setup)) (elim (bool_cases (nat_eq other key)) [
+    | inl here ↦ subst (λ (s : Session). IsOfClient (service_of old refused) s log) (sym (here-is other there here is)) has
     | inr differs ↦ tracks.has other there (sym (sets.sets.others other (differ-by other key differs)) ∙ is)
   ]);
   numbers = λ k other a b is_a is_b equal. (
@@ -143,7 +144,7 @@ pub sessions-kept : (old new : Core) (refused : List Turn) (log : Log) → Keeps
 sessions-kept old new refused log keeps target accepted tracks = record {
   accepted = accepted ∙ tracks.accepted;
   refusing = rw target tracks.refusing;
-  has = λ key session is. subst (λ service. HasSession service session log) (sym (same-service old new refused target)) (tracks.has key session (sym (keeps.same key) ∙ is));
+  has = λ key session is. subst (λ service. IsOfClient service session log) (sym (same-service old new refused target)) (tracks.has key session (sym (keeps.same key) ∙ is));
   numbers = λ k other a b is_a is_b equal. tracks.numbers k other a b (sym (keeps.same k) ∙ is_a) (sym (keeps.same other) ∙ is_b) equal;
   ended = λ n link is. elim (tracks.ended n link is) [
     | inl live ↦ inl (record { key = live.key; session = live.session; at = keeps.same live.key ∙ live.at; number = live.number })
@@ -159,7 +160,7 @@ pub sessions-removed : (old new : Core) (key : ℕ) (session : Session) (refused
 sessions-removed old new key session refused log at sets target accepted tracks = record {
   accepted = accepted ∙ tracks.accepted;
   refusing = rw target tracks.refusing;
-  has = λ other there is. subst (λ service. HasSession service there log) (sym (same-service old new refused target)) (tracks.has other there (before other there is));
+  has = λ other there is. subst (λ service. IsOfClient service there log) (sym (same-service old new refused target)) (tracks.has other there (before other there is));
   numbers = λ k other a b is_a is_b equal. tracks.numbers k other a b (before k a is_a) (before other b is_b) equal;
   ended = λ n link is. elim (tracks.ended n link is) [
     | inl live ↦ (elim (bool_cases (nat_eq live.key key)) [
@@ -167,10 +168,10 @@ sessions-removed old new key session refused log at sets target accepted tracks 
           let it : live.session ≡ session = (let both : Some live.session ≡ Some session = sym live.at ∙ ap (session_at old) (eqb-true live.key key here) ∙ at in cc) in
           let number : session.client.number.0 ≡ n = sym (ap (λ (s : Session). s.client.number.0) it) ∙ live.number in
           let has = tracks.has key session at in
-          let same : session.link ≡ link = (let both : Some session.link ≡ Some link = sym (session-link (service_of old refused) session log has.client) ∙ ap (λ m. client_link m log) number ∙ is in cc) in
+          let same : session.link ≡ link = (let both : Some session.link ≡ Some link = sym (client-link (service_of old refused) session log has) ∙ ap (λ m. client_link m log) number ∙ is in cc) in
           subst (λ service. IsPrefix (written_of link log) (due service n log)) (sym (same-service old new refused target))
           (subst (λ (l : LinkId). IsPrefix (written_of l log) (due (service_of old refused) n log)) same
-          (subst (λ m. IsPrefix (written_of session.link log) (due (service_of old refused) m log)) number (session-due (service_of old refused) session log has))))
+          (subst (λ m. IsPrefix (written_of session.link log) (due (service_of old refused) m log)) number (client-due (service_of old refused) session log has))))
       | inr differs ↦ inl (record { key = live.key; session = live.session; at = sets.others live.key (differ-by live.key key differs) ∙ live.at; number = live.number })
     ])
     | inr over ↦ inr (subst (λ service. IsPrefix (written_of link log) (due service n log)) (sym (same-service old new refused target)) over)

@@ -20,18 +20,19 @@ use Rattle.client_session.specs.declared.phase.Upstream.TheVariants as upstream
 use Rattle.client_session.specs.declared.session.Session.{Session}
 use Rattle.client_session.specs.Acts.{act_by, act_of, client_act, wants_link, open_if, is_over}
 use Rattle.client_session.specs.Headline.{client_link, Turn, Service}
-use Rattle.client_session.specs.Dues.{session-link}
 use Rattle.client_session.specs.Rest.{IsAnswered, IsAtRest, RestsAt}
 use Rattle.client_session.specs.Resting.{IsLeft, session-answered}
 use Rattle.client_session.specs.Sends.{is_read, reply_left, as_sent, server_left}
 use Rattle.client_session.specs.Stands.{IsDryIn, talk_of, HasSession, upstream_link, is_closed}
+use Rattle.client_session.specs.TurnedAway.{client-link, served-open}
 use Rattle.session_core.specs.declared.router.Core.{Core}
 use Rattle.session_core.specs.declared.place.Place.{Place}
 use Rattle.session_core.specs.declared.place.Place.TheVariants as place
 use Rattle.session_core.specs.Cores.{place_of, session_at, is_among, open_link, is_link_of}
 use Rattle.session_core.specs.Acting.{session_asks, asks, client_reads, server_reads, reads_at, reads, client_sends, server_sends, sends_at, sends}
 use Rattle.session_core.specs.Stands.{service_of, IsLive, TracksSessions, IsPlaced, IsConnected, TracksLinks, Stands, due_in}
-use Rattle.session_core.specs.Links.{or-false, none-refused, quiet-session}
+use Rattle.session_core.specs.LinkLists.{or-false}
+use Rattle.session_core.specs.Links.{none-refused, quiet-session}
 
 -- A session that asks for nothing.
 
@@ -180,7 +181,7 @@ module _ (core : Core) (log : Log) (refused : List Turn) (sessions : TracksSessi
   read-placed link (place.Client key) placed (session, at, same) =
       let here : place_of core session.link ≡ Some (place.Client key) = ap (place_of core) same ∙ placed in
       let opened = quiet-open core session (quiet key session at) (placed-open core key session (quiet key session at) here) in
-      subst (λ (l : LinkId). (read_dry l log ≡ true) ⊎ (write_dry l log ≡ true)) same (client-read core log key session links may.drained at opened (λ ending. ending-left (service_of core refused) session log opened (sessions.has key session at) ending))
+      subst (λ (l : LinkId). (read_dry l log ≡ true) ⊎ (write_dry l log ≡ true)) same (client-read core log key session links may.drained at opened (λ ending. ending-left (service_of core refused) session log opened (served-open (service_of core refused) session log opened (sessions.has key session at)) ending))
   read-placed link (place.Server key) placed (session, at, up) = inl (server-read core log key session link links may.drained (quiet key session at) at up)
 
   read-open : (link : LinkId) → IsOpen link log → (read_dry link log ≡ true) ⊎ (write_dry link log ≡ true)
@@ -195,13 +196,13 @@ module _ (core : Core) (log : Log) (refused : List Turn) (sessions : TracksSessi
   answered-live : (n : ℕ) (link : LinkId) → client_link n log ≡ Some link → IsOpen link log → IsLive core n → IsAnswered (service_of core refused) n link log
   answered-live n link is opened live =
       let has = sessions.has live.key live.session live.at in
-      let same : live.session.link ≡ link = (let both : Some live.session.link ≡ Some link = sym (session-link (service_of core refused) live.session log has.client) ∙ ap (λ m. client_link m log) live.number ∙ is in cc) in
+      let same : live.session.link ≡ link = (let both : Some live.session.link ≡ Some link = sym (client-link (service_of core refused) live.session log has) ∙ ap (λ m. client_link m log) live.number ∙ is in cc) in
       let asks_none = quiet live.key live.session live.at in
       let shut : is_closed live.session.state ≡ false = by_open live.key live.session live.at (subst (λ (l : LinkId). IsOpen l log) (sym same) opened) (is_closed live.session.state) refl in
       let open_state = quiet-open core live.session asks_none shut in
       subst (λ (l : LinkId). IsAnswered (service_of core refused) n l log) same
       (subst (λ m. IsAnswered (service_of core refused) m live.session.link log) live.number
-      (session-answered (service_of core refused) live.session log open_state (left-of core log live.key live.session links may.drained asks_none live.at open_state) has)) where
+      (session-answered (service_of core refused) live.session log open_state (left-of core log live.key live.session links may.drained asks_none live.at open_state) (served-open (service_of core refused) live.session log open_state has))) where
         by_open : (key : ℕ) (session : Session) → session_at core key ≡ Some session → IsOpen session.link log → (b : Bool) → is_closed session.state ≡ b → is_closed session.state ≡ false
         by_open key session at open_link_now true closed = (let no : false ≡ true = sym (links.closed key session at closed) ∙ open_link_now in absurd (cc))
         by_open key session at open_link_now false closed = closed

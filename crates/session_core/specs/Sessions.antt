@@ -1,23 +1,20 @@
 -- What the sessions stand for, as one of them changes or an entry passes.
 use Rattle.std.specs.Prelude.{◌≡◌, ◌≢◌, ℕ, zero, suc, ◌<◌, ◌≤◌, true, false, nat_eq, List, [], ◌∷◌, ◌++◌, length, slice_get, Some, None, refl}
-use Rattle.std.specs.Option.{option_map}
 use Rattle.std.proofs.Common.{sym, ◌∙◌, ap, subst, inl, inr, arith}
 use Rattle.std.proofs.lemmas.Bool.{eqb-true}
 use Rattle.mx_base.specs.declared.names.LinkId.{LinkId}
 use Rattle.mx_wire.specs.Log.{Log, read_of, written_of, accepted_link, accepted_links}
 use Rattle.mx_wire.specs.Growth.{bool_cases, same_number}
 use Rattle.mx_wire.specs.declared.entry.Entry.{Entry}
-use Rattle.mx_wire.specs.declared.entry.Entry.TheVariants.{Accepted}
+use Rattle.client_session.specs.Answers.{Stay}
 use Rattle.client_session.specs.declared.session.Session.{Session}
-use Rattle.client_session.specs.Arrivals.{Arrival, arrivals}
-use Rattle.client_session.specs.Dues.{session-link, due-stays}
-use Rattle.client_session.specs.Growth.{client_link-same, accepted_links-same}
+use Rattle.client_session.specs.Dues.{due-stays}
+use Rattle.client_session.specs.Growth.{arrived-at, client_link-same, accepted_links-same}
 use Rattle.client_session.specs.Headline.{client_link, Turn, Service, replies_to, due, IsPrefix, IsRefusing}
-use Rattle.client_session.specs.Past.{Stay}
-use Rattle.client_session.specs.Passing.{SameFor, same_for, Passes, next-passes, session-passes}
+use Rattle.client_session.specs.Passing.{SameFor, same_for, Passes, next-passes}
 use Rattle.client_session.specs.Sending.{carrier}
-use Rattle.client_session.specs.Stands.{HasSession}
 use Rattle.client_session.specs.Still.{replies-stay}
+use Rattle.client_session.specs.TurnedAway.{IsOfClient, client-link, client-passes}
 use Rattle.session_core.specs.declared.router.Core.{Core}
 use Rattle.session_core.specs.Cores.{session_at, SetsSession}
 use Rattle.session_core.specs.Stands.{service_of, IsLive, TracksSessions}
@@ -27,17 +24,6 @@ count-slice : {X : Type 0} (xs : List X) (n : ℕ) (x : X) → slice_get xs n �
 count-slice [] n x is = cc
 count-slice (y ∷ xs) zero x is = omega arith
 count-slice (y ∷ xs) (suc n) x is = omega (arith, count-slice xs n x is)
-
--- the links of clients are those that were accepted
-one-arrived : (e : Entry) (log : Log) (n : ℕ) (link : LinkId) → ((m : ℕ) → option_map (λ (came : Arrival). came.link) (slice_get (arrivals log) m) ≡ Some link → slice_get (accepted_links log) m ≡ Some link)
-    → option_map (λ (came : Arrival). came.link) (slice_get (arrivals (e ∷ log)) n) ≡ Some link → slice_get (accepted_links (e ∷ log)) n ≡ Some link
-one-arrived (Accepted port other salt) log zero link later has = has
-one-arrived (Accepted port other salt) log (suc n) link later has = later n has
-one-arrived _ log n link later has = later n has
-
-pub arrived-at : (log : Log) (n : ℕ) (link : LinkId) → option_map (λ (came : Arrival). came.link) (slice_get (arrivals log) n) ≡ Some link → slice_get (accepted_links log) n ≡ Some link
-arrived-at [] n link has = cc
-arrived-at (e ∷ log) n link has = one-arrived e log n link (λ m later. arrived-at log m link later) has
 
 pub client-counted : (n : ℕ) (log : Log) (link : LinkId) → client_link n log ≡ Some link → n ≤ length (accepted_links log)
 client-counted zero log link is = cc
@@ -100,19 +86,19 @@ module _ (old new : Core) (key : ℕ) (session later : Session) (touches : Touch
   ]
 
   pub sessions-touched : (was now : List Turn) (log : Log) (e : Entry) → LeavesOthers old key session log e → SameOthers (service_of old was) (service_of new now) session.client.number.0 log e → IsRefusing new.setup now (log ++ e ∷ [])
-      → HasSession (service_of new now) later (log ++ e ∷ []) → TracksSessions old was log → TracksSessions new now (log ++ e ∷ [])
+      → IsOfClient (service_of new now) later (log ++ e ∷ []) → TracksSessions old was log → TracksSessions new now (log ++ e ∷ [])
   sessions-touched was now log e leaves same refusing has tracks = record {
     accepted = touches.accepted ∙ tracks.accepted ∙ sym (ap length (accepted_links-same log e leaves.no_client));
     refusing = refusing;
     has = λ other there is. elim (bool_cases (nat_eq other key)) [
       | inl here ↦ (
           let it : there ≡ later = here-there there (ap (session_at new) (sym (eqb-true other key here)) ∙ is) in
-          subst (λ (s : Session). HasSession (service_of new now) s (log ++ e ∷ [])) (sym it) has)
+          subst (λ (s : Session). IsOfClient (service_of new now) s (log ++ e ∷ [])) (sym it) has)
       | inr differs ↦ (
           let differ = differ-by other key differs in
           let before = other-there other there differ is in
           let apart = number-apart was log other there tracks differ before in
-          session-passes (service_of old was) (service_of new now) there log e (same.same there.client.number.0 apart) (same.stay there.client.number.0 apart) (leaves.sessions other there differ before) (tracks.has other there before))
+          client-passes (service_of old was) (service_of new now) there log e (same.same there.client.number.0 apart) (same.stay there.client.number.0 apart) (leaves.sessions other there differ before) (tracks.has other there before))
     ];
     numbers = λ k other a b is_a is_b equal. numbers k other a b is_a is_b equal;
     ended = λ n link is. (
@@ -127,7 +113,7 @@ module _ (old new : Core) (key : ℕ) (session later : Session) (touches : Touch
         ]);
     later = λ n i more. (
         let before : length (accepted_links log) < n = subst (λ k. k < n) (ap length (accepted_links-same log e leaves.no_client)) more in
-        let counted = client-counted session.client.number.0 log session.link (session-link (service_of old was) session log (tracks.has key session touches.at).client) in
+        let counted = client-counted session.client.number.0 log session.link (client-link (service_of old was) session log (tracks.has key session touches.at)) in
         let apart : nat_eq n session.client.number.0 ≡ false = apart-from n session.client.number.0 (λ equal. omega arith) in
         next-passes (service_of old was) (service_of new now) n i log e (same.same n apart) (leaves.carries n i apart) (tracks.later n i before));
   } where

@@ -1,15 +1,18 @@
 -- The state of the core after a log.
-use Rattle.std.specs.Prelude.{◌≡◌, ◌⊎◌, ℕ, ◌<◌, ◌≤◌, ◌*◌, true, false, nat_eq, List, [], ◌∷◌, length, Some, None, IsSome}
+use Rattle.std.specs.Prelude.{◌≡◌, ◌⊎◌, ℕ, ◌<◌, ◌≤◌, ◌*◌, Bool, true, false, nat_eq, ◌&&◌, List, [], ◌∷◌, length, Option, Some, None, IsSome}
 use Rattle.mx_base.specs.declared.names.LinkId.{LinkId}
+use Rattle.mx_base.specs.declared.names.Port.TheVariants.{Admin}
 use Rattle.mx_wire.specs.Log.{Log, accepted_links, read_of, written_of, is_open}
 use Rattle.mx_wire.specs.Tells.{IsOpen}
 use Rattle.mx_wire.specs.Moments.{AtEachMoment, AllLawful}
 use Rattle.mx_wire.specs.declared.entry.Entry.{Entry}
 use Rattle.ready_loop.specs.Drained.{IsDue}
 use Rattle.client_session.specs.declared.session.Session.{Session}
+use Rattle.client_session.specs.Arrivals.{connected, Arrival, arrival_of}
 use Rattle.client_session.specs.Headline.{client_link, Turn, Service, due, IsPrefix, IsRefusing, IsServed, IsLawful}
 use Rattle.client_session.specs.Rest.{RestsAt}
-use Rattle.client_session.specs.Stands.{IsNext, HasSession, upstream_link, is_closed}
+use Rattle.client_session.specs.Stands.{IsNext, upstream_link, is_closed}
+use Rattle.client_session.specs.TurnedAway.{IsOfClient}
 use Rattle.session_core.specs.declared.router.Core.{Core}
 use Rattle.session_core.specs.declared.place.Place.{Place}
 use Rattle.session_core.specs.declared.place.Place.TheVariants as place
@@ -33,7 +36,7 @@ pub record IsLive (core : Core) (n : ℕ) : Type 0 where
 pub record TracksSessions (core : Core) (refused : List Turn) (log : Log) : Type 0 where
   pub accepted : core.accepted ≡ length (accepted_links log)
   pub refusing : IsRefusing core.setup refused log
-  pub has : (key : ℕ) (session : Session) → session_at core key ≡ Some session → HasSession (service_of core refused) session log
+  pub has : (key : ℕ) (session : Session) → session_at core key ≡ Some session → IsOfClient (service_of core refused) session log
   pub numbers : (key other : ℕ) (session there : Session) → session_at core key ≡ Some session → session_at core other ≡ Some there → session.client.number.0 ≡ there.client.number.0 → key ≡ other
   pub ended : (n : ℕ) (link : LinkId) → client_link n log ≡ Some link → IsLive core n ⊎ IsPrefix (written_of link log) (due (service_of core refused) n log)
   pub later : (n i : ℕ) → length (accepted_links log) < n → IsNext (service_of core refused) n i log
@@ -54,10 +57,11 @@ pub record IsUpstream (core : Core) (key : ℕ) (link : LinkId) (log : Log) : Ty
   pub placed : place_of core link ≡ Some (place.Server key)
   pub opened : IsOpen link log
 
--- a link that is to be closed is no session's
+-- a link that is to be closed is an administrator's, and no session's
 pub record IsUnplaced (core : Core) (link : LinkId) (log : Log) : Type 0 where
   pub unplaced : place_of core link ≡ None
   pub opened : IsOpen link log
+  pub admin : (n : ℕ) (came : Arrival) → arrival_of n log ≡ Some came → came.link ≡ link → came.port ≡ Admin
 
 abbrev pub AreApart : LinkId → List LinkId → Type 0
 AreApart link links = is_among link links ≡ false
@@ -66,7 +70,18 @@ abbrev pub AreDistinct : List LinkId → Type 0
 AreDistinct [] = Unit {0}
 AreDistinct (link ∷ links) = AreApart link links × AreDistinct links
 
+abbrev pub is_client : Option Place → Bool
+is_client (Some (place.Client key)) = true
+is_client _ = false
+
+-- the connected clients are counted: their links are the open ones that are placed as clients'
+pub record CountsClients (core : Core) (log : Log) : Type 0 where
+  pub count : core.clients ≡ length (connected log)
+  pub distinct : AreDistinct (connected log)
+  pub among : (link : LinkId) → is_among link (connected log) ≡ (is_client (place_of core link) && is_open link log)
+
 pub record TracksLinks (core : Core) (log : Log) : Type 0 where
+  pub clients : CountsClients core log
   pub client : (key : ℕ) (session : Session) → session_at core key ≡ Some session → is_closed session.state ≡ false → IsConnected core key session.link log
   pub closed : (key : ℕ) (session : Session) → session_at core key ≡ Some session → is_closed session.state ≡ true → is_open session.link log ≡ false
   pub server : (key : ℕ) (session : Session) (link : LinkId) → session_at core key ≡ Some session → upstream_link session.upstream ≡ Some link → IsUpstream core key link log

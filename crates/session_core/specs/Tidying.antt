@@ -12,14 +12,15 @@ use Rattle.client_session.specs.declared.phase.Upstream.{Upstream}
 use Rattle.client_session.specs.declared.phase.Upstream.TheVariants as upstream
 use Rattle.client_session.specs.declared.session.Session.{Session}
 use Rattle.client_session.specs.Acts.{over_by, is_over}
-use Rattle.client_session.specs.Dues.{session-link}
 use Rattle.client_session.specs.Headline.{Turn}
 use Rattle.client_session.specs.Stands.{upstream_link, is_closed}
+use Rattle.client_session.specs.TurnedAway.{client-link}
 use Rattle.session_core.specs.declared.router.Core.{Core}
 use Rattle.session_core.specs.declared.place.Place.{Place}
 use Rattle.session_core.specs.declared.place.Place.TheVariants as place
 use Rattle.session_core.specs.Cores.{place_of, session_at, is_among, KeepsSessions, KeepsPlaces}
 use Rattle.session_core.specs.Acting.{session_asks, Forgets, SessionIf, TidiesIf, Tidies}
+use Rattle.session_core.specs.Counting.{counts-kept, counts-tidied}
 use Rattle.session_core.specs.Links.{asks-same}
 use Rattle.session_core.specs.Opening.{open-apart, same_link}
 use Rattle.session_core.specs.Passing.{sessions-kept, sessions-removed}
@@ -32,11 +33,13 @@ use Rattle.session_core.specs.Upholding.{upholds-as}
 pub record KeepsLinks (old new : Core) : Type 0 where
   pub sessions : KeepsSessions old new
   pub places : KeepsPlaces old new
+  pub clients : new.clients ≡ old.clients
   pub refused : new.refused.items ≡ old.refused.items
   pub calm : (key : ℕ) (session : Session) → session_at old key ≡ Some session → (old.turn ≡ Some key) ⊎ (session_asks old (Some session) ≡ false) → (new.turn ≡ Some key) ⊎ (session_asks old (Some session) ≡ false)
 
 pub links-kept : (old new : Core) (log : Log) → KeepsLinks old new → TracksLinks old log → TracksLinks new log
 links-kept old new log keeps was = record {
+  clients = counts-kept old new log keeps.clients keeps.places was.clients;
   client = λ k s is shut. (let it = was.client k s (sym (keeps.sessions.same k) ∙ is) shut in record { placed = keeps.places.same s.link ∙ it.placed; opened = it.opened });
   closed = λ k s is shut. was.closed k s (sym (keeps.sessions.same k) ∙ is) shut;
   server = λ k s up is has_up. (let it = was.server k s up (sym (keeps.sessions.same k) ∙ is) has_up in record { placed = keeps.places.same up ∙ it.placed; opened = it.opened });
@@ -45,7 +48,7 @@ links-kept old new log keeps was = record {
     | inl somewhere ↦ inl (subst (λ (p : Option Place). IsSome p) (sym (keeps.places.same link)) somewhere)
     | inr among ↦ inr (ap (is_among link) keeps.refused ∙ among)
   ];
-  refused = λ link among. (let it = was.refused link (ap (is_among link) (sym keeps.refused) ∙ among) in record { unplaced = keeps.places.same link ∙ it.unplaced; opened = it.opened });
+  refused = λ link among. (let it = was.refused link (ap (is_among link) (sym keeps.refused) ∙ among) in record { unplaced = keeps.places.same link ∙ it.unplaced; opened = it.opened; admin = it.admin });
   distinct = subst AreDistinct (sym keeps.refused) was.distinct;
   others = λ n k link s is there apart. was.others n k link s is (sym (keeps.sessions.same k) ∙ there) apart;
   servers = λ n k link up s is there has_up. was.servers n k link up s is (sym (keeps.sessions.same k) ∙ there) has_up;
@@ -116,6 +119,7 @@ module _ (old new : Core) (key : ℕ) (session : Session) (log : Log) (at : sess
 
   pub links-tidied : TracksLinks new log
   links-tidied = record {
+    clients = counts-tidied old new session.link log forgets.clients link-shut forgets.places.others links.clients;
     client = λ k s is open_still. (let it = links.client k s (before k s is) open_still in record { placed = place-kept s.link it.opened ∙ it.placed; opened = it.opened });
     closed = λ k s is closed. links.closed k s (before k s is) closed;
     server = λ k s up is has_up. (let it = links.server k s up (before k s is) has_up in record { placed = place-kept up it.opened ∙ it.placed; opened = it.opened });
@@ -124,7 +128,7 @@ module _ (old new : Core) (key : ℕ) (session : Session) (log : Log) (at : sess
       | inl somewhere ↦ inl (subst (λ (p : Option Place). IsSome p) (sym (place-kept link opened)) somewhere)
       | inr among ↦ inr (ap (is_among link) forgets.refused ∙ among)
     ];
-    refused = λ link among. (let it = links.refused link (ap (is_among link) (sym forgets.refused) ∙ among) in record { unplaced = place-kept link it.opened ∙ it.unplaced; opened = it.opened });
+    refused = λ link among. (let it = links.refused link (ap (is_among link) (sym forgets.refused) ∙ among) in record { unplaced = place-kept link it.opened ∙ it.unplaced; opened = it.opened; admin = it.admin });
     distinct = subst AreDistinct (sym forgets.refused) links.distinct;
     others = λ n k link s is there apart. links.others n k link s is (before k s there) apart;
     servers = λ n k link up s is there has_up. links.servers n k link up s is (before k s there) has_up;
@@ -161,7 +165,7 @@ module _ (old new : Core) (key : ℕ) (session : Session) (log : Log) (at : sess
         | inl at_turn ↦ inl (forgets.turn ∙ at_turn)
         | inr calm ↦ inr (
             let differ : s.client.number.0 ≡ session.client.number.0 → ⊥ = λ same. differ-by k key differs (tracks.numbers k key s session is at same) in
-            let apart : nat_eq session.link.0 s.link.0 ≡ false = links.others s.client.number.0 key s.link session (session-link (service_of old refused) s log (tracks.has k s is).client) at (apart-from s.client.number.0 session.client.number.0 differ) in
+            let apart : nat_eq session.link.0 s.link.0 ≡ false = links.others s.client.number.0 key s.link session (client-link (service_of old refused) s log (tracks.has k s is)) at (apart-from s.client.number.0 session.client.number.0 differ) in
             asks-same old new s (forgets.places.others s.link apart) ∙ calm)
       ]
     ]

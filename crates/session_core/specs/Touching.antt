@@ -6,12 +6,12 @@ use Rattle.mx_wire.specs.Log.{Log, link_of, is_link, got_bytes, wrote_bytes, acc
 use Rattle.mx_wire.specs.Growth.{bool_cases, nat_eq-sym, bytes-other, bytes-idle}
 use Rattle.mx_wire.specs.declared.entry.Entry.{Entry}
 use Rattle.client_session.specs.declared.session.Session.{Session}
-use Rattle.client_session.specs.Dues.{session-link}
 use Rattle.client_session.specs.Headline.{Turn, IsRefusing, IsLawful}
 use Rattle.client_session.specs.Passing.{IsStill, IsApart, passes-other, passes-still}
 use Rattle.client_session.specs.Rest.{RestsAt}
 use Rattle.client_session.specs.Sending.{carrier}
-use Rattle.client_session.specs.Stands.{HasSession, upstream_link}
+use Rattle.client_session.specs.Stands.{upstream_link}
+use Rattle.client_session.specs.TurnedAway.{IsOfClient, client-link}
 use Rattle.session_core.specs.declared.router.Core.{Core}
 use Rattle.session_core.specs.declared.place.Place.TheVariants as place
 use Rattle.session_core.specs.Cores.{place_of, session_at}
@@ -28,13 +28,13 @@ module _ (core : Core) (refused : List Turn) (log : Log) (sessions : TracksSessi
   -- an entry of its client's link
   client-apart : (other : ℕ) (there : Session) → other ≢ key → session_at core other ≡ Some there → nat_eq there.link.0 session.link.0 ≡ false
   client-apart other there differs is =
-      nat_eq-sym session.link.0 there.link.0 (links.others there.client.number.0 key there.link session (session-link (service_of core refused) there log (sessions.has other there is).client) at (number-apart other there differs is))
+      nat_eq-sym session.link.0 there.link.0 (links.others there.client.number.0 key there.link session (client-link (service_of core refused) there log (sessions.has other there is)) at (number-apart other there differs is))
 
   pub upstream-apart : (other : ℕ) (there : Session) → session_at core other ≡ Some there → IsApart (upstream_link there.upstream) session.link
   upstream-apart other there is = by (upstream_link there.upstream) refl where
     by : (up : Option LinkId) → upstream_link there.upstream ≡ up → IsApart up session.link
     by None up = tt
-    by (Some up_link) up = links.servers session.client.number.0 other session.link up_link there (session-link (service_of core refused) session log (sessions.has key session at).client) is up
+    by (Some up_link) up = links.servers session.client.number.0 other session.link up_link there (client-link (service_of core refused) session log (sessions.has key session at)) is up
 
   pub leaves-client : (e : Entry) → link_of e ≡ Some session.link → accepted_link e ≡ None → ((n i : ℕ) → nat_eq n session.client.number.0 ≡ false → carrier n i e ≡ None) → LeavesOthers core key session log e
   leaves-client e of no_client carries = record {
@@ -50,7 +50,7 @@ module _ (core : Core) (refused : List Turn) (log : Log) (sessions : TracksSessi
   -- an entry of its link to a server
   module _ (up : LinkId) (has_up : upstream_link session.upstream ≡ Some up) where
     pub client-other : (other : ℕ) (there : Session) → session_at core other ≡ Some there → nat_eq there.link.0 up.0 ≡ false
-    client-other other there is = nat_eq-sym up.0 there.link.0 (links.servers there.client.number.0 key there.link up session (session-link (service_of core refused) there log (sessions.has other there is).client) at has_up)
+    client-other other there is = nat_eq-sym up.0 there.link.0 (links.servers there.client.number.0 key there.link up session (client-link (service_of core refused) there log (sessions.has other there is)) at has_up)
 
     same-place : (other : ℕ) (there : Session) (other_up : LinkId) → session_at core other ≡ Some there → upstream_link there.upstream ≡ Some other_up → nat_eq other_up.0 up.0 ≡ true → other ≡ key
     same-place other there other_up is has_other same =
@@ -98,7 +98,7 @@ pub record StepsOver (old new : Core) (key : ℕ) (session later : Session) (now
   pub leaves : LeavesOthers old key session log e
   pub same : SameOthers (service_of old held.upholds.refused) (service_of new now) session.client.number.0 log e
   pub refusing : IsRefusing new.setup now (log ++ e ∷ [])
-  pub has : HasSession (service_of new now) later (log ++ e ∷ [])
+  pub has : IsOfClient (service_of new now) later (log ++ e ∷ [])
   pub keeps : KeepsOpen e
   pub few : IsFew (log ++ e ∷ [])
   pub law : IsLawful old.setup log e

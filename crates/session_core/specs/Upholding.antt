@@ -9,9 +9,9 @@ use Rattle.mx_wire.specs.Growth.{bool_cases, bytes-same, bytes-other, bytes-idle
 use Rattle.mx_wire.specs.declared.entry.Entry.{Entry}
 use Rattle.mx_wire.specs.declared.entry.Entry.TheVariants as entry
 use Rattle.client_session.specs.Headline.{client_link, Turn, due, IsPrefix, IsServed, IsLawful}
-use Rattle.client_session.specs.Dues.{session-link, session-due}
 use Rattle.client_session.specs.Rest.{RestsAt}
 use Rattle.client_session.specs.Setups.{Setup}
+use Rattle.client_session.specs.TurnedAway.{client-link, client-due}
 use Rattle.session_core.specs.declared.router.Core.{Core}
 use Rattle.session_core.specs.Stands.{service_of, TracksSessions, IsFew, Upholds}
 
@@ -52,9 +52,9 @@ module _ (core : Core) (refused : List Turn) (log : Log) (tracks : TracksSession
   prefix-of n link is = elim (tracks.ended n link is) [
     | inl live ↦ (
         let has = tracks.has live.key live.session live.at in
-        let same : live.session.link ≡ link = (let both : Some live.session.link ≡ Some link = sym (session-link (service_of core refused) live.session log has.client) ∙ ap (λ m. client_link m log) live.number ∙ is in cc) in
+        let same : live.session.link ≡ link = (let both : Some live.session.link ≡ Some link = sym (client-link (service_of core refused) live.session log has) ∙ ap (λ m. client_link m log) live.number ∙ is in cc) in
         subst (λ (l : LinkId). IsPrefix (written_of l log) (due (service_of core refused) n log)) same
-        (subst (λ m. IsPrefix (written_of live.session.link log) (due (service_of core refused) m log)) live.number (session-due (service_of core refused) live.session log has)))
+        (subst (λ m. IsPrefix (written_of live.session.link log) (due (service_of core refused) m log)) live.number (client-due (service_of core refused) live.session log has)))
     | inr over ↦ over
   ]
 

@@ -20,12 +20,12 @@ use Rattle.client_session.specs.declared.phase.LinkState.TheVariants as link_sta
 use Rattle.client_session.specs.declared.phase.Upstream.{Upstream}
 use Rattle.client_session.specs.declared.phase.Upstream.TheVariants as upstream
 use Rattle.client_session.specs.declared.session.Session.{Session}
-use Rattle.client_session.specs.Dues.{session-link}
 use Rattle.client_session.specs.Events.{state_behind, with_server, written_in, sent_in}
 use Rattle.client_session.specs.Passing.{hears-apart}
 use Rattle.client_session.specs.Sends.{reply_left, as_sent, server_left}
 use Rattle.client_session.specs.Stands.{command_of, upstream_link, is_closed}
 use Rattle.client_session.specs.Written.{own_piece, said_on, command_piece, sent_on, IsLeft, OfOwn, OfCommand, left-is, IsInWork, in-work, session-written, session-said_own, session-may_say, session-may_send, session-commanded}
+use Rattle.client_session.specs.TurnedAway.{Served, served-open, served-on, client-link}
 use Rattle.session_core.specs.declared.router.Core.{Core}
 use Rattle.session_core.specs.declared.place.Place.{Place}
 use Rattle.session_core.specs.declared.place.Place.TheVariants as place
@@ -63,7 +63,7 @@ behind-open Ending (b ∷ left) = refl
 a-write : (old new : Core) (key : ℕ) (session later : Session) → session_at old key ≡ Some session → Takes old new key later → asks old ≡ false → later.link ≡ session.link → later.client.number ≡ session.client.number → is_closed later.state ≡ is_closed session.state
     → upstream_link later.upstream ≡ upstream_link session.upstream → IsStep old new key session later
 a-write old new key session later at takes none link number closed up = record {
-  relinks = record { at = at; sets = takes.sets; link = link; number = number; closed = closed; upstream = up; places = takes.places; refused = takes.refused; turn = takes.turn; acted = inr none };
+  relinks = record { at = at; sets = takes.sets; link = link; number = number; closed = closed; upstream = up; places = takes.places; clients = takes.clients; refused = takes.refused; turn = takes.turn; acted = inr none };
   setup = takes.counts.service.setup;
   accepted = takes.counts.accepted;
 }
@@ -74,11 +74,11 @@ client-wrote : (old new : Core) (key : ℕ) (session : Session) (n : ℕ) (log :
     → MayFollow log (entry.Wrote session.link Reply (take n session.client.outgoing)) → Stands old log → Stands new (log ++ entry.Wrote session.link Reply (take n session.client.outgoing) ∷ [])
 client-wrote old new key session n log none at opened takes may held =
     let e : Entry = entry.Wrote session.link Reply (take n session.client.outgoing) in
-    let has = held.upholds.sessions.has key session at in
+    let has = served-open (service_of old held.upholds.refused) session log opened (held.upholds.sessions.has key session at) in
     over-entry old new key session (written_in session n) log e held
     (a-write old new key session (written_in session n) at takes none refl refl (ap (λ (s : LinkState). is_closed (state_behind session.phase s (drop n session.client.outgoing))) opened ∙ behind-open session.phase (drop n session.client.outgoing) ∙ sym (ap is_closed opened)) refl)
     (leaves-client old held.upholds.refused log held.upholds.sessions held.links key session at e refl refl (λ m i apart. refl))
-    (record { keeps = refl; opens_none = refl }) refl may tt (session.client.number.0, session-link (service_of old held.upholds.refused) session log has.client)
+    (record { keeps = refl; opens_none = refl }) refl may tt (session.client.number.0, client-link (service_of old held.upholds.refused) session log (Served has))
     (session-written (service_of old held.upholds.refused) session n log opened (hears-apart session.upstream session.link log e refl (upstream-apart old held.upholds.refused log held.upholds.sessions held.links key session at key session at)) has)
 
 -- Bytes of the router's own.
@@ -90,7 +90,7 @@ taken-own (byte ∷ own) n backend is some = ap (λ (xs : List ℕ). record back
 own-wrote : (old new : Core) (key : ℕ) (session : Session) (server : Server) (n : ℕ) (log : Log) → asks old ≡ false → session_at old key ≡ Some session → session.upstream ≡ upstream.Open server → Takes old new key (with_server session (said_on server n))
     → MayFollow log (own_piece server n) → Stands old log → Stands new (log ++ own_piece server n ∷ [])
 own-wrote old new key session server n log none at on takes may held =
-    let has = held.upholds.sessions.has key session at in
+    let has = served-on (service_of old held.upholds.refused) session server log on (held.upholds.sessions.has key session at) in
     let up : upstream_link session.upstream ≡ Some server.link = ap upstream_link on in
     over-entry old new key session (with_server session (said_on server n)) log (own_piece server n) held (a-write old new key session (with_server session (said_on server n)) at takes none refl refl refl (sym up))
     (leaves-server old held.upholds.refused log held.upholds.sessions held.links key session at server.link up (own_piece server n) refl refl (λ m i apart. refl))
@@ -110,7 +110,7 @@ piece_of server command n = entry.Wrote server.link command.tag (take n (drop co
 command-wrote : (old new : Core) (key : ℕ) (session : Session) (command : Command) (server : Server) (n : ℕ) (log : Log) → asks old ≡ false → session_at old key ≡ Some session → session.upstream ≡ upstream.Open server → server.backend.own ≡ []
     → server.backend.command ≡ Some command → n ≤ length (drop command.sent command.bytes) → Takes old new key (record session { upstream = sent_in session.upstream n }) → MayFollow log (piece_of server command n) → Stands old log
     → Stands new (log ++ piece_of server command n ∷ [])
-command-wrote old new key session command server n log none at on said is fits takes may held = with_work (in-work (service_of old held.upholds.refused) session server command log on is (held.upholds.sessions.has key session at)) where
+command-wrote old new key session command server n log none at on said is fits takes may held = with_work (in-work (service_of old held.upholds.refused) session server command log on is (served-on (service_of old held.upholds.refused) session server log on (held.upholds.sessions.has key session at))) where
   up : upstream_link session.upstream ≡ Some server.link
   up = ap upstream_link on
 

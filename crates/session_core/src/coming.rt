@@ -1,8 +1,8 @@
 // Links that come.
-ghost use Rattle.std.specs.Prelude.{◌≡◌, ◌<◌, OnOk, is_some};
+ghost use Rattle.std.specs.Prelude.{◌≡◌, OnOk};
 ghost use Rattle.client_session.specs.Events.{OpenFails};
 ghost use Rattle.session_core.specs.Cores.{session_at, StepsAt};
-ghost use Rattle.session_core.specs.Comes.{is_admitted, Admits, Comes, OpensAt, OpensBy, FailsBy};
+ghost use Rattle.session_core.specs.Comes.{next_session, Admits, Comes, OpensAt, OpensBy, FailsBy};
 
 use crate::place::Place;
 use crate::router::Core;
@@ -10,40 +10,43 @@ use crate::taking::{counted, mark};
 use client_session::{fail_upstream, new_session, open_upstream};
 use mx_base::{ClientNo, LinkId, OutOfMemory, Port};
 
-// A client is served.
+// A client comes to the port of clients. Where as many are connected as may be, it is told so.
 fn admit(core: &mut Core, link: LinkId, salt: [u8; 20]) -> Result<(), OutOfMemory>
-    requires { core.old.clients < 4294967295 }
-    ensures changes { OnOk result (Admits core.old link salt core.new) }
+    ensures changes { OnOk result (Admits core.old link (next_session core.old link salt) core.new) }
     ensures setup { core.new.setup ≡ core.old.setup }
 {
-    core.accepted = counted(core.accepted);
-    let number = ClientNo(core.accepted);
-    let session = new_session(core.alloc, link, number, salt, &core.setup)?;
+    let number = ClientNo(counted(core.accepted));
+    let has_room = core.clients < core.setup.max_clients() as u64;
+    let session = new_session(core.alloc, link, number, salt, &core.setup, has_room)?;
     let key = core.sessions.insert(session)?;
     core.places.insert(link.0, Place::Client(key))?;
     core.changed.push(link)?;
-    core.clients += 1;
+    core.accepted = number.0;
+    core.clients = counted(core.clients);
+    core.turn = Some(key);
     Ok(())
 }
 
-/// A client comes. It is served where it came to the port of clients and fewer than the most are connected, and else its link is
-/// to be closed.
+/// A client comes. One at the port of clients has a session; the link of one at that of administrators is to be closed.
 pub fn client_comes(
     core: &mut Core,
     port: Port,
     link: LinkId,
     salt: [u8; 20],
 ) -> Result<(), OutOfMemory>
-    ensures changes { OnOk result (Comes (is_admitted core.old port) core.old link salt core.new) }
+    ensures changes { OnOk result (Comes port core.old link salt core.new) }
     ensures setup { core.new.setup ≡ core.old.setup }
 {
-    if port == Port::Traffic && core.clients < core.setup.max_clients() {
-        admit(core, link, salt)?;
-        Ok(())
-    } else {
-        core.refused.push(link)?;
-        core.accepted = counted(core.accepted);
-        Ok(())
+    match port {
+        Port::Traffic => {
+            admit(core, link, salt)?;
+            Ok(())
+        }
+        Port::Admin => {
+            core.refused.push(link)?;
+            core.accepted = counted(core.accepted);
+            Ok(())
+        }
     }
 }
 

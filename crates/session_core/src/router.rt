@@ -29,10 +29,10 @@ pub struct Core {
     /// How many clients were accepted.
     pub accepted: u64,
     /// How many clients are connected.
-    pub clients: u32,
+    pub clients: u64,
     pub sessions: Slab<Session>,
     pub places: HashMap<u64, Place>,
-    /// Links of clients that aren't served, which are to be closed.
+    /// Links of administrators, which are to be closed.
     pub refused: Vec<LinkId>,
     /// The session that may ask for something.
     pub turn: Option<usize>,

@@ -21,6 +21,8 @@ const GREETING: &[u8] = b"\x4D\0\0\0\x0A8.0.30-mx\0\x01\0\0\0\
 
 const WELCOME: &[u8] = b"\x07\0\0\x02\0\0\0\x02\0\0\0";
 
+const TOO_MANY: &[u8] = b"\x1D\0\0\0\xFF\x10\x04#08004Too many connections";
+
 const DO_1: &[u8] = b"\x05\0\0\0\x03DO 1";
 
 const DONE: &[u8] = b"\x07\0\0\x01\0\0\0\x02\0\0\0";
@@ -86,10 +88,12 @@ fn answers_each_client_its_own(rt: HostRuntime) -> Result<(), Fail> {
     let mut core = Core::new(rt.alloc(), &config)?;
     come(&mut core, Port::Traffic, LinkId(1))?;
     come(&mut core, Port::Traffic, LinkId(2))?;
-    for (port, link) in [(Port::Traffic, LinkId(3)), (Port::Admin, LinkId(4))] {
-        come(&mut core, port, link)?;
-        assert_eq!(rt; core.next_act(), Some(Act::Close { link }));
-    }
+    come(&mut core, Port::Traffic, LinkId(3))?;
+    assert_eq!(rt; core.next_act(), Some(Act::Close { link: LinkId(3) }));
+    assert_eq!(rt; left(&core, LinkId(3)), TOO_MANY);
+    come(&mut core, Port::Admin, LinkId(4))?;
+    assert_eq!(rt; core.next_act(), Some(Act::Close { link: LinkId(4) }));
+    assert_eq!(rt; left(&core, LinkId(4)), b"".as_slice());
     for (client, server) in [(LinkId(1), LinkId(5)), (LinkId(2), LinkId(6))] {
         write_all(&mut core, client)?;
         say(rt.alloc(), &mut core, client, RESPONSE)?;

@@ -10,7 +10,7 @@ use Rattle.session_core.specs.Looking.{comes-only, opens-only, fails-only, takes
 use Rattle.session_core.proofs.machine.handle.Goals as goal
 
 pub returns-in_ok-client_comes-in-Accepted-clause-carries : goal.returns-in_ok-client_comes-in-Accepted-clause-carries
-returns-in_ok-client_comes-in-Accepted-clause-carries c = λ e is. subst (λ (x : Entry). CarriesOver Stands due_in c.args.core.now c.client_comes.new.core x) (sym (rw c.in-Accepted.is at is)) (comes-carries _ _ _ _ _ _ c.in_ok-client_comes-in-Accepted.ensures.changes)
+returns-in_ok-client_comes-in-Accepted-clause-carries c = λ e is. subst (λ (x : Entry). CarriesOver Stands due_in c.args.core.now c.client_comes.new.core x) (sym (rw c.in-Accepted.is at is)) (comes-carries _ _ _ _ _ (rw c.in-Accepted.is at c.requires.acted) c.in_ok-client_comes-in-Accepted.ensures.changes)
 
 pub returns-in_ok-client_comes-in-Accepted-clause-changes : goal.returns-in_ok-client_comes-in-Accepted-clause-changes
 returns-in_ok-client_comes-in-Accepted-clause-changes c = comes-only _ _ _ _ _ c.in_ok-client_comes-in-Accepted.ensures.changes
