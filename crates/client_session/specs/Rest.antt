@@ -1,5 +1,5 @@
 -- What is left to do as the loop waits: nothing but what others have to do first.
-use Rattle.std.specs.Prelude.{◌≡◌, ◌⊎◌, ℕ, suc, true, List, ◌∷◌, ◌++◌, length, Some, None}
+use Rattle.std.specs.Prelude.{◌≡◌, ◌⊎◌, ℕ, suc, Bool, true, List, ◌∷◌, ◌++◌, length, Some, None}
 use Rattle.mx_base.specs.declared.names.LinkId.{LinkId}
 use Rattle.mx_base.specs.declared.names.Port.{Port}
 use Rattle.mx_wire.specs.Log.{Log, written_of}
@@ -8,10 +8,11 @@ use Rattle.mx_wire.specs.declared.entry.Entry.{Entry}
 use Rattle.mx_wire.specs.declared.entry.Entry.TheVariants.{Woke, WaitFailed, Over}
 use Rattle.packet_frame.specs.Packets.{Framed, spelling}
 use Rattle.ready_loop.specs.Drained.{all_accepted, all_named, read_dry, write_dry}
+use Rattle.client_side.specs.Login.{Waits}
 use Rattle.server_side.specs.Account.{Account}
 use Rattle.server_side.specs.Login.{Goes}
 use Rattle.client_session.specs.Setups.{Setup}
-use Rattle.client_session.specs.Answers.{Talk, account, messages_of, is_query, is_quit, AllAnswered}
+use Rattle.client_session.specs.Answers.{Talk, opening_of, account, messages_of, is_query, is_quit, AllAnswered}
 use Rattle.client_session.specs.Logins.{own_of, login_on}
 use Rattle.client_session.specs.Sending.{sending, command_sent}
 use Rattle.client_session.specs.Headline.{client_link, Turn, Service, replies_to, due, IsClient, IsRefusing}
@@ -51,15 +52,24 @@ pub data AreAnswered (service : Service) (n : ℕ) (talk : Talk) (messages : Lis
   UpTo : (before later : List Framed) (message : Framed) (bytes : List ℕ) → messages ≡ before ++ message ∷ later → AllAnswered (replies_to service n log) 1 before bytes
       → WaitsForReply service n (suc (length before)) talk message log → AreAnswered service n talk messages log
 
--- what client n is due is written, or its link takes no more of it
+-- A client isn't at its end: its login isn't whole, or it is logged in, and its messages are without a fault and all answered, or the first
+-- that isn't waits for its reply. A QUIT has no answer.
+pub data StaysOpen (service : Service) (n : ℕ) (talk : Talk) (log : Log) : Type 0 where
+  Enters : (switched : Bool) → opening_of talk ≡ Waits switched → StaysOpen service n talk log
+  Listens : (user : Account) (bytes : List ℕ) → account talk ≡ Some user → (messages_of talk).fault ≡ None → AllAnswered (replies_to service n log) 1 (messages_of talk).messages bytes → StaysOpen service n talk log
+  Works : (user : Account) (before later : List Framed) (message : Framed) (bytes : List ℕ) → account talk ≡ Some user → (messages_of talk).messages ≡ before ++ message ∷ later → AllAnswered (replies_to service n log) 1 before bytes
+      → WaitsForReply service n (suc (length before)) talk message log → StaysOpen service n talk log
+
+-- What client n is due is written, and it isn't at its end, or its link takes no more.
 pub record IsAnswered (service : Service) (n : ℕ) (link : LinkId) (log : Log) : Type 0 where
   pub talk : Talk
   pub client : IsClient service.setup n talk log
   pub messages : AreAnswered service n talk (messages_of talk).messages log
   pub written : (written_of link log ≡ due service n log) ⊎ (write_dry link log ≡ true)
+  pub lasts : StaysOpen service n talk log ⊎ (write_dry link log ≡ true)
 
 -- Nobody waits at a port, each ready link was named, and each open link is read dry, unless it takes no more of what ends it. Each client
--- whose link is open is answered, where each open that failed was for a command that waited for it.
+-- whose link is open is served and answered, and isn't at its end, where each open that failed was for a command that waited for it.
 pub record IsAtRest (setup : Setup) (log : Log) : Type 0 where
   pub accepted : (port : Port) → all_accepted port log ≡ true
   pub named : all_named log ≡ true

@@ -6,6 +6,8 @@ use Rattle.mx_base.specs.declared.names.ClientNo.{ClientNo}
 use Rattle.mx_wire.specs.Log.{Log, written_of}
 use Rattle.mx_wire.specs.Tells.{IsOpen}
 use Rattle.packet_frame.specs.Packets.{Framed, Split, spelling}
+use Rattle.packet_frame.specs.Packets.Found.{Nothing}
+use Rattle.packet_frame.specs.Laws.{split-nothing}
 use Rattle.packet_frame.specs.SpellingLaws.{spelling-some}
 use Rattle.packet_frame.specs.OnePacket.{IsMessageOf, first_message-whole}
 use Rattle.command_parse.specs.Meaning.{Meaning, parsed}
@@ -29,8 +31,8 @@ use Rattle.client_session.specs.Errors.{no_server, connection_refused}
 use Rattle.client_session.specs.Answers.{Talk, account, commands_in, greeted, front_in, opening_of, client_messages, messages_of, query_by, is_query, answer_by, answer_to, answers_to, due_in}
 use Rattle.client_session.specs.Sending.{reply_to}
 use Rattle.client_session.specs.Headline.{is_refused, Service, replies_to, due}
-use Rattle.client_session.specs.Past.{past-next, answers-nothing, answers-next}
-use Rattle.client_session.specs.Rest.{IsOn, Sent, LogsIn, Full, WaitsForReply, AreAnswered, IsAnswered}
+use Rattle.client_session.specs.Past.{client_message, Answers, past-now, past-next, answers-nothing, answers-next}
+use Rattle.client_session.specs.Rest.{IsOn, Sent, LogsIn, Full, WaitsForReply, AreAnswered, StaysOpen, Enters, Listens, Works, IsAnswered}
 use Rattle.client_session.specs.Rest.AreAnswered.{All, Quits, UpTo}
 use Rattle.client_session.specs.Stands.{front_to, IsWorking, HasEnded, Answered, Quit, IsAt, IsDry, IsDryIn, command_of, IsCarried, Awaits, Unsent, Begun, IsOnItsWay, IsTold, talk_of, HasSession}
 use Rattle.client_session.specs.Arriving.{in-due-now, in-messages-now, nothing_more, none-said, none-due, short-limit}
@@ -130,12 +132,42 @@ ended-answered : (service : Service) (n : ℕ) (talk : Talk) (messages : List Fr
 ended-answered service n talk messages log (Answered bytes all) = All bytes all
 ended-answered service n talk messages log (Quit before later message bytes is all quits) = Quits before later message bytes is all quits
 
+-- what the client says behind the messages that are answered has no fault yet
+no-fault : (limit : ℕ) (reply : ℕ → Option (List ℕ)) (said : List ℕ) (done : List Framed) (kept bytes : List ℕ) → Answers limit reply said done kept bytes → client_message limit kept ≡ Nothing → (client_messages limit said).fault ≡ None
+no-fault limit reply said done kept bytes so_far nothing = ap (λ (s : Split). s.fault) (past-now limit said done kept so_far.past) ∙ ap (λ (s : Split). s.fault) (split-nothing limit 0 kept nothing)
+
+-- an open client isn't at its end, or its link takes no more
+session-lasts : (service : Service) (session : Session) (log : Log) → session.state ≡ link_state.Open → IsLeft session log → HasSession service session log
+    → StaysOpen service session.client.number.0 (talk_of service session log) log ⊎ (write_dry session.link log ≡ true)
+session-lasts service session log opened left has = by session.phase refl has.at dry where
+  dry : IsDry session.phase session (talk_of service session log) has.told
+  dry = subst (λ (s : LinkState). IsDryIn s session.phase session (talk_of service session log) has.told) opened has.dry
+
+  by : (p : Phase) → session.phase ≡ p → IsAt p session (replies_to service session.client.number.0 log) (talk_of service session log) has.told → IsDry p session (talk_of service session log) has.told
+      → StaysOpen service session.client.number.0 (talk_of service session log) log ⊎ (write_dry session.link log ≡ true)
+  by phase.LoggingIn is at dry_now = inl (Enters dry_now.switched dry_now.waits)
+  by phase.Idle is at dry_now =
+      let all = answers-nothing service.setup.limit (replies_to service session.client.number.0 log) at.who.said at.done session.client.framer.kept at.bytes at.so_far dry_now in
+      inl (Listens at.who.user at.bytes (in-user session (talk_of service session log) at.who)
+      (ap (λ (s : Split). s.fault) (in-messages-now session (talk_of service session log) at.who) ∙ no-fault service.setup.limit (replies_to service session.client.number.0 log) at.who.said at.done session.client.framer.kept at.bytes at.so_far dry_now)
+      (rw (in-messages-now session (talk_of service session log) at.who, all.1) at.so_far.answered))
+  by (phase.Working payload) is at dry_now =
+      let works = works-on service session payload log is has in
+      let waits = command-waits service session payload log is (left.works payload is) has in
+      let i_is : session.client.arrived ≡ suc (length works.done) = works.count in
+      inl (Works works.who.user works.done (client_messages service.setup.limit session.client.framer.kept).messages works.message works.bytes (in-user session (talk_of service session log) works.who)
+      (ap (λ (s : Split). s.messages) (in-messages-now session (talk_of service session log) works.who)
+      ∙ past-next service.setup.limit works.who.said works.done works.waiting works.message session.client.framer.kept works.so_far.past works.next) works.so_far.answered
+      (subst (λ i. WaitsForReply service session.client.number.0 i (talk_of service session log) works.message log) i_is waits))
+  by phase.Ending is at dry_now = inr (left.written dry_now)
+
 -- an open client is answered
 pub session-answered : (service : Service) (session : Session) (log : Log) → session.state ≡ link_state.Open → IsLeft session log → HasSession service session log → IsAnswered service session.client.number.0 session.link log
 session-answered service session log opened left has = record {
   talk = talk_of service session log;
   client = is-client service session log has.client;
   messages = (both session.phase refl has.at dry).0;
+  lasts = session-lasts service session log opened left has;
   written = written-or session log (due service session.client.number.0 log) left (ap (λ xs. xs ++ session.client.outgoing) (sym told) ∙ (both session.phase refl has.at dry).1 ∙ sym (due-of service session log has.client));
 } where
   told : has.told ≡ written_of session.link log
