@@ -6,8 +6,9 @@ ghost use Rattle.std.specs.Option.{option_copied, ForSome};
 ghost use Rattle.std.specs.String.{string_cmp};
 ghost use Rattle.toml.specs.View.{view, table_view};
 ghost use Rattle.mx_config.specs.Faults.{Gives};
-ghost use Rattle.mx_config.specs.Lent.{GivesTable};
+ghost use Rattle.mx_config.specs.Lent.{GivesTable, GivesRow};
 ghost use Rattle.mx_config.specs.Rows.{key_of, known_only, least_unknown, is_known, table_at};
+ghost use Rattle.mx_config.specs.Tables.{row_at};
 ghost use Rattle.mx_config.specs.Values.{number, text, fits, address_value, host_value, status_value};
 
 use crate::ConfigRefusal;
@@ -173,6 +174,26 @@ fn is_listed(known: &[&str], key: &str) -> bool
     ensures { result ≡ is_known (map (λ k. k.now) known.now) key.now }
 {
     known.contains(&key)
+}
+
+/// The row at a place, which has no other keys than these.
+#[tactic(auto, unfolding(crate::specs::Tables::row_at))]
+pub(crate) fn row_of<'a>(
+    alloc: Global,
+    place: Place,
+    value: &'a Value,
+    known: &[&str],
+) -> Result<Row<'a>, ConfigRefusal>
+    ensures { GivesRow result place (row_at place (map (λ k. k.now) known.now) (view value.now)) }
+{
+    let members = row_table(alloc, place, value)?;
+    let row = Row {
+        alloc,
+        place,
+        members,
+    };
+    row.only(known)?;
+    Ok(row)
 }
 
 /// The table that a row is.
