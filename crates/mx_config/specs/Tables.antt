@@ -85,16 +85,21 @@ user_keys = codes "name" ∷ codes "password" ∷ codes "default_hostgroup" ∷ 
 abbrev pub new_user : Place → (before : List UserRow) → (name : List ℕ) → Said (Unit {0})
 new_user place before name = if has_user before name then Err (fault_at place DuplicateUser (codes "name")) else Ok tt
 
+unfoldable pub user_of : Place → Members → Said UserRow
+user_of place ms = do
+  name ← key_of place (codes "name") None (text NotEmpty) ms
+  password ← key_of place (codes "password") None (text Any) ms
+  default_hostgroup ← key_of place (codes "default_hostgroup") (Some 0) (number 0 65535) ms
+  Ok (record { name = name; password = password; default_hostgroup = record { 0 = default_hostgroup } })
+
 -- the row behind these
 unfoldable pub user_row : (before : List UserRow) → Data → Said UserRow
 user_row before d = do
   let place = at_row Users (length before + 1)
   ms ← row_at place user_keys d
-  name ← key_of place (codes "name") None (text NotEmpty) ms
-  password ← key_of place (codes "password") None (text Any) ms
-  default_hostgroup ← key_of place (codes "default_hostgroup") (Some 0) (number 0 65535) ms
-  new ← new_user place before name
-  Ok (record { name = name; password = password; default_hostgroup = record { 0 = default_hostgroup } })
+  user ← user_of place ms
+  new ← new_user place before user.name
+  Ok user
 
 abbrev pub server_keys : List (List ℕ)
 server_keys = codes "hostgroup" ∷ codes "host" ∷ codes "port" ∷ codes "weight" ∷ codes "max_connections" ∷ codes "status" ∷ []

@@ -6,9 +6,9 @@ ghost use Rattle.mx_config.specs.Faults.{Gives};
 ghost use Rattle.mx_config.specs.Lawful.{IsBetween, IsLawfulServer, AreLawfulServers};
 ghost use Rattle.mx_config.specs.Tables.{named_server, duty_of, server_row, rows_from, counted, new_server};
 
+use crate::ConfigRefusal;
 use crate::fault::{Kind, Place, TableName, refusal};
 use crate::row::{Row, row_of};
-use crate::ConfigRefusal;
 use hostgroups::{ServerName, ServerNumbers, ServerRow, ServerStatus};
 use mx_base::{Address, Hostgroup, Items, OutOfMemory};
 use std::alloc::Global;

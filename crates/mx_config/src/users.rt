@@ -1,12 +1,14 @@
 // The table `users`.
-ghost use Rattle.std.specs.Prelude.{◌≡◌, ◌≤◌, ◌<◌, ◌++◌, ◌∷◌, [], false, length, IfOk, OnOk};
-ghost use Rattle.toml.specs.View.{view, items_view};
+ghost use Rattle.std.specs.Prelude.{◌≡◌, ◌≤◌, ◌<◌, ◌++◌, ◌∷◌, [], true, false, length, IfOk, OnOk};
+ghost use Rattle.toml.specs.View.{view, items_view, table_view};
 ghost use Rattle.mx_config.specs.Faults.{Gives};
 ghost use Rattle.mx_config.specs.Lawful.{IsBetween, IsLawfulUser, AreLawfulUsers};
-ghost use Rattle.mx_config.specs.Tables.{has_user, user_row, rows_from, new_user};
+ghost use Rattle.mx_config.specs.Tables.{has_user, user_of, user_row, rows_from, new_user};
+ghost use Rattle.mx_config.specs.Values.{fits};
+ghost use Rattle.mx_config.specs.declared.value.TextForm.TheVariants.{Any, NotEmpty};
 
 use crate::fault::{Kind, Place, TableName, refusal};
-use crate::row::row_of;
+use crate::row::{Row, row_of};
 use crate::value::TextForm;
 use crate::{ConfigRefusal, UserRow};
 use mx_base::{Bytes, Hostgroup, Items, OutOfMemory};
@@ -78,7 +80,10 @@ impl UserTable {
 }
 
 /// The rows of users.
-pub(crate) fn read_user_rows(alloc: Global, items: &[Value]) -> Result<Items<UserRow>, ConfigRefusal>
+pub(crate) fn read_user_rows(
+    alloc: Global,
+    items: &[Value],
+) -> Result<Items<UserRow>, ConfigRefusal>
     requires { IsBetween 1 1024 (length items.now) }
     ensures said { Gives result (rows_from user_row [] (items_view items.now)) }
     ensures lawful { IfOk result AreLawfulUsers }
@@ -103,10 +108,20 @@ fn read_user_row(alloc: Global, before: &UserTable, value: &Value) -> Result<Use
         row: before.len() as u32 + 1,
     };
     let row = row_of(alloc, place, value, &KEYS)?;
+    let user = read_user(&row)?;
+    new_user(alloc, row.place, before, &user.name)?;
+    Ok(user)
+}
+
+#[tactic(auto, unfolding(crate::specs::Tables::user_of))]
+fn read_user(row: &Row) -> Result<UserRow, ConfigRefusal>
+    ensures said { Gives result (user_of row.now.place (table_view row.now.members.now)) }
+    ensures name { IfOk result (λ user. fits NotEmpty user.name ≡ true) }
+    ensures password { IfOk result (λ user. fits Any user.password ≡ true) }
+{
     let name = row.text("name", None, TextForm::NotEmpty)?;
     let password = row.text("password", None, TextForm::Any)?;
     let hostgroup = row.number("default_hostgroup", Some(0), 0, 65_535)?;
-    new_user(alloc, row.place, before, &name)?;
     Ok(UserRow {
         name,
         password,
