@@ -138,7 +138,11 @@ pub(crate) fn release(
 }
 
 /// A copy of the marks of a track.
-pub(crate) fn marks_at(alloc: Global, tracks: &[Track], at: usize) -> Result<Items<Mark>, OutOfMemory>
+pub(crate) fn marks_at(
+    alloc: Global,
+    tracks: &[Track],
+    at: usize,
+) -> Result<Items<Mark>, OutOfMemory>
     ensures { IfOk result (λ marks. marks ≡ (track_at tracks.now at).marks) }
 {
     match tracks.get(at) {
