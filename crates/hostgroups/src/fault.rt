@@ -4,7 +4,7 @@ ghost use Rattle.std.specs.Prelude.{◌≡◌};
 use mx_base::OutOfMemory;
 
 /// Why a table of servers is refused.
-#[derive(Clone, Copy, Debug, PartialEq, Eq)]
+#[derive(Clone, Copy, Debug)]
 pub enum ServersFault {
     /// This row, counted from 1, is the first that has the hostgroup and address of an earlier one.
     Duplicate { row: u32 },

@@ -5,8 +5,6 @@ mod fault;
 mod numbers;
 mod row;
 mod servers;
-#[cfg(test)]
-mod tests;
 
 pub use fault::ServersFault;
 pub use numbers::ServerNumbers;

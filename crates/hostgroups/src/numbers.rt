@@ -10,7 +10,7 @@ use std::collections::HashMap;
 use std::marker::Model;
 
 // A server's name, as the keys of a map are.
-#[derive(Clone, Copy, Debug, PartialEq, Eq, Hash)]
+#[derive(Clone, Copy, PartialEq, Eq, Hash)]
 struct NameKey {
     hostgroup: Hostgroup,
     ip: [u8; 4],

@@ -17,7 +17,7 @@ pub enum ServerStatus {
 }
 
 /// A row of the table of servers (ProxySQL, "mysql_servers"): a server, and how it may be used in its hostgroup.
-#[derive(Clone, Copy, Debug, PartialEq, Eq)]
+#[derive(Clone, Copy, Debug)]
 pub struct ServerRow {
     pub hostgroup: Hostgroup,
     pub address: Address,
@@ -29,7 +29,7 @@ pub struct ServerRow {
 }
 
 /// What tells servers apart: a server that stands in two hostgroups counts as two.
-#[derive(Clone, Copy, Debug, PartialEq, Eq)]
+#[derive(Clone, Copy)]
 pub struct ServerName {
     pub hostgroup: Hostgroup,
     pub address: Address,

@@ -15,7 +15,7 @@ const MAX_ROWS: usize = 1024;
 const MAX_CONNECTIONS: u32 = 10_000;
 
 /// A server: the row that was last put in force for it, and its status now.
-#[derive(Clone, Copy, Debug, PartialEq, Eq)]
+#[derive(Clone, Copy)]
 pub struct Server {
     row: ServerRow,
     status: ServerStatus,

@@ -1,5 +1,5 @@
 -- The stage follows the log, entry by entry.
-use Rattle.std.proofs.Common.{◌≡◌, ◌⊎◌, ℕ, zero, suc, ◌<◌, ◌+◌, ◌-◌, ◌==◌, Bool, true, false, nat_lt, List, [], ◌∷◌, ◌++◌, length, take, drop, if◌then◌else◌, Option, Some, None, refl, sym, ◌∙◌, ap, subst, arith, inl, inr, get_or}
+use Rattle.std.proofs.Common.{◌≡◌, ◌⊎◌, ℕ, zero, suc, ◌<◌, ◌≤◌, ◌+◌, ◌-◌, ◌==◌, Bool, true, false, nat_lt, List, [], ◌∷◌, ◌++◌, length, take, drop, if◌then◌else◌, Option, Some, None, refl, sym, ◌∙◌, ap, subst, arith, inl, inr, get_or}
 use Rattle.std.specs.Prelude.{IfSome, slice_get, is_some, not, ◌&&◌, ◌||◌}
 use Rattle.std.proofs.lemmas.Option.{slice_get-get_or, slice_get_within}
 use Rattle.std.proofs.lemmas.List.{take-append-drop, length-take-le}
@@ -8,7 +8,7 @@ use Rattle.mx_base.specs.declared.names.ServerId.{ServerId}
 use Rattle.mx_base.specs.declared.names.Address.{Address}
 use Rattle.mx_wire.specs.Log.{Log, link_of, moment_step}
 use Rattle.mx_base.specs.declared.tag.Tag.{Tag}
-use Rattle.mx_wire.specs.Answers.{got_entry, took_entry, ReadsAtMost}
+use Rattle.mx_wire.specs.Answers.{got_entry, took_entry, ReadsAtMost, TakesAtMost}
 use Rattle.mx_wire.specs.declared.wire.Got.{Got}
 use Rattle.mx_wire.specs.declared.wire.Got.TheVariants as got
 use Rattle.mx_wire.specs.declared.wire.Took.{Took}
@@ -16,18 +16,17 @@ use Rattle.mx_wire.specs.declared.wire.Took.TheVariants as took
 use Rattle.mem_wire.specs.declared.ending.Ending.{Ending}
 use Rattle.mem_wire.specs.declared.ending.Ending.TheVariants as ending
 use Rattle.mem_wire.specs.declared.room.Room.{Room}
-use Rattle.mx_wire.specs.Tells.{IsOpen, OpenFor, Tells}
+use Rattle.mx_wire.specs.Tells.{IsOpen, OpenFor}
 use Rattle.mx_wire.specs.Tells.{Fits as FitsLog}
 use Rattle.mx_wire.specs.Growth.{same_number}
 use Rattle.mx_wire.specs.declared.entry.Entry.{Entry}
 use Rattle.mx_wire.specs.declared.entry.Entry.TheVariants as entry
 use Rattle.recording.specs.declared.entry.RecordLink.{RecordLink}
 use Rattle.recording.specs.declared.entry.RecordEntry.{RecordEntry}
-use Rattle.mem_wire.specs.declared.late.Late.{Late}
 use Rattle.mem_wire.specs.declared.naming.ToName.{ToName}
 use Rattle.mem_wire.specs.declared.track.Track.{Track}
 use Rattle.mem_wire.specs.declared.stage.Stage.{Stage}
-use Rattle.mem_wire.specs.Adds.{late_entries, Adds, IsBounded, Calls}
+use Rattle.mem_wire.specs.Adds.{late_entries, Calls}
 use Rattle.mem_wire.specs.Lines.{bytes_for, ending_for, is_refused}
 use Rattle.mem_wire.specs.Came.{is_open_call, room_left, known, with_link, known_ending, known_room}
 use Rattle.mem_wire.specs.CameLaws.{opens-more}
@@ -39,10 +38,10 @@ use Rattle.mem_wire.specs.Naming.{is_named, named_at, may_turn_ready}
 use Rattle.mem_wire.specs.Turns.{Searches, AllInTurn}
 use Rattle.mem_wire.specs.Stands.{read_by, Fits, Stands}
 use Rattle.mem_wire.specs.Follows.{Follows, IsTape}
-use Rattle.mem_wire.proofs.Links.{is_below, open-below, late_are}
+use Rattle.mem_wire.proofs.Links.{is_below, open-below}
 use Rattle.mem_wire.proofs.Scenes.{IsIdle, alike-idle, opens-same}
 use Rattle.mem_wire.proofs.Sound.{KeepsCourse, sound-call, sound-late}
-use Rattle.mem_wire.proofs.Courses.{Moved, moved-moves, within-moves}
+use Rattle.mem_wire.proofs.Courses.{Moved, moved-moves}
 use Rattle.mem_wire.proofs.LineLaws.{name_of, place-name_of}
 use Rattle.mem_wire.proofs.Standing.{stands-alike, Has, has-is}
 use Rattle.mem_wire.proofs.StandSteps.{but-entry, stands-stay}
@@ -50,8 +49,8 @@ use Rattle.mem_wire.proofs.StandMoves.{Brings_nothing, present, stands-moves, le
 use Rattle.mem_wire.proofs.Nameable.{named-link, names-at, names-some}
 use Rattle.mem_wire.proofs.InTurn.{or-true, Calms, calms-same, in-search, in-change}
 use Rattle.mem_wire.proofs.Playing.{IsPlain, stands-marked, follows-plain, none-late}
-use Rattle.mem_wire.proofs.Telling.{tells, goes_on, calls_after}
-use Rattle.mem_wire.proofs.Following.{sound-moved, open-if-open}
+use Rattle.mem_wire.proofs.Telling.{goes_on}
+use Rattle.mem_wire.proofs.Following.{sound-moved}
 
 -- Entries that a play doesn't look at.
 
@@ -447,18 +446,18 @@ stays-search found old mid new looks frame late = record {
   late = late;
 }
 
--- a read or a write that leaves an entry behind the late marks
-pub tape-read : (recording : List RecordEntry) (old new : Stage) (told shown mid after : Option Log) (link : LinkId) (before into : List ℕ) (g : Got) → IsTape recording old told → told ≡ shown → OpenFor shown link → Moves link (read_change g) old new → ReadsAtMost (length into) g → ((at : ℕ) → place_in old link ≡ Some at → at < length old.tracks.items → ReadsTrack (track_at old.tracks.items at) before into g) → Adds told (late_entries old.late) mid → Adds mid (got_entry link into g ∷ []) after → IsBounded after → IsTape recording new after
-tape-read recording old new told shown mid after link before into g tape same opened moves most reads first last bounded =
-    goes_on recording old new told after (late_entries old.late) (got_entry link into g) tape (within-moves recording old new tape.within moves.frame) (calls_after told mid after (late_entries old.late) (got_entry link into g) first last bounded)
-    (λ log is follows. follows-read recording old new log link before into g tape.within follows (open-in told shown link log same opened is) moves most reads)
+-- what a read or a write answered may follow a log on which its link is open
+pub read-fits : (log : Log) (link : LinkId) (into : List ℕ) (g : Got) → ReadsAtMost (length into) g → length into ≤ 65536 → IsOpen link log → FitsLog log (got_entry link into g)
+read-fits log link into (got.Got n) piece most opened =
+    let size : length (take n into) ≡ n = length-take-le n into piece.fits in
+    record { opened = opened; some = omega (arith, piece.some); most = omega (arith, piece.fits) }
+read-fits log link into got.NotReady piece most opened = opened
+read-fits log link into got.End piece most opened = opened
+read-fits log link into got.Failed piece most opened = opened
 
-pub tape-wrote : (recording : List RecordEntry) (old new : Stage) (told shown mid after : Option Log) (link : LinkId) (tag : Tag) (piece : List ℕ) (k : Took) → IsTape recording old told → told ≡ shown → OpenFor shown link → Moves link (write_change k) old new → ((at : ℕ) → place_in old link ≡ Some at → at < length old.tracks.items → WritesTrack old.last (track_at old.tracks.items at) (length piece) k) → Adds told (late_entries old.late) mid → Adds mid (took_entry link tag piece k ∷ []) after → IsBounded after → IsTape recording new after
-tape-wrote recording old new told shown mid after link tag piece k tape same opened moves writes first last bounded =
-    goes_on recording old new told after (late_entries old.late) (took_entry link tag piece k) tape (within-moves recording old new tape.within moves.frame) (calls_after told mid after (late_entries old.late) (took_entry link tag piece k) first last bounded)
-    (λ log is follows. follows-wrote recording old new log link tag piece k tape.within follows (open-in told shown link log same opened is) moves writes)
-
-pub tells-open : (told shown mid after : Option Log) (late : Late) (link : LinkId) (e : Entry) → told ≡ shown → OpenFor shown link → Adds told (late_entries late) mid → Adds mid (e ∷ []) after → IsBounded after → ((log : Log) → IsOpen link log → FitsLog log e) → Tells told e after
-tells-open told shown mid after late link e same opened first last bounded fits =
-    tells told (late_entries late) e after (calls_after told mid after (late_entries late) e first last bounded) (late_are late)
-    (λ log is. fits (log ++ late_entries late) (open-if-open told shown link late same opened log is))
+pub write-fits : (log : Log) (link : LinkId) (tag : Tag) (piece : List ℕ) (k : Took) → TakesAtMost (length piece) k → IsOpen link log → FitsLog log (took_entry link tag piece k)
+write-fits log link tag piece (took.Took n) part opened =
+    let size : length (take n piece) ≡ n = length-take-le n piece part.fits in
+    record { opened = opened; some = omega (arith, part.some) }
+write-fits log link tag piece took.NotReady part opened = opened
+write-fits log link tag piece took.Failed part opened = opened

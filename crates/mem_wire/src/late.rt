@@ -1,15 +1,15 @@
 // The marks that stand before the next call's entry.
 ghost use Rattle.std.specs.Prelude.{◌≡◌, []};
 
-use crate::marks::MarkList;
-use mx_base::LinkId;
+use crate::marks::Mark;
+use mx_base::{Items, LinkId};
 use std::alloc::Global;
 
 /// The marks that stand before the next call's entry: those of the link that was opened just before.
-#[derive(Drop, Debug)]
+#[derive(Drop)]
 pub(crate) struct Late {
     pub link: LinkId,
-    pub marks: MarkList,
+    pub marks: Items<Mark>,
 }
 
 impl Late {
@@ -19,7 +19,7 @@ impl Late {
     {
         Late {
             link: LinkId(0),
-            marks: MarkList::new(alloc),
+            marks: Items::new(alloc),
         }
     }
 

@@ -1,6 +1,7 @@
 //! The outside in memory: a wire that plays a recording and tells its log, files, and a sink.
 #![tactic(auto)]
 
+mod calls;
 mod ending;
 mod late;
 mod lines;
@@ -23,6 +24,3 @@ pub use mem_files::MemFiles;
 pub use mem_sink::MemSink;
 pub use tape::Tape;
 pub use waiting::Waiting;
-
-#[cfg(test)]
-mod tests;

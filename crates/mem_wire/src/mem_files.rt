@@ -2,7 +2,7 @@
 ghost use Rattle.std.specs.Prelude.{◌≡◌, Some, IfOk, bytes_eq, option_map};
 ghost use Rattle.std.specs.Map.{lookup};
 
-use http_server::Log;
+use crate::calls::Calls;
 use mx_base::{Bytes, OutOfMemory};
 use mx_wire::{FileFault, Files};
 use std::alloc::Global;
@@ -14,18 +14,15 @@ use std::marker::Model;
 pub struct MemFiles {
     alloc: Global,
     files: Vec<(Bytes, Bytes)>,
-    failing: Vec<u64>,
-    calls: u64,
-    failed: Log<u64, u64>,
+    calls: Calls,
 }
 
 impl Model for MemFiles {
-    ghost use Rattle.std.specs.Prelude.{length};
     ghost use Rattle.mem_wire.specs.Held.{HeldFiles};
 
     ghost Value = { HeldFiles };
 
-    ghost view = { λ f. record { files = f.files.items; faults = length f.failed.items } };
+    ghost view = { λ f. record { files = f.files.items; faults = f.calls } };
 }
 
 impl MemFiles {
@@ -36,9 +33,7 @@ impl MemFiles {
         MemFiles {
             alloc,
             files: entries,
-            failing,
-            calls: 0,
-            failed: Log::new(),
+            calls: Calls::new(failing),
         }
     }
 }
@@ -49,15 +44,14 @@ impl Files for MemFiles {
     ghost faults = { λ f. f.faults };
 
     fn read(&mut self, name: &str) -> Result<Vec<u8>, FileFault> {
-        self.calls = self.calls.saturating_add(1);
-        if !self.failing.contains(&self.calls) {
+        if !self.calls.next_fails() {
             match bytes_under(self.alloc, &self.files, name.as_bytes()) {
                 Ok(Some(bytes)) => return Ok(bytes),
                 Ok(None) => {}
                 Err(OutOfMemory) => return Err(FileFault::OutOfMemory),
             }
         }
-        self.failed = self.failed.and(&self.calls, &0);
+        self.calls.fail();
         Err(FileFault::Failed)
     }
 }

@@ -1,7 +1,7 @@
 // A sink in memory.
 ghost use Rattle.std.specs.Prelude.{◌≡◌, [], Some};
 
-use http_server::Log;
+use crate::calls::Calls;
 use mx_wire::{Sink, SinkFailed};
 use std::alloc::Global;
 use std::marker::Model;
@@ -11,18 +11,15 @@ use std::marker::Model;
 #[derive(Drop)]
 pub struct MemSink {
     bytes: Vec<u8>,
-    failing: Vec<u64>,
-    calls: u64,
-    failed: Log<u64, u64>,
+    calls: Calls,
 }
 
 impl Model for MemSink {
-    ghost use Rattle.std.specs.Prelude.{length};
     ghost use Rattle.mem_wire.specs.Held.{HeldBytes};
 
     ghost Value = { HeldBytes };
 
-    ghost view = { λ s. record { bytes = s.bytes.items; faults = length s.failed.items } };
+    ghost view = { λ s. record { bytes = s.bytes.items; faults = s.calls } };
 }
 
 impl MemSink {
@@ -32,9 +29,7 @@ impl MemSink {
     {
         MemSink {
             bytes: Vec::new(alloc),
-            failing,
-            calls: 0,
-            failed: Log::new(),
+            calls: Calls::new(failing),
         }
     }
 
@@ -52,13 +47,10 @@ impl Sink for MemSink {
     ghost faults = { λ s. s.faults };
 
     fn put(&mut self, bytes: &[u8]) -> Result<(), SinkFailed> {
-        self.calls = self.calls.saturating_add(1);
-        if !self.failing.contains(&self.calls) {
-            if self.bytes.extend_from_slice(bytes).is_ok() {
-                return Ok(());
-            }
+        if !self.calls.next_fails() && self.bytes.extend_from_slice(bytes).is_ok() {
+            return Ok(());
         }
-        self.failed = self.failed.and(&self.calls, &0);
+        self.calls.fail();
         Err(SinkFailed)
     }
 }

@@ -13,7 +13,7 @@ use crate::turns::Turns;
 use mx_base::LinkId;
 
 /// A link that is to be named, and the place of its track.
-#[derive(Clone, Copy, Debug)]
+#[derive(Clone, Copy)]
 pub(crate) struct ToName {
     pub at: usize,
     pub link: LinkId,

@@ -1,7 +1,8 @@
 // A wire that plays a recording.
-ghost use Rattle.std.specs.Prelude.{◌≡◌, [], Some, IfSome, option_map};
-ghost use Rattle.mx_wire.specs.declared.entry.Entry.TheVariants as entry;
+ghost use Rattle.std.specs.Prelude.{◌≡◌, [], length, Some, IfSome, option_map};
+ghost use Rattle.mx_wire.specs.Answers.{got_entry, took_entry, ReadsAtMost, TakesAtMost};
 ghost use Rattle.mx_wire.specs.Log.{Log as Told};
+ghost use Rattle.mx_wire.specs.Tells.{HasCause};
 ghost use Rattle.recording.specs.Playable.{IsPlayable};
 ghost use Rattle.mem_wire.specs.Play.{IsPlay};
 
@@ -169,32 +170,17 @@ impl Wire for Tape {
     fn read(&mut self, link: LinkId, into: &mut [u8]) -> Got {
         self.told.add_marks(&self.stage.late);
         let got = steps::read(&mut self.stage, link, into);
-        match got {
-            Got::Got { n } => self.told.add_if(got_entry(self.alloc, link, &into[..n])),
-            Got::NotReady => self.told.add(Entry::ReadNothing { link }),
-            Got::End => self.told.add(Entry::Ended { link }),
-            Got::Failed => {
-                self.told.add(Entry::ReadFailed { link });
-                self.failed = self.failed.and(&0, &0);
-            }
-        }
+        self.told.add_if(read_entry(self.alloc, link, got, into));
+        count_read(&mut self.failed, got);
         got
     }
 
     fn write(&mut self, link: LinkId, tag: Tag, piece: &[u8]) -> Took {
         self.told.add_marks(&self.stage.late);
         let took = steps::write(&mut self.stage, link, piece.len());
-        match took {
-            Took::Took { n } => {
-                self.told
-                    .add_if(wrote_entry(self.alloc, link, tag, &piece[..n]));
-            }
-            Took::NotReady => self.told.add(Entry::WriteNothing { link }),
-            Took::Failed => {
-                self.told.add(Entry::WriteFailed { link });
-                self.failed = self.failed.and(&0, &0);
-            }
-        }
+        self.told
+            .add_if(write_entry(self.alloc, link, tag, took, piece));
+        count_write(&mut self.failed, took);
         took
     }
 
@@ -205,17 +191,50 @@ impl Wire for Tape {
 }
 
 // The entry of a read, where there is memory for it.
-fn got_entry(alloc: Global, link: LinkId, bytes: &[u8]) -> Option<Entry>
-    ensures { IfSome result (λ e. e ≡ entry.Got link bytes.now) }
+fn read_entry(alloc: Global, link: LinkId, got: Got, into: &[u8]) -> Option<Entry>
+    requires { ReadsAtMost (length into.now) got }
+    ensures { IfSome result (λ e. e ≡ got_entry link into.now got) }
 {
-    let bytes = Bytes::from_slice(alloc, bytes).ok()?;
-    Some(Entry::Got { link, bytes })
+    Some(match got {
+        Got::Got { n } => {
+            let bytes = Bytes::from_slice(alloc, &into[..n]).ok()?;
+            Entry::Got { link, bytes }
+        }
+        Got::NotReady => Entry::ReadNothing { link },
+        Got::End => Entry::Ended { link },
+        Got::Failed => Entry::ReadFailed { link },
+    })
 }
 
 // The entry of a write, where there is memory for it.
-fn wrote_entry(alloc: Global, link: LinkId, tag: Tag, bytes: &[u8]) -> Option<Entry>
-    ensures { IfSome result (λ e. e ≡ entry.Wrote link tag bytes.now) }
+fn write_entry(alloc: Global, link: LinkId, tag: Tag, took: Took, piece: &[u8]) -> Option<Entry>
+    requires { TakesAtMost (length piece.now) took }
+    ensures { IfSome result (λ e. e ≡ took_entry link tag piece.now took) }
 {
-    let bytes = Bytes::from_slice(alloc, bytes).ok()?;
-    Some(Entry::Wrote { link, tag, bytes })
+    Some(match took {
+        Took::Took { n } => {
+            let bytes = Bytes::from_slice(alloc, &piece[..n]).ok()?;
+            Entry::Wrote { link, tag, bytes }
+        }
+        Took::NotReady => Entry::WriteNothing { link },
+        Took::Failed => Entry::WriteFailed { link },
+    })
+}
+
+// Counts a read that failed.
+fn count_read(failed: &mut Log<u64, u64>, got: Got)
+    ensures { HasCause (got ≡ Got.Failed) (length failed.old.items) (length failed.new.items) }
+{
+    if let Got::Failed = got {
+        *failed = failed.and(&0, &0);
+    }
+}
+
+// Counts a write that failed.
+fn count_write(failed: &mut Log<u64, u64>, took: Took)
+    ensures { HasCause (took ≡ Took.Failed) (length failed.old.items) (length failed.new.items) }
+{
+    if let Took::Failed = took {
+        *failed = failed.and(&0, &0);
+    }
 }

@@ -8,7 +8,7 @@ use std::alloc::Global;
 use std::marker::Model;
 
 /// A log that is told until there is no memory for an entry, or until it would have 2^48 entries.
-#[derive(Drop, Debug)]
+#[derive(Drop)]
 pub(crate) struct ToldLog {
     entries: Vec<Entry>,
     untold: bool,

@@ -6,14 +6,14 @@ ghost use Rattle.mem_wire.specs.Steps.{ReadsTrack, WritesTrack};
 ghost use Rattle.mem_wire.specs.Naming.{may_be_ready};
 
 use crate::ending::Ending;
-use crate::marks::MarkList;
+use crate::marks::Mark;
 use crate::room::Room;
-use mx_base::{ByteQueue, LinkId};
+use mx_base::{ByteQueue, Items, LinkId};
 use mx_wire::{Got, Took};
 use std::alloc::Global;
 
 /// What the lines of one link have given so far, whether the link has come or not.
-#[derive(Drop, Debug)]
+#[derive(Drop)]
 pub(crate) struct Track {
     /// The link, once it has come.
     pub link: Option<LinkId>,
@@ -28,7 +28,7 @@ pub(crate) struct Track {
     /// The last write found no room.
     pub blocked: bool,
     /// The marks of its released lines.
-    pub marks: MarkList,
+    pub marks: Items<Mark>,
     /// The line of the wake that named it last.
     pub named: Option<usize>,
 }
@@ -45,7 +45,7 @@ impl Track {
             told: false,
             room: None,
             blocked: false,
-            marks: MarkList::new(alloc),
+            marks: Items::new(alloc),
             named: None,
         }
     }

@@ -7,10 +7,10 @@ ghost use Rattle.mem_wire.specs.Naming.{may_be_ready};
 ghost use Rattle.recording.specs.declared.entry.RecordLink.{RecordLink};
 
 use crate::ending::Ending;
-use crate::marks::{Mark, MarkList};
+use crate::marks::Mark;
 use crate::room::Room;
 use crate::track::Track;
-use mx_base::{LinkId, OutOfMemory};
+use mx_base::{Items, LinkId, OutOfMemory};
 use mx_wire::{Got, Took};
 use recording::{RecordEntry, RecordLink};
 use std::alloc::Global;
@@ -138,12 +138,16 @@ pub(crate) fn release(
 }
 
 /// A copy of the marks of a track.
-pub(crate) fn marks_at(alloc: Global, tracks: &[Track], at: usize) -> Result<MarkList, OutOfMemory>
+pub(crate) fn marks_at(
+    alloc: Global,
+    tracks: &[Track],
+    at: usize,
+) -> Result<Items<Mark>, OutOfMemory>
     ensures { IfOk result (λ marks. marks ≡ (track_at tracks.now at).marks) }
 {
     match tracks.get(at) {
-        Some(track) => track.marks.copied(alloc),
-        None => Ok(MarkList::new(alloc)),
+        Some(track) => Ok(Items::from_vec(track.marks.as_slice().to_vec(alloc)?)),
+        None => Ok(Items::new(alloc)),
     }
 }
 

@@ -1,1 +1,3 @@
+pub mod DecimalSteps
 pub mod Joined
+pub mod PieceSteps

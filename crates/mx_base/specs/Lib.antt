@@ -1,2 +1,6 @@
-pub mod Fields
+pub mod Decimal
 pub mod FieldLaws
+pub mod Fields
+pub mod PieceLaws
+pub mod Pieces
+pub mod Steps

@@ -1,4 +1,3 @@
-pub mod Cuts
 pub mod Documents
 pub mod Keys
 pub mod OneMore

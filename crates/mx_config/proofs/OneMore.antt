@@ -1,10 +1,9 @@
 -- One row more behind lawful rows.
-use Rattle.std.proofs.Common.{◌≡◌, ℕ, ◌+◌, ◌<◌, ◌≤◌, List, [], ◌∷◌, ◌++◌, length, All, Option, Some, None, refl, append_assoc, arith}
+use Rattle.std.proofs.Common.{◌≡◌, ◌<◌, ◌≤◌, List, [], ◌∷◌, ◌++◌, length, Option, Some, None, refl, append_assoc}
 use Rattle.std.specs.Option.{option_or}
 use Rattle.std.proofs.lemmas.Bool.{lt-leb, le-ltb}
 use Rattle.std.proofs.lemmas.List.{append-nil}
 use Rattle.std.proofs.lemmas.List.Elements.{All-push}
-use Rattle.hostgroups.specs.declared.fault.ServersFault.{ServersFault}
 use Rattle.hostgroups.specs.declared.row.ServerRow.{ServerRow}
 use Rattle.hostgroups.specs.Rows.{fault_of, first_fault_behind}
 use Rattle.mx_config.specs.Lawful.{EachBehind, IsLawfulServer, AreLawfulServers}

@@ -1,9 +1,11 @@
 -- Configurations in which nothing is out of range, as every one is that was read.
-use Rattle.std.specs.Prelude.{◌≡◌, ℕ, ◌+◌, ◌≤◌, Bool, true, false, List, [], ◌∷◌, ◌++◌, length, map, All, None}
+use Rattle.std.specs.Prelude.{◌≡◌, ℕ, ◌+◌, ◌≤◌, true, false, List, [], ◌∷◌, ◌++◌, length, map, All, None}
 use Rattle.hostgroups.specs.Rows.{name_of, number_of, connections_of, first_fault}
 use Rattle.hostgroups.specs.declared.row.ServerRow.{ServerRow}
 use Rattle.mx_config.specs.declared.config.Config.{Config}
 use Rattle.mx_config.specs.declared.config.ProxyRow.{ProxyRow}
+use Rattle.mx_config.specs.declared.proxy.ProxyTexts.{ProxyTexts}
+use Rattle.mx_config.specs.declared.proxy.ProxyLimits.{ProxyLimits}
 use Rattle.mx_config.specs.declared.config.UserRow.{UserRow}
 use Rattle.mx_config.specs.declared.value.TextForm.TheVariants.{Any, NotEmpty, Short}
 use Rattle.mx_config.specs.Tables.{has_user}
@@ -11,6 +13,19 @@ use Rattle.mx_config.specs.Values.{fits}
 
 abbrev pub IsBetween : (least most : ℕ) → ℕ → Type 0
 IsBetween least most n = (least ≤ n) × (n ≤ most)
+
+pub record AreLawfulTexts (t : ProxyTexts) : Type 0 where
+  pub admin_user : fits NotEmpty t.admin_user ≡ true
+  pub admin_password : fits Any t.admin_password ≡ true
+  pub server_version : fits Short t.server_version ≡ true
+  pub default_schema : fits Any t.default_schema ≡ true
+
+pub record AreLawfulLimits (l : ProxyLimits) : Type 0 where
+  pub max_clients : IsBetween 1 4000 l.max_clients
+  pub max_packet : IsBetween 1024 268435456 l.max_packet
+  pub buffer_budget : IsBetween 1048576 2147483648 l.buffer_budget
+  pub wait_ms : IsBetween 1 3600000 l.wait_ms
+  pub idle_ms : IsBetween 1 86400000 l.idle_ms
 
 pub record IsLawfulProxy (p : ProxyRow) : Type 0 where
   pub admin_user : fits NotEmpty p.admin_user ≡ true

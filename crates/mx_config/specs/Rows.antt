@@ -1,5 +1,5 @@
 -- The keys of a row.
-use Rattle.std.specs.Prelude.{ℕ, Bool, if◌then◌else◌, List, [], Option, Some, None, Ok, Err, bytes_eq}
+use Rattle.std.specs.Prelude.{ℕ, Bool, if◌then◌else◌, List, [], Option, Some, None, Ok, Err, option_map, bytes_eq}
 use Rattle.std.specs.List.{list_any}
 use Rattle.std.specs.Ordering.{nat_cmp, match_ordering}
 use Rattle.std.specs.Cmp.Lexicographic.{slice_cmp}
@@ -35,14 +35,15 @@ abbrev pub placed : {X : Type 0} → Place → (key : List ℕ) → Valued X →
 placed place key (Ok x) = Ok x
 placed place key (Err kind) = Err (fault_at place kind key)
 
-abbrev pub value_or : {X : Type 0} → (default : Option X) → (Data → Valued X) → Option Data → Valued X
-value_or default value (Some d) = value d
-value_or (Some x) value None = Ok x
-value_or None value None = Err MissingKey
+-- what is given, or the default
+abbrev pub or_default : {X : Type 0} → (default : Option X) → (given : Option (Valued X)) → Valued X
+or_default default (Some given) = given
+or_default (Some x) None = Ok x
+or_default None None = Err MissingKey
 
 -- a key of a row: its value, or its default where it isn't there; a key without a default has to be there
 unfoldable pub key_of : {X : Type 0} → Place → (key : List ℕ) → (default : Option X) → (value : Data → Valued X) → Members → Said X
-key_of place key default value ms = placed place key (value_or default value (get_member key ms))
+key_of place key default value ms = placed place key (or_default default (option_map value (get_member key ms)))
 
 abbrev pub or_wrong : {X : Type 0} → Place → Option X → Said X
 or_wrong place None = Err (fault_at place WrongType [])

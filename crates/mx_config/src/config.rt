@@ -1,18 +1,17 @@
 // What a configuration says.
-use crate::Rows;
 use hostgroups::ServerRow;
-use mx_base::{Address, Bytes, Hostgroup};
+use mx_base::{Address, Bytes, Hostgroup, Items};
 
 /// What a configuration file says.
-#[derive(Debug, Drop)]
+#[derive(Drop)]
 pub struct Config {
     pub proxy: ProxyRow,
-    pub users: Rows<UserRow>,
-    pub servers: Rows<ServerRow>,
+    pub users: Items<UserRow>,
+    pub servers: Items<ServerRow>,
 }
 
 /// The table `proxy`: where the proxy listens, how it greets, and its limits.
-#[derive(Debug, Drop)]
+#[derive(Drop)]
 pub struct ProxyRow {
     /// Where clients connect.
     pub listen: Address,
@@ -38,7 +37,7 @@ pub struct ProxyRow {
 }
 
 /// A row of the table `users`: who may log in, and where the statements go that no rule sends elsewhere.
-#[derive(Debug, Drop)]
+#[derive(Drop)]
 pub struct UserRow {
     /// At least one byte; no two rows have the same.
     pub name: Bytes,

@@ -6,7 +6,7 @@ use mx_base::{Bytes, OutOfMemory};
 use std::alloc::Global;
 
 /// What is wrong.
-#[derive(Clone, Copy, Debug, PartialEq, Eq)]
+#[derive(Clone, Copy)]
 pub(crate) enum Kind {
     /// The bytes are no TOML document.
     NotToml,
@@ -27,7 +27,7 @@ pub(crate) enum Kind {
 }
 
 /// The tables of the file, and the file itself.
-#[derive(Clone, Copy, Debug, PartialEq, Eq)]
+#[derive(Clone, Copy)]
 pub(crate) enum TableName {
     File,
     Proxy,
@@ -36,7 +36,7 @@ pub(crate) enum TableName {
 }
 
 /// Where a fault stands: the table, and its row, counted from 1; 0 is the table as a whole.
-#[derive(Clone, Copy, Debug, PartialEq, Eq)]
+#[derive(Clone, Copy)]
 pub(crate) struct Place {
     pub table: TableName,
     pub row: u32,

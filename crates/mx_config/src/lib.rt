@@ -7,14 +7,10 @@ mod fault;
 mod proxy;
 mod read;
 mod row;
-mod rows;
 mod servers;
-#[cfg(test)]
-mod tests;
 mod users;
 mod value;
 
 pub use config::{Config, ProxyRow, UserRow};
 pub use fault::{ConfigFault, ConfigRefusal};
 pub use read::read_config;
-pub use rows::Rows;

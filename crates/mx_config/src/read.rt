@@ -14,8 +14,9 @@ use crate::row::{Row, row_table};
 use crate::servers::read_server_rows;
 use crate::users::read_user_rows;
 use crate::value::member;
-use crate::{Config, ConfigRefusal, ProxyRow, Rows, UserRow};
+use crate::{Config, ConfigRefusal, ProxyRow, UserRow};
 use hostgroups::ServerRow;
+use mx_base::Items;
 use std::alloc::Global;
 use toml::{Table, Value};
 
@@ -89,7 +90,7 @@ fn read_proxy(alloc: Global, file: &Table) -> Result<ProxyRow, ConfigRefusal>
     }
 }
 
-fn read_users(alloc: Global, file: &Table) -> Result<Rows<UserRow>, ConfigRefusal>
+fn read_users(alloc: Global, file: &Table) -> Result<Items<UserRow>, ConfigRefusal>
     ensures said { Gives result (users_of (get_member (codes "users") (table_view file.now))) }
     ensures lawful { IfOk result AreLawfulUsers }
 {
@@ -102,7 +103,7 @@ fn read_users(alloc: Global, file: &Table) -> Result<Rows<UserRow>, ConfigRefusa
     }
 }
 
-fn read_servers(alloc: Global, file: &Table) -> Result<Rows<ServerRow>, ConfigRefusal>
+fn read_servers(alloc: Global, file: &Table) -> Result<Items<ServerRow>, ConfigRefusal>
     ensures said { Gives result (servers_of (get_member (codes "servers") (table_view file.now))) }
     ensures lawful { IfOk result AreLawfulServers }
 {
@@ -111,7 +112,7 @@ fn read_servers(alloc: Global, file: &Table) -> Result<Rows<ServerRow>, ConfigRe
             let items = table_rows(alloc, whole(TableName::Servers), 0, value)?;
             read_server_rows(alloc, items)
         }
-        None => Ok(Rows::from_vec(Vec::new(alloc))),
+        None => Ok(Items::from_vec(Vec::new(alloc))),
     }
 }
 

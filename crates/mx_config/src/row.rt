@@ -6,8 +6,9 @@ ghost use Rattle.std.specs.Option.{option_copied, ForSome};
 ghost use Rattle.std.specs.String.{string_cmp};
 ghost use Rattle.toml.specs.View.{view, table_view};
 ghost use Rattle.mx_config.specs.Faults.{Gives};
-ghost use Rattle.mx_config.specs.Lent.{GivesTable};
-ghost use Rattle.mx_config.specs.Rows.{key_of, known_only, least_unknown, is_known, table_at};
+ghost use Rattle.mx_config.specs.Lent.{GivesTable, GivesRow};
+ghost use Rattle.mx_config.specs.Rows.{key_of, placed, or_default, known_only, least_unknown, is_known, table_at};
+ghost use Rattle.mx_config.specs.Tables.{row_at};
 ghost use Rattle.mx_config.specs.Values.{number, text, fits, address_value, host_value, status_value};
 
 use crate::ConfigRefusal;
@@ -100,16 +101,11 @@ impl Row<'_> {
     ) -> Result<Address, ConfigRefusal>
         ensures { Gives result (key_of self.now.place key.now default address_value (table_view self.now.members.now)) }
     {
-        match member(self.members, key) {
-            Some(value) => match read_address_value(value) {
-                Ok(x) => Ok(x),
-                Err(kind) => Err(refusal(self.alloc, self.place, kind, key)),
-            },
-            None => match default {
-                Some(x) => Ok(x),
-                None => Err(refusal(self.alloc, self.place, Kind::MissingKey, key)),
-            },
-        }
+        self.given(
+            key,
+            default,
+            member(self.members, key).map(read_address_value),
+        )
     }
 
     /// The host of a key, `a.b.c.d`.
@@ -117,16 +113,7 @@ impl Row<'_> {
     pub(crate) fn host(&self, key: &str, default: Option<[u8; 4]>) -> Result<[u8; 4], ConfigRefusal>
         ensures { Gives result (key_of self.now.place key.now default host_value (table_view self.now.members.now)) }
     {
-        match member(self.members, key) {
-            Some(value) => match read_host_value(value) {
-                Ok(x) => Ok(x),
-                Err(kind) => Err(refusal(self.alloc, self.place, kind, key)),
-            },
-            None => match default {
-                Some(x) => Ok(x),
-                None => Err(refusal(self.alloc, self.place, Kind::MissingKey, key)),
-            },
-        }
+        self.given(key, default, member(self.members, key).map(read_host_value))
     }
 
     /// The status of a key, as an operator may give it.
@@ -138,15 +125,29 @@ impl Row<'_> {
     ) -> Result<ServerStatus, ConfigRefusal>
         ensures { Gives result (key_of self.now.place key.now default status_value (table_view self.now.members.now)) }
     {
-        match member(self.members, key) {
-            Some(value) => match read_status_value(value) {
-                Ok(x) => Ok(x),
-                Err(kind) => Err(refusal(self.alloc, self.place, kind, key)),
-            },
-            None => match default {
-                Some(x) => Ok(x),
-                None => Err(refusal(self.alloc, self.place, Kind::MissingKey, key)),
-            },
+        self.given(
+            key,
+            default,
+            member(self.members, key).map(read_status_value),
+        )
+    }
+
+    // What is given for a key, or its default, or why there is none.
+    fn given<T: Drop>(
+        &self,
+        key: &str,
+        default: Option<T>,
+        value: Option<Result<T, Kind>>,
+    ) -> Result<T, ConfigRefusal>
+        ensures { Gives result (placed self.now.place key.now (or_default default value)) }
+    {
+        let given = match value {
+            Some(given) => given,
+            None => default.ok_or(Kind::MissingKey),
+        };
+        match given {
+            Ok(value) => Ok(value),
+            Err(kind) => Err(refusal(self.alloc, self.place, kind, key)),
         }
     }
 }
@@ -173,6 +174,26 @@ fn is_listed(known: &[&str], key: &str) -> bool
     ensures { result ≡ is_known (map (λ k. k.now) known.now) key.now }
 {
     known.contains(&key)
+}
+
+/// The row at a place, which has no other keys than these.
+#[tactic(auto, unfolding(crate::specs::Tables::row_at))]
+pub(crate) fn row_of<'a>(
+    alloc: Global,
+    place: Place,
+    value: &'a Value,
+    known: &[&str],
+) -> Result<Row<'a>, ConfigRefusal>
+    ensures { GivesRow result place (row_at place (map (λ k. k.now) known.now) (view value.now)) }
+{
+    let members = row_table(alloc, place, value)?;
+    let row = Row {
+        alloc,
+        place,
+        members,
+    };
+    row.only(known)?;
+    Ok(row)
 }
 
 /// The table that a row is.

@@ -1,22 +1,40 @@
 // The table `servers`.
 ghost use Rattle.std.specs.Prelude.{◌≡◌, ◌≤◌, ◌<◌, ◌+◌, ◌++◌, ◌∷◌, [], None, length, map, IfOk, OnOk};
-ghost use Rattle.toml.specs.View.{view, items_view};
+ghost use Rattle.toml.specs.View.{view, items_view, table_view};
 ghost use Rattle.hostgroups.specs.Rows.{has_server, name_of, number_of, connections_of};
 ghost use Rattle.mx_config.specs.Faults.{Gives};
-ghost use Rattle.mx_config.specs.Lawful.{IsLawfulServer, AreLawfulServers};
-ghost use Rattle.mx_config.specs.Tables.{server_row, rows_from, counted, new_server};
+ghost use Rattle.mx_config.specs.Lawful.{IsBetween, IsLawfulServer, AreLawfulServers};
+ghost use Rattle.mx_config.specs.Tables.{named_server, duty_of, server_row, rows_from, counted, new_server};
 
+use crate::ConfigRefusal;
 use crate::fault::{Kind, Place, TableName, refusal};
-use crate::row::{Row, row_table};
-use crate::{ConfigRefusal, Rows};
+use crate::row::{Row, row_of};
 use hostgroups::{ServerName, ServerNumbers, ServerRow, ServerStatus};
-use mx_base::{Address, Hostgroup, OutOfMemory};
+use mx_base::{Address, Hostgroup, Items, OutOfMemory};
 use std::alloc::Global;
 use std::marker::Model;
 use toml::Value;
 
 /// The connections that the rows may allow in all.
 const MAX_CONNECTIONS: u64 = 10_000;
+
+/// The keys of a row, in order.
+const KEYS: [&str; 6] = [
+    "hostgroup",
+    "host",
+    "port",
+    "weight",
+    "max_connections",
+    "status",
+];
+
+/// What a server may be asked for.
+#[derive(Clone, Copy)]
+pub(crate) struct Duty {
+    pub weight: u16,
+    pub max_connections: u16,
+    pub status: ServerStatus,
+}
 
 /// The rows of servers so far, which contracts see as a list.
 #[derive(Drop)]
@@ -83,10 +101,10 @@ impl ServerTable {
         Ok(())
     }
 
-    fn into_rows(self) -> Rows<ServerRow>
+    fn into_rows(self) -> Items<ServerRow>
         ensures { result ≡ self }
     {
-        Rows::from_vec(self.rows)
+        Items::from_vec(self.rows)
     }
 }
 
@@ -94,7 +112,7 @@ impl ServerTable {
 pub(crate) fn read_server_rows(
     alloc: Global,
     items: &[Value],
-) -> Result<Rows<ServerRow>, ConfigRefusal>
+) -> Result<Items<ServerRow>, ConfigRefusal>
     requires { length items.now ≤ 1024 }
     ensures said { Gives result (rows_from server_row [] (items_view items.now)) }
     ensures lawful { IfOk result AreLawfulServers }
@@ -122,39 +140,51 @@ fn read_server_row(
         table: TableName::Servers,
         row: before.len() as u32 + 1,
     };
-    let members = row_table(alloc, place, value)?;
-    let row = Row {
-        alloc,
-        place,
-        members,
-    };
-    row.only(&[
-        "hostgroup",
-        "host",
-        "port",
-        "weight",
-        "max_connections",
-        "status",
-    ])?;
+    let row = row_of(alloc, place, value, &KEYS)?;
+    let name = read_name(&row)?;
+    let duty = read_duty(before, &row)?;
+    new_server(alloc, row.place, before, name)?;
+    Ok(ServerRow {
+        hostgroup: name.hostgroup,
+        address: name.address,
+        weight: duty.weight,
+        max_connections: duty.max_connections,
+        status: duty.status,
+    })
+}
+
+#[tactic(auto, unfolding(crate::specs::Tables::named_server))]
+fn read_name(row: &Row) -> Result<ServerName, ConfigRefusal>
+    ensures { Gives result (named_server row.now.place (table_view row.now.members.now)) }
+{
     let hostgroup = row.number("hostgroup", None, 0, 65_535)?;
     let ip = row.host("host", None)?;
     let port = row.number("port", None, 0, 65_535)?;
-    let weight = row.number("weight", Some(1), 1, 1000)?;
-    let max_connections = row.number("max_connections", Some(100), 1, 10_000)?;
-    few_connections(alloc, place, before, max_connections)?;
-    let status = row.status("status", Some(ServerStatus::Online))?;
-    let server = ServerRow {
+    Ok(ServerName {
         hostgroup: Hostgroup(hostgroup as u16),
         address: Address {
             ip,
             port: port as u16,
         },
+    })
+}
+
+#[tactic(auto, unfolding(crate::specs::Tables::duty_of))]
+fn read_duty(before: &ServerTable, row: &Row) -> Result<Duty, ConfigRefusal>
+    ensures said { Gives result (duty_of row.now.place before.now (table_view row.now.members.now)) }
+    ensures weight { IfOk result (λ d. IsBetween 1 1000 d.weight) }
+    ensures connections { IfOk result (λ d. IsBetween 1 10000 d.max_connections) }
+    ensures few { IfOk result (λ d. connections_of before.now + d.max_connections ≤ 10000) }
+{
+    let weight = row.number("weight", Some(1), 1, 1000)?;
+    let max_connections = row.number("max_connections", Some(100), 1, 10_000)?;
+    few_connections(row.alloc, row.place, before, max_connections)?;
+    let status = row.status("status", Some(ServerStatus::Online))?;
+    Ok(Duty {
         weight: weight as u16,
         max_connections: max_connections as u16,
         status,
-    };
-    new_server(alloc, place, before, server)?;
-    Ok(server)
+    })
 }
 
 // Refuses a row that passes the connections that all rows may allow.
@@ -179,12 +209,12 @@ fn new_server(
     alloc: Global,
     place: Place,
     before: &ServerTable,
-    server: ServerRow,
+    name: ServerName,
 ) -> Result<(), ConfigRefusal>
-    ensures said { Gives result (new_server place before.now (name_of server)) }
-    ensures new { OnOk result (number_of (map name_of before.now) (name_of server) ≡ None) }
+    ensures said { Gives result (new_server place before.now name) }
+    ensures new { OnOk result (number_of (map name_of before.now) name ≡ None) }
 {
-    if before.has(server.name()) {
+    if before.has(name) {
         return Err(refusal(alloc, place, Kind::DuplicateServer, "hostgroup"));
     }
     Ok(())

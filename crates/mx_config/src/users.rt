@@ -1,19 +1,24 @@
 // The table `users`.
-ghost use Rattle.std.specs.Prelude.{◌≡◌, ◌≤◌, ◌<◌, ◌++◌, ◌∷◌, [], false, length, IfOk, OnOk};
-ghost use Rattle.toml.specs.View.{view, items_view};
+ghost use Rattle.std.specs.Prelude.{◌≡◌, ◌≤◌, ◌<◌, ◌++◌, ◌∷◌, [], true, false, length, IfOk, OnOk};
+ghost use Rattle.toml.specs.View.{view, items_view, table_view};
 ghost use Rattle.mx_config.specs.Faults.{Gives};
 ghost use Rattle.mx_config.specs.Lawful.{IsBetween, IsLawfulUser, AreLawfulUsers};
-ghost use Rattle.mx_config.specs.Tables.{has_user, user_row, rows_from, new_user};
+ghost use Rattle.mx_config.specs.Tables.{has_user, user_of, user_row, rows_from, new_user};
+ghost use Rattle.mx_config.specs.Values.{fits};
+ghost use Rattle.mx_config.specs.declared.value.TextForm.TheVariants.{Any, NotEmpty};
 
 use crate::fault::{Kind, Place, TableName, refusal};
-use crate::row::{Row, row_table};
+use crate::row::{Row, row_of};
 use crate::value::TextForm;
-use crate::{ConfigRefusal, Rows, UserRow};
-use mx_base::{Bytes, Hostgroup, OutOfMemory};
+use crate::{ConfigRefusal, UserRow};
+use mx_base::{Bytes, Hostgroup, Items, OutOfMemory};
 use std::alloc::Global;
 use std::collections::HashSet;
 use std::marker::Model;
 use toml::Value;
+
+/// The keys of a row, in order.
+const KEYS: [&str; 3] = ["name", "password", "default_hostgroup"];
 
 /// The rows of users so far, which contracts see as a list. A name is found in the time of a look-up in a set.
 #[derive(Drop)]
@@ -67,15 +72,18 @@ impl UserTable {
         Ok(())
     }
 
-    fn into_rows(self) -> Rows<UserRow>
+    fn into_rows(self) -> Items<UserRow>
         ensures { result ≡ self }
     {
-        Rows::from_vec(self.rows)
+        Items::from_vec(self.rows)
     }
 }
 
 /// The rows of users.
-pub(crate) fn read_user_rows(alloc: Global, items: &[Value]) -> Result<Rows<UserRow>, ConfigRefusal>
+pub(crate) fn read_user_rows(
+    alloc: Global,
+    items: &[Value],
+) -> Result<Items<UserRow>, ConfigRefusal>
     requires { IsBetween 1 1024 (length items.now) }
     ensures said { Gives result (rows_from user_row [] (items_view items.now)) }
     ensures lawful { IfOk result AreLawfulUsers }
@@ -99,17 +107,21 @@ fn read_user_row(alloc: Global, before: &UserTable, value: &Value) -> Result<Use
         table: TableName::Users,
         row: before.len() as u32 + 1,
     };
-    let members = row_table(alloc, place, value)?;
-    let row = Row {
-        alloc,
-        place,
-        members,
-    };
-    row.only(&["name", "password", "default_hostgroup"])?;
+    let row = row_of(alloc, place, value, &KEYS)?;
+    let user = read_user(&row)?;
+    new_user(alloc, row.place, before, &user.name)?;
+    Ok(user)
+}
+
+#[tactic(auto, unfolding(crate::specs::Tables::user_of))]
+fn read_user(row: &Row) -> Result<UserRow, ConfigRefusal>
+    ensures said { Gives result (user_of row.now.place (table_view row.now.members.now)) }
+    ensures name { IfOk result (λ user. fits NotEmpty user.name ≡ true) }
+    ensures password { IfOk result (λ user. fits Any user.password ≡ true) }
+{
     let name = row.text("name", None, TextForm::NotEmpty)?;
     let password = row.text("password", None, TextForm::Any)?;
     let hostgroup = row.number("default_hostgroup", Some(0), 0, 65_535)?;
-    new_user(alloc, place, before, &name)?;
     Ok(UserRow {
         name,
         password,

@@ -12,7 +12,7 @@ use mx_base::Address;
 use toml::{Table, Value};
 
 /// What a text has to be, beside free of the byte 0.
-#[derive(Clone, Copy, Debug, PartialEq, Eq)]
+#[derive(Clone, Copy)]
 pub(crate) enum TextForm {
     Any,
     NotEmpty,

@@ -1,4 +1,3 @@
-pub mod FieldSteps
 pub mod LineSteps
 pub mod LongestRuns
 pub mod PlaceSteps

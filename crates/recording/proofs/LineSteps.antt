@@ -7,7 +7,7 @@ use Rattle.recording.specs.Recording.{Standing, Reading, Said, nothing_yet, line
 use Rattle.recording.specs.declared.entry.RecordEntry.{RecordEntry}
 use Rattle.recording.specs.declared.fault.Kind.TheVariants.{NoLineFeed}
 use Rattle.recording.specs.declared.fault.RecordFault.{RecordFault}
-use Rattle.recording.proofs.FieldSteps.{cut, uncut, some_cons, found_inside}
+use Rattle.mx_base.specs.PieceLaws.{cut, uncut, some_piece, found_inside}
 use Rattle.recording.specs.Refusal.{Refuses, Faults, refused_at}
 use Rattle.recording.specs.declared.fault.LineRefusal.{LineRefusal}
 use Rattle.recording.specs.declared.fault.LineRefusal.TheVariants as refusal
@@ -45,7 +45,7 @@ no_line_feed read rest some none = ap (lines_read (Ok read)) (uncut is_line_feed
 
 turn : (read : Reading) (rest : List ℕ) (at : ℕ) → Some at ≡ position is_line_feed rest → leads read rest ≡ lines_read (line_read read (take at rest)) (slice_split is_line_feed (behind at rest))
 turn read rest at found =
-    let later = some_cons is_line_feed (behind at rest) in
+    let later = some_piece is_line_feed (behind at rest) in
     ap (lines_read (Ok read)) (cut is_line_feed rest at found ∙ ap (λ xs. take at rest ∷ xs) later.2)
     ∙ more_lines read (take at rest) later.0 later.1
     ∙ ap (lines_read (line_read read (take at rest))) (sym later.2)

@@ -7,7 +7,10 @@ use Rattle.std.proofs.lemmas.Bool.{and_parts, ltb-true, leb-true}
 use Rattle.hex.specs.Hex.{IsBytes, decode_of, decode_sized}
 use Rattle.hex.specs.declared.error.FromHexError.{FromHexError}
 use Rattle.hex.proofs.HexLemmas.{decode_of-ok, decode_sized-ok, decode_sized-twice}
-use Rattle.recording.specs.Fields.{◌>>=◌, one, two, three, is_decimal, decimal_value, in_64_bits, in_order, lettered, either_link, decoded, is_salt_byte, number, ordinal, client, server, link, port, salt, some_bytes}
+use Rattle.mx_base.specs.Decimal.{is_decimal, decimal_value, in_64_bits, number}
+use Rattle.mx_base.specs.Pieces.{one, two, three}
+use Rattle.mx_base.specs.Steps.{◌>>=◌}
+use Rattle.recording.specs.Fields.{in_order, lettered, either_link, decoded, is_salt_byte, ordinal, client, server, link, port, salt, some_bytes}
 use Rattle.recording.specs.Line.{said, said_by, or_kind, meaning, accept, arrive, room, word}
 use Rattle.recording.specs.Spelling.{IsOrdinal, HasOrdinal, HasSpelling}
 use Rattle.recording.specs.declared.entry.RecordEntry.{RecordEntry}

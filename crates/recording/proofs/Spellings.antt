@@ -1,5 +1,5 @@
 -- The spelling of an entry says the entry.
-use Rattle.std.proofs.Common.{◌≡◌, ℕ, ◌/◌, ◌%◌, ◌^◌, ◌<◌, Bool, true, false, not, ◌==◌, nat_le, zero, suc, lit<, inl, inr, List, [], ◌∷◌, ◌++◌, length, get_or, Some, None, refl, ap, ◌∙◌, arith, rules}
+use Rattle.std.proofs.Common.{◌≡◌, ℕ, ◌/◌, ◌%◌, ◌^◌, ◌<◌, Bool, true, false, not, ◌==◌, nat_le, zero, suc, lit<, inl, inr, List, [], ◌∷◌, ◌++◌, length, get_or, Some, None, refl, sym, ap, ◌∙◌, arith, rules}
 use Rattle.std.specs.Prelude.{slice_index, codes, Ok, decimal}
 use Rattle.std.specs.List.{slice_split, onto_first, list_all, join_with_byte}
 use Rattle.std.proofs.lemmas.Bool.{cases_Bool, cases_lt, and_parts, and_from, lt-ltb, le-leb, leb-true, eqb-true, or_cases, not-true}
@@ -11,13 +11,18 @@ use Rattle.hex.specs.Hex.{encode_lower, encode_with, lower_digits, hex_digit_val
 use Rattle.hex.proofs.HexLemmas.{IsDigits-lower_digits, decode_of-encode_lower, decode_sized-encode_lower}
 use Rattle.mx_base.specs.declared.names.Port.{Port}
 use Rattle.mx_base.specs.declared.names.Port.TheVariants.{Traffic, Admin}
-use Rattle.recording.specs.Fields.{fields, is_blank, is_digit, is_salt_byte, with_digit, decimal_value, leads_with_zero, is_decimal, number, ordinal, client, server, link, port, salt, some_bytes}
+use Rattle.mx_base.specs.Decimal.{is_digit, with_digit, decimal_value, leads_with_zero, is_decimal, number}
+use Rattle.mx_base.specs.Pieces.{is_among}
+use Rattle.recording.specs.Fields.{blanks, fields, is_salt_byte, ordinal, client, server, link, port, salt, some_bytes}
 use Rattle.recording.specs.Line.{said, meaning, accept, arrive, room}
 use Rattle.recording.specs.Spelling.{link_text, port_text, field_texts, spelling, IsOrdinal, HasOrdinal, HasSpelling, SaysItself}
 use Rattle.recording.specs.declared.entry.RecordEntry.{RecordEntry}
 use Rattle.recording.specs.declared.entry.RecordEntry.TheVariants.{At, Accept, Bytes, End, Fail, Take, Refuse, Exec, Drop}
 use Rattle.recording.specs.declared.entry.RecordLink.{RecordLink}
 use Rattle.recording.specs.declared.entry.RecordLink.TheVariants.{Client, Server}
+
+abbrev is_blank : ℕ → Bool
+is_blank b = is_among blanks b
 
 abbrev is_inner : ℕ → Bool
 is_inner b = not (is_blank b)
@@ -107,9 +112,12 @@ tab_value c d is value =
 -- hexadecimal digits have no blanks
 not_hex : (c d : ℕ) → hex_digit_value c ≡ Some d → is_inner c ≡ true
 not_hex c d value = elim (cases_Bool (is_blank c)) [
-  | inl blank ↦ absurd (elim (or_cases (c == 32) (c == 9) blank) [
-    | inl space ↦ blank_value c d (eqb-true c 32 space) value
-    | inr tab ↦ tab_value c d (eqb-true c 9 tab) value
+  | inl blank ↦ absurd (elim (or_cases (32 == c) (is_among (9 ∷ []) c) blank) [
+    | inl space ↦ blank_value c d (sym (eqb-true 32 c space)) value
+    | inr other ↦ elim (or_cases (9 == c) false other) [
+      | inl tab ↦ tab_value c d (sym (eqb-true 9 c tab)) value
+      | inr none ↦ cc
+    ]
   ])
   | inr inner ↦ rw inner refl
 ]

@@ -1,71 +1,24 @@
 -- The fields of a line, and what a field denotes.
-use Rattle.std.specs.Prelude.{ℕ, ◌+◌, ◌*◌, ◌-◌, ◌^◌, ◌==◌, ◌&&◌, ◌||◌, not, nat_lt, nat_le, Bool, false, if◌then◌else◌, List, [], ◌∷◌, length, fold, codes, Option, Some, None, Result, Ok, Err}
-use Rattle.std.specs.List.{slice_split, list_all}
+use Rattle.std.specs.Prelude.{ℕ, ◌==◌, ◌&&◌, nat_lt, nat_le, Bool, if◌then◌else◌, List, [], ◌∷◌, length, codes, Option, Some, None, Result, Ok, Err}
+use Rattle.std.specs.List.{list_all}
 use Rattle.std.specs.Str.{bytes_eq}
 use Rattle.hex.specs.Hex.{decode_of, decode_sized}
 use Rattle.hex.specs.declared.error.FromHexError.{FromHexError}
 use Rattle.mx_base.specs.declared.names.Port.{Port}
 use Rattle.mx_base.specs.declared.names.Port.TheVariants.{Traffic, Admin}
+use Rattle.mx_base.specs.Decimal.{number}
+use Rattle.mx_base.specs.Pieces.{pieces}
+use Rattle.mx_base.specs.Steps.{◌>>=◌}
 use Rattle.recording.specs.declared.entry.RecordLink.{RecordLink}
 use Rattle.recording.specs.declared.entry.RecordLink.TheVariants.{Client, Server}
 
--- the ? of the logic: the second step, if the first gave a value
-infixl 10 ◌>>=◌
-abbrev pub ◌>>=◌ : {A B : Type 0} → Option A → (A → Option B) → Option B
-Some x >>= f = f x
-None >>= f = None
-
--- a space or a tab
-abbrev pub is_blank : ℕ → Bool
-is_blank b = (b == 32) || (b == 9)
+-- a space and a tab
+abbrev pub blanks : List ℕ
+blanks = 32 ∷ 9 ∷ []
 
 -- between two fields stands one blank
 abbrev pub fields : List ℕ → List (List ℕ)
-fields line = slice_split is_blank line
-
--- the fields that are left, if there are any
-abbrev pub fields_left : Option (List ℕ) → List (List ℕ)
-fields_left None = []
-fields_left (Some line) = fields line
-
--- the fields, where they are just so many
-abbrev pub one : List (List ℕ) → Option (List ℕ)
-one (a ∷ []) = Some a
-one _ = None
-
-abbrev pub two : List (List ℕ) → Option (List ℕ × List ℕ)
-two (a ∷ b ∷ []) = Some (a, b)
-two _ = None
-
-abbrev pub three : List (List ℕ) → Option (List ℕ × List ℕ × List ℕ)
-three (a ∷ b ∷ c ∷ []) = Some (a, b, c)
-three _ = None
-
-abbrev pub is_digit : ℕ → Bool
-is_digit b = nat_le 48 b && nat_le b 57
-
-abbrev pub with_digit : ℕ → ℕ → ℕ
-with_digit n digit = n * 10 + (digit - 48)
-
--- the value of decimal digits
-abbrev pub decimal_value : List ℕ → ℕ
-decimal_value digits = fold with_digit 0 digits
-
-abbrev pub leads_with_zero : List ℕ → Bool
-leads_with_zero (b ∷ c ∷ text) = b == 48
-leads_with_zero _ = false
-
--- decimal digits, at least one, of which a 0 stands first only where it stands alone
-abbrev pub is_decimal : List ℕ → Bool
-is_decimal [] = false
-is_decimal (b ∷ text) = list_all is_digit (b ∷ text) && not (leads_with_zero (b ∷ text))
-
-abbrev pub in_64_bits : ℕ → Option ℕ
-in_64_bits n = if nat_lt n (2 ^ 64) then Some n else None
-
--- a number that fits 64 bits
-unfoldable pub number : List ℕ → Option ℕ
-number text = if is_decimal text then in_64_bits (decimal_value text) else None
+fields line = pieces blanks line
 
 abbrev pub in_order : ℕ → Option ℕ
 in_order n = if nat_le 1 n && nat_le n 65535 then Some n else None

@@ -2,7 +2,10 @@
 use Rattle.std.specs.Prelude.{ℕ, if◌then◌else◌, List, [], ◌∷◌, codes, Option, Some, None, Result, Ok, Err}
 use Rattle.std.specs.Str.{bytes_eq}
 use Rattle.std.specs.Option.{option_map}
-use Rattle.recording.specs.Fields.{◌>>=◌, one, two, three, number, ordinal, client, server, link, port, salt, some_bytes}
+use Rattle.mx_base.specs.Decimal.{number}
+use Rattle.mx_base.specs.Pieces.{one, two, three}
+use Rattle.mx_base.specs.Steps.{◌>>=◌}
+use Rattle.recording.specs.Fields.{ordinal, client, server, link, port, salt, some_bytes}
 use Rattle.recording.specs.declared.entry.RecordEntry.{RecordEntry}
 use Rattle.recording.specs.declared.entry.RecordEntry.TheVariants as entry
 use Rattle.recording.specs.declared.fault.Kind.{Kind}

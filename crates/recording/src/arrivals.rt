@@ -7,7 +7,7 @@ use mx_base::LinkId;
 use mx_wire::Entry;
 
 /// How many clients' links and links to servers have come.
-#[derive(Clone, Copy, Debug, PartialEq, Eq)]
+#[derive(Clone, Copy)]
 pub(crate) struct Arrivals {
     pub(crate) clients: u64,
     pub(crate) servers: u64,

@@ -6,7 +6,7 @@ use mx_base::OutOfMemory;
 use std::alloc::AllocFailed;
 
 /// What is wrong with a line. Of several the least decides.
-#[derive(Clone, Copy, Debug, PartialEq, Eq)]
+#[derive(Clone, Copy)]
 pub(crate) enum Kind {
     /// The last line has no line feed.
     NoLineFeed,
@@ -43,7 +43,7 @@ pub enum RecordRefusal {
 }
 
 /// Why a line gives no entry.
-#[derive(Clone, Copy, Debug, PartialEq, Eq)]
+#[derive(Clone, Copy)]
 pub(crate) enum LineRefusal {
     Kind(Kind),
     OutOfMemory,

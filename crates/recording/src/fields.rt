@@ -1,113 +1,15 @@
-// The fields of a line, and the values that they denote.
-ghost use Rattle.std.specs.Prelude.{◌≡◌, ◌∷◌, true, length, IfOk, position};
+// The values that fields denote.
+ghost use Rattle.std.specs.Prelude.{◌≡◌, IfOk};
 ghost use Rattle.std.specs.List.{list_all};
-ghost use Rattle.std.specs.Option.{option_copied, option_map};
-ghost use Rattle.recording.specs.Fields.{fields, fields_left, is_blank, one, two, three, is_digit, is_decimal, leads_with_zero, with_digit, decimal_value, in_64_bits, in_order, number, ordinal, lettered, client, server, link, port, is_salt_byte, salt, some_bytes};
+ghost use Rattle.recording.specs.Fields.{ordinal, lettered, client, server, link, port, is_salt_byte, salt, some_bytes};
 
 use crate::RecordLink;
 use hex::{FromHex, FromHexError};
-use mx_base::{Bytes, OutOfMemory, Port};
+use mx_base::{Bytes, OutOfMemory, Port, read_number};
 use std::alloc::Global;
 
-/// The first field of a line, and what stands behind the blank that ends it, if one does.
-pub(crate) fn split_field(line: &[u8]) -> (&[u8], Option<&[u8]>)
-    ensures { fields line.now ≡ result.0.now ∷ fields_left (option_copied result.1) }
-{
-    match blank_at(line) {
-        Some(at) => (&line[..at], Some(&line[at + 1..])),
-        None => (line, None),
-    }
-}
-
-fn blank_at(line: &[u8]) -> Option<usize>
-    ensures { result ≡ position is_blank line.now }
-{
-    line.iter().position(|b| *b == b' ' || *b == b'\t')
-}
-
-/// The field that is left, if it is just one.
-pub(crate) fn one_field(rest: Option<&[u8]>) -> Option<&[u8]>
-    ensures { option_copied result ≡ one (fields_left (option_copied rest.entry)) }
-{
-    let (field, behind) = split_field(rest?);
-    match behind {
-        Some(_) => None,
-        None => Some(field),
-    }
-}
-
-/// The fields that are left, if they are just two.
-pub(crate) fn two_fields(rest: Option<&[u8]>) -> Option<(&[u8], &[u8])>
-    ensures { option_map (λ f. (f.0.now, f.1.now)) result ≡ two (fields_left (option_copied rest.entry)) }
-{
-    let (first, behind) = split_field(rest?);
-    let second = one_field(behind)?;
-    Some((first, second))
-}
-
-/// The fields that are left, if they are just three.
-pub(crate) fn three_fields(rest: Option<&[u8]>) -> Option<(&[u8], &[u8], &[u8])>
-    ensures { option_map (λ f. (f.0.now, f.1.now, f.2.now)) result
-        ≡ three (fields_left (option_copied rest.entry)) }
-{
-    let (first, behind) = split_field(rest?);
-    let (second, third) = two_fields(behind)?;
-    Some((first, second, third))
-}
-
-fn is_decimal_text(text: &[u8]) -> bool
-    ensures { result ≡ is_decimal text.now }
-{
-    match text {
-        [] => false,
-        _ => are_digits(text) && !has_leading_zero(text),
-    }
-}
-
-fn are_digits(text: &[u8]) -> bool
-    ensures { result ≡ list_all is_digit text.now }
-{
-    text.iter().all(|b| b'0' <= *b && *b <= b'9')
-}
-
-fn has_leading_zero(text: &[u8]) -> bool
-    ensures { result ≡ leads_with_zero text.now }
-{
-    match text {
-        [first, _, ..] => *first == b'0',
-        _ => false,
-    }
-}
-
-fn value_of(digits: &[u8]) -> Option<u64>
-    requires { list_all is_digit digits.now ≡ true }
-    ensures { result ≡ in_64_bits (decimal_value digits.now) }
-{
-    let mut value: u64 = 0;
-    for digit in digits {
-        value = add_digit(value, *digit)?;
-    }
-    Some(value)
-}
-
-fn add_digit(value: u64, digit: u8) -> Option<u64>
-    requires { is_digit digit ≡ true }
-    ensures { result ≡ in_64_bits (with_digit value digit) }
-{
-    value.checked_mul(10)?.checked_add(u64::from(digit - b'0'))
-}
-
-/// Decimal digits without a leading zero, below 2 ^ 64.
-#[tactic(auto, unfolding(crate::specs::Fields::number))]
-pub(crate) fn read_number(text: &[u8]) -> Option<u64>
-    ensures { result ≡ number text.now }
-{
-    if is_decimal_text(text) {
-        value_of(text)
-    } else {
-        None
-    }
-}
+/// What stands between two fields: a space or a tab.
+pub(crate) const BLANKS: &[u8] = b" \t";
 
 /// A number from 1 to 65,535.
 #[tactic(auto, unfolding(crate::specs::Fields::ordinal))]

@@ -21,6 +21,3 @@ pub use fault::{RecordFault, RecordRefusal};
 pub use line::spelled_lines;
 pub use log_text::{longest_runs, transcript};
 pub use read::read_recording;
-
-#[cfg(test)]
-mod tests;

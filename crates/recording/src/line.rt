@@ -1,7 +1,8 @@
 // What a line of a recording says by itself.
 ghost use Rattle.std.specs.Prelude.{◌≡◌, IfOk};
 ghost use Rattle.std.specs.Option.{option_copied};
-ghost use Rattle.recording.specs.Fields.{fields, fields_left};
+ghost use Rattle.mx_base.specs.Pieces.{pieces_left};
+ghost use Rattle.recording.specs.Fields.{fields, blanks};
 ghost use Rattle.recording.specs.Line.{accept, arrive, room, meaning, said};
 ghost use Rattle.recording.specs.Refusal.{Gives};
 ghost use Rattle.recording.specs.Spelling.{SaysItself};
@@ -10,11 +11,10 @@ ghost use Rattle.recording.specs.declared.entry.RecordEntry.{RecordEntry};
 use crate::RecordEntry;
 use crate::fault::{Kind, LineRefusal};
 use crate::fields::{
-    one_field, read_bytes, read_client, read_link, read_number, read_ordinal, read_port, read_salt,
-    read_server, split_field, three_fields, two_fields,
+    BLANKS, read_bytes, read_client, read_link, read_ordinal, read_port, read_salt, read_server,
 };
 use crate::word::Word;
-use mx_base::OutOfMemory;
+use mx_base::{OutOfMemory, first_piece, one_piece, read_number, three_pieces, two_pieces};
 use std::alloc::Global;
 
 /// The entry of a line that isn't skipped. The refusal names an unknown word or bad fields.
@@ -22,7 +22,7 @@ use std::alloc::Global;
 pub(crate) fn read_entry(alloc: Global, line: &[u8]) -> Result<RecordEntry, LineRefusal>
     ensures { Gives result (said (fields line.now)) }
 {
-    let (first, rest) = split_field(line);
+    let (first, rest) = first_piece(BLANKS, line);
     let Some(word) = Word::of(first) else {
         return Err(LineRefusal::Kind(Kind::UnknownWord));
     };
@@ -39,7 +39,7 @@ fn read_fields(
     word: Word,
     rest: Option<&[u8]>,
 ) -> Result<Option<RecordEntry>, OutOfMemory>
-    ensures { IfOk result (λ entry. entry ≡ meaning word (fields_left (option_copied rest.entry))) }
+    ensures { IfOk result (λ entry. entry ≡ meaning word (pieces_left blanks (option_copied rest.entry))) }
 {
     Ok(match word {
         Word::At => read_at(rest),
@@ -57,18 +57,18 @@ fn read_fields(
 // `at <ms>`.
 #[tactic(auto, unfolding(crate::specs::Line::meaning))]
 fn read_at(rest: Option<&[u8]>) -> Option<RecordEntry>
-    ensures { result ≡ meaning Word.At (fields_left (option_copied rest.entry)) }
+    ensures { result ≡ meaning Word.At (pieces_left blanks (option_copied rest.entry)) }
 {
-    let ms = read_number(one_field(rest)?)?;
+    let ms = read_number(one_piece(BLANKS, rest)?)?;
     Some(RecordEntry::At { ms })
 }
 
 // `accept c<n> <port> <salt>`.
 #[tactic(auto, unfolding(crate::specs::Line::accept))]
 fn read_accept(rest: Option<&[u8]>) -> Option<RecordEntry>
-    ensures { result ≡ accept (fields_left (option_copied rest.entry)) }
+    ensures { result ≡ accept (pieces_left blanks (option_copied rest.entry)) }
 {
-    let (client, port, salt) = three_fields(rest)?;
+    let (client, port, salt) = three_pieces(BLANKS, rest)?;
     let n = read_client(client)?;
     let port = read_port(port)?;
     let salt = read_salt(salt)?;
@@ -78,9 +78,9 @@ fn read_accept(rest: Option<&[u8]>) -> Option<RecordEntry>
 // `bytes <link> <hex>`.
 #[tactic(auto, unfolding(crate::specs::Line::arrive))]
 fn read_arrival(alloc: Global, rest: Option<&[u8]>) -> Result<Option<RecordEntry>, OutOfMemory>
-    ensures { IfOk result (λ entry. entry ≡ arrive (fields_left (option_copied rest.entry))) }
+    ensures { IfOk result (λ entry. entry ≡ arrive (pieces_left blanks (option_copied rest.entry))) }
 {
-    let Some((on, text)) = two_fields(rest) else {
+    let Some((on, text)) = two_pieces(BLANKS, rest) else {
         return Ok(None);
     };
     let Some(link) = read_link(on) else {
@@ -95,9 +95,9 @@ fn read_arrival(alloc: Global, rest: Option<&[u8]>) -> Result<Option<RecordEntry
 // `take <link> <n>`.
 #[tactic(auto, unfolding(crate::specs::Line::room))]
 fn read_take(rest: Option<&[u8]>) -> Option<RecordEntry>
-    ensures { result ≡ room (fields_left (option_copied rest.entry)) }
+    ensures { result ≡ room (pieces_left blanks (option_copied rest.entry)) }
 {
-    let (on, number) = two_fields(rest)?;
+    let (on, number) = two_pieces(BLANKS, rest)?;
     let link = read_link(on)?;
     let n = read_number(number)?;
     Some(RecordEntry::Take { link, n })
@@ -106,45 +106,45 @@ fn read_take(rest: Option<&[u8]>) -> Option<RecordEntry>
 // `end <link>`.
 #[tactic(auto, unfolding(crate::specs::Line::meaning))]
 fn read_end(rest: Option<&[u8]>) -> Option<RecordEntry>
-    ensures { result ≡ meaning Word.End (fields_left (option_copied rest.entry)) }
+    ensures { result ≡ meaning Word.End (pieces_left blanks (option_copied rest.entry)) }
 {
-    let link = read_link(one_field(rest)?)?;
+    let link = read_link(one_piece(BLANKS, rest)?)?;
     Some(RecordEntry::End { link })
 }
 
 // `fail <link>`.
 #[tactic(auto, unfolding(crate::specs::Line::meaning))]
 fn read_fail(rest: Option<&[u8]>) -> Option<RecordEntry>
-    ensures { result ≡ meaning Word.Fail (fields_left (option_copied rest.entry)) }
+    ensures { result ≡ meaning Word.Fail (pieces_left blanks (option_copied rest.entry)) }
 {
-    let link = read_link(one_field(rest)?)?;
+    let link = read_link(one_piece(BLANKS, rest)?)?;
     Some(RecordEntry::Fail { link })
 }
 
 // `refuse <k>`.
 #[tactic(auto, unfolding(crate::specs::Line::meaning))]
 fn read_refuse(rest: Option<&[u8]>) -> Option<RecordEntry>
-    ensures { result ≡ meaning Word.Refuse (fields_left (option_copied rest.entry)) }
+    ensures { result ≡ meaning Word.Refuse (pieces_left blanks (option_copied rest.entry)) }
 {
-    let k = read_ordinal(one_field(rest)?)?;
+    let k = read_ordinal(one_piece(BLANKS, rest)?)?;
     Some(RecordEntry::Refuse { k })
 }
 
 // `exec s<k>`.
 #[tactic(auto, unfolding(crate::specs::Line::meaning))]
 fn read_exec(rest: Option<&[u8]>) -> Option<RecordEntry>
-    ensures { result ≡ meaning Word.Exec (fields_left (option_copied rest.entry)) }
+    ensures { result ≡ meaning Word.Exec (pieces_left blanks (option_copied rest.entry)) }
 {
-    let k = read_server(one_field(rest)?)?;
+    let k = read_server(one_piece(BLANKS, rest)?)?;
     Some(RecordEntry::Exec { k })
 }
 
 // `drop s<k>`.
 #[tactic(auto, unfolding(crate::specs::Line::meaning))]
 fn read_drop(rest: Option<&[u8]>) -> Option<RecordEntry>
-    ensures { result ≡ meaning Word.Drop (fields_left (option_copied rest.entry)) }
+    ensures { result ≡ meaning Word.Drop (pieces_left blanks (option_copied rest.entry)) }
 {
-    let k = read_server(one_field(rest)?)?;
+    let k = read_server(one_piece(BLANKS, rest)?)?;
     Some(RecordEntry::Drop { k })
 }
 

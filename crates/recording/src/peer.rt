@@ -6,7 +6,7 @@ use crate::text::put_decimal;
 use mx_base::{Bytes, OutOfMemory, Port, ServerId};
 
 /// The peer of a link: the n-th client, or the k-th server link, both counted from 1.
-#[derive(Clone, Copy, Debug, PartialEq, Eq)]
+#[derive(Clone, Copy)]
 pub(crate) enum Peer {
     Client { n: u64, port: Port },
     Server { k: u64, server: ServerId },

@@ -21,9 +21,11 @@ pub(crate) fn put_hex(alloc: Global, out: &mut Bytes, bytes: &[u8]) -> Result<()
     out.append(text.as_bytes())
 }
 
-fn put_numbered(out: &mut Bytes, client: ClientNo, n: u64) -> Result<(), OutOfMemory>
-    ensures { OnOk result (out.new ≡ out.old ++ numbered client n) }
+// A word, and behind it a client's message, or a client's session of a hostgroup.
+fn put_numbered(out: &mut Bytes, word: &[u8], client: ClientNo, n: u64) -> Result<(), OutOfMemory>
+    ensures { OnOk result (out.new ≡ out.old ++ (word.now ++ numbered client n)) }
 {
+    out.append(word)?;
     out.append(b"c")?;
     put_decimal(out, client.0)?;
     out.append(b"/")?;
@@ -35,25 +37,14 @@ pub(crate) fn put_tag(out: &mut Bytes, tag: Tag) -> Result<(), OutOfMemory>
     ensures { OnOk result (out.new ≡ out.old ++ tag_text tag) }
 {
     match tag {
-        Tag::For { client, ordinal } => {
-            out.append(b"for ")?;
-            put_numbered(out, client, ordinal)
-        }
+        Tag::For { client, ordinal } => put_numbered(out, b"for ", client, ordinal),
         Tag::Sync { client, hostgroup } => {
-            out.append(b"sync ")?;
-            put_numbered(out, client, u64::from(hostgroup.0))
+            put_numbered(out, b"sync ", client, u64::from(hostgroup.0))
         }
-        Tag::Prep { client, ordinal } => {
-            out.append(b"prep ")?;
-            put_numbered(out, client, ordinal)
-        }
-        Tag::Mirror { client, ordinal } => {
-            out.append(b"mirror ")?;
-            put_numbered(out, client, ordinal)
-        }
+        Tag::Prep { client, ordinal } => put_numbered(out, b"prep ", client, ordinal),
+        Tag::Mirror { client, ordinal } => put_numbered(out, b"mirror ", client, ordinal),
         Tag::End { client, hostgroup } => {
-            out.append(b"end ")?;
-            put_numbered(out, client, u64::from(hostgroup.0))
+            put_numbered(out, b"end ", client, u64::from(hostgroup.0))
         }
         Tag::Own => out.append(b"own"),
         Tag::Reply => out.append(b"reply"),

@@ -1,0 +1,100 @@
+// Configurations.
+use crate::words::{debug, lines, small, text_of};
+use check_lines::{Case, CaseFault};
+use hostgroups::ServerRow;
+use mx_config::{Config, ConfigFault, ConfigRefusal, ProxyRow, UserRow, read_config};
+use std::alloc::{AllocError, Global};
+use std::fmt::Write;
+
+// A `proxy` table without faults.
+const PROXY: &str =
+    "proxy = {listen='127.0.0.1:6033',admin_listen='127.0.0.1:6032',admin_user='a',admin_password='p'}\n";
+
+/// `config <lines>`: the configuration, or its first fault.
+pub(crate) fn config(alloc: Global, case: &mut Case<'_>) -> Result<String, CaseFault> {
+    let text = lines(alloc, case.rest_text())?;
+    match read_config(alloc, &text) {
+        Ok(config) => whole(alloc, &config),
+        Err(refusal) => fault(alloc, &refusal),
+    }
+}
+
+/// `rows <users> <servers> <connections>`: how many rows a configuration of so many users and servers has, each server with
+/// so many connections, or its first fault.
+pub(crate) fn rows(alloc: Global, case: &mut Case<'_>) -> Result<String, CaseFault> {
+    let mut text = String::from_str(alloc, PROXY)?;
+    put_users(&mut text, small(case)?)?;
+    put_servers(&mut text, small(case)?, small(case)?)?;
+    match read_config(alloc, text.as_bytes()) {
+        Ok(config) => debug(alloc, &counts(&config)),
+        Err(refusal) => fault(alloc, &refusal),
+    }
+}
+
+fn counts(config: &Config) -> (usize, usize) {
+    (
+        config.users.as_slice().len(),
+        config.servers.as_slice().len(),
+    )
+}
+
+fn put_users(text: &mut String, count: u16) -> Result<(), AllocError> {
+    for n in 0..count {
+        write!(text, "[[users]]\nname = 'u{n}'\npassword = 'p'\n")?;
+    }
+    Ok(())
+}
+
+fn put_servers(text: &mut String, count: u16, connections: u16) -> Result<(), AllocError> {
+    for n in 0..count {
+        write!(
+            text,
+            "[[servers]]\nhostgroup = 1\nhost = '10.0.0.1'\nport = {n}\nmax_connections = {connections}\n"
+        )?;
+    }
+    Ok(())
+}
+
+fn fault(alloc: Global, refusal: &ConfigRefusal) -> Result<String, CaseFault> {
+    match refusal {
+        ConfigRefusal::OutOfMemory => Err(CaseFault::OutOfMemory),
+        ConfigRefusal::Fault(fault) => named(alloc, fault),
+    }
+}
+
+// A fault's kind, table, row and key.
+fn named(alloc: Global, fault: &ConfigFault) -> Result<String, CaseFault> {
+    let (kind, table, row) = (fault.kind, fault.table, fault.row);
+    let key = text_of(&fault.key);
+    Ok(format!(in alloc; "fault {kind} {table} {row} {key}")?)
+}
+
+fn whole(alloc: Global, config: &Config) -> Result<String, CaseFault> {
+    let mut text = proxy(alloc, &config.proxy)?;
+    for row in config.users.as_slice() {
+        put_user(&mut text, row)?;
+    }
+    for row in config.servers.as_slice() {
+        put_server(&mut text, row)?;
+    }
+    Ok(text)
+}
+
+fn proxy(alloc: Global, row: &ProxyRow) -> Result<String, AllocError> {
+    let addresses = (row.listen, row.admin_listen);
+    let admin = (text_of(&row.admin_user), text_of(&row.admin_password));
+    let greeting = (text_of(&row.server_version), text_of(&row.default_schema));
+    let limits = [row.max_packet, row.buffer_budget, row.wait_ms, row.idle_ms];
+    let clients = row.max_clients;
+    format!(in alloc; "{addresses:?} {admin:?} {greeting:?} {clients} {limits:?}")
+}
+
+fn put_user(text: &mut String, row: &UserRow) -> Result<(), AllocError> {
+    let login = (text_of(&row.name), text_of(&row.password));
+    let hostgroup = row.default_hostgroup.0;
+    write!(text, "; user {login:?} {hostgroup}")
+}
+
+fn put_server(text: &mut String, row: &ServerRow) -> Result<(), AllocError> {
+    write!(text, "; {row:?}")
+}
