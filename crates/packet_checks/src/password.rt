@@ -15,7 +15,7 @@ pub fn digest(alloc: Global, case: &mut Case<'_>) -> Result<String, CaseFault> {
 pub fn answer(alloc: Global, case: &mut Case<'_>) -> Result<String, CaseFault> {
     let salt = salt_of(alloc, case)?;
     match native_auth::answer(&case.rest_bytes(alloc)?, &salt) {
-        Answer::Empty => debug(alloc, Answer::Empty),
+        Answer::Empty => Ok(String::from_str(alloc, "empty")?),
         Answer::Bytes(bytes) => shown(alloc, &bytes),
     }
 }
