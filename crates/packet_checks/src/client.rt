@@ -1,8 +1,10 @@
 // The link of a client.
+ghost use Rattle.std.specs.Prelude.{◌<◌};
+
 use crate::login::show_response;
-use crate::show::{debug, nothing};
+use crate::show::{debug, nothing, word};
 use crate::steps::{Steps, take_steps};
-use crate::text::{is_text, limit_of, number_of, salt_of};
+use crate::text::{LONGEST, is_text, limit_of, number_of, salt_of};
 use check_lines::{Case, CaseFault, bytes_of, shown};
 use client_side::{Client, ClientStep};
 use mx_base::ClientNo;
@@ -16,14 +18,30 @@ pub fn serve(alloc: Global, case: &mut Case<'_>) -> Result<String, CaseFault> {
     let limit = limit_of(case)?;
     let salt = salt_of(alloc, case)?;
     let first = case.bytes(alloc)?;
-    let mut client = if case.reader == "told" {
-        Client::told(alloc, number, salt, limit, &first)?
-    } else if is_text(&first) && first.len() <= 255 {
-        Client::new(alloc, number, salt, limit, &first)?
-    } else {
+    match begun(alloc, case.reader, number, salt, limit, &first) {
+        Ok(mut client) => take_steps(alloc, case, &mut client),
+        Err(fault) => Err(fault),
+    }
+}
+
+// A client that is greeted or told these bytes.
+fn begun(
+    alloc: Global,
+    reader: &str,
+    number: ClientNo,
+    salt: [u8; 20],
+    limit: u64,
+    first: &[u8],
+) -> Result<Client, CaseFault>
+    requires { limit < LONGEST }
+{
+    if reader == "told" {
+        return Ok(Client::told(alloc, number, salt, limit, first)?);
+    }
+    if !is_text(first) || first.len() > 255 {
         return Err(CaseFault::Bad);
-    };
-    take_steps(alloc, case, &mut client)
+    }
+    Ok(Client::new(alloc, number, salt, limit, first)?)
 }
 
 impl Steps for Client {
@@ -58,7 +76,7 @@ fn look(alloc: Global, client: &Client, call: &str) -> Result<String, CaseFault>
 fn login(alloc: Global, client: &Client) -> Result<String, CaseFault> {
     match client.login() {
         Some(response) => show_response(alloc, response),
-        None => Ok(String::from_str(alloc, "none")?),
+        None => word(alloc, "none"),
     }
 }
 

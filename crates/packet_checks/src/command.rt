@@ -1,5 +1,5 @@
 // Commands of clients.
-use crate::show::{Spelled, debug};
+use crate::show::{Spelled, debug, word};
 use check_lines::{Case, CaseFault};
 use command_parse::{Command, Known};
 use std::alloc::Global;
@@ -9,18 +9,23 @@ use std::alloc::Global;
 pub fn parse(alloc: Global, case: &mut Case<'_>) -> Result<String, CaseFault> {
     let known = known(case.text()?, case.text()?)?;
     match command_parse::parse(&case.rest_bytes(alloc)?, known) {
-        Ok(Command::Quit) => Ok(String::from_str(alloc, "quit")?),
-        Ok(Command::Ping) => Ok(String::from_str(alloc, "ping")?),
-        Ok(Command::Query { text }) => query(alloc, text),
-        Ok(Command::Refused(byte)) => Ok(format!(in alloc; "refused {byte}")?),
-        Ok(_) => Err(CaseFault::Bad),
+        Ok(command) => show(alloc, command),
         Err(fault) => debug(alloc, fault),
     }
 }
 
-fn query(alloc: Global, text: &[u8]) -> Result<String, CaseFault> {
-    let text = Spelled(text);
-    Ok(format!(in alloc; "query {text}")?)
+// A command, of those that are parsed so far.
+fn show(alloc: Global, command: Command<'_>) -> Result<String, CaseFault> {
+    match command {
+        Command::Quit => word(alloc, "quit"),
+        Command::Ping => word(alloc, "ping"),
+        Command::Query { text } => {
+            let text = Spelled(text);
+            Ok(format!(in alloc; "query {text}")?)
+        }
+        Command::Refused(byte) => Ok(format!(in alloc; "refused {byte}")?),
+        _ => Err(CaseFault::Bad),
+    }
 }
 
 // What is known of a statement.

@@ -3,8 +3,8 @@ use crate::show::{debug, nothing, with_id};
 use crate::steps::{Steps, take_steps};
 use crate::text::{id_of, limit_of};
 use check_lines::{Case, CaseFault, bytes_of, shown};
-use mx_base::Bytes;
-use packet_frame::{Framer, payloads_of, write_message};
+use mx_base::{Bytes, OutOfMemory};
+use packet_frame::{Framer, Payloads, payloads_of, write_message};
 use std::alloc::Global;
 
 /// `framer <limit> <step> ..`: a Framer that is led through the steps `feed=<piece>`, `next=<first>`, `kept`, `announced`,
@@ -40,12 +40,19 @@ fn take(alloc: Global, framer: &mut Framer, first: u8) -> Result<String, CaseFau
     }
 }
 
-/// `payloads_of <limit> <first> <piece> ..`: the payloads of the pieces, and the fault behind them.
+/// `payloads_of <limit> <first> <piece> ..`: the fault behind the messages of the pieces, and their payloads.
 pub fn join(alloc: Global, case: &mut Case<'_>) -> Result<String, CaseFault> {
     let limit = limit_of(case)?;
     let first = case.number()?;
     let pieces = pieces_of(alloc, case.rest_text())?;
-    let found = payloads_of(alloc, limit, first, &pieces)?;
+    match payloads_of(alloc, limit, first, &pieces) {
+        Ok(found) => show(alloc, &found),
+        Err(OutOfMemory) => Err(CaseFault::OutOfMemory),
+    }
+}
+
+// The fault, and the payloads before it.
+fn show(alloc: Global, found: &Payloads) -> Result<String, CaseFault> {
     let mut answer = debug(alloc, found.fault)?;
     for payload in &found.payloads {
         append(&mut answer, &shown(alloc, payload.as_slice())?)?;

@@ -1,5 +1,5 @@
 // Answers of mysql_native_password.
-use crate::show::debug;
+use crate::show::{debug, word};
 use crate::text::salt_of;
 use check_lines::{Case, CaseFault, shown};
 use native_auth::Answer;
@@ -15,7 +15,7 @@ pub fn digest(alloc: Global, case: &mut Case<'_>) -> Result<String, CaseFault> {
 pub fn answer(alloc: Global, case: &mut Case<'_>) -> Result<String, CaseFault> {
     let salt = salt_of(alloc, case)?;
     match native_auth::answer(&case.rest_bytes(alloc)?, &salt) {
-        Answer::Empty => Ok(String::from_str(alloc, "empty")?),
+        Answer::Empty => word(alloc, "empty"),
         Answer::Bytes(bytes) => shown(alloc, &bytes),
     }
 }

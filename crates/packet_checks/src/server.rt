@@ -1,5 +1,5 @@
 // The link to a server.
-use crate::show::{Spelled, debug, nothing};
+use crate::show::{Spelled, debug, nothing, word};
 use crate::steps::{Steps, take_steps};
 use crate::text::{id_of, is_text, number_of};
 use check_lines::{Case, CaseFault, bytes_of, shown};
@@ -65,7 +65,7 @@ fn outgoing(alloc: Global, backend: &Backend) -> Result<String, CaseFault> {
             let bytes = Spelled(left.bytes);
             Ok(format!(in alloc; "{tag:?} {bytes}")?)
         }
-        None => Ok(String::from_str(alloc, "none")?),
+        None => word(alloc, "none"),
     }
 }
 

@@ -9,6 +9,11 @@ pub fn debug<D: fmt::Debug + Drop>(alloc: Global, value: D) -> Result<String, Ca
     Ok(format!(in alloc; "{value:?}")?)
 }
 
+/// A word.
+pub fn word(alloc: Global, text: &str) -> Result<String, CaseFault> {
+    Ok(String::from_str(alloc, text)?)
+}
+
 /// Nothing, unless memory was refused.
 pub fn nothing(alloc: Global, done: Result<(), OutOfMemory>) -> Result<String, CaseFault> {
     match done {
