@@ -3,9 +3,9 @@ ghost use Rattle.std.specs.Prelude.{◌≡◌, ◌≤◌, length, IfOk};
 ghost use Rattle.packet_frame.specs.Packets.{spelling};
 ghost use Rattle.handshake.specs.Spelling.{IsText};
 ghost use Rattle.handshake.specs.Greeting.{greeting_bytes};
-ghost use Rattle.client_side.specs.Login.{own_greeting};
+ghost use Rattle.client_side.specs.Login.{own_greeting, switch_said};
 
-use handshake::{Greeting, write_greeting};
+use handshake::{Greeting, write_greeting, write_switch};
 use mx_base::{Bytes, ClientNo, OutOfMemory};
 use packet_frame::write_message;
 use std::alloc::Global;
@@ -43,7 +43,23 @@ pub fn greeting_packet(
     };
     let mut payload = Vec::new(alloc);
     write_greeting(&mut payload, &greeting)?;
+    packet(alloc, 0, &payload)
+}
+
+/// The packet of the request to switch, with the sequence id 2 (client/server protocol, "Protocol::AuthSwitchRequest").
+pub fn switch_packet(alloc: Global, salt: &[u8; 20]) -> Result<Vec<u8>, OutOfMemory>
+    ensures { IfOk result (λ packet. packet.items ≡ switch_said salt.now) }
+{
+    let mut payload = Vec::new(alloc);
+    write_switch(&mut payload, salt)?;
+    packet(alloc, 2, &payload)
+}
+
+// The packets of a payload, the first with the sequence id `first`.
+fn packet(alloc: Global, first: u8, payload: &[u8]) -> Result<Vec<u8>, OutOfMemory>
+    ensures { IfOk result (λ packet. packet.items ≡ spelling first payload.now) }
+{
     let mut packet = Vec::new(alloc);
-    write_message(&mut packet, 0, &payload)?;
+    write_message(&mut packet, first, payload)?;
     Ok(packet)
 }

@@ -7,8 +7,6 @@ mod greeting;
 mod next;
 mod stage;
 mod step;
-#[cfg(test)]
-mod tests;
 
 pub use client::Client;
 pub use stage::Stage;

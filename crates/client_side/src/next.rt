@@ -5,11 +5,12 @@ ghost use Rattle.client_side.specs.Client.{counted};
 ghost use Rattle.client_side.specs.Login.{fault_id, needs_switch};
 
 use crate::client::Client;
+use crate::greeting::switch_packet;
 use crate::stage::Stage;
 use crate::step::{ClientFault, ClientStep};
-use handshake::{HandFault, Response, read_response, write_switch};
+use handshake::{HandFault, Response, read_response};
 use mx_base::{Bytes, OutOfMemory};
-use packet_frame::{FrameFault, write_message};
+use packet_frame::FrameFault;
 use std::mem;
 
 /// One more, unless it is the last value.
@@ -40,12 +41,13 @@ fn needs_switch(response: &Response) -> bool
 }
 
 impl Client {
-    ghost use Rattle.std.specs.Prelude.{◌≡◌, IsSome, IfSome, IfOk, OnOk, OnErr, Result, Err};
+    ghost use Rattle.std.specs.Prelude.{◌≡◌, ◌++◌, IsSome, IfSome, IfOk, OnOk, OnErr, Result, Err};
     ghost use Rattle.handshake.specs.declared.fault.HandFault.{HandFault};
     ghost use Rattle.handshake.specs.Reading.{Gives};
     ghost use Rattle.handshake.specs.Response.{response_of};
     ghost use Rattle.client_side.specs.Client.{ClientState, IsSame};
     ghost use Rattle.packet_frame.specs.FramerState.{look};
+    ghost use Rattle.client_side.specs.Login.{switch_said};
     ghost use Rattle.client_side.specs.Steps.{next_of, response_found, response_read, answer_found, command_found, behind, asked, looked, IsAnswerNext, IsAnswerRead, IsFoundBy, IsUnread, IsUnanswered, IsHeldUp};
 
     /// What the client says next. A login or a command stays found until `done`. A client that names another login
@@ -134,14 +136,19 @@ impl Client {
         ensures ok { OnOk result (IfSome self.old.framer.found (λ message. self.new ≡ asked response (behind message self.old))) }
         ensures err { OnErr result (self.new ≡ self.old) }
     {
-        let mut payload = Vec::new(self.alloc);
-        write_switch(&mut payload, &self.salt)?;
-        let mut packet = Vec::new(self.alloc);
-        write_message(&mut packet, 2, &payload)?;
-        self.outgoing.push(&packet)?;
+        self.say_switch()?;
         self.framer.done();
         self.stage = Stage::Answer(response);
         Ok(())
+    }
+
+    // The request to switch is to be written.
+    fn say_switch(&mut self) -> Result<(), OutOfMemory>
+        ensures ok { OnOk result (self.new ≡ record self.old { outgoing = self.old.outgoing ++ switch_said self.old.salt }) }
+        ensures err { OnErr result (self.new ≡ self.old) }
+    {
+        let packet = switch_packet(self.alloc, &self.salt)?;
+        self.outgoing.push(&packet)
     }
 
     // The bare answer, where it is whole.

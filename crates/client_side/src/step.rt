@@ -3,7 +3,7 @@ use handshake::HandFault;
 use packet_frame::FrameFault;
 
 /// Why the bytes of a client are none that may come.
-#[derive(Clone, Copy, Debug, PartialEq, Eq)]
+#[derive(Clone, Copy, Debug)]
 pub enum ClientFault {
     /// The response can't be read.
     Hand(HandFault),
@@ -12,7 +12,7 @@ pub enum ClientFault {
 }
 
 /// What a client says next. `first` is the sequence id of the first packet of the answer to it.
-#[derive(Clone, Copy, Debug, PartialEq, Eq)]
+#[derive(Clone, Copy, Debug)]
 pub enum ClientStep {
     /// Nothing that is whole.
     Nothing,

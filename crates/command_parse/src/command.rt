@@ -2,7 +2,7 @@
 
 /// A command of a client, whose texts lie in its payload (client/server protocol, "Command Phase"). A statement's
 /// number is the one that the router told the client.
-#[derive(Clone, Copy, Debug, PartialEq, Eq)]
+#[derive(Clone, Copy)]
 pub enum Command<'a> {
     /// Ends the session ("COM_QUIT").
     Quit,

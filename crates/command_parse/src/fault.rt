@@ -2,7 +2,7 @@
 use thiserror::Error;
 
 /// Why a payload is no command (client/server protocol, "Command Phase").
-#[derive(Clone, Copy, Debug, PartialEq, Eq, Error)]
+#[derive(Clone, Copy, Debug, Error)]
 pub enum CommandFault {
     /// There is no byte that says which command it is.
     #[error("the command is empty")]

@@ -6,8 +6,6 @@ mod command_byte;
 mod fault;
 mod parsing;
 mod statement;
-#[cfg(test)]
-mod tests;
 
 pub use command::Command;
 pub use fault::CommandFault;

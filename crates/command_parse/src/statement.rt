@@ -8,7 +8,7 @@ use crate::command_byte::{
 use mx_base::get_u32;
 
 /// What is known of a prepared statement: how many parameters it has, and whether an execute told their types.
-#[derive(Clone, Copy, Debug, PartialEq, Eq)]
+#[derive(Clone, Copy)]
 pub struct Known {
     pub params: u16,
     pub bound: bool,

@@ -9,7 +9,7 @@ use Rattle.handshake.specs.declared.greeting.Greeting.{Greeting}
 use Rattle.handshake.specs.Capability.{has, needed_of_greeting}
 use Rattle.handshake.specs.Reading.{bytes_field, last_text}
 use Rattle.handshake.specs.Spelling.{IsText, IsEnding, spelled}
-use Rattle.handshake.specs.Greeting.{GreetingFillers, greeting_fields, greeting_fillers, greeting_bytes, IsGreeting, HasGreeting, greeting_of}
+use Rattle.handshake.specs.Greeting.{GreetingFillers, greeting_fields, greeting_fillers, greeting_bytes, IsGreeting, HasGreeting, protocol_field, offer_fields, back_field, greeting_of}
 use Rattle.handshake.proofs.FieldsAgain.{rest_of, number_field-is, number_field-again, bytes_field-again, text_field-again, last_text-again, spelled-more}
 
 -- a capability of the low two bytes
@@ -36,7 +36,7 @@ parts-salt salt end long =
     rw (take_at (drop 8 salt) end 12 half) (take-append-drop 8 salt)
 
 fields-again : (bytes : List ℕ) (g : Greeting) (has_fields : HasGreeting bytes g) → greeting_of (spelled (greeting_fields has_fields.fillers g) has_fields.more) ≡ Ok g
-unfolding greeting_of greeting_fields
+unfolding greeting_of protocol_field offer_fields back_field greeting_fields
 fields-again bytes g has_fields =
     let is : IsGreeting g = has_fields.fits in
     let fillers : GreetingFillers = has_fields.fillers in

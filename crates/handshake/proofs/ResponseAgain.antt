@@ -9,7 +9,7 @@ use Rattle.handshake.specs.declared.response.Response.{Response}
 use Rattle.handshake.specs.Capability.{has, needed_of_response}
 use Rattle.handshake.specs.Reading.{◌>>=◌, optional_text}
 use Rattle.handshake.specs.Spelling.{nul, IsEndingIf, under, spelled}
-use Rattle.handshake.specs.Response.{ResponseFillers, response_fields, response_fillers, response_bytes, is_schema_last, is_plugin_last, IsNamed, IsResponse, HasResponse, response_of}
+use Rattle.handshake.specs.Response.{ResponseFillers, response_fields, response_fillers, response_bytes, is_schema_last, is_plugin_last, IsNamed, IsResponse, HasResponse, head_fields, response_of}
 use Rattle.handshake.proofs.FieldsAgain.{rest_of, number_field-is, number_field-again, bytes_field-again, text_field-again, last_text-again, spelled-more}
 use Rattle.handshake.proofs.CountedAgain.{counted_field-there}
 
@@ -48,7 +48,7 @@ texts-again false named followed (Some text) plugin ending plugin_ending more at
 texts-again false named followed None plugin ending plugin_ending more at made is also ended plugin_ended = plugin-again named (not followed) plugin plugin_ending more at (made None) also plugin_ended
 
 fields-again : (bytes : List ℕ) (r : Response) (has_fields : HasResponse bytes r) → response_of (spelled (response_fields has_fields.fillers r) has_fields.more) ≡ Ok r
-unfolding response_of response_fields
+unfolding response_of head_fields response_fields
 fields-again bytes r has_fields =
     let is : IsResponse r = has_fields.fits in
     let fillers : ResponseFillers = has_fields.fillers in

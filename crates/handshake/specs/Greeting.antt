@@ -5,8 +5,9 @@ use Rattle.handshake.specs.declared.capability.TheConstants.{PROTOCOL_41, SECURE
 use Rattle.handshake.specs.declared.fault.HandFault.{HandFault}
 use Rattle.handshake.specs.declared.fault.HandFault.TheVariants.{NotVersion10}
 use Rattle.handshake.specs.declared.greeting.Greeting.{Greeting}
+use Rattle.handshake.specs.declared.greeting.Offer.{Offer}
 use Rattle.handshake.specs.Capability.{has, needed_of_greeting}
-use Rattle.handshake.specs.Reading.{Rest, start, ◌>>=◌, demand, number_field, bytes_field, text_field, last_text}
+use Rattle.handshake.specs.Reading.{Rest, Read, start, ◌>>=◌, demand, number_field, bytes_field, text_field, last_text}
 use Rattle.handshake.specs.Spelling.{nul, IsText, IsEnding, under, spelled}
 
 -- what stands in the fields that mean nothing to the router, and behind the login method
@@ -72,28 +73,45 @@ pub record HasGreeting (bytes : List ℕ) (g : Greeting) : Type 0 where
 abbrev pub plugin_of_greeting : (capabilities : ℕ) → Rest → List ℕ
 plugin_of_greeting capabilities rest = if has PLUGIN_AUTH capabilities then last_text rest else []
 
-unfoldable pub greeting_of : List ℕ → Result Greeting HandFault
-greeting_of payload = do
-  protocol ← number_field 1 (start payload)
+-- the protocol version, which is 10
+unfoldable pub protocol_field : Rest → Read (Unit {0})
+protocol_field rest = do
+  protocol ← number_field 1 rest
   spoken ← demand (nat_eq protocol.0 10) (NotVersion10 protocol.0)
-  version ← text_field protocol.1
-  connection ← number_field 4 version.1
-  front ← bytes_field 8 connection.1
-  filler ← bytes_field 1 front.1
-  low ← number_field 2 filler.1
+  Ok (tt, protocol.1)
+
+-- the capabilities in two halves, with collation and status flags between them
+unfoldable pub offer_fields : Rest → Read Offer
+offer_fields rest = do
+  low ← number_field 2 rest
   needed ← needed_of_greeting low.0
   collation ← number_field 1 low.1
   status ← number_field 2 collation.1
   high ← number_field 2 status.1
-  scramble_length ← bytes_field 1 high.1
+  Ok (record { capabilities = low.0 + 65536 * high.0; collation = collation.0; status = status.0 }, high.1)
+
+-- the second part of the scramble, behind the scramble's length and the filler
+unfoldable pub back_field : Rest → Read (List ℕ)
+back_field rest = do
+  scramble_length ← bytes_field 1 rest
   reserved ← bytes_field 10 scramble_length.1
-  back ← bytes_field 13 reserved.1
+  bytes_field 13 reserved.1
+
+unfoldable pub greeting_of : List ℕ → Result Greeting HandFault
+greeting_of payload = do
+  spoken ← protocol_field (start payload)
+  version ← text_field spoken.1
+  connection ← number_field 4 version.1
+  front ← bytes_field 8 connection.1
+  filler ← bytes_field 1 front.1
+  offer ← offer_fields filler.1
+  back ← back_field offer.1
   Ok (record {
     version = version.0;
     connection = connection.0;
     salt = front.0 ++ take 12 back.0;
-    capabilities = low.0 + 65536 * high.0;
-    collation = collation.0;
-    status = status.0;
-    plugin = plugin_of_greeting (low.0 + 65536 * high.0) back.1;
+    capabilities = offer.0.capabilities;
+    collation = offer.0.collation;
+    status = offer.0.status;
+    plugin = plugin_of_greeting offer.0.capabilities back.1;
   })

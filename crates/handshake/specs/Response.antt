@@ -5,9 +5,10 @@ use Rattle.mx_base.specs.declared.fields.Field.{Field}
 use Rattle.mx_base.specs.declared.fields.Field.TheVariants.{Value}
 use Rattle.handshake.specs.declared.capability.TheConstants.{PROTOCOL_41, SECURE_CONNECTION, CONNECT_WITH_DB, PLUGIN_AUTH, CONNECT_ATTRS, PLUGIN_AUTH_LENENC_CLIENT_DATA}
 use Rattle.handshake.specs.declared.fault.HandFault.{HandFault}
+use Rattle.handshake.specs.declared.response.Head.{Head}
 use Rattle.handshake.specs.declared.response.Response.{Response}
 use Rattle.handshake.specs.Capability.{has, needed_of_response}
-use Rattle.handshake.specs.Reading.{start, ◌>>=◌, number_field, bytes_field, text_field, counted_field, optional_text}
+use Rattle.handshake.specs.Reading.{Rest, Read, start, ◌>>=◌, number_field, bytes_field, text_field, counted_field, optional_text}
 use Rattle.handshake.specs.Spelling.{nul, IsText, IsEndingIf, under, spelled}
 
 -- the length of an answer: length-encoded under PLUGIN_AUTH_LENENC_CLIENT_DATA, else of one byte
@@ -84,21 +85,27 @@ pub record HasResponse (bytes : List ℕ) (r : Response) : Type 0 where
   pub plugin_end : IsEndingIf (is_plugin_last r.capabilities) fillers.plugin_end more
   pub is : bytes ≡ spelled (response_fields fillers r) more
 
-unfoldable pub response_of : List ℕ → Result Response HandFault
-response_of payload = do
-  capabilities ← number_field 4 (start payload)
+-- the fields of one length
+unfoldable pub head_fields : Rest → Read Head
+head_fields rest = do
+  capabilities ← number_field 4 rest
   needed ← needed_of_response capabilities.0
   max_packet ← number_field 4 capabilities.1
   collation ← number_field 1 max_packet.1
   filler ← bytes_field 23 collation.1
-  user ← text_field filler.1
-  answer ← counted_field (answer_length capabilities.0 user.1.bytes) user.1
-  schema ← optional_text (has CONNECT_WITH_DB capabilities.0) (is_schema_last capabilities.0) answer.1
-  plugin ← optional_text (has PLUGIN_AUTH capabilities.0) (is_plugin_last capabilities.0) schema.1
+  Ok (record { capabilities = capabilities.0; max_packet = max_packet.0; collation = collation.0 }, filler.1)
+
+unfoldable pub response_of : List ℕ → Result Response HandFault
+response_of payload = do
+  head ← head_fields (start payload)
+  user ← text_field head.1
+  answer ← counted_field (answer_length head.0.capabilities user.1.bytes) user.1
+  schema ← optional_text (has CONNECT_WITH_DB head.0.capabilities) (is_schema_last head.0.capabilities) answer.1
+  plugin ← optional_text (has PLUGIN_AUTH head.0.capabilities) (is_plugin_last head.0.capabilities) schema.1
   Ok (record {
-    capabilities = capabilities.0;
-    max_packet = max_packet.0;
-    collation = collation.0;
+    capabilities = head.0.capabilities;
+    max_packet = head.0.max_packet;
+    collation = head.0.collation;
     user = user.0;
     answer = answer.0;
     schema = schema.0;

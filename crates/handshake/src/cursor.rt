@@ -7,7 +7,7 @@ use mx_base::{Field, get_u8, get_u16, get_u32};
 use std::marker::Model;
 
 /// The bytes of a payload that aren't read yet, and the place where they begin.
-#[derive(Drop, Debug)]
+#[derive(Drop)]
 pub(crate) struct Cursor<'a> {
     rest: &'a [u8],
     total: usize,

@@ -1,8 +1,8 @@
 // A server's greeting.
-ghost use Rattle.std.specs.Prelude.{◌≡◌, ◌++◌, length, take, OnOk, OnErr};
-ghost use Rattle.handshake.specs.Reading.{Gives};
+ghost use Rattle.std.specs.Prelude.{◌≡◌, ◌++◌, length, take, Ok, Err, IfOk, MatchResult, OnOk, OnErr};
+ghost use Rattle.handshake.specs.Reading.{Gives, Takes};
 ghost use Rattle.handshake.specs.Spelling.{IsText};
-ghost use Rattle.handshake.specs.Greeting.{greeting_of, plugin_of_greeting, greeting_bytes};
+ghost use Rattle.handshake.specs.Greeting.{protocol_field, offer_fields, back_field, greeting_of, plugin_of_greeting, greeting_bytes};
 
 use crate::HandFault;
 use crate::capability::{PLUGIN_AUTH, has, needed_of_greeting};
@@ -12,7 +12,7 @@ use mx_base::{Bytes, OutOfMemory};
 use std::alloc::Global;
 
 /// The first payload of a connection, from a server to a client (client/server protocol, "Protocol::HandshakeV10").
-#[derive(Drop, Debug, PartialEq, Eq)]
+#[derive(Drop)]
 pub struct Greeting {
     /// The server's version, as text.
     pub version: Bytes,
@@ -30,6 +30,14 @@ pub struct Greeting {
     pub plugin: Bytes,
 }
 
+// What a server offers, between the parts of its scramble.
+#[derive(Clone, Copy)]
+struct Offer {
+    capabilities: u32,
+    collation: u8,
+    status: u16,
+}
+
 /// The protocol version of all servers since MySQL 3.21.
 const PROTOCOL_VERSION: u8 = 10;
 
@@ -45,33 +53,63 @@ pub fn read_greeting(alloc: Global, payload: &[u8]) -> Result<Greeting, HandFaul
     ensures { Gives result (greeting_of payload.now) }
 {
     let mut fields = Cursor::new(payload);
-    let protocol = fields.take_u8()?;
-    if protocol != PROTOCOL_VERSION {
-        return Err(HandFault::NotVersion10 { found: protocol });
-    }
+    take_protocol(&mut fields)?;
     let version = fields.take_text()?;
     let connection = fields.take_u32()?;
     let front = fields.take_bytes(8)?;
     let _filler = fields.take_bytes(1)?;
+    let offer = take_offer(&mut fields)?;
+    let back = take_back(&mut fields)?;
+    let plugin = plugin_of_greeting(offer.capabilities, &fields);
+    Ok(Greeting {
+        version: Bytes::from_slice(alloc, version)?,
+        connection,
+        salt: joined(front, back),
+        capabilities: offer.capabilities,
+        collation: offer.collation,
+        status: offer.status,
+        plugin: Bytes::from_slice(alloc, plugin)?,
+    })
+}
+
+// The protocol version, which is 10.
+#[tactic(auto, unfolding(crate::specs::Greeting::protocol_field))]
+fn take_protocol(fields: &mut Cursor<'_>) -> Result<(), HandFault>
+    ensures { Takes result fields.new (protocol_field fields.old) }
+{
+    let protocol = fields.take_u8()?;
+    if protocol != PROTOCOL_VERSION {
+        return Err(HandFault::NotVersion10 { found: protocol });
+    }
+    Ok(())
+}
+
+// The capabilities in two halves, with collation and status flags between them.
+#[tactic(auto, unfolding(crate::specs::Greeting::offer_fields))]
+fn take_offer(fields: &mut Cursor<'_>) -> Result<Offer, HandFault>
+    ensures { Takes result fields.new (offer_fields fields.old) }
+{
     let low = fields.take_u16()?;
     needed_of_greeting(low as u32)?;
     let collation = fields.take_u8()?;
     let status = fields.take_u16()?;
     let high = fields.take_u16()?;
-    let _scramble_length = fields.take_bytes(1)?;
-    let _reserved = fields.take_bytes(10)?;
-    let back = fields.take_bytes(13)?;
-    let capabilities = low as u32 + 65_536 * high as u32;
-    let plugin = plugin_of_greeting(capabilities, &fields);
-    Ok(Greeting {
-        version: Bytes::from_slice(alloc, version)?,
-        connection,
-        salt: joined(front, back),
-        capabilities,
+    Ok(Offer {
+        capabilities: low as u32 + 65_536 * high as u32,
         collation,
         status,
-        plugin: Bytes::from_slice(alloc, plugin)?,
     })
+}
+
+// The second part of the scramble, behind the scramble's length and the filler.
+#[tactic(auto, unfolding(crate::specs::Greeting::back_field))]
+fn take_back<'a>(fields: &mut Cursor<'a>) -> Result<&'a [u8], HandFault>
+    ensures field { MatchResult result (λ back. back_field fields.old ≡ Ok (back.now, fields.new)) (λ fault. back_field fields.old ≡ Err fault) }
+    ensures long { IfOk result (λ back. length back.now ≡ 13) }
+{
+    let _scramble_length = fields.take_bytes(1)?;
+    let _reserved = fields.take_bytes(10)?;
+    fields.take_bytes(13)
 }
 
 // The login method, where one is named.

@@ -20,6 +20,3 @@ pub use greeting::{Greeting, read_greeting, write_greeting};
 pub use laws::{one_grammar, written_again};
 pub use response::{Response, read_response, write_response};
 pub use switch::{Switch, read_switch, write_switch};
-
-#[cfg(test)]
-mod tests;

@@ -1,9 +1,9 @@
 // A client's response.
 ghost use Rattle.std.specs.Prelude.{◌≡◌, ◌≤◌, ◌++◌, [], length, unwrap_or, IfOk, OnOk, OnErr};
 ghost use Rattle.std.specs.Option.{option_copied, ForSome};
-ghost use Rattle.handshake.specs.Reading.{Gives};
+ghost use Rattle.handshake.specs.Reading.{Gives, Takes};
 ghost use Rattle.handshake.specs.Spelling.{IsText};
-ghost use Rattle.handshake.specs.Response.{response_of, answer_length, response_bytes, length_bytes};
+ghost use Rattle.handshake.specs.Response.{head_fields, response_of, answer_length, response_bytes, length_bytes};
 
 use crate::HandFault;
 use crate::capability::{
@@ -16,7 +16,7 @@ use mx_base::{Bytes, Field, OutOfMemory, get_lenenc, get_u8, put_lenenc};
 use std::alloc::Global;
 
 /// What a client answers to a greeting (client/server protocol, "Protocol::HandshakeResponse41").
-#[derive(Drop, Debug, PartialEq, Eq)]
+#[derive(Drop)]
 pub struct Response {
     /// The client's capabilities.
     pub capabilities: u32,
@@ -34,6 +34,14 @@ pub struct Response {
     pub plugin: Option<Bytes>,
 }
 
+// The fields of one length, which a response begins with.
+#[derive(Clone, Copy)]
+struct Head {
+    capabilities: u32,
+    max_packet: u32,
+    collation: u8,
+}
+
 /// Reads a response (client/server protocol, "Protocol::HandshakeResponse41"). The faults are those of the first wrong
 /// field: NoProtocol41 and then NoSecureConnection at the capabilities, which have to name PROTOCOL_41, and
 /// SECURE_CONNECTION or PLUGIN_AUTH_LENENC_CLIENT_DATA; Short where a field runs past the end, an answer with its
@@ -44,11 +52,8 @@ pub fn read_response(alloc: Global, payload: &[u8]) -> Result<Response, HandFaul
     ensures { Gives result (response_of payload.now) }
 {
     let mut fields = Cursor::new(payload);
-    let capabilities = fields.take_u32()?;
-    needed_of_response(capabilities)?;
-    let max_packet = fields.take_u32()?;
-    let collation = fields.take_u8()?;
-    let _filler = fields.take_bytes(23)?;
+    let head = take_head(&mut fields)?;
+    let capabilities = head.capabilities;
     let user = fields.take_text()?;
     let answer = fields.take_counted(answer_length(capabilities, fields.rest()))?;
     let named = has(capabilities, PLUGIN_AUTH);
@@ -56,10 +61,41 @@ pub fn read_response(alloc: Global, payload: &[u8]) -> Result<Response, HandFaul
     let in_schema = has(capabilities, CONNECT_WITH_DB);
     let schema = fields.take_optional_text(in_schema, !(named || followed))?;
     let plugin = fields.take_optional_text(named, !followed)?;
-    Ok(Response {
+    Ok(owned_response(alloc, head, user, answer, schema, plugin)?)
+}
+
+// The fields of one length.
+#[tactic(auto, unfolding(crate::specs::Response::head_fields))]
+fn take_head(fields: &mut Cursor<'_>) -> Result<Head, HandFault>
+    ensures { Takes result fields.new (head_fields fields.old) }
+{
+    let capabilities = fields.take_u32()?;
+    needed_of_response(capabilities)?;
+    let max_packet = fields.take_u32()?;
+    let collation = fields.take_u8()?;
+    let _filler = fields.take_bytes(23)?;
+    Ok(Head {
         capabilities,
         max_packet,
         collation,
+    })
+}
+
+// A response with texts of its own.
+fn owned_response(
+    alloc: Global,
+    head: Head,
+    user: &[u8],
+    answer: &[u8],
+    schema: Option<&[u8]>,
+    plugin: Option<&[u8]>,
+) -> Result<Response, OutOfMemory>
+    ensures { IfOk result (λ response. response ≡ record { capabilities = head.capabilities; max_packet = head.max_packet; collation = head.collation; user = user.now; answer = answer.now; schema = option_copied schema.entry; plugin = option_copied plugin.entry }) }
+{
+    Ok(Response {
+        capabilities: head.capabilities,
+        max_packet: head.max_packet,
+        collation: head.collation,
         user: Bytes::from_slice(alloc, user)?,
         answer: Bytes::from_slice(alloc, answer)?,
         schema: owned(alloc, schema)?,

@@ -10,7 +10,7 @@ use mx_base::{Bytes, OutOfMemory};
 use std::alloc::Global;
 
 /// A server's request to log in by another method (client/server protocol, "Protocol::AuthSwitchRequest").
-#[derive(Drop, Debug, PartialEq, Eq)]
+#[derive(Drop)]
 pub struct Switch {
     /// The login method.
     pub plugin: Bytes,

@@ -1,7 +1,7 @@
 // What a client answers.
 
 /// What a client answers to a salt (MySQL client/server protocol, "Native Authentication").
-#[derive(Clone, Copy, Debug, PartialEq, Eq)]
+#[derive(Clone, Copy)]
 pub enum Answer {
     /// No bytes, for an empty password.
     Empty,

@@ -3,8 +3,6 @@
 
 mod answers;
 mod password;
-#[cfg(test)]
-mod tests;
 
 pub use answers::Answer;
 pub use password::{answer, check};

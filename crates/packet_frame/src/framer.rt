@@ -9,7 +9,7 @@ use std::marker::Model;
 
 /// Messages out of bytes that come in pieces of any lengths (client/server protocol, "MySQL Packets"). Each byte
 /// is moved a bounded number of times, and looking for a message takes no time that grows with its length.
-#[derive(Drop, Debug)]
+#[derive(Drop)]
 pub struct Framer {
     limit: u64,
     queue: ByteQueue,

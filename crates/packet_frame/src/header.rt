@@ -8,7 +8,7 @@ use crate::message::Message;
 use mx_base::{get_u8, get_u24};
 
 /// The length of a packet's body, and its sequence id.
-#[derive(Clone, Copy, Debug)]
+#[derive(Clone, Copy)]
 pub(crate) struct Header {
     pub length: u32,
     pub id: u8,

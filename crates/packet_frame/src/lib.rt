@@ -8,8 +8,6 @@ mod header;
 mod laws;
 mod message;
 mod pieces;
-#[cfg(test)]
-mod tests;
 mod write;
 
 pub use fault::FrameFault;

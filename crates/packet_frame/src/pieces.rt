@@ -9,7 +9,7 @@ use mx_base::{Bytes, OutOfMemory};
 use std::alloc::Global;
 
 /// The payloads of messages in order, and the fault that stands behind them.
-#[derive(Drop, Debug)]
+#[derive(Drop)]
 pub struct Payloads {
     pub payloads: Vec<Bytes>,
     pub fault: Option<FrameFault>,

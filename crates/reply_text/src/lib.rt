@@ -8,6 +8,3 @@ mod ok;
 pub use err::write_err;
 pub use lone::is_lone_reply;
 pub use ok::write_ok;
-
-#[cfg(test)]
-mod tests;

@@ -56,6 +56,12 @@ nothing heard backend = Hears heard (record backend { framer = seen backend.fram
 
 -- The login.
 
+-- what goes on with the message that is found, where it is whole
+abbrev pub found_by : (read : Framed → BackendState → Got) → BackendState → Found → Got
+found_by read backend Nothing = nothing Quiet backend
+found_by read backend (Whole message rest) = read message (behind message backend)
+found_by read backend (Faulty fault) = bad
+
 abbrev pub accepted_by : (accepted : Rattle.std.specs.Prelude.Bool) → BackendState → Got
 accepted_by accepted backend = if accepted && nat_eq (length backend.framer.kept) 0 then Hears LoggedIn (record backend { stage = stage.In }) else bad
 
@@ -68,9 +74,7 @@ abbrev pub end_read : Framed → BackendState → Got
 end_read message backend = end_told (denied message.payload) message backend
 
 abbrev pub end_found : BackendState → Found → Got
-end_found backend Nothing = nothing Quiet backend
-end_found backend (Whole message rest) = end_read message (behind message backend)
-end_found backend (Faulty fault) = bad
+end_found backend found = found_by end_read backend found
 
 -- the router says its bare answer
 abbrev pub answered : Switch → BackendState → BackendState
@@ -88,9 +92,7 @@ abbrev pub welcome_read : Framed → BackendState → Got
 welcome_read message backend = if asks_switch message.payload then switch_told (switch_of message.payload) backend else end_read message backend
 
 abbrev pub welcome_found : BackendState → Found → Got
-welcome_found backend Nothing = nothing Quiet backend
-welcome_found backend (Whole message rest) = welcome_read message (behind message backend)
-welcome_found backend (Faulty fault) = bad
+welcome_found backend found = found_by welcome_read backend found
 
 -- the router says its response
 abbrev pub responded : Greeting → BackendState → BackendState
@@ -112,9 +114,7 @@ abbrev pub greeting_read : Framed → BackendState → Got
 greeting_read message backend = greeting_or_not (denied message.payload) message backend
 
 abbrev pub greeting_found : BackendState → Found → Got
-greeting_found backend Nothing = nothing Quiet backend
-greeting_found backend (Whole message rest) = greeting_read message (behind message backend)
-greeting_found backend (Faulty fault) = bad
+greeting_found backend found = found_by greeting_read backend found
 
 -- The reply.
 

@@ -3,7 +3,7 @@ use mx_base::Bytes;
 use std::marker::Model;
 
 /// Who logs in to a server, and how.
-#[derive(Debug, Drop)]
+#[derive(Drop)]
 pub struct Account {
     user: Bytes,
     password: Bytes,
@@ -47,6 +47,7 @@ impl Account {
         self.user.as_slice()
     }
 
+    /// The password, empty where there is none.
     pub fn password(&self) -> &[u8]
         ensures { result.now ≡ self.now.password }
     {

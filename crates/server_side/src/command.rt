@@ -12,7 +12,7 @@ pub struct Command {
 }
 
 /// Bytes that are to be written, never none, and their tag.
-#[derive(Clone, Copy, Debug)]
+#[derive(Clone, Copy)]
 pub struct Outgoing<'a> {
     pub tag: Tag,
     pub bytes: &'a [u8],

@@ -5,7 +5,7 @@ ghost use Rattle.server_side.specs.declared.fault.BackendFault.TheVariants as fa
 use mx_base::{Bytes, OutOfMemory};
 
 /// Why a link to a server is of no use any more.
-#[derive(Debug, Drop, PartialEq, Eq)]
+#[derive(Debug, Drop)]
 pub enum BackendFault {
     /// Bytes with which no login and no reply goes on, or which came while nothing was due, from this place of the reply on,
     /// counted from 0; 0 in a login. A greeting that doesn't offer FOUND_ROWS where that is wanted is such bytes.

@@ -13,7 +13,7 @@ use packet_frame::write_message;
 use reply_text::is_lone_reply;
 
 /// What was heard on a link to a server. Of the piece, `used` bytes are a part of the reply.
-#[derive(Clone, Copy, Debug, PartialEq, Eq)]
+#[derive(Clone, Copy, Debug)]
 pub enum Heard {
     /// The login goes on.
     Quiet,

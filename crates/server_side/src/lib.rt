@@ -9,8 +9,6 @@ mod fault;
 mod hear;
 mod payloads;
 mod stage;
-#[cfg(test)]
-mod tests;
 
 pub use account::Account;
 pub use backend::Backend;

@@ -78,8 +78,8 @@ fn own_response(
     })
 }
 
-/// The packet of the response to a greeting (client/server protocol, "Protocol::HandshakeResponse41"), with the
-/// sequence id 1.
+/// The packet of the response to a greeting, with the sequence id 1 (client/server protocol,
+/// "Protocol::HandshakeResponse41").
 #[tactic(auto, unfolding(crate::specs::Login::response_said))]
 pub fn response_packet(
     alloc: Global,
@@ -96,8 +96,8 @@ pub fn response_packet(
     Ok(packet)
 }
 
-/// The packet of the bare answer to a request to switch (client/server protocol, "Protocol::AuthSwitchResponse"), with the
-/// sequence id 3.
+/// The packet of the bare answer to a request to switch, with the sequence id 3 (client/server protocol,
+/// "Protocol::AuthSwitchResponse").
 #[tactic(auto, unfolding(crate::specs::Login::answer_said))]
 pub fn answer_packet(
     alloc: Global,

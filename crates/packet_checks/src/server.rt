@@ -1,0 +1,102 @@
+// The link to a server.
+use crate::show::{Spelled, debug, nothing, word};
+use crate::steps::{Steps, take_steps};
+use crate::text::{id_of, is_text, number_of};
+use check_lines::{Case, CaseFault, bytes_of, shown};
+use mx_base::{ClientNo, Tag};
+use server_side::{Backend, Stage};
+use std::alloc::Global;
+
+/// The tag of each command.
+const COMMAND: Tag = Tag::For {
+    client: ClientNo(1),
+    ordinal: 1,
+};
+
+/// `backend <found rows> <user> <password> <step> ..`: a Backend that is led through the steps `got=<piece>`,
+/// `command=<first>:<payload>`, `write`, which is outgoing and then taken whole, `taken=<count>`, `withdraw` and the words of
+/// `look`.
+pub fn log_in(alloc: Global, case: &mut Case<'_>) -> Result<String, CaseFault> {
+    let found_rows = case.text()? == "true";
+    let user = case.bytes(alloc)?;
+    let password = case.bytes(alloc)?;
+    if !is_text(&user) {
+        return Err(CaseFault::Bad);
+    }
+    let mut backend = Backend::new(alloc, &user, &password, found_rows)?;
+    take_steps(alloc, case, &mut backend)
+}
+
+impl Steps for Backend {
+    fn step(&mut self, alloc: Global, call: &str, argument: &str) -> Result<String, CaseFault> {
+        match call {
+            "got" => debug(alloc, self.got(&mut bytes_of(alloc, argument)?)),
+            "command" => command(alloc, self, argument),
+            "taken" => take(alloc, self, number_of(argument)?),
+            "write" => write(alloc, self),
+            "withdraw" => {
+                self.withdraw();
+                Ok(String::new(alloc))
+            }
+            _ => look(alloc, self, call),
+        }
+    }
+}
+
+// What can be seen of a link.
+fn look(alloc: Global, backend: &Backend, call: &str) -> Result<String, CaseFault> {
+    match call {
+        "outgoing" => outgoing(alloc, backend),
+        "reply" => shown(alloc, backend.reply()),
+        "kept" => debug(alloc, backend.kept()),
+        "stage" => debug(alloc, backend.stage()),
+        "has_command" => debug(alloc, backend.has_command()),
+        "is_begun" => debug(alloc, backend.is_begun()),
+        "is_sent" => debug(alloc, backend.is_sent()),
+        _ => Err(CaseFault::Bad),
+    }
+}
+
+// What is to be written, and what it is for.
+fn outgoing(alloc: Global, backend: &Backend) -> Result<String, CaseFault> {
+    match backend.outgoing() {
+        Some(left) => {
+            let tag = left.tag;
+            let bytes = Spelled(left.bytes);
+            Ok(format!(in alloc; "{tag:?} {bytes}")?)
+        }
+        None => word(alloc, "none"),
+    }
+}
+
+// What is to be written, all of which is written then.
+fn write(alloc: Global, backend: &mut Backend) -> Result<String, CaseFault> {
+    let answer = outgoing(alloc, backend);
+    if let Some(left) = backend.outgoing() {
+        let count = left.bytes.len();
+        backend.taken(count);
+    }
+    answer
+}
+
+// A command is to be written, where the router is logged in and none is.
+fn command(alloc: Global, backend: &mut Backend, argument: &str) -> Result<String, CaseFault> {
+    let (first, payload) = argument.split_once(':').unwrap_or((argument, ""));
+    let first = id_of(first)?;
+    let payload = bytes_of(alloc, payload)?;
+    if backend.stage() != Stage::In || backend.has_command() {
+        return Err(CaseFault::Bad);
+    }
+    nothing(alloc, backend.command(COMMAND, &payload, first))
+}
+
+// So many bytes were written of what is left.
+fn take(alloc: Global, backend: &mut Backend, count: u64) -> Result<String, CaseFault> {
+    match backend.outgoing() {
+        Some(left) if count <= left.bytes.len() as u64 => {
+            backend.taken(count as usize);
+            Ok(String::new(alloc))
+        }
+        _ => Err(CaseFault::Bad),
+    }
+}

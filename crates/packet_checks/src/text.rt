@@ -1,0 +1,50 @@
+// What the texts of a case spell.
+ghost use Rattle.std.specs.Prelude.{◌<◌, ◌↔◌, IsTrue, IfOk};
+ghost use Rattle.handshake.specs.Spelling.{IsText};
+
+use check_lines::{Case, CaseFault};
+use std::alloc::Global;
+
+/// The length of the longest body of a packet.
+pub const LONGEST: u64 = 16_777_215;
+
+/// The next field, a limit of messages, which are of one packet.
+pub fn limit_of(case: &mut Case<'_>) -> Result<u64, CaseFault>
+    ensures { IfOk result (λ limit. limit < LONGEST) }
+{
+    match case.number()? {
+        limit if limit < LONGEST => Ok(limit),
+        _ => Err(CaseFault::Bad),
+    }
+}
+
+/// The next field, the 20 bytes of a salt.
+pub fn salt_of(alloc: Global, case: &mut Case<'_>) -> Result<[u8; 20], CaseFault> {
+    match <[u8; 20]>::try_from(case.bytes(alloc)?.as_slice()) {
+        Ok(salt) => Ok(salt),
+        Err(_) => Err(CaseFault::Bad),
+    }
+}
+
+/// Whether bytes are a text, which has no NUL.
+pub fn is_text(bytes: &[u8]) -> bool
+    ensures { IsTrue result ↔ IsText bytes.now }
+{
+    bytes.iter().all(|b| *b != 0)
+}
+
+/// The number that an argument spells.
+pub fn number_of(argument: &str) -> Result<u64, CaseFault> {
+    match argument.parse() {
+        Ok(number) => Ok(number),
+        Err(_) => Err(CaseFault::Bad),
+    }
+}
+
+/// The sequence id that an argument spells.
+pub fn id_of(argument: &str) -> Result<u8, CaseFault> {
+    match argument.parse() {
+        Ok(id) => Ok(id),
+        Err(_) => Err(CaseFault::Bad),
+    }
+}
