@@ -11,7 +11,7 @@ use std::alloc::Global;
 
 /// An error that the router itself answers, as an ERR packet (MySQL Reference Manual, "Server Error Message
 /// Reference"; the numbers from 9100 on are the router's own).
-#[derive(Clone, Copy, Debug, PartialEq, Eq)]
+#[derive(Clone, Copy)]
 pub enum Refusal {
     /// 1040: there is no room for one client more.
     TooManyConnections,
