@@ -1,5 +1,5 @@
 -- What a serving loop keeps, and how it ends.
-use Rattle.std.specs.Prelude.{◌≡◌, ◌⊎◌, ℕ, ◌+◌, ◌<◌, ◌≤◌, Bool, true, false, [], ◌∷◌, ◌++◌, filter, drop, Option, Some, None, IsSome}
+use Rattle.std.specs.Prelude.{◌≡◌, ◌⊎◌, ℕ, ◌+◌, ◌<◌, ◌≤◌, Bool, true, false, [], ◌∷◌, ◌++◌, filter, drop, Option, Some, None, IsSome, Result, OnOk, IfErr}
 use Rattle.mx_base.specs.declared.names.LinkId.{LinkId}
 use Rattle.mx_base.specs.declared.names.Port.TheVariants as port
 use Rattle.mx_base.specs.declared.names.Address.{Address}
@@ -199,6 +199,15 @@ Ends stands is_stopped wakes spent core told OutOfMemory = StoodFor stands told
 pub record Breaks {M : Type 0} (stands : M → Log → Type 0) (is_stopped : M → Bool) (wakes : ℕ) (core : M) (told : Option Log) (faults_before faults_now : ℕ) (end : ServeEnd) : Type 0 where
   pub ends : Ends stands is_stopped wakes BusyFor core told end
   pub rose : end ≡ ListenFault → faults_before < faults_now
+
+-- the call was made, and no other, and is counted; the loop goes on, or ends by what the call answered
+pub record HasMade {M W S A : Type 0} (stands : M → Log → Type 0) (is_stopped : M → Bool) (service : M → S) (told : W → Option Log) (rule : W → Log → Type 0) (port_faults faults : W → ℕ) (made : Call)
+    (core next : M) (old new : W) (before now : Round) (result : Result A ServeEnd) : Type 0 where
+  pub made_it : Makes made (told old) (told new)
+  pub more : OnOk result (before.calls < now.calls)
+  pub wakes : now.wakes ≡ before.wakes
+  pub ends : IfErr result (Breaks stands is_stopped now.wakes next (told new) (port_faults old) (port_faults new))
+  pub proceeds : Proceeds service told rule port_faults faults core next old new
 
 -- the calls of a log, without the marks
 abbrev pub is_call : Entry → Bool

@@ -7,7 +7,7 @@ ghost use Rattle.ready_loop.specs.Drained.{DrainedFor};
 ghost use Rattle.ready_loop.specs.Links.{mark_of};
 ghost use Rattle.ready_loop.specs.Machine.{StandsFor};
 ghost use Rattle.ready_loop.specs.Round.{CountsOf};
-ghost use Rattle.ready_loop.specs.Serving.{Serves, IsGoing, Breaks, Ends, StoodFor, EndsWith, IsOver, IsPortFault, SpentFor, WokeFor, ListensFirst, ListeningFor, Advances, Proceeds, Makes, IsOwed};
+ghost use Rattle.ready_loop.specs.Serving.{Serves, IsGoing, Breaks, Ends, StoodFor, EndsWith, IsOver, IsPortFault, SpentFor, WokeFor, ListensFirst, ListeningFor, Advances, Proceeds, HasMade, IsOwed};
 
 use crate::acts::do_acts;
 use crate::calls::{accept_once, listen_once, name_once, read_once, wait_once, write_once};
@@ -79,11 +79,7 @@ fn make_call<M: Machine, W: Wire>(
     requires going { IsGoing M.stands M.reads M.sends M.changed M.is_stopped M.asks core.old table.old (W.told wire.old) }
     requires owed { IsOwed (M.reads core.old) (M.sends core.old) table.old call }
     ensures serves { OnOk result (Serves M.stands M.reads M.sends M.changed core.new table.new (W.told wire.new)) }
-    ensures made { Makes call (W.told wire.old) (W.told wire.new) }
-    ensures more { OnOk result (table.old.round.calls < table.new.round.calls) }
-    ensures wakes { table.new.round.wakes ≡ table.old.round.wakes }
-    ensures ends { IfErr result (Breaks M.stands M.is_stopped table.new.round.wakes core.new (W.told wire.new) (W.port_faults wire.old) (W.port_faults wire.new)) }
-    ensures proceeds { Proceeds M.serves_by W.told W.rule W.port_faults W.faults core.old core.new wire.old wire.new }
+    ensures made { HasMade M.stands M.is_stopped M.serves_by W.told W.rule W.port_faults W.faults call core.old core.new wire.old wire.new table.old.round table.new.round result }
 {
     match call {
         Call::Accept { port } => accept_once(core, wire, table, port),

@@ -1,5 +1,5 @@
-use Rattle.std.proofs.Common.{refl, ap, ◌∙◌}
-use Rattle.ready_loop.proofs.Steps.{goes_on, stays}
+use Rattle.std.proofs.Common.{rules, refl, ap, ◌∙◌}
+use Rattle.ready_loop.proofs.Steps.{advanced, goes_on, stays}
 use Rattle.ready_loop.proofs.Counting.{unnamed, named}
 use Rattle.ready_loop.proofs.Marking as marking
 use Rattle.ready_loop.proofs.Watching as watching
@@ -19,8 +19,14 @@ returns-in-Link-clause-serves g c =
       watches = watching.opened _ _ _ _ _ _ came.1.0 came.1.1 (watching.changes _ _ _ _ _ _ came.0.1 c.requires.going.serves.watches);
     })
 
-pub returns-in-Link-clause-ends : goal.returns-in-Link-clause-ends
-returns-in-Link-clause-ends g c = refused _ _ _ _ _ _ _ _ c.unless_refused.ensures.err (stood_before _ _ _ _ _ tt c.requires.going.serves.standing c.in-Link.ensures.told)
+pub returns-in-Link-clause-made : goal.returns-in-Link-clause-made
+returns-in-Link-clause-made g c = record {
+  made_it = search rules;
+  more = search rules;
+  wakes = search rules;
+  ends = refused _ _ _ _ _ _ _ _ c.unless_refused.ensures.err (stood_before _ _ _ _ _ tt c.requires.going.serves.standing c.in-Link.ensures.told);
+  proceeds = record { advances = advanced _ _ _ _ _ _ _ c.in-Link.ensures.told c.in-Link.ensures.rule c.in-Link.ensures.cause.later c.in-Link.ensures.faults; serves_by = search rules };
+}
 
 pub returns-in-NotReady-clause-serves : goal.returns-in-NotReady-clause-serves
 returns-in-NotReady-clause-serves g c = record {
@@ -29,13 +35,19 @@ returns-in-NotReady-clause-serves g c = record {
   watches = c.requires.going.serves.watches;
 }
 
-pub returns-in-Failed-clause-ends : goal.returns-in-Failed-clause-ends
-returns-in-Failed-clause-ends g c = record {
+pub returns-in-Failed-clause-made : goal.returns-in-Failed-clause-made
+returns-in-Failed-clause-made g c = record {
+  made_it = search rules;
+  more = search rules;
+  wakes = search rules;
   ends = record {
-    standing = stays _ _ _ _ g.met.M.Machine.quiet _ _ _ _ c.requires.going.serves.standing c.in-Failed.ensures.told (λ log. tt) tt;
-    halted = c.requires.going.going;
-    woke = woke_on _ _ _ _ c.requires.going.serves.tracks c.in-Failed.ensures.told refl refl;
-    so = ends_with IsPortFault _ _ _ c.in-Failed.ensures.told tt;
+    ends = record {
+      standing = stays _ _ _ _ g.met.M.Machine.quiet _ _ _ _ c.requires.going.serves.standing c.in-Failed.ensures.told (λ log. tt) tt;
+      halted = c.requires.going.going;
+      woke = woke_on _ _ _ _ c.requires.going.serves.tracks c.in-Failed.ensures.told refl refl;
+      so = ends_with IsPortFault _ _ _ c.in-Failed.ensures.told tt;
+    };
+    rose = λ fault. c.in-Failed.ensures.cause.rose refl;
   };
-  rose = λ fault. c.in-Failed.ensures.cause.rose refl;
+  proceeds = record { advances = advanced _ _ _ _ _ _ _ c.in-Failed.ensures.told c.in-Failed.ensures.rule c.in-Failed.ensures.cause.later c.in-Failed.ensures.faults; serves_by = search rules };
 }

@@ -1,6 +1,6 @@
 use Rattle.ready_loop.proofs.Ending.{stood_before, refused, both, on_ok}
-use Rattle.std.proofs.Common.{refl}
-use Rattle.ready_loop.proofs.Steps.{stays}
+use Rattle.std.proofs.Common.{rules, refl}
+use Rattle.ready_loop.proofs.Steps.{advanced, stays}
 use Rattle.ready_loop.proofs.Counting.{unnamed, named}
 use Rattle.ready_loop.proofs.Marking as marking
 use Rattle.ready_loop.proofs.Watching as watching
@@ -20,5 +20,11 @@ returns-in-None-clause-serves g c = record {
   watches = c.requires.going.serves.watches;
 }
 
-pub returns-in-Some-clause-ends : goal.returns-in-Some-clause-ends
-returns-in-Some-clause-ends g c = refused _ _ _ _ _ _ _ _ c.unless_refused.ensures.err (stood_before _ _ _ _ _ tt c.requires.going.serves.standing c.in-Some.ensures.told)
+pub returns-in-Some-clause-made : goal.returns-in-Some-clause-made
+returns-in-Some-clause-made g c = record {
+  made_it = search rules;
+  more = search rules;
+  wakes = search rules;
+  ends = refused _ _ _ _ _ _ _ _ c.unless_refused.ensures.err (stood_before _ _ _ _ _ tt c.requires.going.serves.standing c.in-Some.ensures.told);
+  proceeds = record { advances = advanced _ _ _ _ _ _ _ c.in-Some.ensures.told c.in-Some.ensures.rule c.in-Some.ensures.port_faults c.in-Some.ensures.faults; serves_by = search rules };
+}

@@ -1,7 +1,7 @@
-use Rattle.std.proofs.Common.{refl, sym, ◌∙◌, subst}
+use Rattle.std.proofs.Common.{rules, refl, sym, ◌∙◌, subst}
 use Rattle.mx_wire.specs.Tells.{Tells}
 use Rattle.mx_wire.specs.declared.entry.Entry.{Entry}
-use Rattle.ready_loop.proofs.Steps.{goes_on, stays}
+use Rattle.ready_loop.proofs.Steps.{advanced, goes_on, stays}
 use Rattle.ready_loop.proofs.Counting.{named}
 use Rattle.ready_loop.proofs.Ending.{stood_before, refused, both, on_ok}
 use Rattle.ready_loop.proofs.Hearing as hearing
@@ -23,7 +23,13 @@ returns-in_default-clause-serves g c =
     }
 
 pub returns-in_default-clause-made : goal.returns-in_default-clause-made
-returns-in_default-clause-made g c = record { entry_of = _; tells = c.read.ensures.told; is = hearing.made _ _ c.read.result }
+returns-in_default-clause-made g c = record {
+  made_it = record { entry_of = _; tells = c.read.ensures.told; is = hearing.made _ _ c.read.result };
+  more = search rules;
+  wakes = search rules;
+  ends = search rules;
+  proceeds = record { advances = advanced _ _ _ _ _ _ _ c.read.ensures.told c.read.ensures.rule c.read.ensures.port_faults c.read.ensures.cause.later; serves_by = search rules };
+}
 
 pub returns-clause-serves : goal.returns-clause-serves
 returns-clause-serves g c =
@@ -34,5 +40,11 @@ returns-clause-serves g c =
       watches = watching.changes _ _ _ _ _ _ taken.1 c.requires.going.serves.watches;
     })
 
-pub returns-clause-ends : goal.returns-clause-ends
-returns-clause-ends g c = refused _ _ _ _ _ _ _ _ c.unless_refused.ensures.err (stood_before _ _ _ _ _ (hearing.unwritten _ _ c.read.result) c.requires.going.serves.standing c.read.ensures.told)
+pub returns-clause-made : goal.returns-clause-made
+returns-clause-made g c = record {
+  made_it = record { entry_of = _; tells = c.read.ensures.told; is = hearing.made _ _ c.read.result };
+  more = search rules;
+  wakes = search rules;
+  ends = refused _ _ _ _ _ _ _ _ c.unless_refused.ensures.err (stood_before _ _ _ _ _ (hearing.unwritten _ _ c.read.result) c.requires.going.serves.standing c.read.ensures.told);
+  proceeds = record { advances = advanced _ _ _ _ _ _ _ c.read.ensures.told c.read.ensures.rule c.read.ensures.port_faults c.read.ensures.cause.later; serves_by = search rules };
+}

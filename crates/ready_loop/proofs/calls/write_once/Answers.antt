@@ -1,6 +1,6 @@
 use Rattle.ready_loop.proofs.Ending.{stood_before, refused, both, on_ok}
-use Rattle.std.proofs.Common.{refl, inr}
-use Rattle.ready_loop.proofs.Steps.{goes_on, stays, written, may_take}
+use Rattle.std.proofs.Common.{rules, refl, inr}
+use Rattle.ready_loop.proofs.Steps.{advanced, goes_on, stays, written, may_take}
 use Rattle.ready_loop.proofs.Counting.{named}
 use Rattle.ready_loop.proofs.Marking as marking
 use Rattle.ready_loop.proofs.Watching as watching
@@ -34,5 +34,11 @@ returns-in-Failed-clause-serves g c = on_ok c.take.result _ _ _ c.unless_refused
   watches = watching.changes _ _ _ _ _ _ taken.1 c.requires.going.serves.watches;
 })
 
-pub returns-in-Failed-clause-ends : goal.returns-in-Failed-clause-ends
-returns-in-Failed-clause-ends g c = refused _ _ _ _ _ _ _ _ c.unless_refused.ensures.err (stood_before _ _ _ _ _ tt c.requires.going.serves.standing c.in-Failed.ensures.told)
+pub returns-in-Failed-clause-made : goal.returns-in-Failed-clause-made
+returns-in-Failed-clause-made g c = record {
+  made_it = search rules;
+  more = search rules;
+  wakes = search rules;
+  ends = refused _ _ _ _ _ _ _ _ c.unless_refused.ensures.err (stood_before _ _ _ _ _ tt c.requires.going.serves.standing c.in-Failed.ensures.told);
+  proceeds = record { advances = advanced _ _ _ _ _ _ _ c.in-Failed.ensures.told c.in-Failed.ensures.rule c.in-Failed.ensures.port_faults c.in-Failed.ensures.cause.later; serves_by = search rules };
+}
