@@ -96,9 +96,7 @@ unknown-asked has_server reply payload is = unknown-by has_server reply (parsed 
 malformed-by : (has_server : Bool) (reply : Option (List ℕ)) (m : Result Meaning CommandFault) → asked_by has_server m ≡ Malformed → answer_by reply m ≡ Some malformed_command
 malformed-by has_server reply (Err fault) is = refl
 malformed-by has_server reply (Ok (Queries text)) is = absurd (query_of-other has_server Malformed (λ same. cc) (λ same. cc) is)
-malformed-by has_server reply (Ok Pings) is = cc
-malformed-by has_server reply (Ok Quits) is = cc
-malformed-by has_server reply (Ok _) is = cc
+malformed-by has_server reply _ is = cc
 
 pub malformed-asked : (has_server : Bool) (reply : Option (List ℕ)) (payload : List ℕ) → asked_of has_server payload ≡ Malformed → answer_to reply payload ≡ Some malformed_command
 malformed-asked has_server reply payload is = malformed-by has_server reply (parsed payload) is

@@ -157,6 +157,25 @@ pub record Waiting (service : Service) (old : Session) (payload : List ℕ) (ser
   pub is_user : old.account ≡ Some server.backend.account
   pub has : HasSession service old log
 
+is-waiting : (service : Service) (old : Session) (payload : List ℕ) (server : Server) (sent : ℕ) (since log : Log) → old.phase ≡ phase.Working payload → IsOnItsWay service old.account old.client.number old.client.arrived payload server log → 0 < sent → sent ≤ length (spelling 0 payload)
+    → IsInOn server log → server.backend.command ≡ Some (command_of old.client.number old.client.arrived payload sent) → is_refused old.client.number.0 old.client.arrived service.refused ≡ false
+    → sending old.client.number.0 old.client.arrived log ≡ Some (record { link = server.link; since = since }) → heard_on server.link since ≡ Part server.backend.framer.kept
+    → Rattle.client_session.specs.Sending.command_sent old.client.number.0 old.client.arrived log ≡ Rattle.std.specs.Prelude.take sent (spelling 0 payload) → HasSession service old log → Waiting service old payload server sent since log
+is-waiting service old payload server sent since log working way some fits inside command unrefused on_link kept written has = record {
+  working = working;
+  serves = way.serves;
+  some = some;
+  fits = fits;
+  in_on = inside;
+  command = command;
+  unrefused = unrefused;
+  sends = on_link;
+  heard = kept;
+  written = written;
+  is_user = way.is_user;
+  has = has;
+}
+
 heard-more : (service : Service) (old : Session) (payload : List ℕ) (server : Server) (sent : ℕ) (since log : Log) (e : Entry) → Waiting service old payload server sent since log → IsOfServer old server log e
     → heard_on server.link (since ++ e ∷ []) ≡ hear_step (Part server.backend.framer.kept) e
 heard-more service old payload server sent since log e waits is =
@@ -455,20 +474,7 @@ session-server_says service old new server log bytes on apart few has says = by 
   carried : (payload : List ℕ) → old.phase ≡ phase.Working payload → (way : IsOnItsWay service old.account old.client.number old.client.arrived payload server log) → IsCarried service old.client.number old.client.arrived payload server log → Stood service old new log (got server bytes)
   carried payload working way (Awaits logging next) = login-says service old new payload server log bytes working is way logging next has tells
   carried payload working way (Unsent inside kept command next) = Stays (stray-says service old new server log bytes is inside.stage (ap has_begun command) has tells)
-  carried payload working way (Begun sent since some fits inside command unrefused on_link kept written) = Stays (reply-says service old new payload server sent since log bytes (record {
-    working = working;
-    serves = way.serves;
-    some = some;
-    fits = fits;
-    in_on = inside;
-    command = command;
-    unrefused = unrefused;
-    sends = on_link;
-    heard = kept;
-    written = written;
-    is_user = way.is_user;
-    has = has;
-  }) is tells)
+  carried payload working way (Begun sent since some fits inside command unrefused on_link kept written) = Stays (reply-says service old new payload server sent since log bytes (is-waiting service old payload server sent since log working way some fits inside command unrefused on_link kept written has) is tells)
 
   by : (phase : Phase) → old.phase ≡ phase → IsServedOn service phase old.account old.client.number old.client.arrived server log → Stood service old new log (got server bytes)
   by phase.LoggingIn working none = absurd none
@@ -518,20 +524,7 @@ session-server_lost service old new server log e on apart loss few has loses = b
       (login-idle server.backend (read_of server.link log) (own_of server.link log ++ server.backend.own) logging.is) has
       (subst (λ (d : Due). FailsBy service.setup connection_lost d (with_server old server) new) (login-due server.backend (read_of server.link log) (own_of server.link log ++ server.backend.own) logging.is) fails)
   carried payload working way (Unsent inside kept command next) = stray inside.stage (ap has_begun command)
-  carried payload working way (Begun sent since some fits inside command unrefused on_link kept written) = Stays (reply-bad service old new payload server server sent since log e connection_lost (record {
-    working = working;
-    serves = way.serves;
-    some = some;
-    fits = fits;
-    in_on = inside;
-    command = command;
-    unrefused = unrefused;
-    sends = on_link;
-    heard = kept;
-    written = written;
-    is_user = way.is_user;
-    has = has;
-  }) is (loss.lost server.backend.framer.kept) refl fails)
+  carried payload working way (Begun sent since some fits inside command unrefused on_link kept written) = Stays (reply-bad service old new payload server server sent since log e connection_lost (is-waiting service old payload server sent since log working way some fits inside command unrefused on_link kept written has) is (loss.lost server.backend.framer.kept) refl fails)
 
   by : (phase : Phase) → old.phase ≡ phase → IsServedOn service phase old.account old.client.number old.client.arrived server log → Stood service old new log e
   by phase.LoggingIn working none = absurd none

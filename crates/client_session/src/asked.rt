@@ -5,7 +5,7 @@ ghost use Rattle.client_session.specs.Asked.{asked_of};
 use command_parse::{Command, parse};
 
 /// What a client's message asks for.
-#[derive(Clone, Copy, Debug, PartialEq, Eq)]
+#[derive(Clone, Copy)]
 pub enum Asked {
     /// A query, which a server answers.
     Query,

@@ -167,7 +167,7 @@ fn answer_by(
 }
 
 // What a link to a server was as a piece came.
-#[derive(Clone, Copy, Debug, PartialEq, Eq)]
+#[derive(Clone, Copy)]
 pub enum Due {
     /// The login goes on.
     Login,

@@ -10,8 +10,6 @@ mod pump;
 mod refusal;
 mod session;
 mod setup;
-#[cfg(test)]
-mod tests;
 mod writing;
 
 pub use events::{

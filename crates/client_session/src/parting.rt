@@ -7,7 +7,7 @@ use crate::session::Session;
 use mx_base::LinkId;
 
 /// What a session asks for.
-#[derive(Clone, Copy, Debug, PartialEq, Eq)]
+#[derive(Clone, Copy)]
 pub enum SessionAct {
     /// A link to the server is to be opened.
     Open,

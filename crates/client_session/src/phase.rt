@@ -16,7 +16,7 @@ pub enum Phase {
 }
 
 /// The link of a client.
-#[derive(Clone, Copy, Debug, PartialEq, Eq)]
+#[derive(Clone, Copy)]
 pub enum LinkState {
     Open,
     /// It is to be closed.

@@ -1,6 +1,7 @@
 // The errors that the router itself answers.
 ghost use Rattle.std.specs.Prelude.{◌≡◌, ◌++◌, OnOk, IfOk, string_bytes};
 ghost use Rattle.packet_frame.specs.Packets.{spelling};
+ghost use Rattle.reply_text.specs.Replies.{err_payload};
 ghost use Rattle.client_session.specs.Errors.{own_ok, access_denied, shown, denied_text, bad_bytes_text, too_large_text, out_of_order_text};
 ghost use Rattle.client_session.specs.Refusals.{payload_of};
 
@@ -11,7 +12,7 @@ use std::alloc::Global;
 
 /// An error that the router itself answers, as an ERR packet (MySQL Reference Manual, "Server Error Message
 /// Reference"; the numbers from 9100 on are the router's own).
-#[derive(Clone, Copy, Debug, PartialEq, Eq)]
+#[derive(Clone, Copy)]
 pub enum Refusal {
     /// 1040: there is no room for one client more.
     TooManyConnections,
@@ -55,8 +56,45 @@ fn out_of_order_text(alloc: Global, expected: u8, found: u8) -> Result<String, O
     Ok(format!(in alloc; "Packet {found} came where {expected} was due")?)
 }
 
+// An ERR appended to `out`.
+fn put(
+    out: &mut Vec<u8>,
+    first: u8,
+    code: u16,
+    state: &[u8; 5],
+    text: &[u8],
+) -> Result<(), OutOfMemory>
+    ensures { OnOk result (out.new.items ≡ out.old.items ++ spelling first (err_payload code state.now text.now)) }
+{
+    let _ = write_err(out, first, code, state, text)?;
+    Ok(())
+}
+
+// A fault of framing appended to `out`, as write_refusal appends it.
+#[tactic(auto, unfolding(crate::specs::Errors::packet_too_large, crate::specs::Errors::packet_out_of_order))]
+fn write_frame_fault(
+    alloc: Global,
+    out: &mut Vec<u8>,
+    first: u8,
+    fault: FrameFault,
+    limit: u64,
+) -> Result<(), OutOfMemory>
+    ensures { OnOk result (out.new.items ≡ out.old.items ++ spelling first (payload_of (Refusal.Frame fault limit))) }
+{
+    match fault {
+        FrameFault::TooLarge { length } => {
+            let text = too_large_text(alloc, length, limit)?;
+            put(out, first, 1153, b"08S01", text.as_bytes())
+        }
+        FrameFault::OutOfOrder { expected, found } => {
+            let text = out_of_order_text(alloc, expected, found)?;
+            put(out, first, 1156, b"08S01", text.as_bytes())
+        }
+    }
+}
+
 /// A refusal appended to `out` as one message that begins with the sequence id `first`.
-#[tactic(auto, unfolding(crate::specs::Errors::too_many_connections, crate::specs::Errors::unknown_command, crate::specs::Errors::malformed_command, crate::specs::Errors::bad_handshake, crate::specs::Errors::no_server, crate::specs::Errors::connection_lost, crate::specs::Errors::connection_refused, crate::specs::Errors::bad_server_bytes, crate::specs::Errors::packet_too_large, crate::specs::Errors::packet_out_of_order))]
+#[tactic(auto, unfolding(crate::specs::Errors::too_many_connections, crate::specs::Errors::unknown_command, crate::specs::Errors::malformed_command, crate::specs::Errors::bad_handshake, crate::specs::Errors::no_server, crate::specs::Errors::connection_lost, crate::specs::Errors::connection_refused, crate::specs::Errors::bad_server_bytes))]
 pub fn write_refusal(
     alloc: Global,
     out: &mut Vec<u8>,
@@ -66,39 +104,19 @@ pub fn write_refusal(
     ensures { OnOk result (out.new.items ≡ out.old.items ++ spelling first (payload_of refusal)) }
 {
     match refusal {
-        Refusal::TooManyConnections => {
-            write_err(out, first, 1040, b"08004", b"Too many connections")?
-        }
-        Refusal::UnknownCommand => write_err(out, first, 1047, b"08S01", b"Unknown command")?,
-        Refusal::MalformedCommand => write_err(out, first, 9109, b"HY000", b"Malformed command")?,
-        Refusal::BadHandshake => write_err(out, first, 1043, b"08S01", b"Bad handshake")?,
-        Refusal::NoServer => write_err(out, first, 9100, b"HY000", b"No server in hostgroup 0")?,
-        Refusal::ConnectionLost => {
-            write_err(out, first, 9101, b"HY000", b"Server connection lost")?
-        }
-        Refusal::ConnectionRefused => {
-            write_err(out, first, 9103, b"HY000", b"Server connection refused")?
-        }
+        Refusal::TooManyConnections => put(out, first, 1040, b"08004", b"Too many connections"),
+        Refusal::UnknownCommand => put(out, first, 1047, b"08S01", b"Unknown command"),
+        Refusal::MalformedCommand => put(out, first, 9109, b"HY000", b"Malformed command"),
+        Refusal::BadHandshake => put(out, first, 1043, b"08S01", b"Bad handshake"),
+        Refusal::NoServer => put(out, first, 9100, b"HY000", b"No server in hostgroup 0"),
+        Refusal::ConnectionLost => put(out, first, 9101, b"HY000", b"Server connection lost"),
+        Refusal::ConnectionRefused => put(out, first, 9103, b"HY000", b"Server connection refused"),
         Refusal::BadServerBytes { place } => {
             let text = bad_bytes_text(alloc, place)?;
-            write_err(out, first, 9110, b"HY000", text.as_bytes())?
+            put(out, first, 9110, b"HY000", text.as_bytes())
         }
-        Refusal::Frame {
-            fault: FrameFault::TooLarge { length },
-            limit,
-        } => {
-            let text = too_large_text(alloc, length, limit)?;
-            write_err(out, first, 1153, b"08S01", text.as_bytes())?
-        }
-        Refusal::Frame {
-            fault: FrameFault::OutOfOrder { expected, found },
-            ..
-        } => {
-            let text = out_of_order_text(alloc, expected, found)?;
-            write_err(out, first, 1156, b"08S01", text.as_bytes())?
-        }
-    };
-    Ok(())
+        Refusal::Frame { fault, limit } => write_frame_fault(alloc, out, first, fault, limit),
+    }
 }
 
 /// SERVER_STATUS_AUTOCOMMIT (client/server protocol, "SERVER_STATUS_flags_enum").

@@ -1,7 +1,7 @@
 // A client, and its link to a server.
-ghost use Rattle.std.specs.Prelude.{◌≡◌, ◌<◌, IfOk};
+ghost use Rattle.std.specs.Prelude.{◌≡◌, ◌<◌, IfOk, None};
 ghost use Rattle.packet_frame.specs.Packets.{longest};
-ghost use Rattle.client_session.specs.Steps.{first_session, refused_session, session_if};
+ghost use Rattle.client_session.specs.Steps.{session_if};
 
 use crate::phase::{LinkState, Phase, Upstream};
 use crate::refusal::{Refusal, write_refusal};
@@ -37,50 +37,25 @@ pub fn new_session(
     ensures short { IfOk result (λ session. session.client.framer.limit < longest) }
 {
     if has_room {
-        greeted(alloc, link, number, salt, setup)
-    } else {
-        refused(alloc, link, number, salt, setup)
+        let client = Client::new(alloc, number, salt, setup.limit(), setup.version())?;
+        return Ok(at_first(link, client, Phase::LoggingIn, LinkState::Open));
     }
-}
-
-fn greeted(
-    alloc: Global,
-    link: LinkId,
-    number: ClientNo,
-    salt: [u8; 20],
-    setup: &Setup,
-) -> Result<Session, OutOfMemory>
-    ensures is { IfOk result (λ session. session ≡ first_session link number salt setup.now) }
-    ensures short { IfOk result (λ session. session.client.framer.limit < longest) }
-{
-    Ok(Session {
-        link,
-        client: Client::new(alloc, number, salt, setup.limit(), setup.version())?,
-        phase: Phase::LoggingIn,
-        state: LinkState::Open,
-        account: None,
-        upstream: Upstream::Absent,
-    })
-}
-
-fn refused(
-    alloc: Global,
-    link: LinkId,
-    number: ClientNo,
-    salt: [u8; 20],
-    setup: &Setup,
-) -> Result<Session, OutOfMemory>
-    ensures is { IfOk result (λ session. session ≡ refused_session link number salt setup.now) }
-    ensures short { IfOk result (λ session. session.client.framer.limit < longest) }
-{
     let mut packet = Vec::new(alloc);
     write_refusal(alloc, &mut packet, 0, Refusal::TooManyConnections)?;
-    Ok(Session {
+    let client = Client::told(alloc, number, salt, setup.limit(), &packet)?;
+    Ok(at_first(link, client, Phase::Ending, LinkState::Closing))
+}
+
+// A client of which nothing is known yet.
+fn at_first(link: LinkId, client: Client, phase: Phase, state: LinkState) -> Session
+    ensures { result ≡ record { link = link; client = client; phase = phase; state = state; account = None; upstream = Upstream.Absent } }
+{
+    Session {
         link,
-        client: Client::told(alloc, number, salt, setup.limit(), &packet)?,
-        phase: Phase::Ending,
-        state: LinkState::Closing,
+        client,
+        phase,
+        state,
         account: None,
         upstream: Upstream::Absent,
-    })
+    }
 }

@@ -3,14 +3,14 @@ use mx_base::{Address, Bytes, ServerId};
 use std::marker::Model;
 
 /// A server, and where it stands.
-#[derive(Clone, Copy, Debug, PartialEq, Eq)]
+#[derive(Clone, Copy)]
 pub struct ServerAt {
     pub server: ServerId,
     pub address: Address,
 }
 
 /// A user, who may log in.
-#[derive(Debug, Drop)]
+#[derive(Drop)]
 pub struct User {
     name: Bytes,
     password: Bytes,
@@ -55,7 +55,7 @@ impl User {
 }
 
 /// What sessions go by.
-#[derive(Debug, Drop)]
+#[derive(Drop)]
 pub struct Setup {
     version: Bytes,
     users: Vec<User>,

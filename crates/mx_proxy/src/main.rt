@@ -2,17 +2,11 @@
 #![tactic(auto)]
 
 mod disk_files;
-mod replay;
-mod run;
 mod standard_out;
-mod stop;
-#[cfg(test)]
-mod tests;
-mod words;
 
 use disk_files::DiskFiles;
 use mem_wire::Tape;
-use run::run;
+use proxy_run::run;
 use standard_out::StandardOut;
 use std::env;
 use std::io::{self, ErrorKind};

@@ -1,17 +1,16 @@
 -- How a loop ends.
-use Rattle.std.proofs.Common.{◌≡◌, ◌++◌, ℕ, Bool, Option, None, Result, Ok, Err, arith, refl, sym, ◌∙◌, inl, inr}
+use Rattle.std.proofs.Common.{◌≡◌, ◌++◌, ℕ, Bool, Option, None, Result, Ok, Err, is_ok, arith, refl, sym, subst, ◌∙◌, inl, inr}
 use Rattle.mx_wire.specs.Log.{Log, link_of}
 use Rattle.mx_wire.specs.Tells.{Tells}
 use Rattle.mx_wire.specs.declared.entry.Entry.{Entry}
 use Rattle.ready_loop.specs.Round.{wake_step, wakes_of, round_step}
 use Rattle.ready_loop.proofs.Counting.{unnamed}
 use Rattle.ready_loop.specs.Machine.{StandsFor}
-use Rattle.ready_loop.specs.Serving.{TracksFor, WokeFor, EndsWith, IsUnwritten, StoodFor, Ends}
+use Rattle.ready_loop.specs.Serving.{TracksFor, WokeFor, EndsWith, IsUnwritten, StoodFor, Breaks}
 use Rattle.ready_loop.specs.declared.table.Table.{Table}
 use Rattle.ready_loop.specs.declared.ends.ServeEnd.{ServeEnd}
 use Rattle.ready_loop.specs.declared.ends.ServeEnd.TheVariants as ended
-use Rattle.std.specs.Result.{IsErrAnd, OnErr, IfErr}
-use Rattle.std.proofs.lemmas.Result.{err_from_is_err_and}
+use Rattle.std.specs.Result.{IsErrAnd, OnOk, OnErr, IfErr}
 
 -- the entry of a call is the last one
 pub ends_with : (P : Entry → Type 0) (old new : Option Log) (e : Entry) → Tells old e new → P e → EndsWith P new
@@ -42,6 +41,26 @@ pub on_err : {A E : Type 0} (r : Result A E) (P : Type 0) → P → OnErr r P
 on_err (Ok done) P holds = tt
 on_err (Err given) P holds = holds
 
+-- one result is Ok where the other is
+pub on_ok : {A B E F : Type 0} (r : Result A E) (s : Result B F) (P Q : Type 0) → is_ok s ≡ is_ok r → OnOk r P → (P → Q) → OnOk s Q
+on_ok (Ok a) (Ok b) P Q same held more = more held
+on_ok (Ok a) (Err b) P Q same held more = tt
+on_ok (Err a) (Ok b) P Q same held more = cc
+on_ok (Err a) (Err b) P Q same held more = tt
+
+pub on_err_more : {A E : Type 0} (r : Result A E) (P Q : Type 0) → OnErr r P → (P → Q) → OnErr r Q
+on_err_more (Ok a) P Q held more = tt
+on_err_more (Err e) P Q held more = more held
+
+pub both : {A E : Type 0} (r : Result A E) (P Q : Type 0) → OnOk r P → OnOk r Q → OnOk r (P × Q)
+both (Ok a) P Q first second = (first, second)
+both (Err e) P Q first second = tt
+
 -- so ends a loop whose memory was refused
-pub broke : {M A : Type 0} (stands : M → Log → Type 0) (is_stopped : M → Bool) (wakes : ℕ) (spent : Option Log → Type 0) (core : M) (told : Option Log) (r : Result A ServeEnd) → IsErrAnd r (λ end. end ≡ ended.OutOfMemory) → StoodFor stands told → IfErr r (Ends stands is_stopped wakes spent core told)
-broke stands is_stopped wakes spent core told r is stood = let given = err_from_is_err_and r is in rw (given.1, given.2) stood
+pub refused : {M A : Type 0} (stands : M → Log → Type 0) (is_stopped : M → Bool) (wakes : ℕ) (core : M) (told : Option Log) (before now : ℕ) (r : Result A ServeEnd) → IfErr r (λ end. end ≡ ended.OutOfMemory) → StoodFor stands told → IfErr r (Breaks stands is_stopped wakes core told before now)
+refused stands is_stopped wakes core told before now (Ok a) is stood = tt
+refused stands is_stopped wakes core told before now (Err end) is stood = subst (Breaks stands is_stopped wakes core told before now) (sym is) (record { ends = stood; rose = λ fault. cc })
+
+pub broke : {M A : Type 0} (stands : M → Log → Type 0) (is_stopped : M → Bool) (wakes : ℕ) (core : M) (told : Option Log) (before now : ℕ) (r : Result A ServeEnd) → IsErrAnd r (λ end. end ≡ ended.OutOfMemory) → StoodFor stands told → IfErr r (Breaks stands is_stopped wakes core told before now)
+broke stands is_stopped wakes core told before now (Ok a) is stood = tt
+broke stands is_stopped wakes core told before now (Err end) is stood = subst (Breaks stands is_stopped wakes core told before now) (sym is) (record { ends = stood; rose = λ fault. cc })

@@ -1,5 +1,6 @@
 pub mod Counting
 pub mod Ending
+pub mod Hearing
 pub mod Listening
 pub mod Marking
 pub mod Opening

@@ -10,7 +10,9 @@ use Rattle.ready_loop.specs.Sent.{Sent}
 use Rattle.ready_loop.specs.Drained.{read_dry, write_dry, all_accepted, DrainedFor}
 use Rattle.ready_loop.specs.Links.{Dry, dry_at, dry_mark, dry_of, dry_in, mark_of}
 use Rattle.ready_loop.specs.Round.{CountsOf}
-use Rattle.ready_loop.specs.Serving.{Tracks, TracksFor, IsDone}
+use Rattle.ready_loop.specs.Queued.{Watches}
+use Rattle.ready_loop.specs.Serving.{IsGoing, Tracks, TracksFor, IsDone}
+use Rattle.ready_loop.proofs.Counting.{retold}
 use Rattle.ready_loop.specs.declared.links.Mark.{Mark}
 use Rattle.ready_loop.specs.declared.table.Table.{Table}
 
@@ -54,4 +56,13 @@ drained reads sends changed table told held done calm = record {
         written = λ link opened some. let known = known_open table log link tracks opened in
             sym (ap (λ (d : Dry). d.write) known.2) ∙ (done.settled link known.0 known.1 (calm link)).written some;
       };
+}
+
+-- a loop goes on with a table of which only the queue changed
+pub looked_through : {M : Type 0} (stands : M → Log → Type 0) (reads : M → LinkId → Bool) (sends : M → LinkId → Option Sent) (changed : M → LinkId → Bool) (is_stopped asks : M → Bool) (core : M) (old new : Table) (told : Option Log) → new.round ≡ old.round → ((link : LinkId) → dry_of new.links link ≡ dry_of old.links link)
+    → Watches (reads core) (sends core) (changed core) new.links → IsGoing stands reads sends changed is_stopped asks core old told → IsGoing stands reads sends changed is_stopped asks core new told
+looked_through stands reads sends changed is_stopped asks core old new told round dry watches going = record {
+  serves = record { standing = going.serves.standing; tracks = retold old new told round dry going.serves.tracks; watches = watches };
+  going = going.going;
+  acted = going.acted;
 }

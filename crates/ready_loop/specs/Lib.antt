@@ -1,5 +1,6 @@
 pub mod Changes
 pub mod Drained
+pub mod Heard
 pub mod Links
 pub mod Machine
 pub mod Queued

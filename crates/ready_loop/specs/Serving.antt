@@ -1,5 +1,5 @@
 -- What a serving loop keeps, and how it ends.
-use Rattle.std.specs.Prelude.{◌≡◌, ◌⊎◌, ℕ, ◌+◌, ◌≤◌, Bool, true, false, [], ◌∷◌, ◌++◌, filter, drop, Option, Some, None, IsSome}
+use Rattle.std.specs.Prelude.{◌≡◌, ◌⊎◌, ℕ, ◌+◌, ◌<◌, ◌≤◌, Bool, true, false, [], ◌∷◌, ◌++◌, filter, drop, Option, Some, None, IsSome, Result, OnOk, IfErr}
 use Rattle.mx_base.specs.declared.names.LinkId.{LinkId}
 use Rattle.mx_base.specs.declared.names.Port.TheVariants as port
 use Rattle.mx_base.specs.declared.names.Address.{Address}
@@ -36,12 +36,23 @@ pub record Serves {M : Type 0} (stands : M → Log → Type 0) (reads : M → Li
   pub tracks : TracksFor table told
   pub watches : Watches (reads core) (sends core) (changed core) table.links
 
+-- what holds between two calls, once the machine's acts are done and where it hasn't stopped
+pub record IsGoing {M : Type 0} (stands : M → Log → Type 0) (reads : M → LinkId → Bool) (sends : M → LinkId → Option Sent) (changed : M → LinkId → Bool) (is_stopped asks : M → Bool) (core : M) (table : Table) (told : Option Log) : Type 0 where
+  pub serves : Serves stands reads sends changed core table told
+  pub going : is_stopped core ≡ false
+  pub acted : asks core ≡ false
+
 -- the log only grows, and failures are only added to
 pub record Advances {W : Type 0} (told : W → Option Log) (rule : W → Log → Type 0) (port_faults faults : W → ℕ) (old new : W) : Type 0 where
   pub ruled : KeepsRule rule old new
   pub grew : (log : Log) → told new ≡ Some log → (before : Log) × (told old ≡ Some before) × ((more : Log) × (log ≡ before ++ more))
   pub ports_failed : port_faults old ≤ port_faults new
   pub links_failed : faults old ≤ faults new
+
+-- the wire advances, and the machine serves by what it served by
+pub record Proceeds {M W S : Type 0} (service : M → S) (told : W → Option Log) (rule : W → Log → Type 0) (port_faults faults : W → ℕ) (core next : M) (old new : W) : Type 0 where
+  pub advances : Advances told rule port_faults faults old new
+  pub serves_by : service next ≡ service core
 
 -- the call of which the entry is the answer, where a wake may owe it
 abbrev pub call_of : Entry → Option Call
@@ -183,6 +194,20 @@ Ends stands is_stopped wakes spent core told Over = EndsSo stands wakes core tol
 Ends stands is_stopped wakes spent core told ListenFault = EndsSo stands wakes core told (is_stopped core) false (EndsWith IsPortFault)
 Ends stands is_stopped wakes spent core told TurnsSpent = EndsSo stands wakes core told (is_stopped core) false spent
 Ends stands is_stopped wakes spent core told OutOfMemory = StoodFor stands told
+
+-- how the loop ends, and that a fault of a port has its cause
+pub record Breaks {M : Type 0} (stands : M → Log → Type 0) (is_stopped : M → Bool) (wakes : ℕ) (core : M) (told : Option Log) (faults_before faults_now : ℕ) (end : ServeEnd) : Type 0 where
+  pub ends : Ends stands is_stopped wakes BusyFor core told end
+  pub rose : end ≡ ListenFault → faults_before < faults_now
+
+-- the call was made, and no other, and is counted; the loop goes on, or ends by what the call answered
+pub record HasMade {M W S A : Type 0} (stands : M → Log → Type 0) (is_stopped : M → Bool) (service : M → S) (told : W → Option Log) (rule : W → Log → Type 0) (port_faults faults : W → ℕ) (made : Call)
+    (core next : M) (old new : W) (before now : Round) (result : Result A ServeEnd) : Type 0 where
+  pub made_it : Makes made (told old) (told new)
+  pub more : OnOk result (before.calls < now.calls)
+  pub wakes : now.wakes ≡ before.wakes
+  pub ends : IfErr result (Breaks stands is_stopped now.wakes next (told new) (port_faults old) (port_faults new))
+  pub proceeds : Proceeds service told rule port_faults faults core next old new
 
 -- the calls of a log, without the marks
 abbrev pub is_call : Entry → Bool

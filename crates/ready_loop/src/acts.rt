@@ -1,8 +1,11 @@
 // What a machine asks for is done, in order.
-ghost use Rattle.std.specs.Prelude.{◌≡◌, ◌<◌, ◌≤◌, OnOk, OnErr, IfErr, IfOk, Some, None, true, false, if◌then◌else◌};
+ghost use Rattle.std.specs.Prelude.{◌≡◌, ◌<◌, ◌≤◌, OnOk, OnErr, IfErr, IfOk, Some, None, true, false, if◌then◌else◌, [], ◌∷◌, ◌++◌};
 ghost use Rattle.mx_wire.specs.Tells.{OpenFor};
-ghost use Rattle.ready_loop.specs.Machine.{Target};
-ghost use Rattle.ready_loop.specs.Serving.{Serves, Ends, BusyFor, StoodFor, Advances, TracksFor, IsOffered, Parts, offered_round};
+ghost use Rattle.mx_wire.specs.declared.entry.Entry.{Entry};
+ghost use Rattle.ready_loop.specs.Changes.{ChangesOnly};
+ghost use Rattle.ready_loop.specs.Drained.{IsDue};
+ghost use Rattle.ready_loop.specs.Machine.{Target, IsHeard, HasActed, IsToldOf, CarriesOver};
+ghost use Rattle.ready_loop.specs.Serving.{Serves, Breaks, StoodFor, Advances, Proceeds, TracksFor, IsOffered, Parts, offered_round};
 ghost use Rattle.ready_loop.specs.Links.{Marks};
 
 use crate::table::Table;
@@ -13,6 +16,26 @@ use mx_wire::{Opened, Wire};
 /// How many calls of the wire one wake makes at most, and the loop before the first. A close and the write that is offered before it are one step,
 /// so that they may be one call more.
 pub const CALLS_PER_WAKE: u64 = 4_294_967_296;
+
+/// A link comes: it joins the queue, and the machine is told of it.
+pub fn come<M: Machine>(
+    core: &mut M,
+    table: &mut Table,
+    event: Event,
+    link: LinkId,
+) -> Result<(), OutOfMemory>
+    requires heard { IsHeard (M.awaits core.old) event }
+    requires acted { HasActed (M.asks core.old) event }
+    ensures carries { OnOk result ((e : Entry) → IsToldOf (M.until core.old) (M.awaits core.old) event [] e → CarriesOver M.stands (IsDue M.reads M.sends M.asks) core.old core.new e) }
+    ensures changes { OnOk result (ChangesOnly M.changed M.reads M.sends core.old core.new) }
+    ensures marks { OnOk result (Marks table.old.links table.new.links link (Some (record { read = false; write = false; queued = true }))) }
+    ensures queue { OnOk result (table.new.links.queue.items ≡ table.old.links.queue.items ++ link ∷ []) }
+    ensures round { table.new.round ≡ table.old.round }
+    ensures serves_by { M.serves_by core.new ≡ M.serves_by core.old }
+{
+    table.links.opened(link)?;
+    core.take(event, &mut [])
+}
 
 fn open_link<M: Machine, W: Wire>(
     core: &mut M,
@@ -28,20 +51,12 @@ fn open_link<M: Machine, W: Wire>(
     ensures more { OnOk result (table.old.round.calls < table.new.round.calls) }
     ensures wakes { table.new.round.wakes ≡ table.old.round.wakes }
     ensures broke { OnErr result (StoodFor M.stands (W.told wire.new)) }
-    ensures advances { Advances W.told W.rule W.port_faults W.faults wire.old wire.new }
-    ensures serves_by { M.serves_by core.new ≡ M.serves_by core.old }
+    ensures proceeds { Proceeds M.serves_by W.told W.rule W.port_faults W.faults core.old core.new wire.old wire.new }
 {
     table.round.calls += 1;
     match wire.open(server, address) {
-        Opened::Link { id } => {
-            core.take(Event::Opened { server, link: id }, &mut [])?;
-            table.links.opened(id)?;
-            Ok(())
-        }
-        Opened::Failed => {
-            core.take(Event::OpenFailed { server }, &mut [])?;
-            Ok(())
-        }
+        Opened::Link { id: link } => come(core, table, Event::Opened { server, link }, link),
+        Opened::Failed => core.take(Event::OpenFailed { server }, &mut []),
     }
 }
 
@@ -94,8 +109,7 @@ fn act_once<M: Machine, W: Wire>(
     ensures acted { IfOk result (λ went. went ≡ false → M.asks core.new ≡ false) }
     ensures wakes { table.new.round.wakes ≡ table.old.round.wakes }
     ensures broke { OnErr result (StoodFor M.stands (W.told wire.new)) }
-    ensures advances { Advances W.told W.rule W.port_faults W.faults wire.old wire.new }
-    ensures serves_by { M.serves_by core.new ≡ M.serves_by core.old }
+    ensures proceeds { Proceeds M.serves_by W.told W.rule W.port_faults W.faults core.old core.new wire.old wire.new }
 {
     match core.next_act() {
         None => Ok(false),
@@ -120,12 +134,11 @@ pub fn do_acts<M: Machine, W: Wire>(
     requires serves { Serves M.stands M.reads M.sends M.changed core.old table.old (W.told wire.old) }
     ensures serves { OnOk result (Serves M.stands M.reads M.sends M.changed core.new table.new (W.told wire.new)) }
     ensures acted { OnOk result (M.asks core.new ≡ false) }
+    ensures room { OnOk result (table.new.round.calls < 4294967296) }
     ensures more { OnOk result (table.old.round.calls ≤ table.new.round.calls) }
     ensures wakes { table.new.round.wakes ≡ table.old.round.wakes }
-    ensures ends { IfErr result (Ends M.stands M.is_stopped table.new.round.wakes BusyFor core.new (W.told wire.new)) }
-    ensures rose { IfErr result (λ end. end ≡ ServeEnd.ListenFault → ⊥) }
-    ensures advances { Advances W.told W.rule W.port_faults W.faults wire.old wire.new }
-    ensures serves_by { M.serves_by core.new ≡ M.serves_by core.old }
+    ensures ends { IfErr result (Breaks M.stands M.is_stopped table.new.round.wakes core.new (W.told wire.new) (W.port_faults wire.old) (W.port_faults wire.new)) }
+    ensures proceeds { Proceeds M.serves_by W.told W.rule W.port_faults W.faults core.old core.new wire.old wire.new }
 {
     while table.round.calls < CALLS_PER_WAKE {
         if !act_once(core, wire, table)? {

@@ -4,12 +4,15 @@ ghost use Rattle.mx_wire.specs.Tells.{Tells};
 ghost use Rattle.mx_wire.specs.declared.entry.Entry.TheVariants as entry;
 ghost use Rattle.ready_loop.specs.Drained.{DrainedFor};
 ghost use Rattle.ready_loop.specs.Links.{is_read_dry, is_write_dry};
-ghost use Rattle.ready_loop.specs.Serving.{Serves, Ends, BusyFor, StoodFor, Advances, Makes};
+ghost use Rattle.ready_loop.specs.Serving.{Serves, IsGoing, Breaks, Advances, Proceeds, HasMade};
 
+use crate::acts::come;
+use crate::ends::unless_refused;
+use crate::heard::hear;
 use crate::table::{Call, Table};
 use crate::{Event, Machine, ServeEnd};
 use mx_base::{LinkId, Port};
-use mx_wire::{Accepted, Got, Listened, Took, Wire, Woke};
+use mx_wire::{Accepted, Listened, Took, Wire, Woke};
 
 /// Listens at the machine's address.
 pub fn listen_once<M: Machine, W: Wire>(
@@ -26,8 +29,7 @@ pub fn listen_once<M: Machine, W: Wire>(
     ensures failed { OnErr result (Tells (W.told wire.old) (entry.ListenFailed port) (W.told wire.new)) }
     ensures round { OnOk result (table.new.round ≡ record table.old.round { calls = table.old.round.calls + 1 }) }
     ensures wakes { table.new.round.wakes ≡ table.old.round.wakes }
-    ensures ends { IfErr result (Ends M.stands M.is_stopped table.new.round.wakes BusyFor core.now (W.told wire.new)) }
-    ensures rose { IfErr result (λ end. end ≡ ServeEnd.ListenFault → W.port_faults wire.old < W.port_faults wire.new) }
+    ensures ends { IfErr result (Breaks M.stands M.is_stopped table.new.round.wakes core.now (W.told wire.new) (W.port_faults wire.old) (W.port_faults wire.new)) }
     ensures advances { Advances W.told W.rule W.port_faults W.faults wire.old wire.new }
 {
     table.round.calls += 1;
@@ -43,19 +45,15 @@ pub fn wait_once<M: Machine, W: Wire>(
     wire: &mut W,
     table: &mut Table,
 ) -> Result<(), ServeEnd>
-    requires acted { M.asks core.old ≡ false }
     requires room { table.old.round.wakes < 18446744073709551615 }
-    requires going { M.is_stopped core.old ≡ false }
-    requires serves { Serves M.stands M.reads M.sends M.changed core.old table.old (W.told wire.old) }
+    requires going { IsGoing M.stands M.reads M.sends M.changed M.is_stopped M.asks core.old table.old (W.told wire.old) }
     requires drained { DrainedFor (M.reads core.old) (M.sends core.old) (W.told wire.old) }
     ensures serves { OnOk result (Serves M.stands M.reads M.sends M.changed core.new table.new (W.told wire.new)) }
     ensures calls { OnOk result (table.new.round.calls ≡ 0) }
     ensures wakes { OnOk result (table.new.round.wakes ≡ table.old.round.wakes + 1) }
     ensures slept { OnErr result (table.new.round.wakes ≡ table.old.round.wakes) }
-    ensures ends { IfErr result (Ends M.stands M.is_stopped table.new.round.wakes BusyFor core.new (W.told wire.new)) }
-    ensures rose { IfErr result (λ end. end ≡ ServeEnd.ListenFault → W.port_faults wire.old < W.port_faults wire.new) }
-    ensures advances { Advances W.told W.rule W.port_faults W.faults wire.old wire.new }
-    ensures serves_by { M.serves_by core.new ≡ M.serves_by core.old }
+    ensures ends { IfErr result (Breaks M.stands M.is_stopped table.new.round.wakes core.new (W.told wire.new) (W.port_faults wire.old) (W.port_faults wire.new)) }
+    ensures proceeds { Proceeds M.serves_by W.told W.rule W.port_faults W.faults core.old core.new wire.old wire.new }
 {
     match wire.wait(core.until_ms()) {
         Woke::Woke { now_ms } => {
@@ -75,33 +73,16 @@ pub fn accept_once<M: Machine, W: Wire>(
     table: &mut Table,
     port: Port,
 ) -> Result<(), ServeEnd>
-    requires acted { M.asks core.old ≡ false }
     requires room { table.old.round.calls < 4294967296 }
-    requires going { M.is_stopped core.old ≡ false }
-    requires serves { Serves M.stands M.reads M.sends M.changed core.old table.old (W.told wire.old) }
+    requires going { IsGoing M.stands M.reads M.sends M.changed M.is_stopped M.asks core.old table.old (W.told wire.old) }
     ensures serves { OnOk result (Serves M.stands M.reads M.sends M.changed core.new table.new (W.told wire.new)) }
-    ensures made { Makes (Call.Accept port) (W.told wire.old) (W.told wire.new) }
-    ensures more { OnOk result (table.old.round.calls < table.new.round.calls) }
-    ensures wakes { table.new.round.wakes ≡ table.old.round.wakes }
-    ensures ends { IfErr result (Ends M.stands M.is_stopped table.new.round.wakes BusyFor core.new (W.told wire.new)) }
-    ensures rose { IfErr result (λ end. end ≡ ServeEnd.ListenFault → W.port_faults wire.old < W.port_faults wire.new) }
-    ensures advances { Advances W.told W.rule W.port_faults W.faults wire.old wire.new }
-    ensures serves_by { M.serves_by core.new ≡ M.serves_by core.old }
+    ensures made { HasMade M.stands M.is_stopped M.serves_by W.told W.rule W.port_faults W.faults (Call.Accept port) core.old core.new wire.old wire.new table.old.round table.new.round result }
 {
     table.round.calls += 1;
     match wire.accept(port) {
-        Accepted::Link { id, salt } => {
-            core.take(
-                Event::Accepted {
-                    port,
-                    link: id,
-                    salt,
-                },
-                &mut [],
-            )?;
+        Accepted::Link { id: link, salt } => {
             table.round.accepted(port, false);
-            table.links.opened(id)?;
-            Ok(())
+            unless_refused(come(core, table, Event::Accepted { port, link, salt }, link))
         }
         Accepted::NotReady => {
             table.round.accepted(port, true);
@@ -117,23 +98,14 @@ pub fn name_once<M: Machine, W: Wire>(
     wire: &mut W,
     table: &mut Table,
 ) -> Result<(), ServeEnd>
-    requires acted { M.asks core.now ≡ false }
     requires room { table.old.round.calls < 4294967296 }
-    requires serves { Serves M.stands M.reads M.sends M.changed core.now table.old (W.told wire.old) }
+    requires going { IsGoing M.stands M.reads M.sends M.changed M.is_stopped M.asks core.now table.old (W.told wire.old) }
     ensures serves { OnOk result (Serves M.stands M.reads M.sends M.changed core.now table.new (W.told wire.new)) }
-    ensures made { Makes (Call.Name) (W.told wire.old) (W.told wire.new) }
-    ensures more { OnOk result (table.old.round.calls < table.new.round.calls) }
-    ensures wakes { table.new.round.wakes ≡ table.old.round.wakes }
-    ensures ends { IfErr result (λ end. end ≡ ServeEnd.OutOfMemory) }
-    ensures broke { OnErr result (StoodFor M.stands (W.told wire.new)) }
-    ensures advances { Advances W.told W.rule W.port_faults W.faults wire.old wire.new }
+    ensures made { HasMade M.stands M.is_stopped M.serves_by W.told W.rule W.port_faults W.faults (Call.Name) core.now core.now wire.old wire.new table.old.round table.new.round result }
 {
     table.round.calls += 1;
     match wire.next_ready() {
-        Some(link) => {
-            table.links.named(link)?;
-            Ok(())
-        }
+        Some(link) => unless_refused(table.links.named(link)),
         None => {
             table.round.named = true;
             Ok(())
@@ -151,38 +123,18 @@ pub fn read_once<M: Machine, W: Wire>(
 ) -> Result<(), ServeEnd>
     requires some { 0 < length buffer.old }
     requires most { length buffer.old ≤ 65536 }
-    requires acted { M.asks core.old ≡ false }
     requires room { table.old.round.calls < 4294967296 }
     requires wet { is_read_dry table.old.links link ≡ Some false }
-    requires serves { Serves M.stands M.reads M.sends M.changed core.old table.old (W.told wire.old) }
+    requires going { IsGoing M.stands M.reads M.sends M.changed M.is_stopped M.asks core.old table.old (W.told wire.old) }
     ensures serves { OnOk result (Serves M.stands M.reads M.sends M.changed core.new table.new (W.told wire.new)) }
-    ensures made { Makes (Call.Read link) (W.told wire.old) (W.told wire.new) }
-    ensures more { OnOk result (table.old.round.calls < table.new.round.calls) }
-    ensures wakes { table.new.round.wakes ≡ table.old.round.wakes }
-    ensures ends { IfErr result (λ end. end ≡ ServeEnd.OutOfMemory) }
-    ensures broke { OnErr result (StoodFor M.stands (W.told wire.new)) }
-    ensures advances { Advances W.told W.rule W.port_faults W.faults wire.old wire.new }
-    ensures serves_by { M.serves_by core.new ≡ M.serves_by core.old }
+    ensures made { HasMade M.stands M.is_stopped M.serves_by W.told W.rule W.port_faults W.faults (Call.Read link) core.old core.new wire.old wire.new table.old.round table.new.round result }
 {
     table.round.calls += 1;
-    match wire.read(link, buffer) {
-        Got::Got { n } => {
-            core.take(Event::Got { link }, &mut buffer[..n])?;
-            Ok(())
-        }
-        Got::NotReady => {
-            table.links.read_dry(link);
-            Ok(())
-        }
-        Got::End => {
-            core.take(Event::Ended { link }, &mut [])?;
-            Ok(())
-        }
-        Got::Failed => {
-            core.take(Event::Failed { link }, &mut [])?;
-            Ok(())
-        }
-    }
+    let Some(told) = hear(link, wire.read(link, buffer)) else {
+        table.links.read_dry(link);
+        return Ok(());
+    };
+    unless_refused(core.take(told.event, &mut buffer[..told.length]))
 }
 
 /// Writes what the machine has for a link.
@@ -192,22 +144,15 @@ pub fn write_once<M: Machine, W: Wire>(
     table: &mut Table,
     link: LinkId,
 ) -> Result<(), ServeEnd>
-    requires acted { M.asks core.old ≡ false }
     requires room { table.old.round.calls < 4294967296 }
     requires some { IsSome (M.sends core.old link) }
     requires wet { is_write_dry table.old.links link ≡ Some false }
-    requires serves { Serves M.stands M.reads M.sends M.changed core.old table.old (W.told wire.old) }
+    requires going { IsGoing M.stands M.reads M.sends M.changed M.is_stopped M.asks core.old table.old (W.told wire.old) }
     ensures serves { OnOk result (Serves M.stands M.reads M.sends M.changed core.new table.new (W.told wire.new)) }
-    ensures made { Makes (Call.Write link) (W.told wire.old) (W.told wire.new) }
-    ensures more { OnOk result (table.old.round.calls < table.new.round.calls) }
-    ensures wakes { table.new.round.wakes ≡ table.old.round.wakes }
-    ensures ends { IfErr result (λ end. end ≡ ServeEnd.OutOfMemory) }
-    ensures broke { OnErr result (StoodFor M.stands (W.told wire.new)) }
-    ensures advances { Advances W.told W.rule W.port_faults W.faults wire.old wire.new }
-    ensures serves_by { M.serves_by core.new ≡ M.serves_by core.old }
+    ensures made { HasMade M.stands M.is_stopped M.serves_by W.told W.rule W.port_faults W.faults (Call.Write link) core.old core.new wire.old wire.new table.old.round table.new.round result }
 {
     let Some(piece) = core.outgoing(link) else {
-        return Ok(());
+        unreachable!()
     };
     table.round.calls += 1;
     match wire.write(link, piece.tag, piece.bytes) {
@@ -219,9 +164,6 @@ pub fn write_once<M: Machine, W: Wire>(
             table.links.write_dry(link);
             Ok(())
         }
-        Took::Failed => {
-            core.take(Event::Failed { link }, &mut [])?;
-            Ok(())
-        }
+        Took::Failed => unless_refused(core.take(Event::Failed { link }, &mut [])),
     }
 }

@@ -1,8 +1,10 @@
 // Why a loop ended.
+ghost use Rattle.std.specs.Prelude.{◌≡◌, is_ok, IfErr};
+
 use mx_base::OutOfMemory;
 
 /// Why a loop ended.
-#[derive(Clone, Copy, Debug, PartialEq, Eq)]
+#[derive(Clone, Copy)]
 pub enum ServeEnd {
     /// The machine has stopped.
     Stopped,
@@ -25,5 +27,16 @@ impl From<OutOfMemory> for ServeEnd {
 
     fn from(_: OutOfMemory) -> Self {
         ServeEnd::OutOfMemory
+    }
+}
+
+/// Whether the loop goes on, where only memory can be refused.
+pub fn unless_refused(given: Result<(), OutOfMemory>) -> Result<(), ServeEnd>
+    ensures ok { is_ok result ≡ is_ok given }
+    ensures err { IfErr result (λ end. end ≡ ServeEnd.OutOfMemory) }
+{
+    match given {
+        Ok(()) => Ok(()),
+        Err(_) => Err(ServeEnd::OutOfMemory),
     }
 }

@@ -4,13 +4,12 @@
 mod acts;
 mod calls;
 mod ends;
+mod heard;
 mod links;
 mod machines;
 mod round;
 mod serving;
 mod table;
-#[cfg(test)]
-mod tests;
 
 pub use ends::ServeEnd;
 pub use machines::{Act, Event, Machine, Piece};

@@ -12,7 +12,7 @@ use std::alloc::Global;
 use std::collections::{HashMap, VecDeque};
 
 /// What the loop knows of an open link.
-#[derive(Clone, Copy, Debug, PartialEq, Eq)]
+#[derive(Clone, Copy)]
 pub struct Mark {
     /// The last read since the link was last named found nothing.
     pub read: bool,

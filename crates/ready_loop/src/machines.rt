@@ -14,7 +14,7 @@ ghost use Rattle.ready_loop.specs.Drained.{IsDue};
 use mx_base::{Address, LinkId, OutOfMemory, Port, ServerId, Tag};
 
 /// What a machine is told. The bytes of a `Got` stand beside it.
-#[derive(Clone, Copy, Debug, PartialEq, Eq)]
+#[derive(Clone, Copy)]
 pub enum Event {
     Woke {
         now_ms: u64,
@@ -45,7 +45,7 @@ pub enum Event {
 }
 
 /// What a machine asks for.
-#[derive(Clone, Copy, Debug, PartialEq, Eq)]
+#[derive(Clone, Copy)]
 pub enum Act {
     Open { server: ServerId, address: Address },
     Close { link: LinkId },

@@ -6,7 +6,7 @@ ghost use Rattle.ready_loop.specs.Round.{CountsOf};
 use mx_base::Port;
 
 /// What was asked of the ports and of the names since the last wake, and how many calls of the wire were made.
-#[derive(Clone, Copy, Debug, PartialEq, Eq)]
+#[derive(Clone, Copy)]
 pub struct Round {
     /// The last accept of the port found nobody.
     pub traffic: bool,

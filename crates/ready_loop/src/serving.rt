@@ -7,10 +7,11 @@ ghost use Rattle.ready_loop.specs.Drained.{DrainedFor};
 ghost use Rattle.ready_loop.specs.Links.{mark_of};
 ghost use Rattle.ready_loop.specs.Machine.{StandsFor};
 ghost use Rattle.ready_loop.specs.Round.{CountsOf};
-ghost use Rattle.ready_loop.specs.Serving.{Serves, Ends, BusyFor, StoodFor, EndsWith, IsOver, IsPortFault, SpentFor, WokeFor, ListensFirst, ListeningFor, Advances, Makes, IsOwed};
+ghost use Rattle.ready_loop.specs.Serving.{Serves, IsGoing, Breaks, Ends, StoodFor, EndsWith, IsOver, IsPortFault, SpentFor, WokeFor, ListensFirst, ListeningFor, Advances, Proceeds, HasMade, IsOwed};
 
-use crate::acts::{CALLS_PER_WAKE, do_acts, spent};
+use crate::acts::do_acts;
 use crate::calls::{accept_once, listen_once, name_once, read_once, wait_once, write_once};
+use crate::ends::unless_refused;
 use crate::links::Links;
 use crate::round::Round;
 use crate::table::{Call, Table};
@@ -50,23 +51,19 @@ fn follow<M: Machine, W: Wire>(
     table: &mut Table,
 ) -> Result<(), ServeEnd>
     requires serves { Serves M.stands M.reads M.sends M.changed core.old table.old (W.told wire.old) }
-    ensures serves { OnOk result (Serves M.stands M.reads M.sends M.changed core.new table.new (W.told wire.new)) }
+    ensures going { OnOk result (IsGoing M.stands M.reads M.sends M.changed M.is_stopped M.asks core.new table.new (W.told wire.new)) }
     ensures calm { OnOk result ((link : LinkId) → M.changed core.new link ≡ false) }
-    ensures going { OnOk result (M.is_stopped core.new ≡ false) }
-    ensures acted { OnOk result (M.asks core.new ≡ false) }
+    ensures room { OnOk result (table.new.round.calls < 4294967296) }
     ensures more { OnOk result (table.old.round.calls ≤ table.new.round.calls) }
     ensures wakes { table.new.round.wakes ≡ table.old.round.wakes }
-    ensures ends { IfErr result (Ends M.stands M.is_stopped table.new.round.wakes BusyFor core.new (W.told wire.new)) }
-    ensures rose { IfErr result (λ end. end ≡ ServeEnd.ListenFault → ⊥) }
-    ensures advances { Advances W.told W.rule W.port_faults W.faults wire.old wire.new }
-    ensures serves_by { M.serves_by core.new ≡ M.serves_by core.old }
+    ensures ends { IfErr result (Breaks M.stands M.is_stopped table.new.round.wakes core.new (W.told wire.new) (W.port_faults wire.old) (W.port_faults wire.new)) }
+    ensures proceeds { Proceeds M.serves_by W.told W.rule W.port_faults W.faults core.old core.new wire.old wire.new }
 {
     do_acts(core, wire, table)?;
     if core.stopped() {
         return Err(ServeEnd::Stopped);
     }
-    queue_changed(core, wire, table)?;
-    Ok(())
+    unless_refused(queue_changed(core, wire, table))
 }
 
 fn make_call<M: Machine, W: Wire>(
@@ -79,29 +76,20 @@ fn make_call<M: Machine, W: Wire>(
     requires some { 0 < length buffer.old }
     requires most { length buffer.old ≤ 65536 }
     requires room { table.old.round.calls < 4294967296 }
-    requires going { M.is_stopped core.old ≡ false }
-    requires acted { M.asks core.old ≡ false }
+    requires going { IsGoing M.stands M.reads M.sends M.changed M.is_stopped M.asks core.old table.old (W.told wire.old) }
     requires owed { IsOwed (M.reads core.old) (M.sends core.old) table.old call }
-    requires serves { Serves M.stands M.reads M.sends M.changed core.old table.old (W.told wire.old) }
     ensures serves { OnOk result (Serves M.stands M.reads M.sends M.changed core.new table.new (W.told wire.new)) }
-    ensures made { Makes call (W.told wire.old) (W.told wire.new) }
-    ensures more { OnOk result (table.old.round.calls < table.new.round.calls) }
-    ensures wakes { table.new.round.wakes ≡ table.old.round.wakes }
-    ensures ends { IfErr result (Ends M.stands M.is_stopped table.new.round.wakes BusyFor core.new (W.told wire.new)) }
-    ensures rose { IfErr result (λ end. end ≡ ServeEnd.ListenFault → W.port_faults wire.old < W.port_faults wire.new) }
-    ensures advances { Advances W.told W.rule W.port_faults W.faults wire.old wire.new }
-    ensures serves_by { M.serves_by core.new ≡ M.serves_by core.old }
+    ensures made { HasMade M.stands M.is_stopped M.serves_by W.told W.rule W.port_faults W.faults call core.old core.new wire.old wire.new table.old.round table.new.round result }
 {
     match call {
-        Call::Accept { port } => accept_once(core, wire, table, port)?,
-        Call::Name => name_once(core, wire, table)?,
-        Call::Read { link } => read_once(core, wire, table, link, buffer)?,
-        Call::Write { link } => write_once(core, wire, table, link)?,
+        Call::Accept { port } => accept_once(core, wire, table, port),
+        Call::Name => name_once(core, wire, table),
+        Call::Read { link } => read_once(core, wire, table, link, buffer),
+        Call::Write { link } => write_once(core, wire, table, link),
     }
-    Ok(())
 }
 
-// Makes the calls that are owed before the next wait.
+// Does what the machine asks for and makes the calls that are owed, until none is left before the next wait.
 fn settle<M: Machine, W: Wire>(
     core: &mut M,
     wire: &mut W,
@@ -110,83 +98,20 @@ fn settle<M: Machine, W: Wire>(
 ) -> Result<(), ServeEnd>
     requires some { 0 < length buffer.old }
     requires most { length buffer.old ≤ 65536 }
-    requires going { M.is_stopped core.old ≡ false }
-    requires acted { M.asks core.old ≡ false }
-    requires calm { (link : LinkId) → M.changed core.old link ≡ false }
     requires serves { Serves M.stands M.reads M.sends M.changed core.old table.old (W.told wire.old) }
-    ensures serves { OnOk result (Serves M.stands M.reads M.sends M.changed core.new table.new (W.told wire.new)) }
-    ensures going { OnOk result (M.is_stopped core.new ≡ false) }
+    ensures going { OnOk result (IsGoing M.stands M.reads M.sends M.changed M.is_stopped M.asks core.new table.new (W.told wire.new)) }
     ensures drained { OnOk result (DrainedFor (M.reads core.new) (M.sends core.new) (W.told wire.new)) }
-    ensures acted { OnOk result (M.asks core.new ≡ false) }
     ensures wakes { table.new.round.wakes ≡ table.old.round.wakes }
-    ensures ends { IfErr result (Ends M.stands M.is_stopped table.new.round.wakes BusyFor core.new (W.told wire.new)) }
-    ensures rose { IfErr result (λ end. end ≡ ServeEnd.ListenFault → W.port_faults wire.old < W.port_faults wire.new) }
-    ensures advances { Advances W.told W.rule W.port_faults W.faults wire.old wire.new }
-    ensures serves_by { M.serves_by core.new ≡ M.serves_by core.old }
+    ensures ends { IfErr result (Breaks M.stands M.is_stopped table.new.round.wakes core.new (W.told wire.new) (W.port_faults wire.old) (W.port_faults wire.new)) }
+    ensures proceeds { Proceeds M.serves_by W.told W.rule W.port_faults W.faults core.old core.new wire.old wire.new }
 {
-    while table.round.calls < CALLS_PER_WAKE {
+    loop {
+        follow(core, wire, table)?;
         let Some(call) = table.owed(core) else {
             return Ok(());
         };
         make_call(core, wire, table, buffer, call)?;
-        follow(core, wire, table)?;
     }
-    Err(spent(core))
-}
-
-// Does what the machine asks for, and makes the calls that are then owed.
-fn catch_up<M: Machine, W: Wire>(
-    core: &mut M,
-    wire: &mut W,
-    table: &mut Table,
-    buffer: &mut [u8],
-) -> Result<(), ServeEnd>
-    requires some { 0 < length buffer.old }
-    requires most { length buffer.old ≤ 65536 }
-    requires serves { Serves M.stands M.reads M.sends M.changed core.old table.old (W.told wire.old) }
-    ensures serves { OnOk result (Serves M.stands M.reads M.sends M.changed core.new table.new (W.told wire.new)) }
-    ensures going { OnOk result (M.is_stopped core.new ≡ false) }
-    ensures drained { OnOk result (DrainedFor (M.reads core.new) (M.sends core.new) (W.told wire.new)) }
-    ensures acted { OnOk result (M.asks core.new ≡ false) }
-    ensures wakes { table.new.round.wakes ≡ table.old.round.wakes }
-    ensures ends { IfErr result (Ends M.stands M.is_stopped table.new.round.wakes BusyFor core.new (W.told wire.new)) }
-    ensures rose { IfErr result (λ end. end ≡ ServeEnd.ListenFault → W.port_faults wire.old < W.port_faults wire.new) }
-    ensures advances { Advances W.told W.rule W.port_faults W.faults wire.old wire.new }
-    ensures serves_by { M.serves_by core.new ≡ M.serves_by core.old }
-{
-    follow(core, wire, table)?;
-    settle(core, wire, table, buffer)?;
-    Ok(())
-}
-
-// Waits, and serves what the wake brings.
-fn serve_wake<M: Machine, W: Wire>(
-    core: &mut M,
-    wire: &mut W,
-    table: &mut Table,
-    buffer: &mut [u8],
-) -> Result<(), ServeEnd>
-    requires some { 0 < length buffer.old }
-    requires most { length buffer.old ≤ 65536 }
-    requires room { table.old.round.wakes < 18446744073709551615 }
-    requires acted { M.asks core.old ≡ false }
-    requires going { M.is_stopped core.old ≡ false }
-    requires serves { Serves M.stands M.reads M.sends M.changed core.old table.old (W.told wire.old) }
-    requires drained { DrainedFor (M.reads core.old) (M.sends core.old) (W.told wire.old) }
-    ensures serves { OnOk result (Serves M.stands M.reads M.sends M.changed core.new table.new (W.told wire.new)) }
-    ensures going { OnOk result (M.is_stopped core.new ≡ false) }
-    ensures drained { OnOk result (DrainedFor (M.reads core.new) (M.sends core.new) (W.told wire.new)) }
-    ensures acted { OnOk result (M.asks core.new ≡ false) }
-    ensures wakes { OnOk result (table.new.round.wakes ≡ table.old.round.wakes + 1) }
-    ensures woke { table.new.round.wakes ≤ table.old.round.wakes + 1 }
-    ensures ends { IfErr result (Ends M.stands M.is_stopped table.new.round.wakes BusyFor core.new (W.told wire.new)) }
-    ensures rose { IfErr result (λ end. end ≡ ServeEnd.ListenFault → W.port_faults wire.old < W.port_faults wire.new) }
-    ensures advances { Advances W.told W.rule W.port_faults W.faults wire.old wire.new }
-    ensures serves_by { M.serves_by core.new ≡ M.serves_by core.old }
-{
-    wait_once(core, wire, table)?;
-    catch_up(core, wire, table, buffer)?;
-    Ok(())
 }
 
 fn serve_turns<M: Machine, W: Wire>(
@@ -202,64 +127,41 @@ fn serve_turns<M: Machine, W: Wire>(
     requires serves { Serves M.stands M.reads M.sends M.changed core.old table.old (W.told wire.old) }
     ensures ends { Ends M.stands M.is_stopped turns (SpentFor turns (M.reads core.new) (M.sends core.new)) core.new (W.told wire.new) result }
     ensures rose { result ≡ ServeEnd.ListenFault → W.port_faults wire.old < W.port_faults wire.new }
-    ensures advances { Advances W.told W.rule W.port_faults W.faults wire.old wire.new }
-    ensures serves_by { M.serves_by core.new ≡ M.serves_by core.old }
+    ensures proceeds { Proceeds M.serves_by W.told W.rule W.port_faults W.faults core.old core.new wire.old wire.new }
 {
-    if let Err(end) = catch_up(core, wire, table, buffer) {
+    if let Err(end) = settle(core, wire, table, buffer) {
         return end;
     }
     while table.round.wakes < turns {
-        if let Err(end) = serve_wake(core, wire, table, buffer) {
+        if let Err(end) = wait_once(core, wire, table) {
+            return end;
+        }
+        if let Err(end) = settle(core, wire, table, buffer) {
             return end;
         }
     }
     ServeEnd::TurnsSpent
 }
 
-// Listens at both ports.
+// Takes room for links on the wire, and listens at both ports.
 fn start<M: Machine, W: Wire>(core: &M, wire: &mut W, table: &mut Table) -> Result<(), ServeEnd>
     requires fresh { (log : Log) → W.told wire.old ≡ Some log → log ≡ [] }
     requires calls { table.old.round.calls ≡ 0 }
     requires going { M.is_stopped core.now ≡ false }
     requires serves { Serves M.stands M.reads M.sends M.changed core.now table.old (W.told wire.old) }
     ensures serves { OnOk result (Serves M.stands M.reads M.sends M.changed core.now table.new (W.told wire.new)) }
-    ensures round { OnOk result (table.new.round ≡ record table.old.round { calls = 2 }) }
     ensures wakes { table.new.round.wakes ≡ table.old.round.wakes }
     ensures listening { OnOk result (ListeningFor (M.address_of core.now Port.Traffic) (M.address_of core.now Port.Admin) (W.told wire.new)) }
     ensures listens { OnErr result (ListensFirst (M.address_of core.now Port.Traffic) (M.address_of core.now Port.Admin) (W.told wire.new)) }
-    ensures ends { IfErr result (Ends M.stands M.is_stopped table.new.round.wakes BusyFor core.now (W.told wire.new)) }
-    ensures rose { IfErr result (λ end. end ≡ ServeEnd.ListenFault → W.port_faults wire.old < W.port_faults wire.new) }
+    ensures ends { IfErr result (Breaks M.stands M.is_stopped table.new.round.wakes core.now (W.told wire.new) (W.port_faults wire.old) (W.port_faults wire.new)) }
     ensures advances { Advances W.told W.rule W.port_faults W.faults wire.old wire.new }
 {
-    listen_once(core, wire, table, Port::Traffic)?;
-    listen_once(core, wire, table, Port::Admin)?;
-    Ok(())
-}
-
-// The table and the buffer of a loop that listens.
-fn prepare<M: Machine, W: Wire>(
-    alloc: Global,
-    core: &M,
-    wire: &mut W,
-) -> Result<(Table, Vec<u8>), ServeEnd>
-    requires fresh { (log : Log) → W.told wire.old ≡ Some log → log ≡ [] }
-    requires stands { StandsFor M.stands core.now (W.told wire.old) }
-    requires going { M.is_stopped core.now ≡ false }
-    ensures serves { IfOk result (λ made. Serves M.stands M.reads M.sends M.changed core.now made.0 (W.told wire.new)) }
-    ensures wakes { IfOk result (λ made. made.0.round.wakes ≡ 0) }
-    ensures size { IfOk result (λ made. length made.1.items ≡ 65536) }
-    ensures listening { OnOk result (ListeningFor (M.address_of core.now Port.Traffic) (M.address_of core.now Port.Admin) (W.told wire.new)) }
-    ensures listens { OnErr result (ListensFirst (M.address_of core.now Port.Traffic) (M.address_of core.now Port.Admin) (W.told wire.new)) }
-    ensures ends { IfErr result (Ends M.stands M.is_stopped 0 BusyFor core.now (W.told wire.new)) }
-    ensures rose { IfErr result (λ end. end ≡ ServeEnd.ListenFault → W.port_faults wire.old < W.port_faults wire.new) }
-    ensures advances { Advances W.told W.rule W.port_faults W.faults wire.old wire.new }
-{
-    let (mut table, buffer) = make_room(alloc, core.most_links())?;
     wire.reserve(core.most_links())?;
-    start(core, wire, &mut table)?;
-    Ok((table, buffer))
+    listen_once(core, wire, table, Port::Traffic)?;
+    listen_once(core, wire, table, Port::Admin)
 }
 
+// The table and the buffer of a loop.
 fn make_room(alloc: Global, most: u32) -> Result<(Table, Vec<u8>), OutOfMemory>
     ensures links { IfOk result (λ made. (link : LinkId) → mark_of made.0.links link ≡ None) }
     ensures counts { IfOk result (λ made. CountsOf made.0.round []) }
@@ -303,8 +205,11 @@ pub fn serve<M: Machine, W: Wire>(alloc: Global, core: &mut M, wire: &mut W, tur
     ensures faults { W.faults wire.old ≤ W.faults wire.new }
     ensures serves_by { M.serves_by core.new ≡ M.serves_by core.old }
 {
-    match prepare(alloc, core, wire) {
-        Ok((mut table, mut buffer)) => serve_turns(core, wire, &mut table, &mut buffer, turns),
+    let Ok((mut table, mut buffer)) = make_room(alloc, core.most_links()) else {
+        return ServeEnd::OutOfMemory;
+    };
+    match start(core, wire, &mut table) {
+        Ok(()) => serve_turns(core, wire, &mut table, &mut buffer, turns),
         Err(end) => end,
     }
 }

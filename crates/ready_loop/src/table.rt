@@ -19,7 +19,7 @@ pub struct Table {
 }
 
 /// A call of the wire that is owed before the loop may wait.
-#[derive(Clone, Copy, Debug, PartialEq, Eq)]
+#[derive(Clone, Copy)]
 pub enum Call {
     Accept { port: Port },
     Name,

@@ -2,7 +2,7 @@
 use Rattle.std.specs.Prelude.{◌≡◌, ◌⊎◌, ℕ, true, false, List, [], ◌∷◌, ◌++◌, Option, Some, None, IsSome, refl}
 use Rattle.std.proofs.Common.{sym, ◌∙◌, ap, subst, inl, inr}
 use Rattle.mx_base.specs.declared.names.LinkId.{LinkId}
-use Rattle.mx_wire.specs.Log.{Log}
+use Rattle.mx_wire.specs.Log.{Log, accepted_link}
 use Rattle.mx_wire.specs.Tells.{IsOpen, MayFollow}
 use Rattle.mx_wire.specs.declared.entry.Entry.{Entry}
 use Rattle.mx_wire.specs.declared.entry.Entry.TheVariants as entry
@@ -237,35 +237,24 @@ lost-carries old new link e none loses_link loses = record { carried = λ log ma
       let it = heard old log key link held.links none is in
       server-lost old new key it.0 log link e none it.1 steps (subst (λ (l : LinkId). LosesLink l e) (sym it.1.same) loses_link) may held
 
-pub ended-loses : (link : LinkId) → LosesLink link (entry.Ended link)
-ended-loses link = record {
-  loss = record { of = refl; no_read = refl; no_write = refl; nothing = λ n i. refl; lost = λ bytes. refl; ends = λ user log. refl };
-  lost = refl;
-  empty = record { of = refl; no_client = refl; no_failure = refl; no_read = refl; no_write = refl; nothing = λ n i. refl };
-  keeps = record { keeps = refl; opens_none = refl };
-  opened = λ log may. may.fits;
-  due_all = λ core log. tt;
-  law = λ core log. tt;
+-- the loss of a link, with what it is by itself
+losing : (link : LinkId) (e : Entry) → IsLoss link e → is_loss e ≡ true → accepted_link e ≡ None → is_failure e ≡ false → KeepsOpen e → ((log : Log) → MayFollow log e → IsOpen link log)
+    → ((core : Core) (log : Log) → due_in core log e) → ((core : Core) (log : Log) → IsLawful core.setup log e) → LosesLink link e
+losing link e loss lost no_client no_failure keeps opened due_all law = record {
+  loss = loss;
+  lost = lost;
+  empty = record { of = loss.of; no_client = no_client; no_failure = no_failure; no_read = loss.no_read; no_write = loss.no_write; nothing = loss.nothing };
+  keeps = keeps;
+  opened = opened;
+  due_all = due_all;
+  law = law;
 }
+
+pub ended-loses : (link : LinkId) → LosesLink link (entry.Ended link)
+ended-loses link = losing link (entry.Ended link) (record { of = refl; no_read = refl; no_write = refl; nothing = λ n i. refl; lost = λ bytes. refl; ends = λ user log. refl }) refl refl refl (record { keeps = refl; opens_none = refl }) (λ log may. may.fits) (λ core log. tt) (λ core log. tt)
 
 pub read_failed-loses : (link : LinkId) → LosesLink link (entry.ReadFailed link)
-read_failed-loses link = record {
-  loss = record { of = refl; no_read = refl; no_write = refl; nothing = λ n i. refl; lost = λ bytes. refl; ends = λ user log. refl };
-  lost = refl;
-  empty = record { of = refl; no_client = refl; no_failure = refl; no_read = refl; no_write = refl; nothing = λ n i. refl };
-  keeps = record { keeps = refl; opens_none = refl };
-  opened = λ log may. may.fits;
-  due_all = λ core log. tt;
-  law = λ core log. tt;
-}
+read_failed-loses link = losing link (entry.ReadFailed link) (record { of = refl; no_read = refl; no_write = refl; nothing = λ n i. refl; lost = λ bytes. refl; ends = λ user log. refl }) refl refl refl (record { keeps = refl; opens_none = refl }) (λ log may. may.fits) (λ core log. tt) (λ core log. tt)
 
 pub write_failed-loses : (link : LinkId) → LosesLink link (entry.WriteFailed link)
-write_failed-loses link = record {
-  loss = record { of = refl; no_read = refl; no_write = refl; nothing = λ n i. refl; lost = λ bytes. refl; ends = λ user log. refl };
-  lost = refl;
-  empty = record { of = refl; no_client = refl; no_failure = refl; no_read = refl; no_write = refl; nothing = λ n i. refl };
-  keeps = record { keeps = refl; opens_none = refl };
-  opened = λ log may. may.fits;
-  due_all = λ core log. tt;
-  law = λ core log. tt;
-}
+write_failed-loses link = losing link (entry.WriteFailed link) (record { of = refl; no_read = refl; no_write = refl; nothing = λ n i. refl; lost = λ bytes. refl; ends = λ user log. refl }) refl refl refl (record { keeps = refl; opens_none = refl }) (λ log may. may.fits) (λ core log. tt) (λ core log. tt)

@@ -272,36 +272,32 @@ silent-fewer old was later link calm =
       ap (λ b. cond b (server_left later.upstream) None) calm.server,
     )
 
+none-some : (o : Option Sent) → o ≡ None → IsSome o → ⊥
+none-some None is some = cc
+none-some (Some sent) is some = cc
+
+-- a session of which nothing is read and sent on the link has changed, and the others are as before
+looks-set : (reads_of : Option Session → Bool) (sends_of : Option Session → Option Sent) (old new : Core) (key k : ℕ) (later : Session) → SetsSession old new key (Some later) → reads_of (Some later) ≡ false → sends_of (Some later) ≡ None
+    → (reads_of (session_at new k) ≡ true → reads_of (session_at old k) ≡ true) × (IsSome (sends_of (session_at new k)) → IsSome (sends_of (session_at old k)))
+looks-set reads_of sends_of old new key k later sets unread unsent = elim (bool_cases (nat_eq k key)) [
+  | inl here ↦ (
+      let there : session_at new k ≡ Some later = ap (session_at new) (eqb-true k key here) ∙ sets.changed in (
+        λ wanted. (let no : false ≡ true = sym (ap reads_of there ∙ unread) ∙ wanted in absurd (cc)),
+        λ some. absurd (none-some (sends_of (session_at new k)) (ap sends_of there ∙ unsent) some),
+      ))
+  | inr differs ↦ (
+      let same = sets.others k (differ-by k key differs) in
+      (λ wanted. sym (ap reads_of same) ∙ wanted, λ some. subst (λ (s : Option Session). IsSome (sends_of s)) same some))
+]
+
 looks-silent : (old new : Core) (key : ℕ) (later : Session) (p : Option Place) (link : LinkId) → SetsSession old new key (Some later) → IsCalm old later link → (reads_at new p link ≡ true → reads_at old p link ≡ true) × (IsSome (sends_at new p link) → IsSome (sends_at old p link))
 looks-silent old new key later None link sets calm = (λ wanted. wanted, λ some. some)
-looks-silent old new key later (Some (place.Client k)) link sets calm = elim (bool_cases (nat_eq k key)) [
-  | inl here ↦ (
-      let there : session_at new k ≡ Some later = ap (session_at new) (eqb-true k key here) ∙ sets.changed in
-      let silent = silent-fewer old (Some later) later link calm in (
-        λ wanted. (let no : false ≡ true = sym (ap (λ (s : Option Session). client_reads s link) there ∙ silent.0) ∙ wanted in absurd (cc)),
-        λ some. absurd (nothing (client_sends (session_at new k) link) (ap (λ (s : Option Session). client_sends s link) there ∙ silent.2) some),
-      ))
-  | inr differs ↦ (
-      let same = sets.others k (differ-by k key differs) in
-      (λ wanted. sym (ap (λ (s : Option Session). client_reads s link) same) ∙ wanted, λ some. subst (λ (s : Option Session). IsSome (client_sends s link)) same some))
-] where
-  nothing : (o : Option Sent) → o ≡ None → IsSome o → ⊥
-  nothing None is some = cc
-  nothing (Some sent) is some = cc
-looks-silent old new key later (Some (place.Server k)) link sets calm = elim (bool_cases (nat_eq k key)) [
-  | inl here ↦ (
-      let there : session_at new k ≡ Some later = ap (session_at new) (eqb-true k key here) ∙ sets.changed in
-      let silent = silent-fewer old (Some later) later link calm in (
-        λ wanted. (let no : false ≡ true = sym (ap (λ (s : Option Session). server_reads s link) there ∙ silent.1) ∙ wanted in absurd (cc)),
-        λ some. absurd (nothing (server_sends (session_at new k) link) (ap (λ (s : Option Session). server_sends s link) there ∙ silent.3) some),
-      ))
-  | inr differs ↦ (
-      let same = sets.others k (differ-by k key differs) in
-      (λ wanted. sym (ap (λ (s : Option Session). server_reads s link) same) ∙ wanted, λ some. subst (λ (s : Option Session). IsSome (server_sends s link)) same some))
-] where
-  nothing : (o : Option Sent) → o ≡ None → IsSome o → ⊥
-  nothing None is some = cc
-  nothing (Some sent) is some = cc
+looks-silent old new key later (Some (place.Client k)) link sets calm =
+    let silent = silent-fewer old (Some later) later link calm in
+    looks-set (λ (s : Option Session). client_reads s link) (λ (s : Option Session). client_sends s link) old new key k later sets silent.0 silent.2
+looks-silent old new key later (Some (place.Server k)) link sets calm =
+    let silent = silent-fewer old (Some later) later link calm in
+    looks-set (λ (s : Option Session). server_reads s link) (λ (s : Option Session). server_sends s link) old new key k later sets silent.1 silent.3
 
 -- where the place of the link is the same
 leaves-placed : (old new : Core) (key : ℕ) (later : Session) (link : LinkId) → SetsSession old new key (Some later) → IsCalm old later link → place_of new link ≡ place_of old link → LeavesBe changed reads sends old new link

@@ -8,8 +8,6 @@ mod machine;
 mod place;
 mod router;
 mod taking;
-#[cfg(test)]
-mod tests;
 mod writing;
 
 pub use place::Place;

@@ -1,5 +1,5 @@
 use Rattle.std.proofs.Common.{◌≡◌, ◌≤◌, ◌-◌}
-use Rattle.ready_loop.specs.Serving.{Serves, Advances}
+use Rattle.ready_loop.specs.Serving.{Serves, Proceeds}
 use Rattle.ready_loop.proofs.acts.do_acts.Given as goal
 
 abbrev pub invariant-loop-table : goal.invariant-loop-table
@@ -7,8 +7,7 @@ invariant-loop-table g l = record {
   serves : Serves g.M.Machine.stands g.M.Machine.reads g.M.Machine.sends g.M.Machine.changed l.core l.table (g.W.Wire.told l.wire);
   more : l.fn.table.round.calls ≤ l.table.round.calls;
   wakes : l.table.round.wakes ≡ l.fn.table.round.wakes;
-  advances : Advances g.W.Wire.told g.W.Wire.rule g.W.Wire.port_faults g.W.Wire.faults l.fn.wire l.wire;
-  serves_by : g.M.Machine.serves_by l.core ≡ g.M.Machine.serves_by l.fn.core;
+  proceeds : Proceeds g.M.Machine.serves_by g.W.Wire.told g.W.Wire.rule g.W.Wire.port_faults g.W.Wire.faults l.fn.core l.core l.fn.wire l.wire;
 }
 
 abbrev pub decreases-loop-table : goal.decreases-loop-table

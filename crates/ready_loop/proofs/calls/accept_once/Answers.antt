@@ -1,38 +1,53 @@
-use Rattle.std.proofs.Common.{refl, ap}
-use Rattle.ready_loop.proofs.Steps.{goes_on, stays}
+use Rattle.std.proofs.Common.{rules, refl, ap, ◌∙◌}
+use Rattle.ready_loop.proofs.Steps.{advanced, goes_on, stays}
 use Rattle.ready_loop.proofs.Counting.{unnamed, named}
 use Rattle.ready_loop.proofs.Marking as marking
 use Rattle.ready_loop.proofs.Watching as watching
-use Rattle.ready_loop.specs.Serving.{IsPortFault, BusyFor}
+use Rattle.ready_loop.specs.Serving.{IsPortFault}
 use Rattle.std.specs.Option.{option_map}
 use Rattle.ready_loop.specs.Links.{dry_mark}
-use Rattle.ready_loop.proofs.Ending.{ends_with, woke_on, stood_before, broke}
+use Rattle.ready_loop.proofs.Ending.{ends_with, woke_on, stood_before, refused, both, on_ok}
 use Rattle.ready_loop.proofs.calls.accept_once.Goals as goal
 
-pub returns-in_ok-opened-in-Link-clause-serves : goal.returns-in_ok-opened-in-Link-clause-serves
-returns-in_ok-opened-in-Link-clause-serves g c = record {
-  standing = goes_on _ _ _ _ g.met.M.Machine.quiet _ _ _ _ _ c.requires.serves.standing c.in-Link.ensures.told (λ log. tt) (c.in_ok-take-in-Link.ensures.carries _ refl);
-  tracks = named _ _ _ _ _ _ refl c.accepted.ensures (ap (option_map dry_mark) c.in_ok-opened-in-Link.ensures.marks.same) (marking.others _ _ _ _ c.in_ok-opened-in-Link.ensures.marks) c.requires.serves.tracks c.in-Link.ensures.told;
-  watches = watching.opened _ _ _ _ _ _ c.in_ok-opened-in-Link.ensures.marks c.in_ok-opened-in-Link.ensures.queue (watching.changes _ _ _ _ _ _ c.in_ok-take-in-Link.ensures.changes c.requires.serves.watches);
+pub returns-in-Link-clause-serves : goal.returns-in-Link-clause-serves
+returns-in-Link-clause-serves g c =
+    let told = both c.come.result _ _ c.come.ensures.carries c.come.ensures.changes in
+    let queued = both c.come.result _ _ c.come.ensures.marks c.come.ensures.queue in
+    on_ok c.come.result _ _ _ c.unless_refused.ensures.ok (both c.come.result _ _ told queued) (λ came. record {
+      standing = goes_on _ _ _ _ g.met.M.Machine.quiet _ _ _ _ _ c.requires.going.serves.standing c.in-Link.ensures.told (λ log. tt) (came.0.0 _ refl);
+      tracks = named _ _ _ _ _ _ refl (c.come.ensures.round ∙ c.accepted.ensures) (ap (option_map dry_mark) came.1.0.same) (marking.others _ _ _ _ came.1.0) c.requires.going.serves.tracks c.in-Link.ensures.told;
+      watches = watching.opened _ _ _ _ _ _ came.1.0 came.1.1 (watching.changes _ _ _ _ _ _ came.0.1 c.requires.going.serves.watches);
+    })
+
+pub returns-in-Link-clause-made : goal.returns-in-Link-clause-made
+returns-in-Link-clause-made g c = record {
+  made_it = search rules;
+  more = search rules;
+  wakes = search rules;
+  ends = refused _ _ _ _ _ _ _ _ c.unless_refused.ensures.err (stood_before _ _ _ _ _ tt c.requires.going.serves.standing c.in-Link.ensures.told);
+  proceeds = record { advances = advanced _ _ _ _ _ _ _ c.in-Link.ensures.told c.in-Link.ensures.rule c.in-Link.ensures.cause.later c.in-Link.ensures.faults; serves_by = search rules };
 }
 
 pub returns-in-NotReady-clause-serves : goal.returns-in-NotReady-clause-serves
 returns-in-NotReady-clause-serves g c = record {
-  standing = stays _ _ _ _ g.met.M.Machine.quiet _ _ _ _ c.requires.serves.standing c.in-NotReady.ensures.told (λ log. tt) tt;
-  tracks = unnamed _ _ _ _ _ refl c.accepted-in-NotReady.ensures (λ l. refl) c.requires.serves.tracks c.in-NotReady.ensures.told;
-  watches = c.requires.serves.watches;
+  standing = stays _ _ _ _ g.met.M.Machine.quiet _ _ _ _ c.requires.going.serves.standing c.in-NotReady.ensures.told (λ log. tt) tt;
+  tracks = unnamed _ _ _ _ _ refl c.accepted-in-NotReady.ensures (λ l. refl) c.requires.going.serves.tracks c.in-NotReady.ensures.told;
+  watches = c.requires.going.serves.watches;
 }
 
-pub returns-in-Failed-clause-ends : goal.returns-in-Failed-clause-ends
-returns-in-Failed-clause-ends g c = record {
-  standing = stays _ _ _ _ g.met.M.Machine.quiet _ _ _ _ c.requires.serves.standing c.in-Failed.ensures.told (λ log. tt) tt;
-  halted = c.requires.going;
-  woke = woke_on _ _ _ _ c.requires.serves.tracks c.in-Failed.ensures.told refl refl;
-  so = ends_with IsPortFault _ _ _ c.in-Failed.ensures.told tt;
+pub returns-in-Failed-clause-made : goal.returns-in-Failed-clause-made
+returns-in-Failed-clause-made g c = record {
+  made_it = search rules;
+  more = search rules;
+  wakes = search rules;
+  ends = record {
+    ends = record {
+      standing = stays _ _ _ _ g.met.M.Machine.quiet _ _ _ _ c.requires.going.serves.standing c.in-Failed.ensures.told (λ log. tt) tt;
+      halted = c.requires.going.going;
+      woke = woke_on _ _ _ _ c.requires.going.serves.tracks c.in-Failed.ensures.told refl refl;
+      so = ends_with IsPortFault _ _ _ c.in-Failed.ensures.told tt;
+    };
+    rose = λ fault. c.in-Failed.ensures.cause.rose refl;
+  };
+  proceeds = record { advances = advanced _ _ _ _ _ _ _ c.in-Failed.ensures.told c.in-Failed.ensures.rule c.in-Failed.ensures.cause.later c.in-Failed.ensures.faults; serves_by = search rules };
 }
-
-pub returns-in_err-take-in-Link-clause-ends : goal.returns-in_err-take-in-Link-clause-ends
-returns-in_err-take-in-Link-clause-ends g c = broke _ g.M.Machine.is_stopped _ BusyFor _ _ c.from_residual.result c.from_residual.ensures.1 (stood_before _ _ _ _ _ tt c.requires.serves.standing c.in-Link.ensures.told)
-
-pub returns-in_err-opened-in-Link-clause-ends : goal.returns-in_err-opened-in-Link-clause-ends
-returns-in_err-opened-in-Link-clause-ends g c = broke _ g.M.Machine.is_stopped _ BusyFor _ _ _ c.from_residual-in_err-opened-in-Link.ensures.1 (stood_before _ _ _ _ _ tt c.requires.serves.standing c.in-Link.ensures.told)

@@ -14,8 +14,11 @@ returns-in-Done-clause-serves g c = record {
 
 pub returns-in-Failed-clause-ends : goal.returns-in-Failed-clause-ends
 returns-in-Failed-clause-ends g c = record {
-  standing = stays _ _ _ _ g.met.M.Machine.quiet _ _ _ _ c.requires.serves.standing c.in-Failed.ensures.told (λ log. tt) tt;
-  halted = c.requires.going;
-  woke = woke_on _ _ _ _ c.requires.serves.tracks c.in-Failed.ensures.told refl refl;
-  so = ends_with IsPortFault _ _ _ c.in-Failed.ensures.told tt;
+  ends = record {
+    standing = stays _ _ _ _ g.met.M.Machine.quiet _ _ _ _ c.requires.serves.standing c.in-Failed.ensures.told (λ log. tt) tt;
+    halted = c.requires.going;
+    woke = woke_on _ _ _ _ c.requires.serves.tracks c.in-Failed.ensures.told refl refl;
+    so = ends_with IsPortFault _ _ _ c.in-Failed.ensures.told tt;
+  };
+  rose = λ fault. c.in-Failed.ensures.cause.rose refl;
 }

@@ -1,48 +1,50 @@
-use Rattle.ready_loop.proofs.Ending.{stood_before, on_err}
-use Rattle.std.proofs.Common.{refl, inl}
-use Rattle.ready_loop.proofs.Steps.{goes_on, stays}
+use Rattle.std.proofs.Common.{rules, refl, sym, ◌∙◌, subst}
+use Rattle.mx_wire.specs.Tells.{Tells}
+use Rattle.mx_wire.specs.declared.entry.Entry.{Entry}
+use Rattle.ready_loop.proofs.Steps.{advanced, goes_on, stays}
 use Rattle.ready_loop.proofs.Counting.{named}
+use Rattle.ready_loop.proofs.Ending.{stood_before, refused, both, on_ok}
+use Rattle.ready_loop.proofs.Hearing as hearing
 use Rattle.ready_loop.proofs.Marking as marking
 use Rattle.ready_loop.proofs.Watching as watching
 use Rattle.ready_loop.proofs.Opening.{open_marked}
 use Rattle.ready_loop.proofs.calls.read_once.Goals as goal
 
 pub read-requires-clause-open : goal.read-requires-clause-open
-read-requires-clause-open g c = open_marked _ _ _ _ _ c.requires.serves.tracks c.requires.wet
+read-requires-clause-open g c = open_marked _ _ _ _ _ c.requires.going.serves.tracks c.requires.wet
 
-pub returns-in_ok-take-in-Got-clause-serves : goal.returns-in_ok-take-in-Got-clause-serves
-returns-in_ok-take-in-Got-clause-serves g c = record {
-  standing = goes_on _ _ _ _ g.met.M.Machine.quiet _ _ _ _ _ c.requires.serves.standing c.in-Got.ensures.told (λ log. tt) (c.in_ok-take-in-Got.ensures.carries _ refl);
-  tracks = named _ _ _ _ _ _ refl refl (marking.got c.args.table.now.links c.args.link c.requires.wet) (λ other apart. refl) c.requires.serves.tracks c.in-Got.ensures.told;
-  watches = watching.changes _ _ _ _ _ _ c.in_ok-take-in-Got.ensures.changes c.requires.serves.watches;
+pub returns-in_default-clause-serves : goal.returns-in_default-clause-serves
+returns-in_default-clause-serves g c =
+    let told = subst (λ (e : Entry). Tells (g.W.Wire.told c.args.wire.now) e (g.W.Wire.told c.read.new.self)) (hearing.nothing c.args.link c.read.new.into c.read.result (sym c.hear.ensures ∙ c.in_default.is)) c.read.ensures.told in
+    record {
+      standing = stays _ _ _ _ g.met.M.Machine.quiet _ _ _ _ c.requires.going.serves.standing told (λ log. tt) tt;
+      tracks = named _ _ _ _ _ _ refl refl (marking.read_nothing _ _ _ c.read_dry.ensures.marks) (marking.others _ _ _ _ c.read_dry.ensures.marks) c.requires.going.serves.tracks told;
+      watches = watching.dried _ _ _ _ (λ m. refl) (λ m is. refl) (λ m is. is) _ _ _ c.read_dry.ensures.marks c.read_dry.ensures.queue c.requires.going.serves.watches;
+    }
+
+pub returns-in_default-clause-made : goal.returns-in_default-clause-made
+returns-in_default-clause-made g c = record {
+  made_it = record { entry_of = _; tells = c.read.ensures.told; is = hearing.made _ _ c.read.result };
+  more = search rules;
+  wakes = search rules;
+  ends = search rules;
+  proceeds = record { advances = advanced _ _ _ _ _ _ _ c.read.ensures.told c.read.ensures.rule c.read.ensures.port_faults c.read.ensures.cause.later; serves_by = search rules };
 }
 
-pub returns-in-NotReady-clause-serves : goal.returns-in-NotReady-clause-serves
-returns-in-NotReady-clause-serves g c = record {
-  standing = stays _ _ _ _ g.met.M.Machine.quiet _ _ _ _ c.requires.serves.standing c.in-NotReady.ensures.told (λ log. tt) tt;
-  tracks = named _ _ _ _ _ _ refl refl (marking.read_nothing _ _ _ c.read_dry.ensures.marks) (marking.others _ _ _ _ c.read_dry.ensures.marks) c.requires.serves.tracks c.in-NotReady.ensures.told;
-  watches = watching.dried _ _ _ _ (λ m. refl) (λ m is. refl) (λ m is. is) _ _ _ c.read_dry.ensures.marks c.read_dry.ensures.queue c.requires.serves.watches;
+pub returns-clause-serves : goal.returns-clause-serves
+returns-clause-serves g c =
+    let heard = sym c.hear.ensures ∙ c.in-Some.is in
+    on_ok c.take.result _ _ _ c.unless_refused.ensures.ok (both c.take.result _ _ c.take.ensures.carries c.take.ensures.changes) (λ taken. record {
+      standing = goes_on _ _ _ _ g.met.M.Machine.quiet _ _ _ _ _ c.requires.going.serves.standing c.read.ensures.told (λ log. hearing.due g.M.Machine.reads g.M.Machine.sends g.M.Machine.asks c.args.core.now log _ _ c.read.result) (taken.0 _ (hearing.told _ _ _ _ c.read.result _ heard));
+      tracks = named _ _ _ _ _ c.args.link (hearing.of_link _ _ c.read.result) (hearing.counted _ _ c.read.result _) (hearing.still_wet c.args.table.now.links _ _ c.read.result _ heard c.requires.wet) (λ other apart. refl) c.requires.going.serves.tracks c.read.ensures.told;
+      watches = watching.changes _ _ _ _ _ _ taken.1 c.requires.going.serves.watches;
+    })
+
+pub returns-clause-made : goal.returns-clause-made
+returns-clause-made g c = record {
+  made_it = record { entry_of = _; tells = c.read.ensures.told; is = hearing.made _ _ c.read.result };
+  more = search rules;
+  wakes = search rules;
+  ends = refused _ _ _ _ _ _ _ _ c.unless_refused.ensures.err (stood_before _ _ _ _ _ (hearing.unwritten _ _ c.read.result) c.requires.going.serves.standing c.read.ensures.told);
+  proceeds = record { advances = advanced _ _ _ _ _ _ _ c.read.ensures.told c.read.ensures.rule c.read.ensures.port_faults c.read.ensures.cause.later; serves_by = search rules };
 }
-
-pub returns-in_ok-take-in-End-clause-serves : goal.returns-in_ok-take-in-End-clause-serves
-returns-in_ok-take-in-End-clause-serves g c = record {
-  standing = goes_on _ _ _ _ g.met.M.Machine.quiet _ _ _ _ _ c.requires.serves.standing c.in-End.ensures.told (λ log. tt) (c.in_ok-take-in-End.ensures.carries _ refl);
-  tracks = named _ _ _ _ _ _ refl refl refl (λ other apart. refl) c.requires.serves.tracks c.in-End.ensures.told;
-  watches = watching.changes _ _ _ _ _ _ c.in_ok-take-in-End.ensures.changes c.requires.serves.watches;
-}
-
-pub returns-in_ok-take-in-Failed-clause-serves : goal.returns-in_ok-take-in-Failed-clause-serves
-returns-in_ok-take-in-Failed-clause-serves g c = record {
-  standing = goes_on _ _ _ _ g.met.M.Machine.quiet _ _ _ _ _ c.requires.serves.standing c.in-Failed.ensures.told (λ log. tt) (c.in_ok-take-in-Failed.ensures.carries _ (inl refl));
-  tracks = named _ _ _ _ _ _ refl refl refl (λ other apart. refl) c.requires.serves.tracks c.in-Failed.ensures.told;
-  watches = watching.changes _ _ _ _ _ _ c.in_ok-take-in-Failed.ensures.changes c.requires.serves.watches;
-}
-
-pub returns-in_err-take-in-Got-clause-broke : goal.returns-in_err-take-in-Got-clause-broke
-returns-in_err-take-in-Got-clause-broke g c = on_err _ _ (stood_before _ _ _ _ _ tt c.requires.serves.standing c.in-Got.ensures.told)
-
-pub returns-in_err-take-in-End-clause-broke : goal.returns-in_err-take-in-End-clause-broke
-returns-in_err-take-in-End-clause-broke g c = on_err _ _ (stood_before _ _ _ _ _ tt c.requires.serves.standing c.in-End.ensures.told)
-
-pub returns-in_err-take-in-Failed-clause-broke : goal.returns-in_err-take-in-Failed-clause-broke
-returns-in_err-take-in-Failed-clause-broke g c = on_err _ _ (stood_before _ _ _ _ _ tt c.requires.serves.standing c.in-Failed.ensures.told)

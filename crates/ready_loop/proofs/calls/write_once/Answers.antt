@@ -1,6 +1,6 @@
-use Rattle.ready_loop.proofs.Ending.{stood_before, on_err}
-use Rattle.std.proofs.Common.{refl, inr}
-use Rattle.ready_loop.proofs.Steps.{goes_on, stays, written, may_take}
+use Rattle.ready_loop.proofs.Ending.{stood_before, refused, both, on_ok}
+use Rattle.std.proofs.Common.{rules, refl, inr}
+use Rattle.ready_loop.proofs.Steps.{advanced, goes_on, stays, written, may_take}
 use Rattle.ready_loop.proofs.Counting.{named}
 use Rattle.ready_loop.proofs.Marking as marking
 use Rattle.ready_loop.proofs.Watching as watching
@@ -8,31 +8,37 @@ use Rattle.ready_loop.proofs.Opening.{open_marked}
 use Rattle.ready_loop.proofs.calls.write_once.Goals as goal
 
 pub write-requires-clause-open : goal.write-requires-clause-open
-write-requires-clause-open g c = open_marked _ _ _ _ _ c.requires.serves.tracks c.requires.wet
+write-requires-clause-open g c = open_marked _ _ _ _ _ c.requires.going.serves.tracks c.requires.wet
 
 pub taken-requires-clause-lent : goal.taken-requires-clause-lent
 taken-requires-clause-lent g c = may_take c.in-Some.piece _ _ c.in-Some.ensures c.in-Took.ensures.bound.fits
 
 pub returns-in-Took-clause-serves : goal.returns-in-Took-clause-serves
 returns-in-Took-clause-serves g c = record {
-  standing = written _ _ _ _ g.met.M.Machine.quiet _ _ _ _ _ c.in-Some.piece _ _ c.requires.serves.standing c.in-Some.ensures c.in-Took.ensures.told c.taken.ensures.carries;
-  tracks = named _ _ _ _ _ _ refl refl (marking.wrote c.args.table.now.links c.args.link c.requires.wet) (λ other apart. refl) c.requires.serves.tracks c.in-Took.ensures.told;
-  watches = watching.changes _ _ _ _ _ _ c.taken.ensures.changes c.requires.serves.watches;
+  standing = written _ _ _ _ g.met.M.Machine.quiet _ _ _ _ _ c.in-Some.piece _ _ c.requires.going.serves.standing c.in-Some.ensures c.in-Took.ensures.told c.taken.ensures.carries;
+  tracks = named _ _ _ _ _ _ refl refl (marking.wrote c.args.table.now.links c.args.link c.requires.wet) (λ other apart. refl) c.requires.going.serves.tracks c.in-Took.ensures.told;
+  watches = watching.changes _ _ _ _ _ _ c.taken.ensures.changes c.requires.going.serves.watches;
 }
 
 pub returns-in-NotReady-clause-serves : goal.returns-in-NotReady-clause-serves
 returns-in-NotReady-clause-serves g c = record {
-  standing = stays _ _ _ _ g.met.M.Machine.quiet _ _ _ _ c.requires.serves.standing c.in-NotReady.ensures.told (λ log. tt) tt;
-  tracks = named _ _ _ _ _ _ refl refl (marking.write_nothing _ _ _ c.write_dry.ensures.marks) (marking.others _ _ _ _ c.write_dry.ensures.marks) c.requires.serves.tracks c.in-NotReady.ensures.told;
-  watches = watching.dried _ _ _ _ (λ m. refl) (λ m is. is) (λ m is. refl) _ _ _ c.write_dry.ensures.marks c.write_dry.ensures.queue c.requires.serves.watches;
+  standing = stays _ _ _ _ g.met.M.Machine.quiet _ _ _ _ c.requires.going.serves.standing c.in-NotReady.ensures.told (λ log. tt) tt;
+  tracks = named _ _ _ _ _ _ refl refl (marking.write_nothing _ _ _ c.write_dry.ensures.marks) (marking.others _ _ _ _ c.write_dry.ensures.marks) c.requires.going.serves.tracks c.in-NotReady.ensures.told;
+  watches = watching.dried _ _ _ _ (λ m. refl) (λ m is. is) (λ m is. refl) _ _ _ c.write_dry.ensures.marks c.write_dry.ensures.queue c.requires.going.serves.watches;
 }
 
-pub returns-in_ok-take-in-Failed-clause-serves : goal.returns-in_ok-take-in-Failed-clause-serves
-returns-in_ok-take-in-Failed-clause-serves g c = record {
-  standing = goes_on _ _ _ _ g.met.M.Machine.quiet _ _ _ _ _ c.requires.serves.standing c.in-Failed.ensures.told (λ log. tt) (c.in_ok-take-in-Failed.ensures.carries _ (inr refl));
-  tracks = named _ _ _ _ _ _ refl refl refl (λ other apart. refl) c.requires.serves.tracks c.in-Failed.ensures.told;
-  watches = watching.changes _ _ _ _ _ _ c.in_ok-take-in-Failed.ensures.changes c.requires.serves.watches;
-}
+pub returns-in-Failed-clause-serves : goal.returns-in-Failed-clause-serves
+returns-in-Failed-clause-serves g c = on_ok c.take.result _ _ _ c.unless_refused.ensures.ok (both c.take.result _ _ c.take.ensures.carries c.take.ensures.changes) (λ taken. record {
+  standing = goes_on _ _ _ _ g.met.M.Machine.quiet _ _ _ _ _ c.requires.going.serves.standing c.in-Failed.ensures.told (λ log. tt) (taken.0 _ (inr refl));
+  tracks = named _ _ _ _ _ _ refl refl refl (λ other apart. refl) c.requires.going.serves.tracks c.in-Failed.ensures.told;
+  watches = watching.changes _ _ _ _ _ _ taken.1 c.requires.going.serves.watches;
+})
 
-pub returns-in_err-take-in-Failed-clause-broke : goal.returns-in_err-take-in-Failed-clause-broke
-returns-in_err-take-in-Failed-clause-broke g c = on_err _ _ (stood_before _ _ _ _ _ tt c.requires.serves.standing c.in-Failed.ensures.told)
+pub returns-in-Failed-clause-made : goal.returns-in-Failed-clause-made
+returns-in-Failed-clause-made g c = record {
+  made_it = search rules;
+  more = search rules;
+  wakes = search rules;
+  ends = refused _ _ _ _ _ _ _ _ c.unless_refused.ensures.err (stood_before _ _ _ _ _ tt c.requires.going.serves.standing c.in-Failed.ensures.told);
+  proceeds = record { advances = advanced _ _ _ _ _ _ _ c.in-Failed.ensures.told c.in-Failed.ensures.rule c.in-Failed.ensures.port_faults c.in-Failed.ensures.cause.later; serves_by = search rules };
+}

@@ -1,0 +1,27 @@
+//! Runs the router over files, a wire and a sink in memory, a run for each case of stdin, and answers with the status and what was printed.
+#![tactic(auto)]
+
+mod configs;
+mod names;
+mod runs;
+
+use check_lines::{Case, CaseFault};
+use std::alloc::Global;
+use std::io;
+use std::thread::Threads;
+
+fn answer<R: Threads + Sync>(
+    rt: &R,
+    alloc: Global,
+    case: &mut Case<'_>,
+) -> Result<String, CaseFault> {
+    match case.reader {
+        "replay" => runs::replay(rt, alloc, case),
+        "run" => runs::words(rt, alloc, case),
+        _ => Err(CaseFault::Bad),
+    }
+}
+
+fn main(rt: HostRuntime) -> io::Result<()> {
+    check_lines::run(&rt, |alloc, case| answer(&rt, alloc, case))
+}

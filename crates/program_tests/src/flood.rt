@@ -1,0 +1,178 @@
+// A client that sends much at once, over a machine and a wire of the test's own.
+ghost use Rattle.std.specs.Prelude.{None, Some, [], ◌∷◌, replicate, true, false};
+ghost use Rattle.mx_base.specs.declared.tag.Tag.TheVariants as tag;
+
+use mx_base::{Address, LinkId, OutOfMemory, Port, ServerId, Tag};
+use mx_wire::{Accepted, Got, Listened, Opened, Took, Wire, Woke};
+use ready_loop::{Act, Event, Machine, Piece, ServeEnd, serve};
+use std::test::Fail;
+
+const GREETING: &[u8] = &[7];
+
+// Reads each link, has a greeting for it, and asks for nothing.
+#[derive(Drop)]
+struct Reader;
+
+impl Machine for Reader {
+    ghost stands = { λ _ _. Unit {0} };
+
+    ghost sends = { λ _ _. Some (record { tag = tag.Reply; bytes = 7 ∷ [] }) };
+
+    ghost reads = { λ _ _. true };
+
+    ghost until = { λ _. 0 };
+
+    ghost awaits = { λ _. None };
+
+    ghost is_stopped = { λ _. false };
+
+    ghost changed = { λ _ _. false };
+
+    ghost unnamed = { λ _. 0 };
+
+    ghost address_of = { λ _ _. record { ip = replicate 4 0; port = 0 } };
+
+    ghost most = { λ _. 4 };
+
+    ghost Service = { Unit {0} };
+
+    ghost serves_by = { λ _. tt };
+
+    fn take(&mut self, _: Event, _: &mut [u8]) -> Result<(), OutOfMemory> {
+        Ok(())
+    }
+
+    fn next_act(&mut self) -> Option<Act> {
+        None
+    }
+
+    fn next_changed(&mut self) -> Option<LinkId> {
+        None
+    }
+
+    fn outgoing(&self, _: LinkId) -> Option<Piece<'_>> {
+        Some(Piece {
+            tag: Tag::Reply,
+            bytes: GREETING,
+        })
+    }
+
+    fn taken(&mut self, _: LinkId, _: usize) {}
+
+    fn wants_read(&self, _: LinkId) -> bool {
+        true
+    }
+
+    fn until_ms(&self) -> u64 {
+        0
+    }
+
+    fn stopped(&self) -> bool {
+        false
+    }
+
+    fn address(&self, _: Port) -> Address {
+        Address {
+            ip: [0; 4],
+            port: 0,
+        }
+    }
+
+    fn most_links(&self) -> u32 {
+        4
+    }
+
+    ghost quiet = { λ machine e q. record { carried = λ log may due held. tt } };
+}
+
+// One client, with so many bytes, at one wake. The sizes of the reads are kept, and whether a write was offered.
+#[derive(Drop)]
+struct Flood {
+    left: usize,
+    came: bool,
+    woke: bool,
+    sizes: [usize; 4],
+    reads: usize,
+    offered: bool,
+}
+
+impl Wire for Flood {
+    ghost told = { λ _. None };
+
+    ghost port_faults = { λ _. 0 };
+
+    ghost faults = { λ _. 0 };
+
+    fn reserve(&mut self, _: u32) -> Result<(), OutOfMemory> {
+        Ok(())
+    }
+
+    fn listen(&mut self, _: Port, _: Address) -> Listened {
+        Listened::Done
+    }
+
+    fn wait(&mut self, _: u64) -> Woke {
+        if self.woke {
+            return Woke::Over;
+        }
+        self.woke = true;
+        Woke::Woke { now_ms: 1 }
+    }
+
+    fn next_ready(&mut self) -> Option<LinkId> {
+        None
+    }
+
+    fn accept(&mut self, port: Port) -> Accepted {
+        if self.came || port == Port::Admin {
+            return Accepted::NotReady;
+        }
+        self.came = true;
+        Accepted::Link {
+            id: LinkId(1),
+            salt: [1; 20],
+        }
+    }
+
+    fn open(&mut self, _: ServerId, _: Address) -> Opened {
+        Opened::Link { id: LinkId(2) }
+    }
+
+    fn read(&mut self, _: LinkId, into: &mut [u8]) -> Got {
+        let n = self.left.min(into.len());
+        if self.reads < 4 {
+            self.sizes[self.reads] = n;
+            self.reads += 1;
+        }
+        self.left -= n;
+        if n == 0 {
+            Got::NotReady
+        } else {
+            Got::Got { n }
+        }
+    }
+
+    fn write(&mut self, _: LinkId, _: Tag, _: &[u8]) -> Took {
+        self.offered = true;
+        Took::NotReady
+    }
+
+    fn close(&mut self, _: LinkId) {}
+}
+
+#[test]
+fn reads_a_link_until_nothing_is_there(rt: HostRuntime) -> Result<(), Fail> {
+    let mut wire = Flood {
+        left: 70_000,
+        came: false,
+        woke: false,
+        sizes: [7; 4],
+        reads: 0,
+        offered: false,
+    };
+    let end = serve(rt.alloc(), &mut Reader, &mut wire, 5);
+    assert!(rt; matches!(end, ServeEnd::Over));
+    assert_eq!(rt; wire.sizes, [65_536, 4_464, 0, 7]);
+    assert!(rt; wire.offered);
+    Ok(())
+}

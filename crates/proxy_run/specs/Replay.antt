@@ -1,0 +1,197 @@
+-- What a replay puts, and why it stops short.
+use Rattle.std.specs.Prelude.{◌≡◌, ◌⊎◌, ℕ, ◌<◌, ◌≤◌, true, List, [], ◌∷◌, ◌++◌, length, Option, Some, None, Ok, Err}
+use Rattle.mx_base.specs.declared.names.LinkId.{LinkId}
+use Rattle.mx_base.specs.declared.names.Port.{Port}
+use Rattle.mx_wire.specs.Log.{Log, read_of}
+use Rattle.mx_wire.specs.Tells.{IsOpen}
+use Rattle.mx_wire.specs.Moments.{AtEachMoment, AllLawful}
+use Rattle.mx_wire.specs.Outside.{HasUnder, Takes, TakesFront}
+use Rattle.mx_wire.specs.declared.entry.Entry.TheVariants.{Over}
+use Rattle.recording.specs.declared.entry.RecordEntry.{RecordEntry}
+use Rattle.recording.specs.declared.fault.RecordFault.{RecordFault}
+use Rattle.recording.specs.Recording.{recording_of}
+use Rattle.recording.specs.Transcript.{transcript_of}
+use Rattle.mem_wire.specs.Lines.{moments, clients_at, bytes_for}
+use Rattle.mem_wire.specs.Came.{wakes, accepted_at, Known, known, with_link}
+use Rattle.mem_wire.specs.Play.{IsPlay}
+use Rattle.mem_wire.specs.Told.{Played}
+use Rattle.ready_loop.specs.Drained.{write_dry}
+use Rattle.ready_loop.specs.Round.{calls_since_wake}
+use Rattle.client_session.specs.Setups.{Setup}
+use Rattle.client_session.specs.Headline.{IsServed, IsLawful}
+use Rattle.client_session.specs.Rest.{RestsAt}
+use Rattle.session_core.specs.Cores.{setup_of}
+use Rattle.mx_config.specs.declared.config.Config.{Config}
+use Rattle.mx_config.specs.declared.fault.ConfigFault.{ConfigFault}
+use Rattle.mx_config.specs.Reading.{reading_of}
+use Rattle.proxy_run.specs.declared.stop.Stop.{Stop}
+use Rattle.proxy_run.specs.declared.stop.Stop.TheVariants as stop
+use Rattle.proxy_run.specs.Words.{Named, replay_words}
+
+-- names with their bytes, where they are told
+abbrev pub Held : Type 0
+Held = Option (List (List ℕ × List ℕ))
+
+-- the bytes under the name say this configuration
+pub record Configures (name : List ℕ) (held : Held) (config : Config) : Type 0 where
+  pub bytes : List ℕ
+  pub under : HasUnder name bytes held
+  pub said : reading_of bytes ≡ Ok config
+
+-- they say a configuration
+pub record IsConfigured (name : List ℕ) (held : Held) : Type 0 where
+  pub config : Config
+  pub said : Configures name held config
+
+-- they say none, and this is their first fault
+pub record IsMisconfigured (name : List ℕ) (held : Held) (fault : ConfigFault) : Type 0 where
+  pub bytes : List ℕ
+  pub under : HasUnder name bytes held
+  pub said : reading_of bytes ≡ Err fault
+
+-- the bytes under the name say these entries
+pub record IsUnder (name : List ℕ) (held : Held) (entries : List RecordEntry) : Type 0 where
+  pub bytes : List ℕ
+  pub under : HasUnder name bytes held
+  pub said : recording_of bytes ≡ Ok entries
+
+-- they are no recording, and this is their first fault
+pub record IsFaulty (name : List ℕ) (held : Held) (fault : RecordFault) : Type 0 where
+  pub bytes : List ℕ
+  pub under : HasUnder name bytes held
+  pub said : recording_of bytes ≡ Err fault
+
+-- At each moment of the log what was written to each client is a beginning of what it is due: the greeting, the answer to its login
+-- and the answers to its messages, or the error that there is no room for it. Each byte was written as it may be, and the links of
+-- clients closed as they may. Each wait came at rest, and so did the last, after which the wire has nothing more.
+pub record ServesToEnd (setup : Setup) (log : Log) : Type 0 where
+  pub served : AtEachMoment (IsServed setup) log
+  pub lawful : AllLawful (IsLawful setup) log
+  pub rests : AllLawful (RestsAt setup) log
+  pub before : Log
+  pub over : log ≡ before ++ Over ∷ []
+
+-- Each moment of the recording came, each of its clients was accepted, and of each link that is open all its bytes were read, or its
+-- last write found no room.
+pub record IsPlayedOut (entries : List RecordEntry) (log : Log) : Type 0 where
+  pub woke : wakes log ≡ length (moments entries)
+  pub accepted : (port : Port) → accepted_at port log ≡ length (clients_at port entries)
+  pub read : (link : LinkId) (k : Known) → with_link link (known entries log) ≡ Some k → IsOpen link log → (read_of link log ≡ bytes_for k.name entries) ⊎ (write_dry link log ≡ true)
+
+-- the wire answered as the recording says, until it was played out
+pub record ReplaysTo (setup : Setup) (entries : List RecordEntry) (log : Log) : Type 0 where
+  pub play : IsPlay entries log
+  pub serves : ServesToEnd setup log
+  pub ends : IsPlayedOut entries serves.before
+
+-- what a tape tells that has played these entries
+pub record HasPlayed (setup : Setup) (entries : List RecordEntry) (tape : Played) : Type 0 where
+  pub keeps : (log : Log) → IsPlay tape.recording log → IsPlay entries log
+  pub serves : (log : Log) → tape.told ≡ Some log → ServesToEnd setup log
+
+-- a play of which the same holds, in which one wake took as many calls as it may
+pub record IsSpent (setup : Setup) (entries : List RecordEntry) (log : Log) : Type 0 where
+  pub play : IsPlay entries log
+  pub served : AtEachMoment (IsServed setup) log
+  pub lawful : AllLawful (IsLawful setup) log
+  pub rests : AllLawful (RestsAt setup) log
+  pub spent : 4294967296 ≤ calls_since_wake log
+
+abbrev pub ConfigStops : Stop → List ℕ → Held → (before now : ℕ) → Type 0
+ConfigStops stop.ReadFault name held before now = before < now
+ConfigStops (stop.BadConfig fault) name held before now = IsMisconfigured name held fault
+ConfigStops stop.OutOfMemory name held before now = Unit {0}
+ConfigStops _ name held before now = ⊥
+
+abbrev pub ReadStops : Stop → List ℕ → Held → (before now : ℕ) → Type 0
+ReadStops stop.ReadFault name held before now = before < now
+ReadStops (stop.BadRecording fault) name held before now = IsFaulty name held fault
+ReadStops stop.OutOfMemory name held before now = Unit {0}
+ReadStops _ name held before now = ⊥
+
+abbrev pub PlayStops : Stop → Setup → List RecordEntry → Type 0
+PlayStops stop.OutOfMemory setup entries = Unit {0}
+PlayStops stop.TurnsSpent setup entries = (log : Log) × IsSpent setup entries log
+PlayStops _ setup entries = ⊥
+
+-- the transcript of the log is put
+pub record Puts (tape : Played) (old new : Option (List ℕ)) : Type 0 where
+  pub log : Log
+  pub is : tape.told ≡ Some log
+  pub play : IsPlay tape.recording log
+  pub put : Takes old (transcript_of log) new
+
+-- a front of it is, where the sink failed
+pub record PutsFront (tape : Played) (old : Option (List ℕ)) (before : ℕ) (new : Option (List ℕ)) (now : ℕ) : Type 0 where
+  pub log : Log
+  pub is : tape.told ≡ Some log
+  pub play : IsPlay tape.recording log
+  pub put : TakesFront old (transcript_of log) new
+  pub rose : before < now
+
+-- nothing was put
+pub record PutsNothing (old : Option (List ℕ)) (before : ℕ) (new : Option (List ℕ)) (now : ℕ) : Type 0 where
+  pub same : new ≡ old
+  pub calm : now ≡ before
+
+abbrev pub PutStops : Stop → Played → Option (List ℕ) → ℕ → Option (List ℕ) → ℕ → Type 0
+PutStops stop.OutOfMemory tape old before new now = PutsNothing old before new now
+PutStops stop.SinkFault tape old before new now = PutsFront tape old before new now
+PutStops _ tape old before new now = ⊥
+
+-- The words name a configuration and a recording, and the recording is replayed to this log.
+pub record IsReplay (words : List (List ℕ)) (held : Held) (log : Log) : Type 0 where
+  pub names : Named
+  pub named : replay_words words ≡ Some names
+  pub configured : IsConfigured names.config held
+  pub entries : List RecordEntry
+  pub under : IsUnder names.recording held entries
+  pub replays : ReplaysTo (setup_of configured.config) entries log
+
+-- and the transcript of that log is put
+pub record Replayed (words : List (List ℕ)) (held : Held) (old new : Option (List ℕ)) : Type 0 where
+  pub log : Log
+  pub replay : IsReplay words held log
+  pub put : Takes old (transcript_of log) new
+
+pub record ReplayedInPart (words : List (List ℕ)) (held : Held) (old : Option (List ℕ)) (before : ℕ) (new : Option (List ℕ)) (now : ℕ) : Type 0 where
+  pub log : Log
+  pub replay : IsReplay words held log
+  pub put : TakesFront old (transcript_of log) new
+  pub rose : before < now
+
+-- the configuration is refused, whatever the recording
+pub record IsUnconfigured (words : List (List ℕ)) (held : Held) (fault : ConfigFault) : Type 0 where
+  pub names : Named
+  pub named : replay_words words ≡ Some names
+  pub wrong : IsMisconfigured names.config held fault
+
+pub record IsRefused (words : List (List ℕ)) (held : Held) (fault : RecordFault) : Type 0 where
+  pub names : Named
+  pub named : replay_words words ≡ Some names
+  pub configured : IsConfigured names.config held
+  pub faulty : IsFaulty names.recording held fault
+
+pub record RanOut (words : List (List ℕ)) (held : Held) : Type 0 where
+  pub names : Named
+  pub named : replay_words words ≡ Some names
+  pub configured : IsConfigured names.config held
+  pub entries : List RecordEntry
+  pub under : IsUnder names.recording held entries
+  pub log : Log
+  pub spent : IsSpent (setup_of configured.config) entries log
+
+pub record IsUnread (words : List (List ℕ)) (before now : ℕ) : Type 0 where
+  pub names : Named
+  pub named : replay_words words ≡ Some names
+  pub rose : before < now
+
+-- Why a replay stops short: of a sink that failed a front of the transcript is put, and else nothing.
+abbrev pub Stops : Stop → List (List ℕ) → Held → (read_before read_now : ℕ) → Option (List ℕ) → ℕ → Option (List ℕ) → ℕ → Type 0
+Stops stop.Usage words held read_before read_now old before new now = (replay_words words ≡ None) × PutsNothing old before new now
+Stops stop.ReadFault words held read_before read_now old before new now = IsUnread words read_before read_now × PutsNothing old before new now
+Stops stop.SinkFault words held read_before read_now old before new now = ReplayedInPart words held old before new now
+Stops stop.OutOfMemory words held read_before read_now old before new now = ((names : Named) × (replay_words words ≡ Some names)) × PutsNothing old before new now
+Stops (stop.BadConfig fault) words held read_before read_now old before new now = IsUnconfigured words held fault × PutsNothing old before new now
+Stops (stop.BadRecording fault) words held read_before read_now old before new now = IsRefused words held fault × PutsNothing old before new now
+Stops stop.TurnsSpent words held read_before read_now old before new now = RanOut words held × PutsNothing old before new now

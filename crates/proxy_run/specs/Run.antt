@@ -1,0 +1,66 @@
+-- How a run ends, with its statuses and their causes.
+use Rattle.std.specs.Prelude.{◌≡◌, ◌⊎◌, ℕ, ◌<◌, ◌==◌, if◌then◌else◌, List, ◌++◌, codes, Option, Some, None}
+use Rattle.std.specs.Fmt.{decimal}
+use Rattle.mx_wire.specs.Outside.{Takes, TakesFront}
+use Rattle.recording.specs.declared.fault.RecordFault.{RecordFault}
+use Rattle.mx_config.specs.declared.fault.ConfigFault.{ConfigFault}
+use Rattle.proxy_run.specs.declared.stop.Stop.{Stop}
+use Rattle.proxy_run.specs.declared.stop.Stop.TheVariants as stop
+use Rattle.proxy_run.specs.Words.{Named, replay_words}
+use Rattle.proxy_run.specs.Replay.{Held, Replayed, ReplayedInPart, IsUnconfigured, IsRefused, RanOut, IsUnread}
+
+-- a front of the line was put, and the sink failed
+pub record FailsAt (line : List ℕ) (old : Option (List ℕ)) (before : ℕ) (new : Option (List ℕ)) (now : ℕ) : Type 0 where
+  pub front : TakesFront old line new
+  pub rose : before < now
+
+-- the line is put, or a front of it where the sink failed
+pub record Says (line : List ℕ) (old : Option (List ℕ)) (before : ℕ) (new : Option (List ℕ)) (now : ℕ) : Type 0 where
+  pub either : (Takes old line new) ⊎ (FailsAt line old before new now)
+
+abbrev pub usage_line : List ℕ
+usage_line = codes "usage: mx_proxy serve <config> or replay <config> <recording> or load <start> <clients> <statements> or audit <config> <lines> <workers>\n"
+
+abbrev pub fault_line : RecordFault → List ℕ
+fault_line fault = codes "recording: line " ++ (decimal fault.line ++ (codes " kind " ++ (decimal fault.kind ++ codes "\n")))
+
+-- the name of a table of the configuration
+abbrev pub table_name : ℕ → List ℕ
+table_name table =
+    if table == 1 then codes "proxy"
+    else if table == 2 then codes "users"
+    else if table == 3 then codes "servers"
+    else codes "file"
+
+unfoldable pub config_line : ConfigFault → List ℕ
+config_line fault = codes "config: " ++ (decimal fault.kind ++ (codes " " ++ (table_name fault.table ++ (codes " " ++ (decimal fault.row ++ (codes " " ++ (fault.key ++ codes "\n")))))))
+
+-- nothing is said
+pub record Silent (old : Option (List ℕ)) (before : ℕ) (new : Option (List ℕ)) (now : ℕ) : Type 0 where
+  pub same : new ≡ old
+  pub calm : now ≡ before
+
+pub record SaysWith (status : ℕ) (line : List ℕ) (old : Option (List ℕ)) (before : ℕ) (new : Option (List ℕ)) (now : ℕ) (given : ℕ) : Type 0 where
+  pub is : given ≡ status
+  pub says : Says line old before new now
+
+-- what is said of a stop, and its status
+abbrev pub Told : Stop → Option (List ℕ) → ℕ → Option (List ℕ) → ℕ → ℕ → Type 0
+Told stop.Usage old before new now status = SaysWith 2 usage_line old before new now status
+Told stop.ReadFault old before new now status = SaysWith 3 (codes "read fault\n") old before new now status
+Told stop.SinkFault old before new now status = (status ≡ 4) × Silent old before new now
+Told stop.OutOfMemory old before new now status = SaysWith 5 (codes "out of memory\n") old before new now status
+Told (stop.BadConfig fault) old before new now status = (SaysWith 1 (config_line fault) old before new now status) ⊎ (SaysWith 5 (codes "out of memory\n") old before new now status)
+Told (stop.BadRecording fault) old before new now status = (SaysWith 7 (fault_line fault) old before new now status) ⊎ (SaysWith 5 (codes "out of memory\n") old before new now status)
+Told stop.TurnsSpent old before new now status = SaysWith 8 (codes "turns spent\n") old before new now status
+
+-- The status, its cause and what is printed.
+pub data Outcome (words : List (List ℕ)) (held : Held) (read_before read_now : ℕ) (old : Option (List ℕ)) (before : ℕ) (new : Option (List ℕ)) (now : ℕ) : ℕ → Type 0 where
+  Done : Replayed words held old new → Outcome words held read_before read_now old before new now 0
+  Unconfigured : (fault : ConfigFault) → IsUnconfigured words held fault → Says (config_line fault) old before new now → Outcome words held read_before read_now old before new now 1
+  NoCommand : replay_words words ≡ None → Says usage_line old before new now → Outcome words held read_before read_now old before new now 2
+  Unread : IsUnread words read_before read_now → Says (codes "read fault\n") old before new now → Outcome words held read_before read_now old before new now 3
+  Unput : ReplayedInPart words held old before new now → Outcome words held read_before read_now old before new now 4
+  NoMemory : (names : Named) → replay_words words ≡ Some names → Says (codes "out of memory\n") old before new now → Outcome words held read_before read_now old before new now 5
+  Refused : (fault : RecordFault) → IsRefused words held fault → Says (fault_line fault) old before new now → Outcome words held read_before read_now old before new now 7
+  Spent : RanOut words held → Says (codes "turns spent\n") old before new now → Outcome words held read_before read_now old before new now 8

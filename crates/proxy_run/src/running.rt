@@ -1,0 +1,124 @@
+// The call that `main` makes.
+ghost use Rattle.std.specs.Prelude.{◌≡◌, ◌↔◌, None, IfOk};
+ghost use Rattle.proxy_run.specs.Words.{texts, replay_words};
+ghost use Rattle.proxy_run.specs.Run.{Says, Told, Outcome, table_name, config_line};
+
+use crate::replay::replay;
+use crate::stop::Stop;
+use mx_base::OutOfMemory;
+use mx_config::ConfigFault;
+use mx_wire::{Files, Sink, Wire};
+use recording::RecordFault;
+use std::alloc::Global;
+use std::thread::Threads;
+
+/// The status with which the program ends.
+#[derive(Clone, Copy)]
+pub struct Status(pub u8);
+
+const USAGE: &[u8] =
+    b"usage: mx_proxy serve <config> or replay <config> <recording> or load <start> <clients> <statements> or audit <config> <lines> <workers>\n";
+
+// Puts a line. A sink that fails leaves the status.
+fn say<O: Sink>(out: &mut O, line: &[u8], status: u8) -> Status
+    ensures status { result.0 ≡ status }
+    ensures says { Says line.now (O.taken out.old) (O.faults out.old) (O.taken out.new) (O.faults out.new) }
+{
+    let _ = out.put(line);
+    Status(status)
+}
+
+// The name of a table of the configuration.
+fn table_name(table: u8) -> &'static str
+    ensures { result.now ≡ table_name table }
+{
+    match table {
+        1 => "proxy",
+        2 => "users",
+        3 => "servers",
+        _ => "file",
+    }
+}
+
+// The line of a configuration's fault.
+#[tactic(auto, unfolding(crate::specs::Run::config_line))]
+fn config_line(alloc: Global, fault: &ConfigFault) -> Result<Vec<u8>, OutOfMemory>
+    ensures { IfOk result (λ line. line.items ≡ config_line fault.now) }
+{
+    let kind = fault.kind;
+    let table = table_name(fault.table);
+    let row = fault.row;
+    let front = format!(in alloc; "config: {kind} {table} {row} ")?;
+    let mut line = Vec::new(alloc);
+    line.extend_from_slice(front.as_bytes())?;
+    line.extend_from_slice(fault.key.as_slice())?;
+    line.push(b'\n')?;
+    Ok(line)
+}
+
+// Puts the line of a configuration's fault.
+fn say_config<O: Sink>(alloc: Global, out: &mut O, fault: ConfigFault) -> Status
+    ensures { Told (Stop.BadConfig fault) (O.taken out.old) (O.faults out.old) (O.taken out.new) (O.faults out.new) result.0 }
+{
+    match config_line(alloc, &fault) {
+        Ok(line) => say(out, &line, 1),
+        Err(_) => say(out, b"out of memory\n", 5),
+    }
+}
+
+// Puts the line of a recording's fault.
+fn say_fault<O: Sink>(alloc: Global, out: &mut O, fault: RecordFault) -> Status
+    ensures { Told (Stop.BadRecording fault) (O.taken out.old) (O.faults out.old) (O.taken out.new) (O.faults out.new) result.0 }
+{
+    let line = fault.line;
+    let kind = fault.kind;
+    match format!(in alloc; "recording: line {line} kind {kind}\n") {
+        Ok(text) => say(out, text.as_bytes(), 7),
+        Err(_) => say(out, b"out of memory\n", 5),
+    }
+}
+
+// Puts the line of a stop, and gives its status.
+fn tell<O: Sink>(alloc: Global, out: &mut O, stop: Stop) -> Status
+    ensures { Told stop (O.taken out.old) (O.faults out.old) (O.taken out.new) (O.faults out.new) result.0 }
+{
+    match stop {
+        Stop::Usage => say(out, USAGE, 2),
+        Stop::ReadFault => say(out, b"read fault\n", 3),
+        Stop::SinkFault => Status(4),
+        Stop::OutOfMemory => say(out, b"out of memory\n", 5),
+        Stop::BadConfig(fault) => say_config(alloc, out, fault),
+        Stop::BadRecording(fault) => say_fault(alloc, out, fault),
+        Stop::TurnsSpent => say(out, b"turns spent\n", 8),
+    }
+}
+
+/// Does what the words after the program's name ask for, and puts what that prints. `replay <config> <recording>` judges
+/// a configuration, then replays a recording, and puts the transcript of its log.
+///
+/// | Status | Comes | Line |
+/// |---|---|---|
+/// | 0 | the recording was played to its end and its transcript put | none |
+/// | 1 | only where the configuration is refused | `config: <kind> <table name> <row> <key>` |
+/// | 2 | exactly where the words are no command | the usage |
+/// | 3 | only where a read failed | `read fault` |
+/// | 4 | only where the sink failed | none |
+/// | 5 | memory was refused | `out of memory` |
+/// | 7 | only where the recording is refused | `recording: line <line> kind <kind>` |
+/// | 8 | only where one wake made 4,294,967,296 calls of the wire | `turns spent` |
+pub fn run<R: Threads + Sync, W: Wire, F: Files, O: Sink>(
+    _rt: &R,
+    alloc: Global,
+    words: &[String],
+    files: &mut F,
+    _wire: &mut W,
+    out: &mut O,
+) -> Status
+    ensures outcome { Outcome (texts words.now) (F.held files.old) (F.faults files.old) (F.faults files.new) (O.taken out.old) (O.faults out.old) (O.taken out.new) (O.faults out.new) result.0 }
+    ensures usage { (result.0 ≡ 2) ↔ (replay_words (texts words.now) ≡ None) }
+{
+    match replay(alloc, words, files, out) {
+        Ok(()) => Status(0),
+        Err(stop) => tell(alloc, out, stop),
+    }
+}
