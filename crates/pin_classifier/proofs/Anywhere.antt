@@ -3,9 +3,8 @@ use Rattle.std.proofs.Common.{◌≡◌, ℕ, Bool, true, false, cond, ◌||◌,
 use Rattle.std.specs.List.{list_any}
 use Rattle.std.proofs.Math.Bool.{or_assoc, or-false, and-true}
 use Rattle.std.proofs.lemmas.Bool.{and_right}
-use Rattle.sql_tokens.specs.Words.{word_of}
+use Rattle.sql_tokens.specs.Words.{word_of, is_word, is_symbol}
 use Rattle.sql_tokens.specs.declared.token.Token.{Token}
-use Rattle.session_vars.specs.Statement.{is_word, is_symbol}
 use Rattle.pin_classifier.specs.Passing.{callee, with_next, seen_behind}
 use Rattle.pin_classifier.specs.Statement.{calls, neighbours}
 use Rattle.pin_classifier.specs.declared.seen.Seen.{Seen}

@@ -1,7 +1,7 @@
 -- What a pass over a statement has seen at its end.
 use Rattle.std.proofs.Common.{◌≡◌, ℕ, Bool, false, ◌||◌, List, [], Option, None, codes, refl}
 use Rattle.sql_tokens.specs.declared.token.Token.{Token}
-use Rattle.session_vars.specs.Statement.{is_word, says}
+use Rattle.sql_tokens.specs.Words.{is_word, says}
 use Rattle.pin_classifier.specs.Passing.{callee, is_release, seen_of, seen_behind, with_next}
 use Rattle.pin_classifier.specs.Statement.{calls, has_call, has_variable, has_word, is_hidden, is_part, releases, variable_of}
 use Rattle.pin_classifier.specs.declared.seen.Seen.{Seen}

@@ -1,7 +1,7 @@
 -- The class of a statement: what it does to the session in which it runs, and what it reads there.
 use Rattle.std.specs.Prelude.{ℕ, Bool, true, false, not, ◌||◌, ◌&&◌, List, slice_get, codes, Option, Some, None, if◌then◌else◌}
 use Rattle.session_vars.specs.Shapes.{set_shape}
-use Rattle.session_vars.specs.Statement.{is_word}
+use Rattle.sql_tokens.specs.Words.{is_word}
 use Rattle.session_vars.specs.declared.shape.SetShape.{SetShape}
 use Rattle.session_vars.specs.declared.shape.SetShape.TheVariants.{Global, NextTransaction, Other}
 use Rattle.pin_classifier.specs.Shapes.{shape_of}

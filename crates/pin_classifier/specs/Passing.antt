@@ -1,8 +1,7 @@
 -- What one pass over a statement sees: its first tokens, and what stands anywhere in it.
 use Rattle.std.specs.Prelude.{ℕ, Bool, false, ◌||◌, is_none, List, [], ◌∷◌, slice_get, codes, Option, Some, None, if◌then◌else◌}
-use Rattle.sql_tokens.specs.Words.{word_of}
+use Rattle.sql_tokens.specs.Words.{word_of, is_word, says, is_symbol}
 use Rattle.sql_tokens.specs.declared.token.Token.{Token}
-use Rattle.session_vars.specs.Statement.{is_word, says, is_symbol}
 use Rattle.pin_classifier.specs.Statement.{has_word, has_call, has_release, has_variable, has_hidden, is_hidden, is_part, releases, variable_of}
 use Rattle.pin_classifier.specs.declared.calls.Calls.{Calls}
 use Rattle.pin_classifier.specs.declared.opening.Opening.{Opening}

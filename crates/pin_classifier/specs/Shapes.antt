@@ -1,11 +1,10 @@
 -- The statements whose whole shape matters: SELECT CONNECTION_ID(), USE, and SET.
 use Rattle.std.specs.Prelude.{ℕ, Bool, true, false, ◌&&◌, nat_eq, is_none, List, [], ◌∷◌, slice_get, codes, Option, Some, None, option_and_then, if◌then◌else◌}
-use Rattle.sql_tokens.specs.Words.{bytes_of, inside}
+use Rattle.sql_tokens.specs.Words.{bytes_of, inside, says, is_symbol}
 use Rattle.sql_tokens.specs.declared.token.Token.{Token}
 use Rattle.sql_tokens.specs.declared.token.TokenKind.{TokenKind}
 use Rattle.sql_tokens.specs.declared.token.TokenKind.TheVariants.{Word, Name}
 use Rattle.session_vars.specs.Shapes.{set_shape}
-use Rattle.session_vars.specs.Statement.{says, is_symbol}
 use Rattle.session_vars.specs.declared.shape.SetShape.{SetShape}
 use Rattle.session_vars.specs.declared.shape.SetShape.TheVariants.{NotSet}
 use Rattle.pin_classifier.specs.Statement.{statement}

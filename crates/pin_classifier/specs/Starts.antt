@@ -1,36 +1,37 @@
 -- How statements begin: by their first word, and the word behind it.
-use Rattle.std.specs.Prelude.{ℕ, Bool, false, not, ◌||◌, ◌&&◌, List, codes, Option, Some, None}
+use Rattle.std.specs.Prelude.{ℕ, Bool, false, not, ◌||◌, ◌&&◌, List, [], ◌∷◌, ◌++◌, codes, Option, Some, None}
+use Rattle.std.specs.List.{list_any}
 use Rattle.sql_tokens.specs.declared.token.Token.{Token}
-use Rattle.session_vars.specs.Statement.{same_text, is_word}
+use Rattle.sql_tokens.specs.Words.{same_text, is_word}
 use Rattle.pin_classifier.specs.Statement.{opening_word}
 
 -- statements on rows
-unfoldable pub is_data_word : List ℕ → Bool
-is_data_word word = same_text word (codes "SELECT") || same_text word (codes "INSERT") || same_text word (codes "REPLACE") || same_text word (codes "UPDATE") || same_text word (codes "DELETE") || same_text word (codes "WITH") || same_text word (codes "VALUES") || same_text word (codes "TABLE") || same_text word (codes "DO")
+abbrev pub data_words : List (List ℕ)
+data_words = codes "SELECT" ∷ codes "INSERT" ∷ codes "REPLACE" ∷ codes "UPDATE" ∷ codes "DELETE" ∷ codes "WITH" ∷ codes "VALUES" ∷ codes "TABLE" ∷ codes "DO" ∷ []
 
 -- statements on tables and other objects
-unfoldable pub is_definition_word : List ℕ → Bool
-is_definition_word word = same_text word (codes "CREATE") || same_text word (codes "ALTER") || same_text word (codes "DROP") || same_text word (codes "TRUNCATE") || same_text word (codes "RENAME")
+abbrev pub definition_words : List (List ℕ)
+definition_words = codes "CREATE" ∷ codes "ALTER" ∷ codes "DROP" ∷ codes "TRUNCATE" ∷ codes "RENAME" ∷ []
 
 -- transactions and locks
-unfoldable pub is_transaction_word : List ℕ → Bool
-is_transaction_word word = same_text word (codes "BEGIN") || same_text word (codes "START") || same_text word (codes "COMMIT") || same_text word (codes "ROLLBACK") || same_text word (codes "SAVEPOINT") || same_text word (codes "RELEASE") || same_text word (codes "LOCK") || same_text word (codes "UNLOCK")
+abbrev pub transaction_words : List (List ℕ)
+transaction_words = codes "BEGIN" ∷ codes "START" ∷ codes "COMMIT" ∷ codes "ROLLBACK" ∷ codes "SAVEPOINT" ∷ codes "RELEASE" ∷ codes "LOCK" ∷ codes "UNLOCK" ∷ []
 
 -- upkeep of tables, and accounts
-unfoldable pub is_upkeep_word : List ℕ → Bool
-is_upkeep_word word = same_text word (codes "ANALYZE") || same_text word (codes "OPTIMIZE") || same_text word (codes "CHECK") || same_text word (codes "REPAIR") || same_text word (codes "GRANT") || same_text word (codes "REVOKE")
+abbrev pub upkeep_words : List (List ℕ)
+upkeep_words = codes "ANALYZE" ∷ codes "OPTIMIZE" ∷ codes "CHECK" ∷ codes "REPAIR" ∷ codes "GRANT" ∷ codes "REVOKE" ∷ []
 
 -- what is shown, and the session itself
-unfoldable pub is_session_word : List ℕ → Bool
-is_session_word word = same_text word (codes "SHOW") || same_text word (codes "DESCRIBE") || same_text word (codes "DESC") || same_text word (codes "EXPLAIN") || same_text word (codes "SET") || same_text word (codes "USE") || same_text word (codes "GET") || same_text word (codes "KILL")
+abbrev pub session_words : List (List ℕ)
+session_words = codes "SHOW" ∷ codes "DESCRIBE" ∷ codes "DESC" ∷ codes "EXPLAIN" ∷ codes "SET" ∷ codes "USE" ∷ codes "GET" ∷ codes "KILL" ∷ []
 
 -- the words that begin the statements whose effect on a session is known
-unfoldable pub is_known_word : List ℕ → Bool
-is_known_word word = is_data_word word || is_definition_word word || is_transaction_word word || is_upkeep_word word || is_session_word word
+abbrev pub known_words : List (List ℕ)
+known_words = data_words ++ definition_words ++ transaction_words ++ upkeep_words ++ session_words
 
 abbrev pub is_known : Option (List ℕ) → Bool
 is_known None = false
-is_known (Some word) = is_known_word word
+is_known (Some word) = list_any (same_text word) known_words
 
 -- the first token is no word and no `(`, or its word is none of these; a text without tokens doesn't begin so
 abbrev pub begins_unknown : (text : List ℕ) → (first : Option Token) → Bool

@@ -2,11 +2,11 @@
 use Rattle.std.specs.Prelude.{ℕ, Bool, true, false, not, ◌||◌, ◌&&◌, nat_eq, List, [], ◌∷◌, drop, codes, Option, Some, None, option_and_then, if◌then◌else◌}
 use Rattle.std.specs.List.{list_any, slice_split}
 use Rattle.sql_tokens.specs.Tokens.{tokens_of}
-use Rattle.sql_tokens.specs.Words.{bytes_of, word_of}
+use Rattle.sql_tokens.specs.Words.{bytes_of, word_of, same_text, says, is_symbol}
 use Rattle.sql_tokens.specs.declared.token.Token.{Token}
 use Rattle.sql_tokens.specs.declared.token.TokenKind.{TokenKind}
 use Rattle.sql_tokens.specs.declared.token.TokenKind.TheVariants.{UserVar, SysVar, Executed, Unclosed}
-use Rattle.session_vars.specs.Statement.{without_comments, same_text, says, is_symbol}
+use Rattle.session_vars.specs.Statement.{without_comments}
 
 -- the tokens of a text that count: all but its comments
 abbrev pub statement : (text : List ℕ) → List Token

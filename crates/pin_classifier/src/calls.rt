@@ -2,7 +2,7 @@
 ghost use Rattle.std.specs.Prelude.{◌≡◌, [], option_copied};
 ghost use Rattle.pin_classifier.specs.Passing.{with_call, calls_of};
 
-use crate::words::is_word;
+use sql_tokens::is_word;
 
 // Which of these functions are called.
 #[derive(Clone, Copy)]

@@ -11,10 +11,11 @@ use crate::starts::{
     begins_unknown, drops_schema, ends_transaction, is_savepoint, locks_other, locks_tables,
     makes_id, shows_diagnostics, starts_other, unlocks_tables,
 };
-use crate::words::{first_word, is_word, next_word};
+use crate::words::{first_word, next_word};
 use crate::{Class, Locking, Shape};
 use mx_base::OutOfMemory;
 use session_vars::SetShape;
+use sql_tokens::is_word;
 use std::alloc::Global;
 
 // The error of a statement that sets something of the whole server.

@@ -15,6 +15,3 @@ mod words;
 pub use class::{Class, ClassName, Locking, Shape};
 pub use judge::classify;
 pub use laws::{call_stands, release_stands, shape_of_set};
-
-#[cfg(test)]
-mod tests;

@@ -7,8 +7,7 @@ use crate::calls::Calls;
 use crate::opening::Opening;
 use crate::variables::Variables;
 use crate::words::{callee, is_hidden, is_release, variable_of};
-use session_vars::says;
-use sql_tokens::{Token, TokenKind, Tokens};
+use sql_tokens::{Token, TokenKind, Tokens, says};
 
 // The first tokens of a statement, and what stands anywhere in it.
 #[derive(Clone, Copy)]

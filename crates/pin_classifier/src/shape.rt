@@ -9,8 +9,8 @@ use crate::Shape;
 use crate::opening::Opening;
 use crate::words::{is_byte, is_there};
 use mx_base::{Bytes, OutOfMemory};
-use session_vars::{is_symbol, read_set};
-use sql_tokens::{Token, TokenKind, bytes_of, word_of};
+use session_vars::read_set;
+use sql_tokens::{Token, TokenKind, bytes_of, is_symbol, word_of};
 use std::alloc::Global;
 
 // Whether nothing is left, or one `;` and nothing.

@@ -1,99 +1,60 @@
 // How statements begin.
 ghost use Rattle.std.specs.Prelude.{◌≡◌, option_copied};
-ghost use Rattle.pin_classifier.specs.Starts.{is_data_word, is_definition_word, is_transaction_word, is_upkeep_word, is_session_word, is_known_word, is_known, begins_unknown, drops_schema, starts_other, names_tables, locks_tables, unlocks_tables, locks_other, ends_transaction, is_savepoint, makes_id, shows_diagnostics};
+ghost use Rattle.pin_classifier.specs.Starts.{is_known, begins_unknown, drops_schema, starts_other, names_tables, locks_tables, unlocks_tables, locks_other, ends_transaction, is_savepoint, makes_id, shows_diagnostics};
 
-use crate::words::{is_word, opening_word};
-use session_vars::same_text;
-use sql_tokens::Token;
+use crate::words::opening_word;
+use sql_tokens::{Token, is_one_of, is_word};
 
-// MySQL Reference Manual, "Data Manipulation Statements".
-#[tactic(auto, unfolding(crate::specs::Starts::is_data_word))]
-fn is_data_word(word: &[u8]) -> bool
-    ensures { result ≡ is_data_word word.now }
-{
-    same_text(word, b"SELECT")
-        || same_text(word, b"INSERT")
-        || same_text(word, b"REPLACE")
-        || same_text(word, b"UPDATE")
-        || same_text(word, b"DELETE")
-        || same_text(word, b"WITH")
-        || same_text(word, b"VALUES")
-        || same_text(word, b"TABLE")
-        || same_text(word, b"DO")
-}
-
-// MySQL Reference Manual, "Data Definition Statements".
-#[tactic(auto, unfolding(crate::specs::Starts::is_definition_word))]
-fn is_definition_word(word: &[u8]) -> bool
-    ensures { result ≡ is_definition_word word.now }
-{
-    same_text(word, b"CREATE")
-        || same_text(word, b"ALTER")
-        || same_text(word, b"DROP")
-        || same_text(word, b"TRUNCATE")
-        || same_text(word, b"RENAME")
-}
-
-// MySQL Reference Manual, "Transactional and Locking Statements".
-#[tactic(auto, unfolding(crate::specs::Starts::is_transaction_word))]
-fn is_transaction_word(word: &[u8]) -> bool
-    ensures { result ≡ is_transaction_word word.now }
-{
-    same_text(word, b"BEGIN")
-        || same_text(word, b"START")
-        || same_text(word, b"COMMIT")
-        || same_text(word, b"ROLLBACK")
-        || same_text(word, b"SAVEPOINT")
-        || same_text(word, b"RELEASE")
-        || same_text(word, b"LOCK")
-        || same_text(word, b"UNLOCK")
-}
-
-// MySQL Reference Manual, "Table Maintenance Statements" and "Account Management Statements".
-#[tactic(auto, unfolding(crate::specs::Starts::is_upkeep_word))]
-fn is_upkeep_word(word: &[u8]) -> bool
-    ensures { result ≡ is_upkeep_word word.now }
-{
-    same_text(word, b"ANALYZE")
-        || same_text(word, b"OPTIMIZE")
-        || same_text(word, b"CHECK")
-        || same_text(word, b"REPAIR")
-        || same_text(word, b"GRANT")
-        || same_text(word, b"REVOKE")
-}
-
-// MySQL Reference Manual, "SHOW Statements", "Utility Statements", "SET Statements", "GET DIAGNOSTICS Statement" and
-// "KILL Statement".
-#[tactic(auto, unfolding(crate::specs::Starts::is_session_word))]
-fn is_session_word(word: &[u8]) -> bool
-    ensures { result ≡ is_session_word word.now }
-{
-    same_text(word, b"SHOW")
-        || same_text(word, b"DESCRIBE")
-        || same_text(word, b"DESC")
-        || same_text(word, b"EXPLAIN")
-        || same_text(word, b"SET")
-        || same_text(word, b"USE")
-        || same_text(word, b"GET")
-        || same_text(word, b"KILL")
-}
-
-#[tactic(auto, unfolding(crate::specs::Starts::is_known_word))]
-fn is_known_word(word: &[u8]) -> bool
-    ensures { result ≡ is_known_word word.now }
-{
-    is_data_word(word)
-        || is_definition_word(word)
-        || is_transaction_word(word)
-        || is_upkeep_word(word)
-        || is_session_word(word)
-}
+// The words that begin the statements whose effect on a session is known.
+static KNOWN_WORDS: [&[u8]; 36] = [
+    // MySQL Reference Manual, "Data Manipulation Statements".
+    b"SELECT",
+    b"INSERT",
+    b"REPLACE",
+    b"UPDATE",
+    b"DELETE",
+    b"WITH",
+    b"VALUES",
+    b"TABLE",
+    b"DO",
+    // "Data Definition Statements".
+    b"CREATE",
+    b"ALTER",
+    b"DROP",
+    b"TRUNCATE",
+    b"RENAME",
+    // "Transactional and Locking Statements".
+    b"BEGIN",
+    b"START",
+    b"COMMIT",
+    b"ROLLBACK",
+    b"SAVEPOINT",
+    b"RELEASE",
+    b"LOCK",
+    b"UNLOCK",
+    // "Table Maintenance Statements" and "Account Management Statements".
+    b"ANALYZE",
+    b"OPTIMIZE",
+    b"CHECK",
+    b"REPAIR",
+    b"GRANT",
+    b"REVOKE",
+    // "SHOW Statements", "Utility Statements", "SET Statements", "GET DIAGNOSTICS Statement" and "KILL Statement".
+    b"SHOW",
+    b"DESCRIBE",
+    b"DESC",
+    b"EXPLAIN",
+    b"SET",
+    b"USE",
+    b"GET",
+    b"KILL",
+];
 
 fn is_known(word: Option<&[u8]>) -> bool
     ensures { result ≡ is_known (option_copied word.entry) }
 {
     match word {
-        Some(word) => is_known_word(word),
+        Some(word) => is_one_of(word, &KNOWN_WORDS),
         None => false,
     }
 }

@@ -1,23 +1,12 @@
 // What the tokens of a statement say.
 ghost use Rattle.std.specs.Prelude.{◌≡◌, drop, nat_eq, slice_range, option_copied};
 ghost use Rattle.std.specs.List.{list_any, slice_split};
-ghost use Rattle.session_vars.specs.Statement.{is_word, same_text};
+ghost use Rattle.sql_tokens.specs.Words.{is_word, same_text};
 ghost use Rattle.pin_classifier.specs.Passing.{callee, is_release};
 ghost use Rattle.pin_classifier.specs.Shapes.{is_there, is_byte};
 ghost use Rattle.pin_classifier.specs.Statement.{first_word, next_word, opening_word, has_part, is_part, is_hidden, is_hidden_kind, releases, variable_of};
 
-use session_vars::{is_symbol, same_text, says};
-use sql_tokens::{Token, TokenKind, bytes_of, word_of};
-
-// Whether a word that is there is this one.
-pub(crate) fn is_word(named: Option<&[u8]>, word: &[u8]) -> bool
-    ensures { result ≡ is_word (option_copied named.entry) word.now }
-{
-    match named {
-        Some(named) => same_text(named, word),
-        None => false,
-    }
-}
+use sql_tokens::{Token, TokenKind, behind, bytes_of, is_symbol, same_text, says, word_of};
 
 // Whether a token that is there says this word.
 pub(crate) fn is_there(text: &[u8], token: Option<Token>, word: &[u8]) -> bool
@@ -101,13 +90,6 @@ pub(crate) fn is_hidden(text: &[u8], token: &Token) -> bool
     ensures { result ≡ is_hidden text.now token.now }
 {
     is_hidden_kind(token.kind) || is_symbol(text, token, b'\0')
-}
-
-// What follows so many bytes.
-fn behind(bytes: &[u8], count: usize) -> &[u8]
-    ensures { result.now ≡ drop count bytes.now }
-{
-    &bytes[count.min(bytes.len())..]
 }
 
 // The name of a system variable, behind its `@@`.

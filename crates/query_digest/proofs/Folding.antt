@@ -1,5 +1,5 @@
 -- Lists of values, folded while they come.
-use Rattle.std.proofs.Common.{◌≡◌, Bool, true, false, cond, List, [], ◌∷◌, ◌++◌, Option, Some, None, Result, Ok, Err, OnOk, refl, sym, ◌∙◌, ap}
+use Rattle.std.proofs.Common.{◌≡◌, Bool, true, false, cond, List, [], ◌∷◌, ◌++◌, Option, Some, None, refl, sym, ◌∙◌, ap}
 use Rattle.query_digest.specs.declared.writer.Held.{Held}
 use Rattle.query_digest.specs.Parts.{Part, Spaced, is_values, joined, folded}
 use Rattle.query_digest.specs.Parts.Part.{Value, Values, Comma, Bytes}
@@ -51,11 +51,6 @@ apart_folds (Some held) apart part rest h = apart_by_folds held held.comma apart
 pub last_folds : (held : Option Held) → folded (held_parts held ++ []) ≡ held_parts held
 last_folds None = refl
 last_folds (Some held) = elim held.comma as (λ comma. folded (held_values held ∷ held_comma comma ++ []) ≡ held_values held ∷ held_comma comma) [ None ↦ refl | Some apart ↦ refl ]
-
--- what holds of an Ok, from what held of it before
-pub ok_map : {A E P Q : Type 0} (r : Result A E) → (P → Q) → OnOk r P → OnOk r Q
-ok_map (Ok x) f h = f h
-ok_map (Err e) f h = h
 
 pub nothing : {A : Type 0} (o : Option A) → ((x : A) → o ≡ Some x → ⊥) → o ≡ None
 nothing None none = refl

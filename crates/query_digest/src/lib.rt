@@ -11,6 +11,3 @@ pub use hash::digest_hash;
 pub use laws::one_folding;
 pub use statement::digest;
 pub use table::{Counted, DigestKey, DigestTable};
-
-#[cfg(test)]
-mod tests;

@@ -12,7 +12,7 @@ const MOST_KEYS: usize = 10_000;
 
 /// What statements are counted by (ProxySQL documentation, "stats_mysql_query_digest"). Keys are equal where all parts
 /// are, byte for byte.
-#[derive(Debug, PartialEq, Eq, Hash, Drop)]
+#[derive(PartialEq, Eq, Hash, Drop)]
 pub struct DigestKey {
     /// Where the statement was sent.
     pub hostgroup: Hostgroup,
@@ -25,7 +25,7 @@ pub struct DigestKey {
 }
 
 /// What counting a statement did.
-#[derive(Clone, Copy, Debug, PartialEq, Eq)]
+#[derive(Clone, Copy, Debug)]
 pub enum Counted {
     /// The key had an entry, which counts one more now.
     Added,

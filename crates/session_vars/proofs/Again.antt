@@ -4,7 +4,7 @@ use Rattle.std.specs.List.{list_all, flat_map}
 use Rattle.std.specs.Option.{option_or}
 use Rattle.std.proofs.lemmas.Bool.{cond-true, cond-false, and_parts, not-true}
 use Rattle.sql_tokens.specs.Tokens.{tokens_of}
-use Rattle.sql_tokens.specs.Words.{bytes_of}
+use Rattle.sql_tokens.specs.Words.{bytes_of, is_symbol, same_text, says}
 use Rattle.sql_tokens.specs.declared.token.Token.{Token}
 use Rattle.sql_tokens.specs.declared.token.TokenKind.TheVariants.{Word}
 use Rattle.session_vars.specs.Assignments.{assignments}
@@ -12,7 +12,7 @@ use Rattle.session_vars.specs.Names.{names_changes}
 use Rattle.session_vars.specs.Scopes.{sets_server}
 use Rattle.session_vars.specs.Shapes.{tracked_or_other, shape_behind, shape_by, set_shape}
 use Rattle.session_vars.specs.Slots.{name_of}
-use Rattle.session_vars.specs.Statement.{is_comment, is_symbol, same_text, says, without_comments, without_end, statement_of}
+use Rattle.session_vars.specs.Statement.{is_comment, without_comments, without_end, statement_of}
 use Rattle.session_vars.specs.Transactions.{transaction_mode, mode_changes}
 use Rattle.session_vars.specs.declared.change.Change.{Change}
 use Rattle.session_vars.specs.declared.shape.SetShape.TheVariants.{Tracked}

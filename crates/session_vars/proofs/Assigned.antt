@@ -5,14 +5,14 @@ use Rattle.std.proofs.lemmas.Bool.{cond-true, cond-false, and_parts, and_from, a
 use Rattle.std.proofs.lemmas.List.{append-nil}
 use Rattle.std.proofs.lemmas.List.Folds.{list_all-append}
 use Rattle.sql_tokens.specs.Tokens.{tokens_behind}
-use Rattle.sql_tokens.specs.Words.{bytes_of}
+use Rattle.sql_tokens.specs.Words.{bytes_of, is_symbol_kind, is_symbol, same_text}
 use Rattle.sql_tokens.specs.declared.token.Token.{Token}
 use Rattle.sql_tokens.specs.declared.token.TokenKind.{TokenKind}
 use Rattle.sql_tokens.specs.declared.token.TokenKind.TheVariants.{Word, Quoted, Number, Symbol}
 use Rattle.session_vars.specs.Assignments.{change_to, written, assigned, assignment, assignments, with_change}
 use Rattle.session_vars.specs.Scopes.{is_server_scope, names_server, deeper, sets_server}
 use Rattle.session_vars.specs.Slots.{name_of, slot_named}
-use Rattle.session_vars.specs.Statement.{is_comment, is_symbol_kind, is_symbol, is_comma, is_session_word, same_text, before_comma, behind_comma}
+use Rattle.session_vars.specs.Statement.{is_comment, is_comma, is_session_word, before_comma, behind_comma}
 use Rattle.session_vars.specs.Texts.{is_names, value_text, assignment_text}
 use Rattle.session_vars.specs.Tracked.{IsOneValue, IsNegative, IsAssignable}
 use Rattle.session_vars.specs.Values.{value_of, negative_value}
@@ -114,7 +114,6 @@ no_session Names = refl
 no_session _ = refl
 
 pub no_server : (slot : Slot) → is_server_scope (name_of slot) ≡ false
-unfolding is_server_scope
 no_server Names = refl
 no_server _ = refl
 
@@ -227,7 +226,7 @@ bare text place change other n =
 
 -- `SESSION name = value`
 pub scoped : (text : List ℕ) (place : ℕ) (change : Change) (rest : List ℕ) → is_names change.slot ≡ false → At text place (codes "SESSION " ++ (assignment_text change ++ rest)) → (n : IsNamed text (place + 7 + 1) change) → IsAssignmentRead text place (8 + length (assignment_text change)) change (token_of Word place (codes "SESSION") ∷ token_of Word (place + 7 + 1) (name_of change.slot) ∷ n.equals ∷ n.values)
-unfolding assignment is_server_scope
+unfolding assignment
 scoped text place change rest other at n =
     let session = token_of Word place (codes "SESSION") in
     let is : bytes_of text session ≡ codes "SESSION" = said text place Word (codes "SESSION") (32 ∷ (assignment_text change ++ rest)) at in

@@ -1,24 +1,24 @@
 -- The first words behind SET tell what a statement can be.
-use Rattle.std.proofs.Common.{◌≡◌, ℕ, true, false, ◌&&◌, bytes_eq, List, [], ◌∷◌, Option, Some, None, Result, IfOk, map, find, codes, option_and_then, MatchOption, refl, sym, ◌∙◌, ap, inl, inr}
+use Rattle.std.proofs.Common.{◌≡◌, ℕ, true, false, ◌&&◌, bytes_eq, List, [], ◌∷◌, ◌++◌, Option, Some, None, Result, IfOk, map, find, codes, option_and_then, MatchOption, refl, sym, subst, ◌∙◌, ap, inl, inr}
 use Rattle.std.specs.Char.{to_ascii_lowercase}
 use Rattle.std.specs.Cmp.Lexicographic.{bytes_decides}
-use Rattle.std.specs.Option.{option_or}
+use Rattle.std.specs.Option.{ForSome, option_or, option_to_list}
 use Rattle.std.proofs.lemmas.Bool.{cond-true, cond-false, and_from, and_left, and_right, or_cases, or_from}
 use Rattle.std.proofs.lemmas.Result.{IfOk-weaker}
-use Rattle.sql_tokens.specs.Words.{bytes_of, inside, word_by, word_of}
+use Rattle.sql_tokens.specs.Words.{bytes_of, inside, word_by, word_of, is_word, says, same_text}
 use Rattle.sql_tokens.specs.declared.token.Token.{Token}
 use Rattle.sql_tokens.specs.declared.token.TokenKind.{TokenKind}
 use Rattle.sql_tokens.specs.declared.token.TokenKind.TheVariants.{Word, Name}
-use Rattle.session_vars.specs.Assignments.{slot_by, assigned, assignment, assignments, assigned_behind, with_change}
+use Rattle.session_vars.specs.Assignments.{slot_by, assigned, assignment, assignments}
 use Rattle.session_vars.specs.Names.{names_value, names_changes}
 use Rattle.session_vars.specs.Shapes.{own_changes}
 use Rattle.session_vars.specs.Slots.{name_of, assigned_slots, slot_named}
-use Rattle.session_vars.specs.Statement.{is_word, says, says_first, is_comma, is_session_word, begins_with_session, same_text, before_comma, behind_comma}
+use Rattle.session_vars.specs.Statement.{says_first, is_comma, is_session_word, begins_with_session, before_comma}
 use Rattle.session_vars.specs.Transactions.{mode_of, transaction_mode, mode_changes}
 use Rattle.session_vars.specs.declared.change.Change.{Change}
 use Rattle.session_vars.specs.declared.slot.Slot.{Slot}
 use Rattle.session_vars.proofs.First.{no_symbol}
-use Rattle.session_vars.proofs.Parts.{assignments_from, none_assigned}
+use Rattle.session_vars.proofs.Parts.{none_assigned}
 
 -- what doesn't begin with NAMES is no SET NAMES
 pub no_names : (text : List ℕ) (token : Token) (tokens : List Token) → says text token (codes "NAMES") ≡ false → names_value text (token ∷ tokens) ≡ None
@@ -161,7 +161,7 @@ unfolding transaction_mode
 not_mode text scope [] other = refl
 not_mode text scope (token ∷ tokens) other = no_mode text scope token tokens other
 
-pub scoped_alone : {E : Type 0} (text : List ℕ) (tokens left : List Token) (scope : Option Token) (read : Result (Option (List Change)) E) → begins_with_session text tokens ≡ true → IsNext tokens scope left → says_first text left (codes "TRANSACTION") ≡ false → ((token : Token) → is_session_word text token ≡ true → IfOk read (λ changes. changes ≡ assignments text (token ∷ left))) → IfOk read (λ changes. changes ≡ own_changes text tokens)
+pub scoped_alone : {E : Type 0} (text : List ℕ) (tokens left : List Token) (scope : Option Token) (read : Result (Option (List Change)) E) → begins_with_session text tokens ≡ true → IsNext tokens scope left → says_first text left (codes "TRANSACTION") ≡ false → IfOk read (λ changes. changes ≡ assignments text (option_to_list scope ++ left)) → IfOk read (λ changes. changes ≡ own_changes text tokens)
 scoped_alone text tokens left None read is first other gives = let none : false ≡ true = sym (ap (begins_with_session text) first.0) ∙ is in absurd (cc)
 scoped_alone text tokens left (Some scope) read is first other gives =
     let session : is_session_word text scope ≡ true = sym (ap (begins_with_session text) first) ∙ is in
@@ -169,12 +169,11 @@ scoped_alone text tokens left (Some scope) read is first other gives =
     ap (own_changes text) first
     ∙ mode_or_assigned text (scope ∷ left) (session_no_names text (scope ∷ left) session)
     ∙ ap (λ mode. option_or (mode_changes mode) (assignments text (scope ∷ left))) (not_mode text scope left other) in
-    ok_is read (assignments text (scope ∷ left)) (own_changes text tokens) (sym same) (gives scope session)
+    ok_is read (assignments text (scope ∷ left)) (own_changes text tokens) (sym same) gives
 
--- assignments the first of which is scoped
-pub scoped_from : (text : List ℕ) (scope : Token) (tokens : List Token) → is_session_word text scope ≡ true → assignments text (scope ∷ tokens) ≡ with_change (assignment text (scope ∷ before_comma text tokens)) (assigned_behind text (behind_comma text tokens))
-scoped_from text scope tokens is =
-    let no_comma_here = session_no_comma text scope is in
-    assignments_from text (scope ∷ tokens)
-    ∙ ap (λ (front : List Token). with_change (assignment text front) (assigned_behind text (behind_comma text (scope ∷ tokens)))) (cond-false (is_comma text scope) _ _ no_comma_here)
-    ∙ ap (λ (rest : Option (List Token)). with_change (assignment text (scope ∷ before_comma text tokens)) (assigned_behind text rest)) (cond-false (is_comma text scope) _ _ no_comma_here)
+-- SESSION or LOCAL is no comma
+pub scope_no_comma : (text : List ℕ) (tokens left : List Token) (scope : Option Token) → begins_with_session text tokens ≡ true → IsNext tokens scope left → ForSome scope (λ token. is_comma text token ≡ false)
+scope_no_comma text tokens left None is first = λ token found. absurd (cc)
+scope_no_comma text tokens left (Some scope) is first = λ token found.
+    let same : scope ≡ token = cc in
+    subst (λ one. is_comma text one ≡ false) same (session_no_comma text scope (sym (ap (begins_with_session text) first) ∙ is))

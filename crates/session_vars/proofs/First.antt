@@ -2,12 +2,12 @@
 use Rattle.std.proofs.Common.{◌≡◌, ◌≢◌, ℕ, Bool, true, false, List, [], ◌∷◌, Option, Some, None, codes, refl, sym, ◌∙◌, ap, inl, inr}
 use Rattle.std.proofs.lemmas.Bool.{cond-true, cond-false, cond_both, cases_Bool, and_left, false≢true}
 use Rattle.sql_tokens.specs.Tokens.{tokens_of}
-use Rattle.sql_tokens.specs.Words.{bytes_of, word_by}
+use Rattle.sql_tokens.specs.Words.{bytes_of, word_by, is_symbol_kind, is_symbol, is_word, says}
 use Rattle.sql_tokens.specs.declared.token.Token.{Token}
 use Rattle.sql_tokens.specs.declared.token.TokenKind.{TokenKind}
 use Rattle.sql_tokens.specs.declared.token.TokenKind.TheVariants.{Symbol}
 use Rattle.session_vars.specs.Shapes.{own_changes, own_shape, tracked_or_other, shape_behind, shape_by, set_shape}
-use Rattle.session_vars.specs.Statement.{says_first, is_symbol_kind, is_symbol, is_word, says, without_comments, without_end}
+use Rattle.session_vars.specs.Statement.{says_first, without_comments, without_end}
 use Rattle.session_vars.specs.Scopes.{sets_server}
 use Rattle.session_vars.specs.declared.change.Change.{Change}
 use Rattle.session_vars.specs.declared.shape.SetShape.{SetShape}

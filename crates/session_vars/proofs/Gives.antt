@@ -6,12 +6,12 @@ use Rattle.std.proofs.lemmas.List.{append-nil}
 use Rattle.std.proofs.Math.Seq.{take-append_seam}
 use Rattle.sql_tokens.specs.Spans.{AreTokens}
 use Rattle.sql_tokens.specs.Tokens.{token_at, tokens_of}
-use Rattle.sql_tokens.specs.Words.{bytes_of, inside}
+use Rattle.sql_tokens.specs.Words.{bytes_of, inside, is_symbol}
 use Rattle.sql_tokens.specs.declared.token.Token.{Token}
 use Rattle.sql_tokens.specs.declared.token.TokenKind.{TokenKind}
 use Rattle.sql_tokens.specs.declared.token.TokenKind.TheVariants.{Word, Quoted, Number}
 use Rattle.sql_tokens.proofs.OneList.{are_tokens}
-use Rattle.session_vars.specs.Statement.{is_symbol, is_comment, without_comments, without_end, statement_of}
+use Rattle.session_vars.specs.Statement.{is_comment, without_comments, without_end, statement_of}
 use Rattle.session_vars.specs.Texts.{is_names, value_text}
 use Rattle.session_vars.specs.Tracked.{IsOneToken, IsAssignable, IsTrackedValue}
 use Rattle.session_vars.specs.Values.{kept, is_plain_byte, is_default, plain_value, is_character_set, has_reading_mode, may_be, value_of, takes_numbers, negative_value}

@@ -1,14 +1,14 @@
 -- Settings that SET statements change stay tracked.
-use Rattle.std.proofs.Common.{◌≡◌, ◌≤◌, ◌<◌, ℕ, ◌+◌, Bool, true, false, not, ◌&&◌, ◌||◌, cond, nat_eq, nat_lt, bytes_eq, List, [], ◌∷◌, ◌++◌, Option, Some, None, length, set, take, drop, codes, find, option_map, option_and_then, refl, sym, subst, ◌∙◌, ap, inl, inr, arith}
+use Rattle.std.proofs.Common.{◌≡◌, ◌≤◌, ◌<◌, ℕ, ◌+◌, Bool, true, false, not, ◌&&◌, cond, nat_eq, nat_lt, bytes_eq, List, [], ◌∷◌, ◌++◌, Option, Some, None, length, set, take, drop, codes, find, option_map, option_and_then, refl, sym, subst, ◌∙◌, ap, inl, inr, arith}
 use Rattle.std.specs.Char.{to_ascii_lowercase, is_ascii_digit}
 use Rattle.std.specs.Option.{option_or}
-use Rattle.std.specs.List.{list_all, slice_split, onto_first, slice_get}
+use Rattle.std.specs.List.{list_all, list_any, slice_split, onto_first, slice_get}
 use Rattle.std.proofs.lemmas.Bool.{cond-true, cond-false, cond_both, cases_Bool, cases_eq, cases_lt, and_parts, and_from, eq-eqb, lt-ltb, le-ltb, agree_below_at}
 use Rattle.std.proofs.lemmas.Grind.{get_or-set_at}
 use Rattle.std.proofs.lemmas.List.{append-nil, length-set, get_or-set_other}
 use Rattle.sql_tokens.specs.Bytes.{is_word_byte}
 use Rattle.sql_tokens.specs.Numbers.{hexadecimal_length, fraction_length, sign_length, exponent_length, decimal_length, number_length}
-use Rattle.sql_tokens.specs.Words.{bytes_of, inside, word_of}
+use Rattle.sql_tokens.specs.Words.{bytes_of, inside, word_of, is_symbol, same_text, says}
 use Rattle.sql_tokens.specs.declared.token.Token.{Token}
 use Rattle.sql_tokens.specs.declared.token.TokenKind.{TokenKind}
 use Rattle.sql_tokens.specs.declared.token.TokenKind.TheVariants.{Word, Quoted, Name, Number, SysVar}
@@ -18,11 +18,11 @@ use Rattle.session_vars.specs.Scopes.{sets_server}
 use Rattle.session_vars.specs.Settings.{value_at, changed, applied, collation_names, collation_settings}
 use Rattle.session_vars.specs.Shapes.{own_changes, own_shape, tracked_or_other, shape_behind, shape_by, set_shape}
 use Rattle.session_vars.specs.Slots.{name_of, all_slots, assigned_slots, place_of, slot_named, unless_transaction}
-use Rattle.session_vars.specs.Statement.{says_first, is_symbol, is_comma, is_session_word, same_text, says, spoken_by, statement_of}
+use Rattle.session_vars.specs.Statement.{says_first, is_comma, is_session_word, spoken_by, statement_of}
 use Rattle.session_vars.specs.Texts.{is_names}
 use Rattle.session_vars.specs.Tracked.{IsCharacterSet, IsTrackedValue, AreTracked}
 use Rattle.session_vars.specs.Transactions.{slot_of, value_of as mode_value, transaction_mode, mode_changes}
-use Rattle.session_vars.specs.Values.{is_character_set, value_of, negative_value, plain_value}
+use Rattle.session_vars.specs.Values.{character_sets, is_character_set, value_of, negative_value, plain_value}
 use Rattle.session_vars.specs.declared.change.Change.{Change}
 use Rattle.session_vars.specs.declared.change.SlotValue.{SlotValue}
 use Rattle.session_vars.specs.declared.change.SlotValue.TheVariants.{Default, Text}
@@ -237,9 +237,8 @@ word_is_one name is =
 
 -- SET NAMES gives a tracked value
 set_lower : (name : List ℕ) → is_character_set name ≡ true → IsCharacterSet (lower_case name)
-unfolding is_character_set
 set_lower name is =
-    let known : List ℕ → Bool = λ lower. bytes_eq lower (codes "latin1") || bytes_eq lower (codes "ascii") || bytes_eq lower (codes "utf8") || bytes_eq lower (codes "utf8mb3") || bytes_eq lower (codes "utf8mb4") || bytes_eq lower (codes "binary") in
+    let known : List ℕ → Bool = λ lower. list_any (λ set. bytes_eq lower (lower_case set)) character_sets in
     (ap known (lower_lower name) ∙ is, lower_lower name)
 
 set_found : (text : List ℕ) (token : Token) (name : List ℕ) → character_set text token ≡ Some name → is_character_set name ≡ true
@@ -349,7 +348,7 @@ stay_tracked text changes values is are = applied_tracked values changes are (sh
 
 -- and what a collation gives
 collation_tracked : (number : ℕ) → IsTrackedValue Names (Text (collation_names number))
-unfolding collation_names is_character_set
+unfolding collation_names
 collation_tracked number =
     let Gives : List ℕ → Type 0 = λ name. IsTrackedValue Names (Text name) in
     let collated : (set name : List ℕ) → IsCharacterSet set → IsWordText name → lower_case name ≡ name → Gives (set ++ codes " COLLATE " ++ name) = λ set name is word lower. inr (record { set = set; name = name; parts = refl; is_set = is; is_word = word_is_one name word; is_lower = lower }) in

@@ -4,9 +4,10 @@ use Rattle.std.specs.Cmp.Lexicographic.{bytes_decides}
 use Rattle.std.specs.Option.{option_or}
 use Rattle.std.proofs.lemmas.Bool.{cond-true, cond-false, and_parts, and_from, or_cases, eqb-true}
 use Rattle.std.proofs.lemmas.List.{append-nil}
+use Rattle.std.specs.List.{list_any}
 use Rattle.sql_tokens.specs.Spans.{AreTokens}
 use Rattle.sql_tokens.specs.Tokens.{token_at, tokens_of, tokens_behind}
-use Rattle.sql_tokens.specs.Words.{bytes_of}
+use Rattle.sql_tokens.specs.Words.{bytes_of, same_text, says}
 use Rattle.sql_tokens.specs.declared.token.Token.{Token}
 use Rattle.sql_tokens.specs.declared.token.TokenKind.{TokenKind}
 use Rattle.sql_tokens.specs.declared.token.TokenKind.TheVariants.{Word}
@@ -14,11 +15,11 @@ use Rattle.sql_tokens.proofs.OneList.{are_tokens}
 use Rattle.session_vars.specs.Names.{is_word_kind, is_one_word_by, is_one_word, character_set, collation, lower_case, collated, names_value, names_changes}
 use Rattle.session_vars.specs.Scopes.{is_server_scope, sets_server}
 use Rattle.session_vars.specs.Shapes.{tracked_or_other, shape_behind, shape_by, set_shape}
-use Rattle.session_vars.specs.Statement.{same_text, says, statement_of, without_comments, without_end}
+use Rattle.session_vars.specs.Statement.{statement_of, without_comments, without_end}
 use Rattle.session_vars.specs.Tracked.{IsCharacterSet, IsCollated, IsOneToken}
 use Rattle.session_vars.specs.Transactions.{transaction_mode, mode_changes}
 use Rattle.session_vars.specs.Assignments.{assignments}
-use Rattle.session_vars.specs.Values.{is_character_set}
+use Rattle.session_vars.specs.Values.{character_sets, is_character_set}
 use Rattle.session_vars.specs.declared.change.Change.{Change}
 use Rattle.session_vars.specs.declared.change.SlotValue.TheVariants.{Default, Text}
 use Rattle.session_vars.specs.declared.slot.Slot.TheVariants.{Names, CharacterSetResults}
@@ -31,34 +32,23 @@ use Rattle.session_vars.proofs.Rules.{IsWordText, word_piece}
 named_set : (name known : List ℕ) → lower_case name ≡ name → same_text name known ≡ true → IsWordText (lower_case known) → IsWordText name
 named_set name known lower same word = subst IsWordText (sym (sym lower ∙ (bytes_decides (lower_case name) (lower_case known)).0 same)) word
 
-set_word : (name : List ℕ) → IsCharacterSet name → IsWordText name
-unfolding is_character_set
-set_word name is =
-    let latin1 = same_text name (codes "latin1") in
-    let ascii = same_text name (codes "ascii") in
-    let utf8 = same_text name (codes "utf8") in
-    let utf8mb3 = same_text name (codes "utf8mb3") in
-    let utf8mb4 = same_text name (codes "utf8mb4") in
-    elim (or_cases (latin1 || ascii || utf8 || utf8mb3 || utf8mb4) (same_text name (codes "binary")) is.0) [
-      | inr e ↦ named_set name (codes "binary") is.1 e (refl, refl)
-      | inl a ↦
-          elim (or_cases (latin1 || ascii || utf8 || utf8mb3) utf8mb4 a) [
-            | inr e ↦ named_set name (codes "utf8mb4") is.1 e (refl, refl)
-            | inl b ↦
-                elim (or_cases (latin1 || ascii || utf8) utf8mb3 b) [
-                  | inr e ↦ named_set name (codes "utf8mb3") is.1 e (refl, refl)
-                  | inl c ↦
-                      elim (or_cases (latin1 || ascii) utf8 c) [
-                        | inr e ↦ named_set name (codes "utf8") is.1 e (refl, refl)
-                        | inl d ↦
-                            elim (or_cases latin1 ascii d) [
-                              | inr e ↦ named_set name (codes "ascii") is.1 e (refl, refl)
-                              | inl e ↦ named_set name (codes "latin1") is.1 e (refl, refl)
-                            ]
-                      ]
-                ]
-          ]
+-- and so is any of a list of words
+AreWordTexts : List (List ℕ) → Type 0
+AreWordTexts [] = Unit {0}
+AreWordTexts (known ∷ others) = IsWordText (lower_case known) × AreWordTexts others
+
+named_any : (name : List ℕ) (words : List (List ℕ)) → lower_case name ≡ name → AreWordTexts words → list_any (same_text name) words ≡ true → IsWordText name
+unfolding AreWordTexts
+named_any name [] lower are is = absurd (cc)
+named_any name (known ∷ others) lower are is =
+    elim (or_cases (same_text name known) (list_any (same_text name) others) is) [
+      | inl e ↦ named_set name known lower e are.0
+      | inr e ↦ named_any name others lower are.1 e
     ]
+
+set_word : (name : List ℕ) → IsCharacterSet name → IsWordText name
+unfolding AreWordTexts
+set_word name is = named_any name character_sets is.1 ((refl, refl), ((refl, refl), ((refl, refl), ((refl, refl), ((refl, refl), ((refl, refl), tt)))))) is.0
 
 -- one word is one token
 one_word_by : (name : List ℕ) (tokens : List Token) → AreTokens name 0 tokens → is_one_word_by (length name) tokens ≡ true → IsOneToken Word name
@@ -111,7 +101,7 @@ changes_to value = record { slot = Names; value = Text value } ∷ record { slot
 
 -- a statement of which SET NAMES reads a value
 names_shape : (text rest value : List ℕ) (tokens : List Token) → IsNamesRead text rest → statement_of text ≡ token_of Word 0 (codes "SET") ∷ token_of Word 4 (codes "NAMES") ∷ tokens → sets_server text 0 false tokens ≡ false → names_value text (token_of Word 4 (codes "NAMES") ∷ tokens) ≡ Some value → set_shape text ≡ Tracked (changes_to value)
-unfolding shape_behind is_server_scope
+unfolding shape_behind
 names_shape text rest value tokens read statement unscoped gives =
     let names = token_of Word 4 (codes "NAMES") in
     let behind = names ∷ tokens in

@@ -1,11 +1,13 @@
 -- Assignments, one after the other.
-use Rattle.std.proofs.Common.{◌≡◌, ℕ, List, [], ◌∷◌, ◌++◌, Option, Some, None, option_map, refl, sym, ◌∙◌, ap, inl, inr, append_assoc}
+use Rattle.std.proofs.Common.{◌≡◌, ℕ, Bool, true, false, List, [], ◌∷◌, ◌++◌, take, cond, Option, Some, None, option_map, refl, sym, ◌∙◌, ap, inl, inr, append_assoc}
 use Rattle.std.specs.List.{slice_split, onto_first}
 use Rattle.std.proofs.lemmas.Bool.{cond-true, cond-false, cases_Bool}
 use Rattle.sql_tokens.specs.declared.token.Token.{Token}
-use Rattle.session_vars.specs.Assignments.{assignment, assignments, all_assigned, assigned_behind, with_change}
-use Rattle.session_vars.specs.Statement.{is_comma, before_comma, behind_comma}
+use Rattle.sql_tokens.specs.Words.{bytes_of}
+use Rattle.session_vars.specs.Assignments.{assigned, assignment, assignments, all_assigned, assigned_behind, behind_colon, slot_by, slot_of_name, with_change, written}
+use Rattle.session_vars.specs.Statement.{is_comma, is_session_word, before_comma, behind_comma}
 use Rattle.session_vars.specs.declared.change.Change.{Change}
+use Rattle.session_vars.specs.declared.slot.Slot.{Slot}
 
 -- the parts behind a comma
 abbrev pub parts_behind : (text : List ℕ) → Option (List Token) → List (List Token)
@@ -58,13 +60,32 @@ pub one_more_change : (changes : List Change) (change : Change) (rest : Option (
 one_more_change changes change None = refl
 one_more_change changes change (Some rest) = ap (λ (all : List Change). Some all) (sym (append_assoc changes (change ∷ []) rest))
 
--- where no token stands before a comma, a comma is first
-pub comma_first : (text : List ℕ) (token : Token) (tokens : List Token) → before_comma text (token ∷ tokens) ≡ [] → behind_comma text (token ∷ tokens) ≡ Some tokens
-comma_first text token tokens none =
-    elim (cases_Bool (is_comma text token)) [
-      | inl e ↦ cond-true (is_comma text token) _ _ e
-      | inr e ↦ let some : token ∷ before_comma text tokens ≡ [] = sym (cond-false (is_comma text token) _ _ e) ∙ none in absurd (cc)
-    ]
+-- what is assigned behind a comma, where there is one
+pub behind_by : (text : List ℕ) (more : Bool) (tokens : List Token) → assigned_behind text (cond more (Some tokens) None) ≡ cond more (assignments text tokens) (Some [])
+behind_by text true tokens = refl
+behind_by text false tokens = refl
+
+-- more tokens behind five make no difference, and so neither do more than seven in an assignment
+same_long : (text : List ℕ) (slot : Option Slot) (a b c d e : Token) (xs ys : List Token) → assigned text slot (a ∷ b ∷ c ∷ d ∷ e ∷ xs) ≡ assigned text slot (a ∷ b ∷ c ∷ d ∷ e ∷ ys)
+unfolding assigned behind_colon written
+same_long text None a b c d e xs ys = refl
+same_long text (Some slot) a b c d e xs ys = refl
+
+pub assignment_front : (text : List ℕ) (tokens : List Token) → assignment text (take 7 tokens) ≡ assignment text tokens
+unfolding assignment
+assignment_front text [] = refl
+assignment_front text (a ∷ []) = refl
+assignment_front text (a ∷ b ∷ []) = refl
+assignment_front text (a ∷ b ∷ c ∷ []) = refl
+assignment_front text (a ∷ b ∷ c ∷ d ∷ []) = refl
+assignment_front text (a ∷ b ∷ c ∷ d ∷ e ∷ []) = refl
+assignment_front text (a ∷ b ∷ c ∷ d ∷ e ∷ f ∷ []) = refl
+assignment_front text (a ∷ b ∷ c ∷ d ∷ e ∷ f ∷ g ∷ tokens) =
+    let session = is_session_word text a in
+    let scoped = assigned text (slot_of_name text b) (c ∷ d ∷ e ∷ f ∷ g ∷ tokens) in
+    let bare : List Token → Option Change = λ rest. assigned text (slot_by a.kind (bytes_of text a)) (b ∷ c ∷ d ∷ e ∷ f ∷ g ∷ rest) in
+    ap (λ (change : Option Change). cond session change (bare [])) (same_long text (slot_of_name text b) c d e f g [] tokens)
+    ∙ ap (λ (change : Option Change). cond session scoped change) (same_long text (slot_by a.kind (bytes_of text a)) b c d e f (g ∷ []) (g ∷ tokens))
 
 pub nothing : {A : Type 0} (o : Option A) → ((x : A) → o ≡ Some x → ⊥) → o ≡ None
 nothing None none = refl

@@ -15,7 +15,7 @@ use Rattle.sql_tokens.specs.Tokens.{closed, plain_token_at, token_at}
 use Rattle.sql_tokens.specs.Variables.{system_variable_length}
 use Rattle.sql_tokens.specs.declared.token.TokenKind.{TokenKind}
 use Rattle.sql_tokens.specs.declared.token.TokenKind.TheVariants.{Word, Quoted, Number, Symbol}
-use Rattle.sql_tokens.proofs.Inside.{closes_closing}
+use Rattle.sql_tokens.proofs.Insides.{closes_closing}
 use Rattle.sql_tokens.proofs.Lengths.{number_length-le}
 use Rattle.sql_tokens.proofs.LongestNumbers.{number_found, longest_number}
 use Rattle.session_vars.specs.Values.{is_plain_byte}

@@ -4,7 +4,8 @@ use Rattle.std.proofs.lemmas.Bool.{cond-true, cond-false, cases_Bool}
 use Rattle.sql_tokens.specs.Bytes.{is_white}
 use Rattle.sql_tokens.specs.Tokens.{tokens_from, tokens_of, token_at}
 use Rattle.sql_tokens.specs.declared.token.Token.{Token}
-use Rattle.session_vars.specs.Statement.{is_comment, is_symbol, without_comments, without_end, statement_of}
+use Rattle.session_vars.specs.Statement.{is_comment, without_comments, without_end, statement_of}
+use Rattle.sql_tokens.specs.Words.{is_symbol}
 
 tokens_size : (place left : ℕ) (bytes : List ℕ) → length (tokens_from place left bytes) ≤ length bytes
 unfolding tokens_from

@@ -1,12 +1,12 @@
 -- Assignments of a SET statement, behind its SET.
 use Rattle.std.specs.Prelude.{ℕ, ◌&&◌, nat_eq, List, [], ◌∷◌, take, drop, codes, Option, Some, None, option_and_then, if◌then◌else◌}
 use Rattle.std.specs.List.{slice_split}
-use Rattle.sql_tokens.specs.Words.{bytes_of, inside, word_of}
+use Rattle.sql_tokens.specs.Words.{bytes_of, inside, word_of, same_text, is_symbol}
 use Rattle.sql_tokens.specs.declared.token.Token.{Token}
 use Rattle.sql_tokens.specs.declared.token.TokenKind.{TokenKind}
 use Rattle.sql_tokens.specs.declared.token.TokenKind.TheVariants.{Word, Name, SysVar}
 use Rattle.session_vars.specs.Slots.{slot_named, unless_transaction}
-use Rattle.session_vars.specs.Statement.{same_text, is_symbol, is_comma, is_session_word}
+use Rattle.session_vars.specs.Statement.{is_comma, is_session_word}
 use Rattle.session_vars.specs.Values.{value_of, negative_value}
 use Rattle.session_vars.specs.declared.change.Change.{Change}
 use Rattle.session_vars.specs.declared.change.SlotValue.{SlotValue}

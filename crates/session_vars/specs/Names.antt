@@ -2,11 +2,11 @@
 use Rattle.std.specs.Prelude.{ℕ, Bool, true, false, ◌&&◌, nat_eq, List, [], ◌∷◌, ◌++◌, length, map, codes, Option, Some, None, option_map, option_and_then, if◌then◌else◌}
 use Rattle.std.specs.Char.{to_ascii_lowercase}
 use Rattle.sql_tokens.specs.Tokens.{tokens_of}
-use Rattle.sql_tokens.specs.Words.{bytes_of}
+use Rattle.sql_tokens.specs.Words.{bytes_of, says}
 use Rattle.sql_tokens.specs.declared.token.Token.{Token}
 use Rattle.sql_tokens.specs.declared.token.TokenKind.{TokenKind}
 use Rattle.sql_tokens.specs.declared.token.TokenKind.TheVariants.{Word}
-use Rattle.session_vars.specs.Statement.{says, spoken_by}
+use Rattle.session_vars.specs.Statement.{spoken_by}
 use Rattle.session_vars.specs.Values.{is_character_set}
 use Rattle.session_vars.specs.declared.change.Change.{Change}
 use Rattle.session_vars.specs.declared.change.SlotValue.TheVariants.{Default, Text}

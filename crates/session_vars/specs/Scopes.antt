@@ -1,15 +1,18 @@
 -- Whether a SET statement sets anything of the whole server.
 use Rattle.std.specs.Prelude.{ℕ, ◌+◌, ◌-◌, Bool, false, not, ◌&&◌, ◌||◌, nat_eq, List, [], ◌∷◌, take, drop, codes, if◌then◌else◌}
-use Rattle.std.specs.List.{prefix_len}
-use Rattle.sql_tokens.specs.Words.{bytes_of, inside}
+use Rattle.std.specs.List.{list_any, prefix_len}
+use Rattle.sql_tokens.specs.Words.{bytes_of, inside, same_text, is_symbol}
 use Rattle.sql_tokens.specs.declared.token.Token.{Token}
 use Rattle.sql_tokens.specs.declared.token.TokenKind.{TokenKind}
 use Rattle.sql_tokens.specs.declared.token.TokenKind.TheVariants.{Word, Name, SysVar}
-use Rattle.session_vars.specs.Statement.{same_text, is_symbol}
 use Rattle.session_vars.specs.declared.set_tokens.SetTokens.{SetTokens}
 
-unfoldable pub is_server_scope : List ℕ → Bool
-is_server_scope word = same_text word (codes "GLOBAL") || same_text word (codes "PERSIST") || same_text word (codes "PERSIST_ONLY")
+-- the scopes of the whole server
+abbrev pub server_scopes : List (List ℕ)
+server_scopes = codes "GLOBAL" ∷ codes "PERSIST" ∷ codes "PERSIST_ONLY" ∷ []
+
+abbrev pub is_server_scope : List ℕ → Bool
+is_server_scope word = list_any (same_text word) server_scopes
 
 -- what stands before the first `.`
 abbrev pub before_dot : List ℕ → List ℕ

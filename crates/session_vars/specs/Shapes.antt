@@ -5,7 +5,8 @@ use Rattle.sql_tokens.specs.declared.token.Token.{Token}
 use Rattle.session_vars.specs.Assignments.{assignments}
 use Rattle.session_vars.specs.Names.{names_value, names_changes}
 use Rattle.session_vars.specs.Scopes.{sets_server}
-use Rattle.session_vars.specs.Statement.{says, says_first, statement_of}
+use Rattle.session_vars.specs.Statement.{says_first, statement_of}
+use Rattle.sql_tokens.specs.Words.{says}
 use Rattle.session_vars.specs.Transactions.{transaction_mode, mode_changes}
 use Rattle.session_vars.specs.declared.change.Change.{Change}
 use Rattle.session_vars.specs.declared.shape.SetShape.{SetShape}

@@ -1,6 +1,6 @@
 -- The settings of a session that are tracked, and their names.
 use Rattle.std.specs.Prelude.{ℕ, List, [], ◌∷◌, Option, Some, None, find, codes}
-use Rattle.session_vars.specs.Statement.{same_text}
+use Rattle.sql_tokens.specs.Words.{same_text}
 use Rattle.session_vars.specs.declared.slot.Slot.{Slot}
 use Rattle.session_vars.specs.declared.slot.Slot.TheVariants.{Names, CharacterSetResults, Autocommit, SqlMode, TimeZone, TransactionIsolation, TransactionReadOnly, SqlSafeUpdates, ForeignKeyChecks, UniqueChecks, SqlSelectLimit, GroupConcatMaxLen, LcTimeNames, LcMessages, WaitTimeout, NetReadTimeout, NetWriteTimeout, InnodbLockWaitTimeout, LockWaitTimeout, MaxExecutionTime}
 

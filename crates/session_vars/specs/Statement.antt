@@ -1,35 +1,14 @@
 -- The tokens of a statement that count, and what they say.
-use Rattle.std.specs.Prelude.{ℕ, Bool, true, false, not, ◌&&◌, ◌||◌, List, [], ◌∷◌, map, filter, bytes_eq, codes, Option, Some, None, if◌then◌else◌}
-use Rattle.std.specs.Char.{to_ascii_lowercase}
+use Rattle.std.specs.Prelude.{ℕ, Bool, true, false, not, ◌||◌, List, [], ◌∷◌, filter, codes, Option, Some, None, if◌then◌else◌}
 use Rattle.sql_tokens.specs.Tokens.{tokens_of}
-use Rattle.sql_tokens.specs.Words.{bytes_of, inside, word_of}
+use Rattle.sql_tokens.specs.Words.{inside, is_symbol, says}
 use Rattle.sql_tokens.specs.declared.token.Token.{Token}
 use Rattle.sql_tokens.specs.declared.token.TokenKind.{TokenKind}
-use Rattle.sql_tokens.specs.declared.token.TokenKind.TheVariants.{Word, Quoted, Name, Symbol, Comment}
+use Rattle.sql_tokens.specs.declared.token.TokenKind.TheVariants.{Word, Quoted, Name, Comment}
 
 abbrev pub is_comment : TokenKind → Bool
 is_comment Comment = true
 is_comment _ = false
-
-abbrev pub is_symbol_kind : TokenKind → Bool
-is_symbol_kind Symbol = true
-is_symbol_kind _ = false
-
--- the token is this one byte
-abbrev pub is_symbol : (text : List ℕ) → Token → (byte : ℕ) → Bool
-is_symbol text token byte = is_symbol_kind token.kind && bytes_eq (bytes_of text token) (byte ∷ [])
-
--- two texts are one without regard to ASCII case
-abbrev pub same_text : List ℕ → List ℕ → Bool
-same_text a b = bytes_eq (map to_ascii_lowercase a) (map to_ascii_lowercase b)
-
-abbrev pub is_word : Option (List ℕ) → (word : List ℕ) → Bool
-is_word None word = false
-is_word (Some named) word = same_text named word
-
--- the token is this word, in any case, in backticks or not
-abbrev pub says : (text : List ℕ) → Token → (word : List ℕ) → Bool
-says text token word = is_word (word_of text token) word
 
 -- what a word, a name in backticks or a quoted text stands for
 abbrev pub spoken_by : TokenKind → List ℕ → Option (List ℕ)
@@ -44,10 +23,6 @@ is_session_word text token = says text token (codes "SESSION") || says text toke
 
 abbrev pub is_comma : (text : List ℕ) → Token → Bool
 is_comma text token = is_symbol text token 44
-
-abbrev pub begins_with_comma : (text : List ℕ) → List Token → Bool
-begins_with_comma text [] = false
-begins_with_comma text (token ∷ tokens) = is_comma text token
 
 -- whether the first of these tokens is this word
 abbrev pub says_first : (text : List ℕ) → List Token → (word : List ℕ) → Bool

@@ -1,7 +1,8 @@
 -- SET SESSION TRANSACTION, behind its SET.
 use Rattle.std.specs.Prelude.{ℕ, ◌&&◌, List, [], ◌∷◌, codes, Option, Some, None, if◌then◌else◌}
 use Rattle.sql_tokens.specs.declared.token.Token.{Token}
-use Rattle.session_vars.specs.Statement.{says, is_session_word}
+use Rattle.session_vars.specs.Statement.{is_session_word}
+use Rattle.sql_tokens.specs.Words.{says}
 use Rattle.session_vars.specs.declared.change.Change.{Change}
 use Rattle.session_vars.specs.declared.change.SlotValue.TheVariants.{Text}
 use Rattle.session_vars.specs.declared.slot.Slot.{Slot}

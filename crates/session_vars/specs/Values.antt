@@ -1,10 +1,9 @@
 -- The values that an assignment may give a setting, and what is kept of them.
 use Rattle.std.specs.Prelude.{ℕ, ◌-◌, Bool, true, false, not, ◌&&◌, ◌||◌, nat_eq, nat_le, List, [], ◌∷◌, ◌++◌, length, take, drop, codes, Option, Some, None, if◌then◌else◌}
 use Rattle.std.specs.List.{list_all, list_any, slice_split, prefix_len, suffix_len}
-use Rattle.sql_tokens.specs.Words.{inside}
+use Rattle.sql_tokens.specs.Words.{inside, same_text}
 use Rattle.sql_tokens.specs.declared.token.TokenKind.{TokenKind}
 use Rattle.sql_tokens.specs.declared.token.TokenKind.TheVariants.{Word, Quoted, Number}
-use Rattle.session_vars.specs.Statement.{same_text}
 use Rattle.session_vars.specs.declared.slot.Slot.{Slot}
 use Rattle.session_vars.specs.declared.slot.Slot.TheVariants.{CharacterSetResults, SqlMode}
 use Rattle.session_vars.specs.declared.change.SlotValue.{SlotValue}
@@ -29,12 +28,18 @@ plain_value Quoted bytes = if list_all is_plain_byte (inside bytes) then kept (3
 plain_value _ bytes = None
 
 -- the character sets that SET NAMES and character_set_results may name
-unfoldable pub is_character_set : List ℕ → Bool
-is_character_set word = same_text word (codes "latin1") || same_text word (codes "ascii") || same_text word (codes "utf8") || same_text word (codes "utf8mb3") || same_text word (codes "utf8mb4") || same_text word (codes "binary")
+abbrev pub character_sets : List (List ℕ)
+character_sets = codes "latin1" ∷ codes "ascii" ∷ codes "utf8" ∷ codes "utf8mb3" ∷ codes "utf8mb4" ∷ codes "binary" ∷ []
+
+abbrev pub is_character_set : List ℕ → Bool
+is_character_set word = list_any (same_text word) character_sets
 
 -- the modes that change where tokens begin and end, and those that hold one of them
-unfoldable pub is_reading_mode : List ℕ → Bool
-is_reading_mode mode = same_text mode (codes "ANSI") || same_text mode (codes "ANSI_QUOTES") || same_text mode (codes "NO_BACKSLASH_ESCAPES") || same_text mode (codes "DB2") || same_text mode (codes "MAXDB") || same_text mode (codes "MSSQL") || same_text mode (codes "ORACLE") || same_text mode (codes "POSTGRESQL")
+abbrev pub reading_modes : List (List ℕ)
+reading_modes = codes "ANSI" ∷ codes "ANSI_QUOTES" ∷ codes "NO_BACKSLASH_ESCAPES" ∷ codes "DB2" ∷ codes "MAXDB" ∷ codes "MSSQL" ∷ codes "ORACLE" ∷ codes "POSTGRESQL" ∷ []
+
+abbrev pub is_reading_mode : List ℕ → Bool
+is_reading_mode mode = list_any (same_text mode) reading_modes
 
 abbrev pub is_blank : ℕ → Bool
 is_blank b = nat_eq b 32

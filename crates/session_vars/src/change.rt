@@ -8,7 +8,7 @@ use std::alloc::Global;
 use std::marker::Model;
 
 /// The value of a setting.
-#[derive(Debug, PartialEq, Eq, Drop)]
+#[derive(Drop)]
 pub enum SlotValue {
     /// What the server gives a session that sets nothing; of `CharacterSetResults` what SET NAMES leaves.
     Default,
@@ -42,14 +42,14 @@ impl SlotValue {
 }
 
 /// A setting and the value that it gets.
-#[derive(Debug, PartialEq, Eq, Drop)]
+#[derive(Drop)]
 pub struct Change {
     pub slot: Slot,
     pub value: SlotValue,
 }
 
 /// Changes in order, which a contract sees as a list.
-#[derive(Debug, Drop)]
+#[derive(Drop)]
 pub struct Changes {
     items: Vec<Change>,
 }

@@ -30,8 +30,5 @@ pub use read::read_set;
 pub use settings::Settings;
 pub use shape::SetShape;
 pub use slot::{SLOTS, Slot};
-pub use statement::{Statement, is_symbol, same_text, says};
+pub use statement::Statement;
 pub use text::{SetTexts, can_be_set, set_texts};
-
-#[cfg(test)]
-mod tests;

@@ -3,7 +3,7 @@ use mx_base::Bytes;
 
 /// The long data that a client sent for one parameter of a prepared statement (client/server protocol,
 /// "COM_STMT_SEND_LONG_DATA"). Parameters count from 0.
-#[derive(Debug, PartialEq, Eq, Drop)]
+#[derive(Drop)]
 pub struct LongPart {
     pub parameter: u16,
     pub bytes: Bytes,

@@ -5,10 +5,10 @@ ghost use Rattle.session_vars.specs.Scopes.{server_set};
 ghost use Rattle.session_vars.specs.Names.{is_one_word, character_set, collation, lower_case, collated, names_value};
 
 use crate::set_tokens::SetTokens;
-use crate::statement::{says, spoken};
+use crate::statement::spoken;
 use crate::value::is_character_set;
 use mx_base::{Bytes, OutOfMemory};
-use sql_tokens::{Token, TokenKind, Tokens};
+use sql_tokens::{Token, TokenKind, Tokens, says};
 use std::alloc::Global;
 
 // Whether the bytes are one word, and nothing else.

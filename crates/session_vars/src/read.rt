@@ -6,7 +6,7 @@ ghost use Rattle.session_vars.specs.Shapes.{own_changes, own_shape, set_shape};
 ghost use Rattle.session_vars.specs.Statement.{begins_with_session};
 ghost use Rattle.session_vars.specs.Transactions.{mode_changes};
 
-use crate::assignment::{assignments, assignments_behind_scope};
+use crate::assignment::assignments;
 use crate::names::names_value;
 use crate::set_tokens::SetTokens;
 use crate::transaction::{Mode, mode_of};
@@ -57,12 +57,12 @@ fn scoped_changes(
     ensures changes { IfOk result (λ changes. changes ≡ own_changes text.now tokens.old.left) }
     ensures scope { server_set text.now tokens.new ≡ server_set text.now tokens.old }
 {
-    let _scope = tokens.next(text);
+    let scope = tokens.next(text);
     if tokens.begins_with(text, b"TRANSACTION") {
         let _transaction = tokens.next(text);
         mode_changes(alloc, mode_of(text, tokens))
     } else {
-        assignments_behind_scope(alloc, text, tokens)
+        assignments(alloc, text, scope, tokens)
     }
 }
 
@@ -82,7 +82,7 @@ fn own_changes(
     if tokens.begins_with(text, b"SESSION") || tokens.begins_with(text, b"LOCAL") {
         return scoped_changes(alloc, text, tokens);
     }
-    assignments(alloc, text, tokens)
+    assignments(alloc, text, None, tokens)
 }
 
 // The shape, by the tokens behind SET, where nothing is set of the whole server.

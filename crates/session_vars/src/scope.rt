@@ -3,14 +3,14 @@ ghost use Rattle.std.specs.Prelude.{◌≡◌, ◌+◌, ◌<◌, ◌^◌, not, n
 ghost use Rattle.std.specs.List.{prefix_len};
 ghost use Rattle.session_vars.specs.Scopes.{is_server_scope, before_dot, names_server, deeper};
 
-use crate::statement::{behind, inside, is_symbol, same_text};
-use sql_tokens::{Token, TokenKind, bytes_of};
+use sql_tokens::{Token, TokenKind, behind, bytes_of, inside, is_one_of, is_symbol};
 
-#[tactic(auto, unfolding(crate::specs::Scopes::is_server_scope))]
+static SERVER_SCOPES: [&[u8]; 3] = [b"GLOBAL", b"PERSIST", b"PERSIST_ONLY"];
+
 fn is_server_scope(word: &[u8]) -> bool
     ensures { result ≡ is_server_scope word.now }
 {
-    same_text(word, b"GLOBAL") || same_text(word, b"PERSIST") || same_text(word, b"PERSIST_ONLY")
+    is_one_of(word, &SERVER_SCOPES)
 }
 
 // How many bytes stand before the first `.`.

@@ -1,10 +1,14 @@
 // The tokens behind SET, as they are taken.
-ghost use Rattle.std.specs.Prelude.{◌≡◌, ◌+◌, ◌≤◌, ◌<◌, ◌^◌, true, false, [], ◌∷◌, length, codes, MatchOption, IfSome, IfNone, if◌then◌else◌};
+ghost use Rattle.std.specs.Prelude.{◌≡◌, ◌+◌, ◌≤◌, ◌<◌, ◌^◌, true, [], ◌∷◌, ◌++◌, take, length, MatchOption, IfSome, IfNone, IfOk, OnOk, if◌then◌else◌};
 
 use crate::SetShape;
 use crate::scope::{deeper, names_server};
-use crate::statement::{Statement, is_symbol, says};
-use sql_tokens::{Token, bytes_of};
+use crate::statement::Statement;
+use mx_base::OutOfMemory;
+use sql_tokens::{Token, bytes_of, is_symbol, says};
+
+// How many tokens of a part of a statement are kept: one more than an assignment has.
+pub(crate) const MOST_KEPT: usize = 7;
 
 // The tokens behind SET that are left. Those that are taken are watched, so that in the end it is known whether one of
 // them sets anything of the whole server.
@@ -64,18 +68,27 @@ impl<'a> SetTokens<'a> {
         Some(token)
     }
 
-    // The next token, where it is no comma; a comma stays.
-    pub(crate) fn next_before_comma(&mut self, text: &[u8]) -> Option<Token>
-        ensures token { MatchOption result (before_comma text.now self.old.left ≡ []) (λ token. (before_comma text.now self.old.left ≡ token ∷ before_comma text.now self.new.left) × (length self.new.left < length self.old.left)) }
-        ensures shorter { length self.new.left ≤ length self.old.left }
-        ensures rest { behind_comma text.now self.new.left ≡ behind_comma text.now self.old.left }
-        ensures end { IfNone result (before_comma text.now self.new.left ≡ []) }
+    // Appends the tokens before the next comma, and takes the comma. Seven are kept at most. Whether a comma is there.
+    pub(crate) fn next_part(
+        &mut self,
+        text: &[u8],
+        part: &mut Vec<Token>,
+    ) -> Result<bool, OutOfMemory>
+        requires { length part.old.items ≤ 7 }
+        ensures part { OnOk result (part.new.items ≡ take 7 (part.old.items ++ before_comma text.now self.old.left)) }
+        ensures rest { IfOk result (λ more. behind_comma text.now self.old.left ≡ (if more then Some self.new.left else None)) }
+        ensures shorter { IfOk result (λ more. more ≡ true → length self.new.left < length self.old.left) }
         ensures scope { server_set text.now self.new ≡ server_set text.now self.old }
     {
-        if self.left.is_at_comma(text) {
-            return None;
+        'tokens: while let Some(token) = self.next(text) {
+            if is_symbol(text, &token, b',') {
+                return Ok(true);
+            }
+            if part.len() < MOST_KEPT {
+                part.push(token)?;
+            }
         }
-        self.next(text)
+        Ok(false)
     }
 
     // Whether a token, of those that were taken or are left, sets anything of the whole server.

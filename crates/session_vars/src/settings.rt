@@ -12,7 +12,7 @@ const COUNT: usize = 20;
 
 /// The settings of a session, one value for each slot. A contract sees the list of the values, in the order of the
 /// slots.
-#[derive(Debug, Drop)]
+#[derive(Drop)]
 pub struct Settings {
     values: Vec<SlotValue>,
 }

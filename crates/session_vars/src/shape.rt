@@ -2,7 +2,7 @@
 use crate::Changes;
 
 /// What a statement is, as a SET statement (MySQL Reference Manual, "SET Syntax for Variable Assignment").
-#[derive(Debug, Drop)]
+#[derive(Drop)]
 pub enum SetShape {
     /// It changes these settings of the session, in this order, and nothing else.
     Tracked(Changes),

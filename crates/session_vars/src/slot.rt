@@ -2,11 +2,11 @@
 ghost use Rattle.std.specs.Prelude.{◌≡◌};
 ghost use Rattle.session_vars.specs.Slots.{name_of, place_of, slot_named, unless_transaction};
 
-use crate::statement::same_text;
+use sql_tokens::same_text;
 
 /// A setting of a session that is tracked (MySQL Reference Manual, "Server System Variables"), in the order in which
 /// settings are listed.
-#[derive(Clone, Copy, Debug, PartialEq, Eq)]
+#[derive(Clone, Copy, PartialEq, Eq)]
 pub enum Slot {
     /// What SET NAMES sets: the character sets of client and connection and the connection's collation.
     Names,

@@ -1,11 +1,11 @@
 // The tokens of a statement that count.
 ghost use Rattle.std.specs.Prelude.{◌≡◌};
 ghost use Rattle.std.specs.Iterator.{YieldsFirst, item_count};
-ghost use Rattle.std.specs.Prelude.{true, false, [], ◌∷◌, drop, MatchOption, option_copied};
-ghost use Rattle.session_vars.specs.Statement.{statement_of, without_comments, same_text, says, says_first, is_symbol, is_session_word, spoken_by, before_comma, begins_with_comma};
-ghost use Rattle.sql_tokens.specs.Words.{bytes_of as bytes_at, inside};
+ghost use Rattle.std.specs.Prelude.{[], ◌∷◌, MatchOption, option_copied};
+ghost use Rattle.session_vars.specs.Statement.{statement_of, without_comments, says_first, is_session_word, spoken_by};
+ghost use Rattle.sql_tokens.specs.Words.{bytes_of as bytes_at};
 
-use sql_tokens::{Token, TokenKind, Tokens, bytes_of, word_of};
+use sql_tokens::{Token, TokenKind, Tokens, bytes_of, inside, is_symbol, says};
 use std::marker::Model;
 
 /// The tokens of a statement that are left, without comments and without one `;` at the end. A contract sees them as a
@@ -51,17 +51,6 @@ impl<'a> Statement<'a> {
             None => false,
         }
     }
-
-    // Whether no token is before the next comma of this text, by what is next.
-    pub(crate) fn is_at_comma(&self, text: &[u8]) -> bool
-        ensures comma { result ≡ true → before_comma text.now self.now ≡ [] }
-        ensures other { result ≡ false → begins_with_comma text.now self.now ≡ false }
-    {
-        match &self.ahead {
-            Some(token) => is_symbol(text, token, b','),
-            None => false,
-        }
-    }
 }
 
 impl<'a> Iterator for Statement<'a> {
@@ -93,50 +82,11 @@ fn next_counting(tokens: &mut Tokens) -> Option<Token>
     None
 }
 
-/// Whether two texts are one without regard to ASCII case. Takes no memory.
-pub fn same_text(a: &[u8], b: &[u8]) -> bool
-    ensures { result ≡ same_text a.now b.now }
-{
-    a.eq_ignore_ascii_case(b)
-}
-
-/// Whether a token of this text is this word, in any ASCII case, in backticks or not. Takes no memory.
-pub fn says(text: &[u8], token: &Token, word: &[u8]) -> bool
-    ensures { result ≡ says text.now token.now word.now }
-{
-    match word_of(text, token) {
-        Some(named) => same_text(named, word),
-        None => false,
-    }
-}
-
-/// Whether a token of this text is this one byte. Takes no memory.
-pub fn is_symbol(text: &[u8], token: &Token, byte: u8) -> bool
-    ensures { result ≡ is_symbol text.now token.now byte }
-{
-    token.kind == TokenKind::Symbol && bytes_of(text, token) == [byte].as_slice()
-}
-
 // SESSION or LOCAL, which are one.
 pub(crate) fn is_session_word(text: &[u8], token: &Token) -> bool
     ensures { result ≡ is_session_word text.now token.now }
 {
     says(text, token, b"SESSION") || says(text, token, b"LOCAL")
-}
-
-// What follows so many bytes.
-pub(crate) fn behind(bytes: &[u8], count: usize) -> &[u8]
-    ensures { result.now ≡ drop count bytes.now }
-{
-    &bytes[count.min(bytes.len())..]
-}
-
-// What stands between the first byte and the last one.
-pub(crate) fn inside(bytes: &[u8]) -> &[u8]
-    ensures { result.now ≡ inside bytes.now }
-{
-    let end = bytes.len().saturating_sub(1);
-    &bytes[end.min(1)..end]
 }
 
 // What a word, a name in backticks or a quoted text stands for.

@@ -8,7 +8,7 @@ use mx_base::{Bytes, OutOfMemory};
 use std::alloc::Global;
 
 /// The statements that make changes: SET NAMES, and SET SESSION for the rest, each where it has anything to set.
-#[derive(Debug, PartialEq, Eq, Drop)]
+#[derive(Drop)]
 pub struct SetTexts {
     pub names: Option<Bytes>,
     pub session: Option<Bytes>,

@@ -1,12 +1,12 @@
 // SET SESSION TRANSACTION, behind these words.
-ghost use Rattle.std.specs.Prelude.{◌≡◌};
+ghost use Rattle.std.specs.Prelude.{◌≡◌, ◌∷◌, []};
+ghost use Rattle.std.specs.Option.{option_to_list};
 ghost use Rattle.session_vars.specs.Scopes.{server_set};
 ghost use Rattle.session_vars.specs.Transactions.{slot_of, value_of, access_mode, isolation_level, mode_of};
 
 use crate::Slot;
 use crate::set_tokens::SetTokens;
-use crate::statement::says;
-use sql_tokens::Token;
+use sql_tokens::{Token, says};
 
 // What SET SESSION TRANSACTION gives the session's transactions.
 #[derive(Clone, Copy)]
@@ -73,6 +73,39 @@ fn isolation_level(text: &[u8], first: &Token, second: &Token) -> Option<Mode>
     }
 }
 
+// READ ONLY or READ WRITE.
+#[tactic(auto, unfolding(crate::specs::Transactions::mode_of))]
+fn two_words(text: &[u8], first: &Token, second: &Token) -> Option<Mode>
+    ensures { result ≡ mode_of text.now (first.now ∷ second.now ∷ []) }
+{
+    if says(text, first, b"READ") {
+        access_mode(text, second)
+    } else {
+        None
+    }
+}
+
+// ISOLATION LEVEL and a level of one word or two.
+#[tactic(auto, unfolding(crate::specs::Transactions::mode_of))]
+fn more_words(
+    text: &[u8],
+    first: &Token,
+    second: &Token,
+    third: &Token,
+    fourth: Option<Token>,
+) -> Option<Mode>
+    ensures { result ≡ mode_of text.now (first.now ∷ second.now ∷ third.now ∷ option_to_list fourth) }
+{
+    if !says(text, first, b"ISOLATION") || !says(text, second, b"LEVEL") {
+        return None;
+    }
+    match fourth {
+        Some(fourth) => isolation_level(text, third, &fourth),
+        None if says(text, third, b"SERIALIZABLE") => Some(Mode::Serializable),
+        None => None,
+    }
+}
+
 // `READ ONLY`, `READ WRITE`, or `ISOLATION LEVEL` and a level, and nothing behind.
 #[tactic(auto, unfolding(crate::specs::Transactions::mode_of))]
 pub(crate) fn mode_of(text: &[u8], tokens: &mut SetTokens) -> Option<Mode>
@@ -82,21 +115,11 @@ pub(crate) fn mode_of(text: &[u8], tokens: &mut SetTokens) -> Option<Mode>
     let first = tokens.next(text)?;
     let second = tokens.next(text)?;
     let Some(third) = tokens.next(text) else {
-        if says(text, &first, b"READ") {
-            return access_mode(text, &second);
-        }
-        return None;
+        return two_words(text, &first, &second);
     };
     let fourth = tokens.next(text);
-    if tokens.next(text).is_some()
-        || !says(text, &first, b"ISOLATION")
-        || !says(text, &second, b"LEVEL")
-    {
+    if tokens.next(text).is_some() {
         return None;
     }
-    match fourth {
-        Some(fourth) => isolation_level(text, &third, &fourth),
-        None if says(text, &third, b"SERIALIZABLE") => Some(Mode::Serializable),
-        None => None,
-    }
+    more_words(text, &first, &second, &third, fourth)
 }

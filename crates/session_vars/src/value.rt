@@ -4,10 +4,9 @@ ghost use Rattle.std.specs.List.{list_all, prefix_len, suffix_len};
 ghost use Rattle.sql_tokens.specs.Words.{inside};
 ghost use Rattle.session_vars.specs.Values.{kept, is_plain_byte, is_default, plain_value, is_character_set, is_reading_mode, is_blank, without_last_blanks, without_blanks, has_reading_mode, may_be_results, may_be_modes, may_be, value_of, takes_numbers, negative_value};
 
-use crate::statement::{behind, inside, same_text};
 use crate::{Slot, SlotValue};
 use mx_base::{Bytes, OutOfMemory};
-use sql_tokens::TokenKind;
+use sql_tokens::{TokenKind, behind, inside, is_one_of, same_text};
 use std::alloc::Global;
 
 // The bytes of the longest value that is kept.
@@ -74,31 +73,32 @@ fn plain_value(
 }
 
 // The character sets that SET NAMES and character_set_results may name.
-#[tactic(auto, unfolding(crate::specs::Values::is_character_set))]
+static CHARACTER_SETS: [&[u8]; 6] = [
+    b"latin1", b"ascii", b"utf8", b"utf8mb3", b"utf8mb4", b"binary",
+];
+
 pub(crate) fn is_character_set(word: &[u8]) -> bool
     ensures { result ≡ is_character_set word.now }
 {
-    same_text(word, b"latin1")
-        || same_text(word, b"ascii")
-        || same_text(word, b"utf8")
-        || same_text(word, b"utf8mb3")
-        || same_text(word, b"utf8mb4")
-        || same_text(word, b"binary")
+    is_one_of(word, &CHARACTER_SETS)
 }
 
 // The modes that change where tokens begin and end, and those that hold one of them.
-#[tactic(auto, unfolding(crate::specs::Values::is_reading_mode))]
+static READING_MODES: [&[u8]; 8] = [
+    b"ANSI",
+    b"ANSI_QUOTES",
+    b"NO_BACKSLASH_ESCAPES",
+    b"DB2",
+    b"MAXDB",
+    b"MSSQL",
+    b"ORACLE",
+    b"POSTGRESQL",
+];
+
 fn is_reading_mode(mode: &[u8]) -> bool
     ensures { result ≡ is_reading_mode mode.now }
 {
-    same_text(mode, b"ANSI")
-        || same_text(mode, b"ANSI_QUOTES")
-        || same_text(mode, b"NO_BACKSLASH_ESCAPES")
-        || same_text(mode, b"DB2")
-        || same_text(mode, b"MAXDB")
-        || same_text(mode, b"MSSQL")
-        || same_text(mode, b"ORACLE")
-        || same_text(mode, b"POSTGRESQL")
+    is_one_of(mode, &READING_MODES)
 }
 
 fn first_blanks(bytes: &[u8]) -> usize

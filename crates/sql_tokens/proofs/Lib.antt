@@ -1,5 +1,5 @@
 pub mod Ends
-pub mod Inside
+pub mod Insides
 pub mod Lengths
 pub mod LongestNumbers
 pub mod OneList

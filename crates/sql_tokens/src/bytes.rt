@@ -11,8 +11,8 @@ pub(crate) fn has_byte(bytes: &[u8], place: usize, byte: u8) -> bool
     place < bytes.len() && bytes[place] == byte
 }
 
-// What follows so many bytes.
-pub(crate) fn behind(bytes: &[u8], count: usize) -> &[u8]
+/// What follows so many bytes. Takes no memory.
+pub fn behind(bytes: &[u8], count: usize) -> &[u8]
     ensures rest { result.now ≡ drop count bytes.now }
     ensures small { length bytes.now < 2 ^ 64 }
 {

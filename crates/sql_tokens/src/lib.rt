@@ -12,10 +12,8 @@ mod tokens;
 mod variable;
 mod word;
 
+pub use bytes::behind;
 pub use laws::{block_end, closing_quote, longest_number, one_token_list};
 pub use token::{Token, TokenKind};
 pub use tokens::Tokens;
-pub use word::{bytes_of, same_word, word_of};
-
-#[cfg(test)]
-mod tests;
+pub use word::{bytes_of, inside, is_one_of, is_symbol, is_word, same_text, says, word_of};

@@ -27,7 +27,7 @@ pub enum TokenKind {
 }
 
 /// A token of a text. Its places count the text's bytes from 0.
-#[derive(Clone, Copy, Debug, PartialEq, Eq)]
+#[derive(Clone, Copy)]
 pub struct Token {
     pub kind: TokenKind,
     /// The place of its first byte.

@@ -2,7 +2,7 @@ use Rattle.std.proofs.Common.{nat_eq, rules}
 use Rattle.std.proofs.lemmas.Iterator.Search.{any_from_yields_List}
 use Rattle.std.proofs.lemmas.Iterator.Splits.{YieldsList-from_slice_split}
 use borrow.Author.Tests.{tests}
-use Rattle.session_vars.specs.Statement.{same_text}
+use Rattle.sql_tokens.specs.Words.{same_text}
 use Rattle.pin_classifier.specs.Statement.{has_part}
 use Rattle.pin_classifier.proofs.words.has_part.Goals as goal
 

@@ -1,6 +1,6 @@
 use Rattle.std.proofs.Common.{sym, ◌∙◌, ap}
 use Rattle.session_vars.specs.Transactions.{mode_changes}
-use Rattle.session_vars.proofs.Dispatch.{ok_is, mode_alone, scoped_alone}
+use Rattle.session_vars.proofs.Dispatch.{ok_is, mode_alone, scope_no_comma, scoped_alone}
 use Rattle.session_vars.proofs.read.scoped_changes.Goals as goal
 
 pub returns-then-begins_with-clause-changes : goal.returns-then-begins_with-clause-changes
@@ -11,4 +11,7 @@ returns-then-begins_with-clause-changes c =
     ok_is c.mode_changes.result _ _ (ap mode_changes c.mode_of.ensures.mode ∙ sym alone) c.mode_changes.ensures
 
 pub returns-else-begins_with-clause-changes : goal.returns-else-begins_with-clause-changes
-returns-else-begins_with-clause-changes c = scoped_alone c.args.text.now c.args.tokens.now.left c.next-scope.new.self.left c.next-scope.result c.assignments_behind_scope.result c.requires c.next-scope.ensures.token (sym c.begins_with.ensures ∙ c.if-begins_with.false) c.assignments_behind_scope.ensures.changes
+returns-else-begins_with-clause-changes c = scoped_alone c.args.text.now c.args.tokens.now.left c.next-scope.new.self.left c.next-scope.result c.assignments.result c.requires c.next-scope.ensures.token (sym c.begins_with.ensures ∙ c.if-begins_with.false) c.assignments.ensures.changes
+
+pub assignments-requires : goal.assignments-requires
+assignments-requires c = scope_no_comma c.args.text.now c.args.tokens.now.left c.next-scope.new.self.left c.next-scope.result c.requires c.next-scope.ensures.token

@@ -1,4 +1,4 @@
-use Rattle.sql_tokens.proofs.Inside.{block_ends, block_is}
+use Rattle.sql_tokens.proofs.Insides.{block_ends, block_is}
 use Rattle.sql_tokens.proofs.laws.block_end.Goals as goal
 
 pub returns-clause-found : goal.returns-clause-found

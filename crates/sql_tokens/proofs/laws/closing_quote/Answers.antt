@@ -1,4 +1,4 @@
-use Rattle.sql_tokens.proofs.Inside.{closing_closes, closing_is}
+use Rattle.sql_tokens.proofs.Insides.{closing_closes, closing_is}
 use Rattle.sql_tokens.proofs.laws.closing_quote.Goals as goal
 
 pub returns-clause-found : goal.returns-clause-found

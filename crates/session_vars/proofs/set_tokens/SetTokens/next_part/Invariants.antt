@@ -1,0 +1,17 @@
+use Rattle.std.proofs.Common.{◌≡◌, ◌≤◌, ◌++◌, take, length}
+use Rattle.session_vars.specs.Scopes.{server_set}
+use Rattle.session_vars.specs.Statement.{before_comma, behind_comma}
+use Rattle.session_vars.proofs.set_tokens.SetTokens.next_part.Given as goal
+
+-- with the tokens that are left before the comma, the same are kept
+abbrev pub invariant-tokens : goal.invariant-tokens
+invariant-tokens l = record {
+  kept : take 7 (l.part.items ++ before_comma l.text l.self.left) ≡ take 7 (l.fn.part.items ++ before_comma l.text l.fn.self.left);
+  short : length l.part.items ≤ 7;
+  rest : behind_comma l.text l.self.left ≡ behind_comma l.text l.fn.self.left;
+  shorter : length l.self.left ≤ length l.fn.self.left;
+  scope : server_set l.text l.self ≡ server_set l.text l.fn.self;
+}
+
+abbrev pub decreases-tokens : goal.decreases-tokens
+decreases-tokens l = length l.self.left
