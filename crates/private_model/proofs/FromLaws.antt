@@ -12,7 +12,7 @@ use Rattle.server_rule.specs.Servers as server
 use Rattle.server_rule.specs.declared.command.Cmd.TheVariants as cmd
 use Rattle.server_rule.specs.declared.session.Session.{Session}
 use Rattle.server_rule.proofs.Ends.{Shows, nothing_shows, shown_end}
-use Rattle.private_model.specs.Commands.{Command, Query, InitDb, FieldList, SetId, ReadId, Prepare, Run, Reset, Quit, Outcome, account_of, brings_id, class_of, cmd_of, end_of, flags, hides_of, is_err, is_ok, outcome_of, outcome_with_id, runs}
+use Rattle.private_model.specs.Commands.{Number, Command, Query, InitDb, FieldList, SetId, ReadId, Prepare, Run, Reset, Quit, Outcome, account_of, brings_id, class_of, cmd_of, end_of, flags, hides_of, is_err, is_ok, outcome_of, outcome_with_id, runs}
 use Rattle.private_model.proofs.Tame.{ResetLaw, Tame, is_flagged, is_text}
 use Rattle.private_model.proofs.Sessions.{apart, bool_cases}
 
@@ -94,10 +94,10 @@ module _ (reads : Reads) (tests : Tests) (rule : server.Step) (tame : IsTame rea
 
   -- the session after the text that sets the insert id, but for that and the diagnostics
   set_leaves : {A : Type 0} (f : Session → A) → ((n : ℕ) (diag : List ℕ) (x : Session) → f (with_diag diag (with_id n x)) ≡ f x) → ((diag : List ℕ) (x : Session) → f (with_diag diag x) ≡ f x)
-      → (stored : List ℕ) (s : Session) → Accepts tests stored s → (n : ℕ) → f (step stored s (SetId n)).session ≡ f s
+      → (stored : List ℕ) (s : Session) → Accepts tests stored s → (n : Number) → f (step stored s (SetId n)).session ≡ f s
   set_leaves f set refused stored s ok n = elim (bool_cases (is_ok (step stored s (SetId n)).reply)) [
-    | inl done ↦ ap f (tame.insert_id.set_done stored s ok n done) ∙ set n _ s
-    | inr not_done ↦ ap f (tame.insert_id.set_refused stored s ok n not_done) ∙ refused _ s
+    | inl done ↦ ap f (tame.insert_id.set_done stored s ok n.value n.fits done) ∙ set n.value _ s
+    | inr not_done ↦ ap f (tame.insert_id.set_refused stored s ok n.value n.fits not_done) ∙ refused _ s
   ]
 
   -- the schema and the settings after a text
@@ -198,7 +198,7 @@ module _ (reads : Reads) (tests : Tests) (rule : server.Step) (tame : IsTame rea
   diag_law stored s ok (Run text schema settings args) diag there e = ap (outcome_of (Run text schema settings args)) (tame.blind.diag stored s ok (cmd_of (Run text schema settings args)) diag there e)
   diag_law stored s ok (InitDb schema) diag there e = ap (outcome_of (InitDb schema)) (tame.blind.diag stored s ok (cmd.InitDb schema) diag there refl)
   diag_law stored s ok (FieldList rest) diag there e = ap (outcome_of (FieldList rest)) (tame.blind.diag stored s ok (cmd.FieldList rest) diag there refl)
-  diag_law stored s ok (SetId n) diag there e = ap (outcome_of (SetId n)) (tame.insert_id.set_blind stored s ok n diag there)
+  diag_law stored s ok (SetId n) diag there e = ap (outcome_of (SetId n)) (tame.insert_id.set_blind stored s ok n.value n.fits diag there)
   diag_law stored s ok ReadId diag there e = ap (outcome_of ReadId) (tame.insert_id.read_blind stored s ok diag there)
   diag_law stored s ok (Prepare text) diag there e = ap (outcome_of (Prepare text)) (tame.blind.diag stored s ok (cmd.Prepare text) diag there refl)
   diag_law stored s ok Reset diag there e = apart refl e
@@ -284,11 +284,11 @@ module _ (reads : Reads) (tests : Tests) (rule : server.Step) (tame : IsTame rea
     blind = record { diag = diag_law; last_id = id_law };
     id = record {
       kept = id_kept;
-      set_stored = tame.insert_id.set_stored;
-      set_done = tame.insert_id.set_done;
-      set_refused = tame.insert_id.set_refused;
-      set_reply = λ stored s ok n k. ap (λ x. record { to_prepare = false; payloads = x }) (tame.insert_id.set_reply stored s ok n k);
-      set_diag = tame.insert_id.set_diag;
+      set_stored = λ stored s ok n. tame.insert_id.set_stored stored s ok n.value n.fits;
+      set_done = λ stored s ok n. tame.insert_id.set_done stored s ok n.value n.fits;
+      set_refused = λ stored s ok n. tame.insert_id.set_refused stored s ok n.value n.fits;
+      set_reply = λ stored s ok n k. ap (λ x. record { to_prepare = false; payloads = x }) (tame.insert_id.set_reply stored s ok n.value k n.fits);
+      set_diag = λ stored s ok n k. tame.insert_id.set_diag stored s ok n.value k n.fits;
       read_stored = tame.insert_id.read_stored;
       read_session = tame.insert_id.read_session;
       read_row = tame.insert_id.read_row;

@@ -6,7 +6,7 @@ use Rattle.private_model.proofs.Pairs.{IsAlikeAfter, alike_after, alike_set, res
 use Rattle.private_model.proofs.Sessions.{apart, follows_after, follows_reset, is_empty, knows_after, or_left, or_right, plain_suits, read_knows, refused_reply, suits_after, suits_reset, suits_step, unpinned_harmless}
 use Rattle.private_model.proofs.Stands.{Follows, IfAlive, IsFree, IsJoined, IsPlain, IsTogether, Knows, Suits}
 use Rattle.private_model.proofs.Tame.{Tame}
-use Rattle.private_model.specs.Commands.{Account, Args, Command, FieldList, InitDb, Prepare, Query, Quit, ReadId, Reply, Reset, Run, SetId, Step, account_of, brings_id, class_of, end_of, flags, id_after, is_err, is_marked, is_ok, pin_statement}
+use Rattle.private_model.specs.Commands.{Number, Account, Args, Command, FieldList, InitDb, Prepare, Query, Quit, ReadId, Reply, Reset, Run, SetId, Step, account_of, brings_id, class_of, end_of, flags, id_after, is_err, is_marked, is_ok, pin_statement}
 use Rattle.private_model.specs.Lawful.{Begins, GoesOn, IsOwnStep, IsStepOf, is_statement}
 use Rattle.private_model.specs.Story.{Due}
 use Rattle.private_model.specs.View.{Setup, is_quit, is_reset, told_after}
@@ -325,11 +325,11 @@ module _ (reads : Reads) (step : Step) (tests : Tests) (tame : Tame reads tests 
   calm_by pin true suits calm fine = inl (is_empty p.tx (suits.tx fine ∙ calm refl))
   calm_by pin false suits calm fine = inr refl
 
-  set_tx : (k : ℕ) (ok : Bool) → is_ok (step stored p (SetId k)).reply ≡ ok → (step stored p (SetId k)).session.tx ≡ p.tx
+  set_tx : (k : Number) (ok : Bool) → is_ok (step stored p (SetId k)).reply ≡ ok → (step stored p (SetId k)).session.tx ≡ p.tx
   set_tx k true is = ap (λ (x : Session). x.tx) (tame.id.set_done stored p ok_p k is)
   set_tx k false is = ap (λ (x : Session). x.tx) (tame.id.set_refused stored p ok_p k is)
 
-  set_unknown : (k : ℕ) (ok : Bool) (id : Option ℕ) → id ≡ Some k → (marked : Bool) → (if ok then Some k else id) ≡ None → marked ≡ true
+  set_unknown : (k : Number) (ok : Bool) (id : Option ℕ) → id ≡ Some k.value → (marked : Bool) → (if ok then Some k.value else id) ≡ None → marked ≡ true
   set_unknown k true id known marked e = cc
   set_unknown k false id known marked e = cc
 
@@ -444,7 +444,7 @@ module _ (reads : Reads) (step : Step) (tests : Tests) (tame : Tame reads tests 
   own_calm ReadId fits plain = absurd fits
   own_calm Reset fits plain = absurd fits
 
-  own_set_tx : (k : ℕ) (ok : Bool) → is_ok (step stored s (SetId k)).reply ≡ ok → (step stored s (SetId k)).session.tx ≡ s.tx
+  own_set_tx : (k : Number) (ok : Bool) → is_ok (step stored s (SetId k)).reply ≡ ok → (step stored s (SetId k)).session.tx ≡ s.tx
   own_set_tx k true is = ap (λ (x : Session). x.tx) (tame.id.set_done stored s ok k is)
   own_set_tx k false is = ap (λ (x : Session). x.tx) (tame.id.set_refused stored s ok k is)
 

@@ -3,7 +3,7 @@ use Rattle.std.specs.Prelude.{◌≡◌, ℕ, Bool, true, false, List}
 use Rattle.std.proofs.Common.{refl, sym, ap, ◌∙◌, subst, inl, inr}
 use Rattle.private_model.proofs.Sessions.{apart, bool_cases, id_stays}
 use Rattle.private_model.proofs.Tame.{Tame}
-use Rattle.private_model.specs.Commands.{Command, Outcome, Quit, Reset, SetId, Step, account_of, class_of, fresh_of, is_ok, outcome_with_id}
+use Rattle.private_model.specs.Commands.{Number, Command, Outcome, Quit, Reset, SetId, Step, account_of, class_of, fresh_of, is_ok, outcome_with_id}
 use Rattle.server_rule.specs.Classes.{Reads}
 use Rattle.server_rule.specs.Servers.{Accepts, Tests, with_diag, with_id}
 use Rattle.server_rule.specs.declared.session.Session.{Session}
@@ -47,15 +47,15 @@ module _ (reads : Reads) (step : Step) (tests : Tests) (tame : Tame reads tests 
         }
   ]
 
-  set_go : (k : ℕ) (ok : Bool) → is_ok (step stored s (SetId k)).reply ≡ ok → is_ok (step stored p (SetId k)).reply ≡ ok
+  set_go : (k : Number) (ok : Bool) → is_ok (step stored s (SetId k)).reply ≡ ok → is_ok (step stored p (SetId k)).reply ≡ ok
       → (step stored p (SetId k)).session.diag ≡ (step stored s (SetId k)).session.diag
       → ((step stored p (SetId k)).session ≡ with_diag (step stored p (SetId k)).session.diag (with_id (step stored p (SetId k)).session.last_id (step stored s (SetId k)).session))
       × (p.last_id ≡ s.last_id → (step stored p (SetId k)).session.last_id ≡ (step stored s (SetId k)).session.last_id)
   set_go k true real private diag =
-      let a : (step stored p (SetId k)).session ≡ with_diag (step stored p (SetId k)).session.diag (with_id k s) =
-      tame.id.set_done stored p ok_p k private ∙ ap (λ x. with_diag (step stored p (SetId k)).session.diag (with_id k x)) rest in
-      let b : (step stored s (SetId k)).session ≡ with_diag (step stored s (SetId k)).session.diag (with_id k s) = tame.id.set_done stored s ok k real in
-      let same : (step stored p (SetId k)).session ≡ (step stored s (SetId k)).session = a ∙ ap (λ d. with_diag d (with_id k s)) diag ∙ sym b in
+      let a : (step stored p (SetId k)).session ≡ with_diag (step stored p (SetId k)).session.diag (with_id k.value s) =
+      tame.id.set_done stored p ok_p k private ∙ ap (λ x. with_diag (step stored p (SetId k)).session.diag (with_id k.value x)) rest in
+      let b : (step stored s (SetId k)).session ≡ with_diag (step stored s (SetId k)).session.diag (with_id k.value s) = tame.id.set_done stored s ok k real in
+      let same : (step stored p (SetId k)).session ≡ (step stored s (SetId k)).session = a ∙ ap (λ d. with_diag d (with_id k.value s)) diag ∙ sym b in
       (same_rest (step stored p (SetId k)).session (step stored s (SetId k)).session same, λ e. ap (λ (x : Session). x.last_id) same)
     where
       same_rest : (x y : Session) → x ≡ y → x ≡ with_diag x.diag (with_id x.last_id y)
@@ -69,7 +69,7 @@ module _ (reads : Reads) (step : Step) (tests : Tests) (tame : Tame reads tests 
       (a ∙ ap (λ x. with_diag d x) rest ∙ ap (λ i. with_diag d (with_id i s)) (sym n) ∙ ap (λ x. with_diag d (with_id (step stored p (SetId k)).session.last_id x)) (sym b), λ e. n ∙ e ∙ sym m)
 
   -- a step that sets the insert id
-  pub alike_set : (k : ℕ) → IsAlikeAfter (p.last_id ≡ s.last_id) (step stored p (SetId k)) (step stored s (SetId k))
+  pub alike_set : (k : Number) → IsAlikeAfter (p.last_id ≡ s.last_id) (step stored p (SetId k)) (step stored s (SetId k))
   alike_set k =
       let e : step stored p (SetId k) ≡ step stored (with_id p.last_id s) (SetId k) = blind (SetId k) (λ t. apart t refl) in
       let reply : (step stored p (SetId k)).reply ≡ (step stored s (SetId k)).reply = ap (λ (o : Outcome). o.reply) e ∙ tame.id.set_reply stored s ok k p.last_id in

@@ -4,7 +4,7 @@ use Rattle.std.proofs.Common.{refl, sym, ap, ◌∙◌, subst, inl, inr}
 use Rattle.server_rule.proofs.Ends.{IsSilent, Shows, refused_end}
 use Rattle.private_model.proofs.Stands.{Follows, IsPlain, Knows, Suits}
 use Rattle.private_model.proofs.Tame.{Tame, is_flagged, is_text}
-use Rattle.private_model.specs.Commands.{Command, FieldList, InitDb, Prepare, Query, Quit, ReadId, Reply, Reset, Run, SetId, Step, brings_id, class_of, end_of, flags, hides_of, id_after, id_read, id_read_by, is_err, is_ok}
+use Rattle.private_model.specs.Commands.{Number, Command, FieldList, InitDb, Prepare, Query, Quit, ReadId, Reply, Reset, Run, SetId, Step, brings_id, class_of, end_of, flags, hides_of, id_after, id_read, id_read_by, is_err, is_ok}
 use Rattle.private_model.specs.View.{is_reset, told_after, told_schema}
 use Rattle.server_rule.specs.Classes.{Reads}
 use Rattle.server_rule.specs.Replies.{one_number}
@@ -192,7 +192,7 @@ module _ (reads : Reads) (step : Step) (tests : Tests) (tame : Tame reads tests 
   text_knows c text true false false true m d h b id before n e = cc
   text_knows c text true false false false m d h b id before n e = tame.id.kept stored s ok c text d h b ∙ before.is n e
 
-  set_knows : (k : ℕ) (ok : Bool) → is_ok (step stored s (SetId k)).reply ≡ ok → (id : Option ℕ) → Knows id s → (n : ℕ) → (if ok then Some k else id) ≡ Some n → (step stored s (SetId k)).session.last_id ≡ n
+  set_knows : (k : Number) (ok : Bool) → is_ok (step stored s (SetId k)).reply ≡ ok → (id : Option ℕ) → Knows id s → (n : ℕ) → (if ok then Some k.value else id) ≡ Some n → (step stored s (SetId k)).session.last_id ≡ n
   set_knows k true is id before n e = let set = ap (λ (x : Session). x.last_id) (tame.id.set_done stored s ok k is) in cc
   set_knows k false is id before n e = ap (λ (x : Session). x.last_id) (tame.id.set_refused stored s ok k is) ∙ before.is n e
 

@@ -1,7 +1,7 @@
 -- The laws of a tame server, told of the router's commands: what the proof uses of them.
 use Rattle.std.specs.Prelude.{◌≡◌, ◌⊎◌, ℕ, Bool, true, false, List, [], Some}
 use Rattle.server_rule.proofs.Ends.{Shows}
-use Rattle.private_model.specs.Commands.{Args, Command, FieldList, Prepare, Query, Quit, ReadId, Reset, Run, SetId, Step, account_of, brings_id, class_of, end_of, flags, fresh_of, hides_of, is_err, is_ok, outcome_with_id}
+use Rattle.private_model.specs.Commands.{Number, Args, Command, FieldList, Prepare, Query, Quit, ReadId, Reset, Run, SetId, Step, account_of, brings_id, class_of, end_of, flags, fresh_of, hides_of, is_err, is_ok, outcome_with_id}
 use Rattle.server_rule.specs.Classes.{Reads, core}
 use Rattle.server_rule.specs.Replies.{one_number}
 use Rattle.server_rule.specs.Servers.{Accepts, Tests, is_brief, is_some_of, with_diag, with_id}
@@ -59,11 +59,11 @@ pub record PrepareLaw (reads : Reads) (tests : Tests) (step : Step) : Type 0 whe
 -- When the insert id changes, and the two texts that set and read it.
 pub record IdLaw (reads : Reads) (tests : Tests) (step : Step) : Type 0 where
   pub kept : (stored : List ℕ) (s : Session) → Accepts tests stored s → (c : Command) → is_text c ≡ true → (class_of reads c).deep ≡ false → hides_of reads c ≡ false → brings_id (step stored s c).reply ≡ false → (step stored s c).session.last_id ≡ s.last_id
-  pub set_stored : (stored : List ℕ) (s : Session) → Accepts tests stored s → (n : ℕ) → (step stored s (SetId n)).stored ≡ stored
-  pub set_done : (stored : List ℕ) (s : Session) → Accepts tests stored s → (n : ℕ) → is_ok (step stored s (SetId n)).reply ≡ true → (step stored s (SetId n)).session ≡ with_diag (step stored s (SetId n)).session.diag (with_id n s)
-  pub set_refused : (stored : List ℕ) (s : Session) → Accepts tests stored s → (n : ℕ) → is_ok (step stored s (SetId n)).reply ≡ false → (step stored s (SetId n)).session ≡ with_diag (step stored s (SetId n)).session.diag s
-  pub set_reply : (stored : List ℕ) (s : Session) → Accepts tests stored s → (n k : ℕ) → (step stored (with_id k s) (SetId n)).reply ≡ (step stored s (SetId n)).reply
-  pub set_diag : (stored : List ℕ) (s : Session) → Accepts tests stored s → (n k : ℕ) → (step stored (with_id k s) (SetId n)).session.diag ≡ (step stored s (SetId n)).session.diag
+  pub set_stored : (stored : List ℕ) (s : Session) → Accepts tests stored s → (n : Number) → (step stored s (SetId n)).stored ≡ stored
+  pub set_done : (stored : List ℕ) (s : Session) → Accepts tests stored s → (n : Number) → is_ok (step stored s (SetId n)).reply ≡ true → (step stored s (SetId n)).session ≡ with_diag (step stored s (SetId n)).session.diag (with_id n.value s)
+  pub set_refused : (stored : List ℕ) (s : Session) → Accepts tests stored s → (n : Number) → is_ok (step stored s (SetId n)).reply ≡ false → (step stored s (SetId n)).session ≡ with_diag (step stored s (SetId n)).session.diag s
+  pub set_reply : (stored : List ℕ) (s : Session) → Accepts tests stored s → (n : Number) (k : ℕ) → (step stored (with_id k s) (SetId n)).reply ≡ (step stored s (SetId n)).reply
+  pub set_diag : (stored : List ℕ) (s : Session) → Accepts tests stored s → (n : Number) (k : ℕ) → (step stored (with_id k s) (SetId n)).session.diag ≡ (step stored s (SetId n)).session.diag
   pub read_stored : (stored : List ℕ) (s : Session) → Accepts tests stored s → (step stored s ReadId).stored ≡ stored
   pub read_session : (stored : List ℕ) (s : Session) → Accepts tests stored s → (step stored s ReadId).session ≡ with_diag (step stored s ReadId).session.diag s
   pub read_row : (stored : List ℕ) (s : Session) → Accepts tests stored s → (is_err (step stored s ReadId).reply ≡ true) ⊎ (one_number (step stored s ReadId).reply.payloads ≡ Some s.last_id)

@@ -1,5 +1,5 @@
 -- What the router asks of a server, and what comes back.
-use Rattle.std.specs.Prelude.{ℕ, Bool, true, false, not, List, Option, Some, None}
+use Rattle.std.specs.Prelude.{◌<◌, ◌^◌, ℕ, Bool, true, false, not, List, Option, Some, None}
 use Rattle.std.specs.Prelude.{if◌then◌else◌}
 use Rattle.session_state.specs.Endings as ending
 use Rattle.pin_classifier.specs.declared.class.Locking.TheVariants as locking
@@ -40,13 +40,18 @@ pub record Args : Type 0 where
   pub values : List ℕ
   pub long : List LongPart
 
+-- a number of 64 bits
+pub record Number : Type 0 where
+  pub value : ℕ
+  pub fits : value < 2 ^ 64
+
 -- A Run is of a prepared text, with the schema and the settings of its preparation. SetId is the text that sets the insert
 -- id, ReadId the one that reads it.
 pub data Command : Type 0 where
   Query : (text : List ℕ) → Command
   InitDb : (schema : List ℕ) → Command
   FieldList : (rest : List ℕ) → Command
-  SetId : ℕ → Command
+  SetId : Number → Command
   ReadId : Command
   Prepare : (text : List ℕ) → Command
   Run : (text schema : List ℕ) → (settings : List SlotValue) → Args → Command
@@ -58,7 +63,7 @@ abbrev pub cmd_of : Command → Cmd
 cmd_of (Query text) = cmd.Query text
 cmd_of (InitDb schema) = cmd.InitDb schema
 cmd_of (FieldList rest) = cmd.FieldList rest
-cmd_of (SetId n) = cmd.Query (set_id_text n)
+cmd_of (SetId n) = cmd.Query (set_id_text n.value)
 cmd_of ReadId = cmd.Query read_id_text
 cmd_of (Prepare text) = cmd.Prepare text
 cmd_of (Run text schema settings args) = cmd.Run text schema settings args.types args.nulls args.values args.long
@@ -160,7 +165,7 @@ id_after reads (Run text schema settings args) reply old = id_after_text (reads.
 id_after reads (Prepare text) reply old = id_prepared (reads.class text) (end_of reply) old
 id_after reads (InitDb schema) reply old = old
 id_after reads (FieldList rest) reply old = old
-id_after reads (SetId n) reply old = if is_ok reply then Some n else old
+id_after reads (SetId n) reply old = if is_ok reply then Some n.value else old
 id_after reads ReadId reply old = id_read reply old
 id_after reads Reset reply old = Some 0
 id_after reads Quit reply old = None

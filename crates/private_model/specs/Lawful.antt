@@ -127,7 +127,7 @@ pub record IsSet (class : Class) (tx : Bool) : Type 0 where
 abbrev pub IsStepOf : Reads → Command → Pin → (id : Option ℕ) → Type 0
 IsStepOf reads (InitDb schema) pin id = Unit {0}
 IsStepOf reads (Query text) pin id = IsSet (reads.class text) pin.tx
-IsStepOf reads (SetId n) pin id = id ≡ Some n
+IsStepOf reads (SetId n) pin id = id ≡ Some n.value
 IsStepOf reads _ pin id = ⊥
 
 abbrev pub IsOwnStep : Reads → Command → Type 0

@@ -1,6 +1,6 @@
 -- What is asked of a server. Each law is this project's own premise; whoever runs the router judges whether the servers
 -- keep it.
-use Rattle.std.specs.Prelude.{◌≡◌, ◌≢◌, ◌⊎◌, ℕ, Bool, true, false, List, [], ◌∷◌, Option, Some}
+use Rattle.std.specs.Prelude.{◌≡◌, ◌≢◌, ◌⊎◌, ℕ, ◌<◌, ◌^◌, Bool, true, false, List, [], ◌∷◌, Option, Some}
 use Rattle.session_vars.specs.declared.change.Change.{Change}
 use Rattle.session_vars.specs.declared.change.SlotValue.{SlotValue}
 use Rattle.session_vars.specs.declared.long_part.LongPart.{LongPart}
@@ -76,12 +76,12 @@ pub record BlindLaw (reads : Reads) (tests : Tests) (step : Step) : Type 0 where
 -- but the diagnostics, don't look at these, and the first doesn't look at the id before.
 pub record IdLaw (reads : Reads) (tests : Tests) (step : Step) : Type 0 where
   pub kept : (stored : List ℕ) (s : Session) → Accepts tests stored s → (c : Cmd) (text : List ℕ) → text_run c ≡ Some text → (reads.class text).marks_id ≡ true → (reads.class text).deep ≡ false → reads.hides_id text ≡ false → brings_id (reply_end false (step stored s c).reply) ≡ false → (step stored s c).session.last_id ≡ s.last_id
-  pub set_stored : (stored : List ℕ) (s : Session) → Accepts tests stored s → (n : ℕ) → (step stored s (Query (set_id_text n))).stored ≡ stored
-  pub set_done : (stored : List ℕ) (s : Session) → Accepts tests stored s → (n : ℕ) → is_ok (reply_end false (step stored s (Query (set_id_text n))).reply) ≡ true → (step stored s (Query (set_id_text n))).session ≡ with_diag (step stored s (Query (set_id_text n))).session.diag (with_id n s)
-  pub set_refused : (stored : List ℕ) (s : Session) → Accepts tests stored s → (n : ℕ) → is_ok (reply_end false (step stored s (Query (set_id_text n))).reply) ≡ false → (step stored s (Query (set_id_text n))).session ≡ with_diag (step stored s (Query (set_id_text n))).session.diag s
-  pub set_reply : (stored : List ℕ) (s : Session) → Accepts tests stored s → (n k : ℕ) → (step stored (with_id k s) (Query (set_id_text n))).reply ≡ (step stored s (Query (set_id_text n))).reply
-  pub set_diag : (stored : List ℕ) (s : Session) → Accepts tests stored s → (n k : ℕ) → (step stored (with_id k s) (Query (set_id_text n))).session.diag ≡ (step stored s (Query (set_id_text n))).session.diag
-  pub set_blind : (stored : List ℕ) (s : Session) → Accepts tests stored s → (n : ℕ) (diag : List ℕ) → Accepts tests stored (with_diag diag s) → step stored (with_diag diag s) (Query (set_id_text n)) ≡ step stored s (Query (set_id_text n))
+  pub set_stored : (stored : List ℕ) (s : Session) → Accepts tests stored s → (n : ℕ) → n < 2 ^ 64 → (step stored s (Query (set_id_text n))).stored ≡ stored
+  pub set_done : (stored : List ℕ) (s : Session) → Accepts tests stored s → (n : ℕ) → n < 2 ^ 64 → is_ok (reply_end false (step stored s (Query (set_id_text n))).reply) ≡ true → (step stored s (Query (set_id_text n))).session ≡ with_diag (step stored s (Query (set_id_text n))).session.diag (with_id n s)
+  pub set_refused : (stored : List ℕ) (s : Session) → Accepts tests stored s → (n : ℕ) → n < 2 ^ 64 → is_ok (reply_end false (step stored s (Query (set_id_text n))).reply) ≡ false → (step stored s (Query (set_id_text n))).session ≡ with_diag (step stored s (Query (set_id_text n))).session.diag s
+  pub set_reply : (stored : List ℕ) (s : Session) → Accepts tests stored s → (n k : ℕ) → n < 2 ^ 64 → (step stored (with_id k s) (Query (set_id_text n))).reply ≡ (step stored s (Query (set_id_text n))).reply
+  pub set_diag : (stored : List ℕ) (s : Session) → Accepts tests stored s → (n k : ℕ) → n < 2 ^ 64 → (step stored (with_id k s) (Query (set_id_text n))).session.diag ≡ (step stored s (Query (set_id_text n))).session.diag
+  pub set_blind : (stored : List ℕ) (s : Session) → Accepts tests stored s → (n : ℕ) → n < 2 ^ 64 → (diag : List ℕ) → Accepts tests stored (with_diag diag s) → step stored (with_diag diag s) (Query (set_id_text n)) ≡ step stored s (Query (set_id_text n))
   pub read_stored : (stored : List ℕ) (s : Session) → Accepts tests stored s → (step stored s (Query read_id_text)).stored ≡ stored
   pub read_session : (stored : List ℕ) (s : Session) → Accepts tests stored s → (step stored s (Query read_id_text)).session ≡ with_diag (step stored s (Query read_id_text)).session.diag s
   pub read_row : (stored : List ℕ) (s : Session) → Accepts tests stored s → (is_err (reply_end false (step stored s (Query read_id_text)).reply) ≡ true) ⊎ (one_number (step stored s (Query read_id_text)).reply ≡ Some s.last_id)
@@ -114,7 +114,7 @@ pub record IsOkOrErr (payloads : List (List ℕ)) : Type 0 where
 -- Replies: to choose a schema, to set tracked settings and to set the insert id are answered by one OK or one ERR.
 pub record ReplyLaw (reads : Reads) (tests : Tests) (step : Step) : Type 0 where
   pub changes : (stored : List ℕ) (s : Session) → Accepts tests stored s → (c : Cmd) → effect_run reads c ≢ Neither → IsOkOrErr (step stored s c).reply
-  pub set_id : (stored : List ℕ) (s : Session) → Accepts tests stored s → (n : ℕ) → IsOkOrErr (step stored s (Query (set_id_text n))).reply
+  pub set_id : (stored : List ℕ) (s : Session) → Accepts tests stored s → (n : ℕ) → n < 2 ^ 64 → IsOkOrErr (step stored s (Query (set_id_text n))).reply
 
 -- A tame server keeps all of them.
 pub record IsTame (reads : Reads) (tests : Tests) (step : Step) : Type 0 where
