@@ -1,13 +1,13 @@
 -- The law: by induction on the story.
-use Rattle.std.specs.Prelude.{List, ◌≡◌, ℕ, Bool, true, false, [], ◌∷◌, Some, None}
+use Rattle.std.specs.Prelude.{nat_eq, List, ◌≡◌, ℕ, Bool, true, false, [], ◌∷◌, Some, None}
 use Rattle.std.proofs.Common.{refl, sym, ap, ◌∙◌, subst}
 use Rattle.mx_base.specs.declared.names.LinkId.{LinkId}
 use Rattle.mx_base.specs.declared.names.ServerId.{ServerId}
 use Rattle.private_model.proofs.Answering.{are_heard, are_linked, are_ran, are_sent, are_still}
 use Rattle.private_model.proofs.Decoding.{are_decoded, tabled_ran}
 use Rattle.private_model.proofs.Meeting.{mark_of}
-use Rattle.private_model.proofs.Preparing.{Tabled, tabled_dead, tabled_dropped, tabled_freed, tabled_gone, tabled_heard, tabled_login, tabled_sent}
-use Rattle.private_model.proofs.Running.{dropped_so, gone_so, logged_in_so, met_there, ran_so, same_reply, stands_first}
+use Rattle.private_model.proofs.Preparing.{Tabled, tabled_closed, tabled_dead, tabled_dropped, tabled_freed, tabled_gone, tabled_heard, tabled_login, tabled_sent}
+use Rattle.private_model.proofs.Running.{closed_so, dropped_so, gone_so, logged_in_so, met_there, ran_so, same_reply, stands_first}
 use Rattle.private_model.proofs.Sending.{freed_so, heard_so, sent}
 use Rattle.private_model.proofs.Stands.{AreAnswered, AreTabled, Stands, message_on, ran_on}
 use Rattle.private_model.proofs.Tame.{Tame}
@@ -15,9 +15,9 @@ use Rattle.private_model.specs.Commands.{Command, Prepare, Quit, ReadId, Reply, 
 use Rattle.private_model.specs.Headline.{MeetsPrivate}
 use Rattle.private_model.specs.Honest.{IsAccepted, IsAnswer, IsHonest, IsTrueOf}
 use Rattle.private_model.specs.Lawful.{IsLawful, MayCome, MaySend}
-use Rattle.private_model.specs.Story.{BecameDue, Capture, Dropped, End, Freed, Gone, Happening, Heard, Left, LoggedIn, Own, Prep, Question, Ran, Sent, Statement, Story, Sync, is_link_id, message_of, put}
-use Rattle.private_model.specs.View.{Answered, Asked, Carried, Joined, Lent, Link, Nobody, Quiet, Setup, Stage, View, asked, freed, heard, new_link, quieted, ran_by, replies_by, view_after, view_step}
-use Rattle.private_model.specs.Worlds.{Peer, Private, Real, decoded, new_peer, private_after, private_drop, private_prep, private_run, private_step, real_after, real_drop, real_run, real_step, table_after}
+use Rattle.private_model.specs.Story.{BecameDue, Capture, Dropped, End, Freed, Gone, Happening, Heard, Left, LoggedIn, Own, Prep, Question, Ran, Sent, Statement, Story, Sync, Unprepared, is_link_id, message_of, put}
+use Rattle.private_model.specs.View.{Answered, Asked, Carried, Joined, Lent, Link, Nobody, Quiet, Setup, Stage, View, asked, closed_number, freed, heard, new_link, quieted, ran_by, replies_by, view_after, view_step}
+use Rattle.private_model.specs.Worlds.{Peer, Private, Real, decoded, entry_at, new_peer, private_after, private_drop, private_prep, private_run, private_step, real_after, real_drop, real_run, real_step, there_table}
 use Rattle.server_rule.specs.Servers.{Tests}
 use Rattle.session_state.specs.Pins.{is_pinned}
 use Rattle.session_state.specs.declared.names.MessageName.{MessageName}
@@ -25,7 +25,7 @@ use Rattle.session_state.specs.declared.names.SessionName.{SessionName}
 
 -- The data and the sessions.
 
-stands_next : (setup : Setup) (tests : Tests) (step : Step) → Tame setup.reads tests step → (view : View) (real : Real) (private : Private) (e : Happening) → Stands setup tests view real private → Tabled setup view real private → MayCome setup view e → IsTrueOf view real e
+stands_next : (setup : Setup) (tests : Tests) (step : Step) → Tame setup.reads tests step → (view : View) (real : Real) (private : Private) (e : Happening) → Stands setup tests view real private → Tabled setup view real private → MayCome setup view e → IsTrueOf step view real e
     → Stands setup tests (view_step setup view e) (real_step step view real e) (private_step step view private e)
 stands_next setup tests step tame view real private (LoggedIn link server account) stands tabled may honest = logged_in_so setup tests step tame view real private stands link server account
 stands_next setup tests step tame view real private (BecameDue client hostgroup ordinal key command multiplex) stands tabled may honest =
@@ -34,6 +34,7 @@ stands_next setup tests step tame view real private (Sent link question) stands 
 stands_next setup tests step tame view real private (Ran link) stands tabled may honest = ran_so setup tests step tame view real private stands link (are_decoded setup tests step tame view real private stands tabled link)
 stands_next setup tests step tame view real private (Heard link reply) stands tabled may honest = heard_so setup tests view real private stands link reply honest
 stands_next setup tests step tame view real private (Freed link) stands tabled may honest = freed_so setup tests view real private stands link may
+stands_next setup tests step tame view real private (Unprepared link number) stands tabled may honest = closed_so setup tests step tame view real private stands link number may
 stands_next setup tests step tame view real private (Dropped link) stands tabled may honest = dropped_so setup tests step tame view real private stands link
 stands_next setup tests step tame view real private (Gone link) stands tabled may honest = gone_so setup tests step tame view real private stands link
 stands_next setup tests step tame view real private (Left client) stands tabled may honest =
@@ -52,14 +53,15 @@ drop_tabled : (setup : Setup) (tests : Tests) (step : Step) (view : View) (real 
 drop_tabled setup tests step view real private stands tabled link false = tabled_dead setup tests view real private stands tabled link
 drop_tabled setup tests step view real private stands tabled link true = tabled_dropped setup tests view real private stands tabled link (record (real.peers link) { session = (step (real.stored (view.links link).server) (real.peers link).session Quit).session }) refl
 
-tabled_next : (setup : Setup) (tests : Tests) (step : Step) → Tame setup.reads tests step → (view : View) (real : Real) (private : Private) (e : Happening) → Stands setup tests view real private → Tabled setup view real private → MayCome setup view e → IsTrueOf view real e
+tabled_next : (setup : Setup) (tests : Tests) (step : Step) → Tame setup.reads tests step → (view : View) (real : Real) (private : Private) (e : Happening) → Stands setup tests view real private → Tabled setup view real private → MayCome setup view e → IsTrueOf step view real e
     → Tabled setup (view_step setup view e) (real_step step view real e) (private_step step view private e)
 tabled_next setup tests step tame view real private (LoggedIn link server account) stands tabled may honest = tabled_login setup tests view real private stands tabled link server account
 tabled_next setup tests step tame view real private (BecameDue client hostgroup ordinal key command multiplex) stands tabled may honest = tabled
 tabled_next setup tests step tame view real private (Sent link question) stands tabled may honest = tabled_sent setup tests view real private stands tabled link question may
-tabled_next setup tests step tame view real private (Ran link) stands tabled may honest = tabled_ran setup tests step tame view real private stands tabled link
+tabled_next setup tests step tame view real private (Ran link) stands tabled may honest = tabled_ran setup tests step tame view real private stands tabled link honest
 tabled_next setup tests step tame view real private (Heard link reply) stands tabled may honest = tabled_heard setup tests view real private stands tabled link reply honest
 tabled_next setup tests step tame view real private (Freed link) stands tabled may honest = tabled_freed setup tests view real private stands tabled link may
+tabled_next setup tests step tame view real private (Unprepared link number) stands tabled may honest = tabled_closed setup tests view real private stands tabled link number may
 tabled_next setup tests step tame view real private (Dropped link) stands tabled may honest =
     subst (λ t. AreTabled setup (view_step setup view (Dropped link)).links (real_step step view real (Dropped link)).peers view.held t) (sym (drop_keeps step private (view.links link).alive (view.links link).carries (view.links link).server))
     (drop_tabled setup tests step view real private stands tabled link (view.links link).alive)
@@ -90,7 +92,7 @@ module _ (setup : Setup) (tests : Tests) (step : Step) (tame : Tame setup.reads 
   abbrev peer_after : Question → Command → Peer
   peer_after question c =
       let outcome = step (real.stored now.server) (real.peers number).session c in
-      record { session = outcome.session; answer = outcome.reply; table = table_after question outcome (real.peers number).table }
+      record { session = outcome.session; answer = outcome.reply; table = there_table question outcome (real.peers number).table }
 
   no_message : (m : MessageName) → None ≡ Some m → ⊥
   no_message m e = cc
@@ -102,12 +104,12 @@ module _ (setup : Setup) (tests : Tests) (step : Step) (tame : Tame setup.reads 
       (λ m e. absurd (no_message m (sym (ap (λ st. message_on (quieted st)) is) ∙ e))) (λ m e. absurd (no_message m (sym (ap (λ st. ran_on (quieted st)) is) ∙ e)))
 
   ran_answers : (alive : Bool) (stage : Stage) → (view.links number).alive ≡ alive → (view.links number).stage ≡ stage
-      → Answer (record view { links = put is_link_id view.links number (ran_by setup.reads alive stage now) }) (real_run step real number alive stage now.server) (private_run step view.held private alive stage now.server)
+      → Answer (record view { links = put is_link_id view.links number (ran_by setup.reads alive stage now) }) (real_run step real number (view.links number).live alive stage now.server) (private_run step view.held private alive stage now.server)
   ran_answers false stage alive is = are_linked view.links real.peers view.carriers view.replies private.answers answer number now (λ m e. e) (λ m e. e)
   ran_answers true Quiet alive is = are_linked view.links real.peers view.carriers view.replies private.answers answer number now (λ m e. e) (λ m e. e)
   ran_answers true (Answered question) alive is = are_linked view.links real.peers view.carriers view.replies private.answers answer number now (λ m e. e) (λ m e. e)
   ran_answers true (Asked (Statement n due)) alive is =
-      are_ran view.links real.peers view.carriers view.replies private.answers answer number (ran_by setup.reads true (Asked (Statement n due)) now) (peer_after (Statement n due) (decoded ((real.peers number).table due.key) due.command)) (message_of n due) _ (ap message_on is) refl (same_reply setup tests step tame view real private stands number (are_decoded setup tests step tame view real private stands tabled number) n due alive is) (λ m e. cc)
+      are_ran view.links real.peers view.carriers view.replies private.answers answer number (ran_by setup.reads true (Asked (Statement n due)) now) (peer_after (Statement n due) (decoded (entry_at ((view.links number).live due.key) (real.peers number).table) due.command)) (message_of n due) _ (ap message_on is) refl (same_reply setup tests step tame view real private stands number (are_decoded setup tests step tame view real private stands tabled number) n due alive is) (λ m e. cc)
   ran_answers true (Asked (Prep n key text)) alive is =
       subst (λ a. AreAnswered (put is_link_id view.links number (ran_by setup.reads true (Asked (Prep n key text)) now)) (put is_link_id real.peers number (peer_after (Prep n key text) (Prepare text))) view.carriers view.replies a) (sym (prep_leaves step private (is_pinned (view.held n).pin) now.server n key text))
       (are_still view.links real.peers view.carriers view.replies private.answers answer number (ran_by setup.reads true (Asked (Prep n key text)) now) (peer_after (Prep n key text) (Prepare text)) (λ m e. cc) (λ m e. absurd (no_message m e)))
@@ -144,7 +146,7 @@ drop_leaves step private true Nobody server = refl
 drop_leaves step private true (Lent n) server = refl
 drop_leaves step private true (Joined n) server = refl
 
-answers_next : (setup : Setup) (tests : Tests) (step : Step) → Tame setup.reads tests step → (view : View) (real : Real) (private : Private) (e : Happening) → Stands setup tests view real private → Tabled setup view real private → Answer view real private → MayCome setup view e → IsTrueOf view real e
+answers_next : (setup : Setup) (tests : Tests) (step : Step) → Tame setup.reads tests step → (view : View) (real : Real) (private : Private) (e : Happening) → Stands setup tests view real private → Tabled setup view real private → Answer view real private → MayCome setup view e → IsTrueOf step view real e
     → Answer (view_step setup view e) (real_step step view real e) (private_step step view private e)
 answers_next setup tests step tame view real private (LoggedIn link server account) stands tabled answer may honest =
     are_still view.links real.peers view.carriers view.replies private.answers answer link (new_link server account) (new_peer account) (λ m e. cc) (λ m e. absurd (no_message setup tests step tame view real private stands tabled answer link m e))
@@ -153,6 +155,8 @@ answers_next setup tests step tame view real private (Sent link question) stands
 answers_next setup tests step tame view real private (Ran link) stands tabled answer may honest = answers_ran setup tests step tame view real private stands tabled answer link
 answers_next setup tests step tame view real private (Heard link reply) stands tabled answer may honest = answers_heard setup tests step tame view real private stands tabled answer link reply honest
 answers_next setup tests step tame view real private (Freed link) stands tabled answer may honest = are_linked view.links real.peers view.carriers view.replies private.answers answer link (freed (view.links link)) (λ m e. e) (λ m e. e)
+answers_next setup tests step tame view real private (Unprepared link number) stands tabled answer may honest =
+    are_still view.links real.peers view.carriers view.replies private.answers answer link (closed_number number (view.links link)) (record (real.peers link) { table = put nat_eq (real.peers link).table number None }) (λ m e. e) (λ m e. (e, refl))
 answers_next setup tests step tame view real private (Dropped link) stands tabled answer may honest =
     subst (λ a. AreAnswered (view_step setup view (Dropped link)).links (real_step step view real (Dropped link)).peers view.carriers view.replies a) (sym (drop_leaves step private (view.links link).alive (view.links link).carries (view.links link).server))
     (drop_answers setup tests step tame view real private stands tabled answer link (view.links link).alive)

@@ -102,7 +102,7 @@ agreed : (link_id id : Option ℕ) (n : ℕ) (s p : Session) → Knows link_id s
 agreed link_id id n s p a b link session = b.is n session ∙ sym (a.is n link)
 
 -- on a link that was lent to it
-pub met_lent : (setup : Setup) (n : SessionName) (due : Due) (user : Account) (told : Told) (link_id : Option ℕ) (live : ℕ → Bool) (pin : Pin) (id : Option ℕ) (s p : Session)
+pub met_lent : (setup : Setup) (n : SessionName) (due : Due) (user : Account) (told : Told) (link_id : Option ℕ) (live : ℕ → Option ℕ) (pin : Pin) (id : Option ℕ) (s p : Session)
     → Begins setup n due user told link_id live pin id → IsFree user told link_id s → account_of p ≡ setup.accounts n.client → IsPlain p → Knows id p
     → IsMet setup.reads due.command user false told link_id pin id s (readied due p)
 met_lent setup n due user told link_id live pin id s p begins free owner plain knows =
@@ -133,7 +133,7 @@ met_lent setup n due user told link_id live pin id s p begins free owner plain k
     })
 
 -- on the link that carries it
-pub met_joined : (setup : Setup) (due : Due) (user : Account) (marked : Bool) (told : Told) (link_id : Option ℕ) (live : ℕ → Bool) (pin : Pin) (id : Option ℕ) (s p : Session)
+pub met_joined : (setup : Setup) (due : Due) (user : Account) (marked : Bool) (told : Told) (link_id : Option ℕ) (live : ℕ → Option ℕ) (pin : Pin) (id : Option ℕ) (s p : Session)
     → GoesOn setup due marked told link_id live pin id → IsTogether user marked told link_id pin s p → Knows id p → (id ≡ None → marked ≡ true)
     → IsMet setup.reads due.command user marked told link_id pin id s (readied due p)
 met_joined setup due user marked told link_id live pin id s p goes_on together knows unknown =

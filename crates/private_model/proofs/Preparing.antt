@@ -1,23 +1,45 @@
 -- What is prepared, at each kind of happening.
-use Rattle.std.specs.Prelude.{◌≡◌, ℕ, Bool, true, false, Option, Some, None}
+use Rattle.std.specs.Prelude.{Bool, None, Option, Some, false, nat_eq, true, ℕ, ◌≡◌}
 use Rattle.std.proofs.Common.{refl, sym, ap, ◌∙◌, subst, inl, inr}
 use Rattle.mx_base.specs.declared.names.LinkId.{LinkId}
 use Rattle.mx_base.specs.declared.names.ServerId.{ServerId}
 use Rattle.private_model.proofs.Maps.{at_each, link_ids, names, no_home, no_other, put-other, put-same}
-use Rattle.private_model.proofs.Sessions.{apart, harmless_shallow}
+use Rattle.private_model.proofs.Sessions.{harmless_shallow}
 use Rattle.private_model.proofs.Stands.{AreKept, AreMatched, AreTabled, AreTabledBy, IfAlive, IsAskedFree, IsAskedJoined, IsAskedLent, IsAtBy, IsUsual, Stands}
-use Rattle.private_model.proofs.Tabling.{tabled_frame, tabled_moved}
+use Rattle.private_model.proofs.Tabling.{kept_without, matched_without, tabled_frame, tabled_moved}
 use Rattle.private_model.specs.Commands.{Account, Reply}
 use Rattle.private_model.specs.Honest.{IsAnswer}
 use Rattle.private_model.specs.Lawful.{MayFree, MayLend, MaySend}
-use Rattle.private_model.specs.Story.{Capture, End, Freed, Heard, Key, Own, Prep, Question, Sent, Statement, Sync, is_link_id, is_name, put}
-use Rattle.private_model.specs.View.{Answered, Asked, Carried, Held, Joined, Lent, Nobody, Quiet, Setup, View, asked, carried_for, freed, heard, held_by, held_freed, held_heard, new_link, quieted, soon_live, soon_pin, view_step}
+use Rattle.private_model.specs.Story.{Capture, End, Freed, Heard, Key, Own, Prep, Question, Sent, Statement, Sync, Unprepared, is_link_id, is_name, put}
+use Rattle.private_model.specs.View.{Stage, Answered, Asked, Carried, Held, Joined, Lent, Nobody, Quiet, Setup, View, asked, carried_for, closed_number, freed, heard, held_by, held_freed, held_heard, new_link, quieted, soon_live, soon_pin, view_step, without}
 use Rattle.private_model.specs.Worlds.{Peer, Private, Real, new_peer}
 use Rattle.server_rule.specs.Servers.{Tests}
 use Rattle.session_state.specs.declared.names.SessionName.{SessionName}
 
 abbrev pub Tabled : Setup → View → Real → Private → Type 0
 Tabled setup view real private = AreTabled setup view.links real.peers view.held private.tables
+
+-- what a STMT_CLOSE on a quiet link leaves of what is known there
+closed_kept : (setup : Setup) (n : ℕ) (alive : Bool) (stage : Stage) → stage ≡ Quiet → (answer : Reply) (live : ℕ → Option ℕ) (table : ℕ → Option Key) → IfAlive alive (AreKept setup (soon_live stage answer live) table) (Unit {0})
+    → IfAlive alive (AreKept setup (soon_live stage answer (λ key. without n (live key))) (put nat_eq table n None)) (Unit {0})
+closed_kept setup n alive stage quiet answer live table x =
+    subst (λ st. IfAlive alive (AreKept setup (soon_live st answer (λ key. without n (live key))) (put nat_eq table n None)) (Unit {0})) (sym quiet)
+    (go alive (subst (λ st. IfAlive alive (AreKept setup (soon_live st answer live) table) (Unit {0})) quiet x))
+  where
+    go : (b : Bool) → IfAlive b (AreKept setup live table) (Unit {0}) → IfAlive b (AreKept setup (λ key. without n (live key)) (put nat_eq table n None)) (Unit {0})
+    go true y = kept_without setup live table n y
+    go false y = tt
+
+closed_matched : (setup : Setup) (n : ℕ) (alive : Bool) (stage : Stage) → stage ≡ Quiet → (answer : Reply) (live : ℕ → Option ℕ) (deep : Bool) (table here : ℕ → Option Key)
+    → IfAlive alive (AreMatched setup (soon_live stage answer live) deep table here) (deep ≡ false → IsUsual setup here)
+    → IfAlive alive (AreMatched setup (soon_live stage answer (λ key. without n (live key))) deep (put nat_eq table n None) here) (deep ≡ false → IsUsual setup here)
+closed_matched setup n alive stage quiet answer live deep table here x =
+    subst (λ st. IfAlive alive (AreMatched setup (soon_live st answer (λ key. without n (live key))) deep (put nat_eq table n None) here) (deep ≡ false → IsUsual setup here)) (sym quiet)
+    (go alive (subst (λ st. IfAlive alive (AreMatched setup (soon_live st answer live) deep table here) (deep ≡ false → IsUsual setup here)) quiet x))
+  where
+    go : (b : Bool) → IfAlive b (AreMatched setup live deep table here) (deep ≡ false → IsUsual setup here) → IfAlive b (AreMatched setup (λ key. without n (live key)) deep (put nat_eq table n None) here) (deep ≡ false → IsUsual setup here)
+    go true y = matched_without setup live deep table here n y
+    go false y = y
 
 module _ (setup : Setup) (tests : Tests) (view : View) (real : Real) (private : Private) (stands : Stands setup tests view real private) (are : AreTabled setup view.links real.peers view.held private.tables) (number : LinkId) where
   pub tabled_at : (carried : Carried) → (view.links number).carries ≡ carried → AreTabledBy setup carried (view.links number) (real.peers number) view.held private.tables
@@ -170,7 +192,7 @@ module _ (setup : Setup) (tests : Tests) (view : View) (real : Real) (private : 
 
   -- A link is given back, dropped, lost or closed; a login.
 
-  matched_kept : (alive : Bool) (live : ℕ → Bool) (deep : Bool) (there here : ℕ → Option Key) → deep ≡ false → IfAlive alive (AreMatched setup live deep there here) (deep ≡ false → IsUsual setup here) → IfAlive alive (AreKept setup live there) (Unit {0}) × IsUsual setup here
+  matched_kept : (alive : Bool) (live : ℕ → Option ℕ) (deep : Bool) (there here : ℕ → Option Key) → deep ≡ false → IfAlive alive (AreMatched setup live deep there here) (deep ≡ false → IsUsual setup here) → IfAlive alive (AreKept setup live there) (Unit {0}) × IsUsual setup here
   matched_kept true live deep there here shallow x = (x.kept shallow, x.usual shallow)
   matched_kept false live deep there here shallow x = (tt, x shallow)
 
@@ -195,7 +217,7 @@ module _ (setup : Setup) (tests : Tests) (view : View) (real : Real) (private : 
         subst (λ c. AreTabled setup (put is_link_id view.links number (freed (view.links number))) real.peers (held_freed c view.held) private.tables) (sym lent) (freed_tabled may.who (Lent may.who) both.0 both.1 (stands_at (Lent may.who) lent).home)
   ]
 
-  dead_matched : (alive : Bool) (live : ℕ → Bool) (deep : Bool) (there here : ℕ → Option Key) → IfAlive alive (AreMatched setup live deep there here) (deep ≡ false → IsUsual setup here) → deep ≡ false → IsUsual setup here
+  dead_matched : (alive : Bool) (live : ℕ → Option ℕ) (deep : Bool) (there here : ℕ → Option Key) → IfAlive alive (AreMatched setup live deep there here) (deep ≡ false → IsUsual setup here) → deep ≡ false → IsUsual setup here
   dead_matched true live deep there here x = x.usual
   dead_matched false live deep there here x = x
 
@@ -230,7 +252,20 @@ module _ (setup : Setup) (tests : Tests) (view : View) (real : Real) (private : 
 
   pub tabled_login : (server : ServerId) (account : Account) → AreTabled setup (put is_link_id view.links number (new_link server account)) (put is_link_id real.peers number (new_peer account)) view.held private.tables
   tabled_login server account = tabled_moved setup view.links real.peers view.held private.tables are number (new_link server account) (put is_link_id real.peers number (new_peer account)) view.held private.tables
-      (record { kept = λ key e. apart e refl }) (λ j e. put-other link_ids real.peers number (new_peer account) j e) (λ j e. are.on j) are.resting
+      (record { kept = λ key n e. cc }) (λ j e. put-other link_ids real.peers number (new_peer account) j e) (λ j e. are.on j) are.resting
+
+  closed_by : (n : ℕ) (carried : Carried) → (view.links number).stage ≡ Quiet → AreTabledBy setup carried (view.links number) (real.peers number) view.held private.tables
+      → AreTabledBy setup carried (closed_number n (view.links number)) (record (real.peers number) { table = put nat_eq (real.peers number).table n None }) view.held private.tables
+  closed_by n Nobody quiet x = closed_kept setup n (view.links number).alive (view.links number).stage quiet (real.peers number).answer (view.links number).live (real.peers number).table x
+  closed_by n (Lent m) quiet x = (closed_kept setup n (view.links number).alive (view.links number).stage quiet (real.peers number).answer (view.links number).live (real.peers number).table x.0, x.1)
+  closed_by n (Joined m) quiet x = closed_matched setup n (view.links number).alive (view.links number).stage quiet (real.peers number).answer (view.links number).live (soon_pin setup.reads (view.links number).stage (real.peers number).answer (view.held m).pin).deep (real.peers number).table (private.tables m) x
+
+  pub tabled_closed : (n : ℕ) → (view.links number).stage ≡ Quiet → Tabled setup (view_step setup view (Unprepared number n)) (record real { peers = put is_link_id real.peers number (record (real.peers number) { table = put nat_eq (real.peers number).table n None }) }) private
+  tabled_closed n quiet =
+      let peer : Peer = record (real.peers number) { table = put nat_eq (real.peers number).table n None } in
+      tabled_moved setup view.links real.peers view.held private.tables are number (closed_number n (view.links number)) (put is_link_id real.peers number peer) view.held private.tables
+      (subst (λ x. AreTabledBy setup (view.links number).carries (closed_number n (view.links number)) x view.held private.tables) (sym (put-same link_ids real.peers number peer)) (closed_by n (view.links number).carries quiet (are.on number)))
+      (λ j e. put-other link_ids real.peers number peer j e) (λ j e. are.on j) are.resting
 
   -- what is decoded in both worlds
 

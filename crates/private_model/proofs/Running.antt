@@ -1,5 +1,5 @@
 -- What happens at a server: a command runs, a link is dropped; and the rest of what can happen.
-use Rattle.std.specs.Prelude.{◌≡◌, ◌⊎◌, ℕ, Bool, true, false, not, ◌||◌, if◌then◌else◌, List, [], Option, Some, None}
+use Rattle.std.specs.Prelude.{Bool, List, None, Option, Some, [], false, if◌then◌else◌, nat_eq, not, true, ℕ, ◌||◌, ◌≡◌, ◌⊎◌}
 use Rattle.std.proofs.Common.{refl, sym, ap, ◌∙◌, subst, inl, inr}
 use Rattle.mx_base.specs.declared.names.LinkId.{LinkId}
 use Rattle.mx_base.specs.declared.names.ServerId.{ServerId}
@@ -12,9 +12,9 @@ use Rattle.private_model.proofs.Tame.{Tame}
 use Rattle.private_model.specs.Commands.{Account, Command, Outcome, Prepare, Quit, ReadId, Reply, Reset, Step, account_of, id_after, is_marked, pin_statement}
 use Rattle.private_model.specs.Honest.{IsAccepted}
 use Rattle.private_model.specs.Lawful.{IsKeyed, IsOwnStep, IsPlaced, is_statement}
-use Rattle.private_model.specs.Story.{Capture, Dropped, Due, End, Gone, Key, LoggedIn, Own, Prep, Question, Ran, Statement, Sync, is_link_id, is_message, is_name, is_server, message_of, put}
-use Rattle.private_model.specs.View.{Answered, Asked, Carried, Held, Joined, Lent, Link, Nobody, Quiet, Setup, Stage, View, is_marking, is_quit, new_link, ran, ran_by, soon_id, soon_pin, soon_told, told_after, view_after, view_step}
-use Rattle.private_model.specs.Worlds.{Peer, Private, Real, closed, decoded, new_peer, placed, private_after, private_drop, private_prep, private_run, private_step, readied, real_after, real_drop, real_run, real_step, table_after}
+use Rattle.private_model.specs.Story.{Capture, Dropped, Due, End, Gone, Key, LoggedIn, Own, Prep, Question, Ran, Statement, Sync, Unprepared, is_link_id, is_message, is_name, is_server, message_of, put}
+use Rattle.private_model.specs.View.{Answered, Asked, Carried, Held, Joined, Lent, Link, Nobody, Quiet, Setup, Stage, View, closed_number, is_marking, is_quit, new_link, ran, ran_by, soon_id, soon_pin, soon_told, told_after, view_after, view_step}
+use Rattle.private_model.specs.Worlds.{Peer, Private, Real, closed, decoded, entry_at, new_peer, placed, private_after, private_drop, private_prep, private_run, private_step, readied, real_after, real_drop, real_run, real_step, table_after, there_table}
 use Rattle.server_rule.specs.Classes.{Reads}
 use Rattle.server_rule.specs.Servers.{Accepts, Tests, with_id}
 use Rattle.server_rule.specs.declared.session.Session.{Session}
@@ -193,7 +193,7 @@ module _ (setup : Setup) (tests : Tests) (step : Step) (tame : Tame setup.reads 
 
   abbrev RanTo : (alive : Bool) → Stage → Type 0
   RanTo alive stage = Stands setup tests (record view { links = put is_link_id view.links number (ran_by setup.reads alive stage (view.links number)) })
-      (real_run step real number alive stage (view.links number).server) (private_run step view.held private alive stage (view.links number).server)
+      (real_run step real number (view.links number).live alive stage (view.links number).server) (private_run step view.held private alive stage (view.links number).server)
 
   -- A statement meets its session.
 
@@ -231,7 +231,7 @@ module _ (setup : Setup) (tests : Tests) (step : Step) (tame : Tame setup.reads 
   -- what is decoded on the link, and what the session of its own decodes
 
   abbrev pub there_decoded : Due → Command
-  there_decoded due = decoded ((real.peers number).table due.key) due.command
+  there_decoded due = decoded (entry_at ((view.links number).live due.key) (real.peers number).table) due.command
 
   abbrev pub here_decoded : SessionName → Due → Command
   here_decoded m due = decoded (private.tables m due.key) due.command
@@ -279,9 +279,9 @@ module _ (setup : Setup) (tests : Tests) (step : Step) (tame : Tame setup.reads 
       let joined = of_text (λ x. IsJoined (not (is_quit x)) l.account (is_marked setup.reads x || l.marked) (told_after setup.reads x reply l.told) (id_after setup.reads x reply l.id) (pin_statement setup.reads x due.multiplex reply (view.held m).pin) (id_after setup.reads x reply (view.held m).id) (step d s c).session (step d p c).session)
       (λ t a b a' b' g x. x) c due.command is_text
       (met_after setup.reads step tests tame d s p ok_there (ok_ready m due) c due.multiplex l.account l.marked l.told l.id (view.held m).pin (view.held m).id statement (met_decoded are m due alive asked)) in
-      subst (λ (o : Outcome). Stands setup tests (record view { links = put is_link_id view.links number l' }) (record { stored = put is_server real.stored l.server (step d s c).stored; peers = put is_link_id real.peers number (record { session = (step d s c).session; answer = (step d s c).reply; table = table_after question (step d s c) (real.peers number).table }) })
+      subst (λ (o : Outcome). Stands setup tests (record view { links = put is_link_id view.links number l' }) (record { stored = put is_server real.stored l.server (step d s c).stored; peers = put is_link_id real.peers number (record { session = (step d s c).session; answer = (step d s c).reply; table = there_table question (step d s c) (real.peers number).table }) })
       (record { stored = put is_server private.stored l.server o.stored; sessions = put is_name private.sessions m o.session; tables = put is_name private.tables m (table_after question o (private.tables m)); answers = put is_message private.answers (message_of m due) (Some o.reply) })) (sym (ran_own_same are m due alive asked))
-      (ran_session view m l' (step d s c) (step d p c) (table_after question (step d s c) (real.peers number).table) (put is_name private.tables m (table_after question (step d p c) (private.tables m))) (put is_message private.answers (message_of m due) (Some (step d p c).reply))
+      (ran_session view m l' (step d s c) (step d p c) (there_table question (step d s c) (real.peers number).table) (put is_name private.tables m (table_after question (step d p c) (private.tables m))) (put is_message private.answers (message_of m due) (Some (step d p c).reply))
       (tame.keeps d s ok_there c) (tame.keeps d p (ok_ready m due) c).1 there.home refl after.alike.stored
       (tame.account d p (ok_ready m due) c ∙ ready_owner due due.anew (private.sessions m) ∙ stands.owners m)
       (record { home = there.home; asked = refl; joined = joined }))
@@ -401,14 +401,14 @@ module _ (setup : Setup) (tests : Tests) (step : Step) (tame : Tame setup.reads 
       let d = data_there in
       let c = Prepare text in
       let l' : Link = record l { stage = Answered (Prep m key text); alive = true } in
-      let peer : Peer = record { session = (step d s c).session; answer = (step d s c).reply; table = table_after (Prep m key text) (step d s c) (real.peers number).table } in
+      let peer : Peer = record { session = (step d s c).session; answer = (step d s c).reply; table = there_table (Prep m key text) (step d s c) (real.peers number).table } in
       let lent = at (Lent m) carries in
       let preparing = asks_lent m (Prep m key text) carries is in
       let was = before_free (Prep m key text) alive is lent.session in
       let there : IsLentLink setup number m l' peer (view.held m) (private.sessions m) =
       record { home = lent.home; unmarked = lent.unmarked; asked = preparing; session = prep_free setup.reads step tests tame d s s ok_there ok_there text l.account l.told l.id was; plain = lent.plain; id = lent.id } in
-      subst (λ b. Stands setup tests (record view { links = put is_link_id view.links number l' }) (real_run step real number true (Asked (Prep m key text)) l.server) (private_prep step private b l.server m key text)) (sym preparing.unpinned)
-      (ran_by_itself l' (step d s c) (table_after (Prep m key text) (step d s c) (real.peers number).table) (tame.keeps d s ok_there c) (tame.prepare.stored d s ok_there text) (subst (λ x. IsAtBy setup x number l' peer view.held private.sessions) (sym carries) there))
+      subst (λ b. Stands setup tests (record view { links = put is_link_id view.links number l' }) (real_run step real number (view.links number).live true (Asked (Prep m key text)) l.server) (private_prep step private b l.server m key text)) (sym preparing.unpinned)
+      (ran_by_itself l' (step d s c) (there_table (Prep m key text) (step d s c) (real.peers number).table) (tame.keeps d s ok_there c) (tame.prepare.stored d s ok_there text) (subst (λ x. IsAtBy setup x number l' peer view.held private.sessions) (sym carries) there))
 
   prep_on_joined : (m : SessionName) (key : ℕ) (text : List ℕ) → (view.links number).alive ≡ true → (view.links number).stage ≡ Asked (Prep m key text) → (view.links number).carries ≡ Joined m → RanTo true (Asked (Prep m key text))
   prep_on_joined m key text alive is carries =
@@ -420,10 +420,10 @@ module _ (setup : Setup) (tests : Tests) (step : Step) (tame : Tame setup.reads 
       let pinned : is_pinned (view.held m).pin ≡ true = (asks m (Prep m key text) carries is).pinned in
       let was = before m (Prep m key text) carries alive is in
       let both = prep_after setup.reads step tests tame d s p ok_there (ok_here m) text l.account l.marked l.told l.id (view.held m).pin (view.held m).id pinned was.session was.knows was.unknown in
-      subst (λ b. Stands setup tests (record view { links = put is_link_id view.links number l' }) (real_run step real number true (Asked (Prep m key text)) l.server) (private_prep step private b l.server m key text)) (sym pinned)
-      (with_data (λ x. Stands setup tests (record view { links = put is_link_id view.links number l' }) (real_run step real number true (Asked (Prep m key text)) l.server)
+      subst (λ b. Stands setup tests (record view { links = put is_link_id view.links number l' }) (real_run step real number (view.links number).live true (Asked (Prep m key text)) l.server) (private_prep step private b l.server m key text)) (sym pinned)
+      (with_data (λ x. Stands setup tests (record view { links = put is_link_id view.links number l' }) (real_run step real number (view.links number).live true (Asked (Prep m key text)) l.server)
       (record private { stored = put is_server private.stored l.server (step x p c).stored; sessions = put is_name private.sessions m (step x p c).session; tables = put is_name private.tables m (table_after (Prep m key text) (step x p c) (private.tables m)) }))
-      (ran_session view m l' (step d s c) (step d p c) (table_after (Prep m key text) (step d s c) (real.peers number).table) (put is_name private.tables m (table_after (Prep m key text) (step d p c) (private.tables m))) private.answers (tame.keeps d s ok_there c) (tame.keeps d p (ok_here m) c).1 (at (Joined m) carries).home carries both.0.alike.stored (tame.account d p (ok_here m) c ∙ stands.owners m)
+      (ran_session view m l' (step d s c) (step d p c) (there_table (Prep m key text) (step d s c) (real.peers number).table) (put is_name private.tables m (table_after (Prep m key text) (step d p c) (private.tables m))) private.answers (tame.keeps d s ok_there c) (tame.keeps d p (ok_here m) c).1 (at (Joined m) carries).home carries both.0.alike.stored (tame.account d p (ok_here m) c ∙ stands.owners m)
       (record { home = (at (Joined m) carries).home; asked = refl; joined = both.1 })))
 
   ran_prep : (m : SessionName) (key : ℕ) (text : List ℕ) → (view.links number).alive ≡ true → (view.links number).stage ≡ Asked (Prep m key text) → RanTo true (Asked (Prep m key text))
@@ -572,3 +572,19 @@ stands_first setup tests step tame accepted = record {
   resting = λ n e. record { plain = record { tx = refl; locks = refl; deep = refl }; id = record { is = λ k f. cc } };
   links = λ number. record { asked = tt; unmarked = refl; session = tt };
 }
+
+-- A STMT_CLOSE.
+module _ (setup : Setup) (tests : Tests) (step : Step) (tame : Tame setup.reads tests step) (view : View) (real : Real) (private : Private) (stands : Stands setup tests view real private) (number : LinkId) where
+  closed_at_link : (n : ℕ) (carried : Carried) → (view.links number).stage ≡ Quiet → IsAtBy setup carried number (view.links number) (real.peers number) view.held private.sessions
+      → IsAtBy setup carried number (closed_number n (view.links number)) (record (real.peers number) { table = put nat_eq (real.peers number).table n None }) view.held private.sessions
+  closed_at_link n Nobody quiet at = record { asked = at.asked; unmarked = at.unmarked; session = at.session }
+  closed_at_link n (Lent m) quiet at =
+      let l = closed_number n (view.links number) in
+      record { home = at.home; unmarked = at.unmarked; asked = subst (λ st. IsAskedLent setup m st l.account l.told l.id l.live (view.held m)) (sym quiet) tt; session = at.session; plain = at.plain; id = at.id }
+  closed_at_link n (Joined m) quiet at =
+      let l = closed_number n (view.links number) in
+      record { home = at.home; asked = subst (λ st. IsAskedJoined setup m st l.marked l.told l.id l.live (view.held m)) (sym quiet) tt; joined = at.joined }
+
+  pub closed_so : (n : ℕ) → (view.links number).stage ≡ Quiet → Stands setup tests (view_step setup view (Unprepared number n)) (record real { peers = put is_link_id real.peers number (record (real.peers number) { table = put nat_eq (real.peers number).table n None }) }) private
+  closed_so n quiet = ran_alone setup tests step tame view real private stands number (view_step setup view (Unprepared number n)) (closed_number n (view.links number)) (record (real.peers number) { table = put nat_eq (real.peers number).table n None }) real.stored
+      stands.accepted.data_of (stands.accepted.peers number) stands.stored (closed_at_link n (view.links number).carries quiet (stands.links number))

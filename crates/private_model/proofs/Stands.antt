@@ -76,7 +76,7 @@ pub record IsFreeLink (setup : Setup) (link : Link) (peer : Peer) : Type 0 where
   pub unmarked : link.marked ≡ false
   pub session : IfAlive link.alive (IsFree link.account (soon_told setup.reads link.stage peer.answer link.told) (soon_id setup.reads link.stage peer.answer link.id) peer.session) (Unit {0})
 
-pub record IsBeginning (setup : Setup) (n m : SessionName) (due : Due) (user : Account) (told : Told) (link_id : Option ℕ) (live : ℕ → Bool) (held : Held) : Type 0 where
+pub record IsBeginning (setup : Setup) (n m : SessionName) (due : Due) (user : Account) (told : Told) (link_id : Option ℕ) (live : ℕ → Option ℕ) (held : Held) : Type 0 where
   pub same : m ≡ n
   pub begins : Begins setup n due user told link_id live held.pin held.id
 
@@ -85,7 +85,7 @@ pub record IsPreparing (setup : Setup) (n m : SessionName) (key : ℕ) (text : L
   pub same : m ≡ n
   pub unpinned : is_pinned held.pin ≡ false
 
-abbrev pub IsAskedLent : Setup → SessionName → Stage → (user : Account) → Told → (link_id : Option ℕ) → (live : ℕ → Bool) → Held → Type 0
+abbrev pub IsAskedLent : Setup → SessionName → Stage → (user : Account) → Told → (link_id : Option ℕ) → (live : ℕ → Option ℕ) → Held → Type 0
 IsAskedLent setup n Quiet user told link_id live held = Unit {0}
 IsAskedLent setup n (Asked (Statement m due)) user told link_id live held = IsBeginning setup n m due user told link_id live held
 IsAskedLent setup n (Asked (Prep m key text)) user told link_id live held = IsPreparing setup n m key text told held
@@ -102,7 +102,7 @@ pub record IsLentLink (setup : Setup) (number : LinkId) (n : SessionName) (link 
   pub plain : IsPlain private
   pub id : Knows held.id private
 
-pub record IsGoing (setup : Setup) (n m : SessionName) (due : Due) (marked : Bool) (told : Told) (link_id : Option ℕ) (live : ℕ → Bool) (held : Held) : Type 0 where
+pub record IsGoing (setup : Setup) (n m : SessionName) (due : Due) (marked : Bool) (told : Told) (link_id : Option ℕ) (live : ℕ → Option ℕ) (held : Held) : Type 0 where
   pub same : m ≡ n
   pub goes_on : GoesOn setup due marked told link_id live held.pin held.id
 
@@ -116,7 +116,7 @@ pub record IsCapturing (n m : SessionName) (held : Held) : Type 0 where
   pub unpinned : is_pinned held.pin ≡ false
   pub unknown : held.id ≡ None
 
-abbrev pub IsAskedJoined : Setup → SessionName → Stage → (marked : Bool) → Told → (link_id : Option ℕ) → (live : ℕ → Bool) → Held → Type 0
+abbrev pub IsAskedJoined : Setup → SessionName → Stage → (marked : Bool) → Told → (link_id : Option ℕ) → (live : ℕ → Option ℕ) → Held → Type 0
 IsAskedJoined setup n Quiet marked told link_id live held = Unit {0}
 IsAskedJoined setup n (Asked (Statement m due)) marked told link_id live held = IsGoing setup n m due marked told link_id live held
 IsAskedJoined setup n (Asked (Prep m key text)) marked told link_id live held = IsStepping setup n m (IsToldKey setup key text told) held
@@ -188,8 +188,8 @@ pub record IsKept (setup : Setup) (key : ℕ) (held : Option Key) : Type 0 where
   pub of_key : IsOfKey setup key entry
 
 -- what is live on a link was prepared at its key's place
-pub record AreKept (setup : Setup) (live : ℕ → Bool) (table : ℕ → Option Key) : Type 0 where
-  pub kept : (key : ℕ) → live key ≡ true → IsKept setup key (table key)
+pub record AreKept (setup : Setup) (live : ℕ → Option ℕ) (table : ℕ → Option Key) : Type 0 where
+  pub kept : (key number : ℕ) → live key ≡ Some number → IsKept setup key (table number)
 
 -- and so was all that a session prepared
 pub record IsUsual (setup : Setup) (table : ℕ → Option Key) : Type 0 where
@@ -208,8 +208,8 @@ pub record IsMatch (setup : Setup) (key : ℕ) (there here : Option Key) : Type 
   pub core : core entry.place.settings ≡ core (own_entry setup key here).place.settings
 
 -- a joined link: what is live there is what the session has, also where nobody knows what that is
-pub record AreMatched (setup : Setup) (live : ℕ → Bool) (deep : Bool) (there here : ℕ → Option Key) : Type 0 where
-  pub match : (key : ℕ) → live key ≡ true → IsMatch setup key (there key) (here key)
+pub record AreMatched (setup : Setup) (live : ℕ → Option ℕ) (deep : Bool) (there here : ℕ → Option Key) : Type 0 where
+  pub match : (key number : ℕ) → live key ≡ Some number → IsMatch setup key (there number) (here key)
   pub kept : deep ≡ false → AreKept setup live there
   pub usual : deep ≡ false → IsUsual setup here
 

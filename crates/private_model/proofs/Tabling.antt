@@ -1,5 +1,5 @@
 -- What is prepared, on links and in sessions.
-use Rattle.std.specs.Prelude.{◌≡◌, ℕ, Bool, true, false, nat_eq, List, Option, Some, None}
+use Rattle.std.specs.Prelude.{if◌then◌else◌, ◌≡◌, ℕ, Bool, true, false, nat_eq, List, Option, Some, None}
 use Rattle.std.proofs.Common.{refl, sym, ap, ◌∙◌, subst, inl, inr}
 use Rattle.mx_base.specs.declared.names.LinkId.{LinkId}
 use Rattle.private_model.proofs.Maps.{at_each, link_ids, names, numbers, put-other, put-same}
@@ -10,7 +10,7 @@ use Rattle.private_model.proofs.Tame.{Tame}
 use Rattle.private_model.specs.Commands.{Args, Command, FieldList, InitDb, Prepare, Query, Quit, ReadId, Reset, Run, SetId, Step}
 use Rattle.private_model.specs.Lawful.{IsKeyed, IsLiveRun, IsToldKey}
 use Rattle.private_model.specs.Story.{Key, is_link_id, is_name, put}
-use Rattle.private_model.specs.View.{Carried, Held, Joined, Lent, Link, Nobody, Setup, is_prepare, lived, soon_live, soon_pin, text_of}
+use Rattle.private_model.specs.View.{Carried, Held, Joined, Lent, Link, Nobody, Setup, is_prepare, lived, soon_live, soon_pin, text_of, without}
 use Rattle.private_model.specs.Worlds.{Peer, decoded, tabled}
 use Rattle.server_rule.specs.Classes.{Reads, core}
 use Rattle.server_rule.specs.Servers.{Accepts, Tests}
@@ -26,14 +26,24 @@ matched_entry setup key there None kept usual = record { entry = kept.entry; is 
 matched_entry setup key there (Some own) kept usual =
     let of_key = usual own refl in record { entry = kept.entry; is = kept.is; text = kept.of_key.text; own_text = of_key.text; schema = kept.of_key.schema ∙ sym of_key.schema; core = kept.of_key.core ∙ sym of_key.core }
 
-pub matched_of : (setup : Setup) (live : ℕ → Bool) (deep : Bool) (there here : ℕ → Option Key) → AreKept setup live there → IsUsual setup here → AreMatched setup live deep there here
-matched_of setup live deep there here kept usual = record { match = λ key e. matched_entry setup key (there key) (here key) (kept.kept key e) (usual.usual key); kept = λ e. kept; usual = λ e. usual }
+pub matched_of : (setup : Setup) (live : ℕ → Option ℕ) (deep : Bool) (there here : ℕ → Option Key) → AreKept setup live there → IsUsual setup here → AreMatched setup live deep there here
+matched_of setup live deep there here kept usual = record { match = λ key number e. matched_entry setup key (there number) (here key) (kept.kept key number e) (usual.usual key); kept = λ e. kept; usual = λ e. usual }
 
-pub kept_put : (setup : Setup) (live : ℕ → Bool) (there : ℕ → Option Key) (key : ℕ) (place : Key) → IsOfKey setup key place → AreKept setup live there → AreKept setup (put nat_eq live key true) (put nat_eq there key (Some place))
-kept_put setup live there key place of_key before = record {
-  kept = at_each numbers (λ k. put nat_eq live key true k ≡ true → IsKept setup k (put nat_eq there key (Some place) k)) key
-      (λ e. record { entry = place; is = put-same numbers there key (Some place); of_key = of_key })
-      (λ k f e. subst (λ x. IsKept setup k x) (sym (put-other numbers there key (Some place) k f)) (before.kept k (sym (put-other numbers live key true k f) ∙ e)));
+-- what stands under a number isn't under one that is unused
+other_number : {A : Type 0} (table : ℕ → Option A) (number n : ℕ) (x : A) → table number ≡ None → table n ≡ Some x → nat_eq n number ≡ false
+other_number table number n x unused is = go (nat_eq n number) refl
+  where
+    go : (b : Bool) → nat_eq n number ≡ b → nat_eq n number ≡ false
+    go true e = let same : n ≡ number = numbers.of n number e in absurd (let none : table n ≡ None = ap table same ∙ unused in cc)
+    go false e = e
+
+pub kept_put : (setup : Setup) (live : ℕ → Option ℕ) (there : ℕ → Option Key) (key number : ℕ) (place : Key) → there number ≡ None → IsOfKey setup key place → AreKept setup live there → AreKept setup (put nat_eq live key (Some number)) (put nat_eq there number (Some place))
+kept_put setup live there key number place unused of_key before = record {
+  kept = at_each numbers (λ k. (n : ℕ) → put nat_eq live key (Some number) k ≡ Some n → IsKept setup k (put nat_eq there number (Some place) n)) key
+      (λ n e. let is : Some number ≡ Some n = sym (put-same numbers live key (Some number)) ∙ e in let same : number ≡ n = cc in
+      subst (λ x. IsKept setup key (put nat_eq there number (Some place) x)) same (record { entry = place; is = put-same numbers there number (Some place); of_key = of_key }))
+      (λ k f n e. let kept = before.kept k n (sym (put-other numbers live key (Some number) k f) ∙ e) in
+      subst (λ x. IsKept setup k x) (sym (put-other numbers there number (Some place) n (other_number there number n kept.entry unused kept.is))) kept);
 }
 
 usual_put : (setup : Setup) (here : ℕ → Option Key) (key : ℕ) (place : Key) → IsOfKey setup key place → IsUsual setup here → IsUsual setup (put nat_eq here key (Some place))
@@ -43,35 +53,60 @@ usual_put setup here key place of_key before = record {
       (λ k f x e. before.usual k x (sym (put-other numbers here key (Some place) k f) ∙ e));
 }
 
-matched_put : (setup : Setup) (live : ℕ → Bool) (deep deep' : Bool) (there here : ℕ → Option Key) (key : ℕ) (of_link of_session : Key) → of_link.text ≡ (setup.keys key).text → of_session.text ≡ (setup.keys key).text → of_link.place.schema ≡ of_session.place.schema → of_link.place.settings ≡ of_session.place.settings
+matched_put : (setup : Setup) (live : ℕ → Option ℕ) (deep deep' : Bool) (there here : ℕ → Option Key) (key number : ℕ) (of_link of_session : Key) → there number ≡ None → of_link.text ≡ (setup.keys key).text → of_session.text ≡ (setup.keys key).text → of_link.place.schema ≡ of_session.place.schema → of_link.place.settings ≡ of_session.place.settings
     → (deep' ≡ false → deep ≡ false) → (deep' ≡ false → IsOfKey setup key of_link) → AreMatched setup live deep there here
-    → AreMatched setup (put nat_eq live key true) deep' (put nat_eq there key (Some of_link)) (put nat_eq here key (Some of_session))
-matched_put setup live deep deep' there here key of_link of_session text own_text schema settings shallow of_key before = record {
-  match = at_each numbers (λ k. put nat_eq live key true k ≡ true → IsMatch setup k (put nat_eq there key (Some of_link) k) (put nat_eq here key (Some of_session) k)) key
-      (λ e. subst (λ x. IsMatch setup key (put nat_eq there key (Some of_link) key) x) (sym (put-same numbers here key (Some of_session)))
-      (record { entry = of_link; is = put-same numbers there key (Some of_link); text = text; own_text = own_text; schema = schema; core = ap core settings }))
-      (λ k f e. subst (λ x. IsMatch setup k (put nat_eq there key (Some of_link) k) x) (sym (put-other numbers here key (Some of_session) k f))
-      (subst (λ x. IsMatch setup k x (here k)) (sym (put-other numbers there key (Some of_link) k f)) (before.match k (sym (put-other numbers live key true k f) ∙ e))));
-  kept = λ e. kept_put setup live there key of_link (of_key e) (before.kept (shallow e));
+    → AreMatched setup (put nat_eq live key (Some number)) deep' (put nat_eq there number (Some of_link)) (put nat_eq here key (Some of_session))
+matched_put setup live deep deep' there here key number of_link of_session unused text own_text schema settings shallow of_key before = record {
+  match = at_each numbers (λ k. (n : ℕ) → put nat_eq live key (Some number) k ≡ Some n → IsMatch setup k (put nat_eq there number (Some of_link) n) (put nat_eq here key (Some of_session) k)) key
+      (λ n e. let is : Some number ≡ Some n = sym (put-same numbers live key (Some number)) ∙ e in let same : number ≡ n = cc in
+      subst (λ x. IsMatch setup key (put nat_eq there number (Some of_link) x) (put nat_eq here key (Some of_session) key)) same
+      (subst (λ x. IsMatch setup key (put nat_eq there number (Some of_link) number) x) (sym (put-same numbers here key (Some of_session)))
+      (record { entry = of_link; is = put-same numbers there number (Some of_link); text = text; own_text = own_text; schema = schema; core = ap core settings })))
+      (λ k f n e. let match = before.match k n (sym (put-other numbers live key (Some number) k f) ∙ e) in
+      subst (λ x. IsMatch setup k (put nat_eq there number (Some of_link) n) x) (sym (put-other numbers here key (Some of_session) k f))
+      (subst (λ x. IsMatch setup k x (here k)) (sym (put-other numbers there number (Some of_link) n (other_number there number n match.entry unused match.is))) match));
+  kept = λ e. kept_put setup live there key number of_link unused (of_key e) (before.kept (shallow e));
   usual = λ e. usual_put setup here key of_session (record { text = own_text; schema = sym schema ∙ (of_key e).schema; core = ap core (sym settings) ∙ (of_key e).core }) (before.usual (shallow e));
 }
 
-pub matched_deeper : (setup : Setup) (live : ℕ → Bool) (deep deep' : Bool) (there here : ℕ → Option Key) → (deep' ≡ false → deep ≡ false) → AreMatched setup live deep there here → AreMatched setup live deep' there here
+pub matched_deeper : (setup : Setup) (live : ℕ → Option ℕ) (deep deep' : Bool) (there here : ℕ → Option Key) → (deep' ≡ false → deep ≡ false) → AreMatched setup live deep there here → AreMatched setup live deep' there here
 matched_deeper setup live deep deep' there here shallow before = record { match = before.match; kept = λ e. before.kept (shallow e); usual = λ e. before.usual (shallow e) }
 
 -- A command that may prepare runs in both worlds.
-pub matched_by : (setup : Setup) (makes ok : Bool) (live : ℕ → Bool) (deep deep' : Bool) (there here : ℕ → Option Key) (key : ℕ) (text : List ℕ) (s p : Session) → (makes ≡ true → text ≡ (setup.keys key).text) → s.schema ≡ p.schema → s.settings ≡ p.settings
+pub matched_by : (setup : Setup) (makes ok : Bool) (live : ℕ → Option ℕ) (deep deep' : Bool) (there here : ℕ → Option Key) (key number : ℕ) (text : List ℕ) (s p : Session) → (makes ≡ true → ok ≡ true → there number ≡ None) → (makes ≡ true → text ≡ (setup.keys key).text) → s.schema ≡ p.schema → s.settings ≡ p.settings
     → (deep' ≡ false → deep ≡ false) → (makes ≡ true → deep' ≡ false → IsOfKey setup key (record { text = text; place = record { schema = s.schema; settings = s.settings } })) → AreMatched setup live deep there here
-    → AreMatched setup (lived makes ok key live) deep' (tabled makes ok key text s there) (tabled makes ok key text p here)
-matched_by setup true true live deep deep' there here key text s p text_is schema settings shallow of_key before =
-    matched_put setup live deep deep' there here key (record { text = text; place = record { schema = s.schema; settings = s.settings } }) (record { text = text; place = record { schema = p.schema; settings = p.settings } }) (text_is refl) (text_is refl) schema settings shallow (of_key refl) before
-matched_by setup true false live deep deep' there here key text s p text_is schema settings shallow of_key before = matched_deeper setup live deep deep' there here shallow before
-matched_by setup false ok live deep deep' there here key text s p text_is schema settings shallow of_key before = matched_deeper setup live deep deep' there here shallow before
+    → AreMatched setup (lived makes ok key number live) deep' (tabled makes ok number text s there) (tabled makes ok key text p here)
+matched_by setup true true live deep deep' there here key number text s p unused text_is schema settings shallow of_key before =
+    matched_put setup live deep deep' there here key number (record { text = text; place = record { schema = s.schema; settings = s.settings } }) (record { text = text; place = record { schema = p.schema; settings = p.settings } }) (unused refl refl) (text_is refl) (text_is refl) schema settings shallow (of_key refl) before
+matched_by setup true false live deep deep' there here key number text s p unused text_is schema settings shallow of_key before = matched_deeper setup live deep deep' there here shallow before
+matched_by setup false ok live deep deep' there here key number text s p unused text_is schema settings shallow of_key before = matched_deeper setup live deep deep' there here shallow before
 
-pub kept_by : (setup : Setup) (ok : Bool) (live : ℕ → Bool) (there : ℕ → Option Key) (key : ℕ) (text : List ℕ) (s : Session) → IsOfKey setup key (record { text = text; place = record { schema = s.schema; settings = s.settings } }) → AreKept setup live there
-    → AreKept setup (lived true ok key live) (tabled true ok key text s there)
-kept_by setup true live there key text s of_key before = kept_put setup live there key (record { text = text; place = record { schema = s.schema; settings = s.settings } }) of_key before
-kept_by setup false live there key text s of_key before = before
+pub kept_by : (setup : Setup) (ok : Bool) (live : ℕ → Option ℕ) (there : ℕ → Option Key) (key number : ℕ) (text : List ℕ) (s : Session) → (ok ≡ true → there number ≡ None) → IsOfKey setup key (record { text = text; place = record { schema = s.schema; settings = s.settings } }) → AreKept setup live there
+    → AreKept setup (lived true ok key number live) (tabled true ok number text s there)
+kept_by setup true live there key number text s unused of_key before = kept_put setup live there key number (record { text = text; place = record { schema = s.schema; settings = s.settings } }) (unused refl) of_key before
+kept_by setup false live there key number text s unused of_key before = before
+
+-- A STMT_CLOSE.
+
+without_is : (number : ℕ) (was : Option ℕ) (n : ℕ) → without number was ≡ Some n → (was ≡ Some n) × (nat_eq n number ≡ false)
+without_is number None n e = absurd (cc)
+without_is number (Some m) n e = go (nat_eq m number) refl
+  where
+    go : (b : Bool) → nat_eq m number ≡ b → (Some m ≡ Some n) × (nat_eq n number ≡ false)
+    go true f = absurd (let none : None ≡ Some n = sym (ap (λ b. if b then None else Some m) f) ∙ e in cc)
+    go false f = let same : Some m ≡ Some n = sym (ap (λ b. if b then None else Some m) f) ∙ e in let is : m ≡ n = cc in (same, ap (λ x. nat_eq x number) (sym is) ∙ f)
+
+pub kept_without : (setup : Setup) (live : ℕ → Option ℕ) (there : ℕ → Option Key) (number : ℕ) → AreKept setup live there → AreKept setup (λ key. without number (live key)) (put nat_eq there number None)
+kept_without setup live there number before = record {
+  kept = λ key n e. let was = without_is number (live key) n e in subst (λ x. IsKept setup key x) (sym (put-other numbers there number None n was.1)) (before.kept key n was.0);
+}
+
+pub matched_without : (setup : Setup) (live : ℕ → Option ℕ) (deep : Bool) (there here : ℕ → Option Key) (number : ℕ) → AreMatched setup live deep there here → AreMatched setup (λ key. without number (live key)) deep (put nat_eq there number None) here
+matched_without setup live deep there here number before = record {
+  match = λ key n e. let was = without_is number (live key) n e in subst (λ x. IsMatch setup key x (here key)) (sym (put-other numbers there number None n was.1)) (before.match key n was.0);
+  kept = λ e. kept_without setup live there number (before.kept e);
+  usual = before.usual;
+}
 
 -- Where a session is as it prepares.
 
@@ -82,7 +117,7 @@ told_place setup key text told s s' told_key follows schema settings = record {
   core = ap core (settings ∙ follows.settings) ∙ told_key.core;
 }
 
-pub keyed_told : (setup : Setup) (c : Command) (key : ℕ) (told : Told) (live : ℕ → Bool) → is_prepare c ≡ true → IsKeyed setup c key told live → IsToldKey setup key (text_of c) told
+pub keyed_told : (setup : Setup) (c : Command) (key : ℕ) (told : Told) (live : ℕ → Option ℕ) → is_prepare c ≡ true → IsKeyed setup c key told live → IsToldKey setup key (text_of c) told
 keyed_told setup (Prepare text) key told live is keyed = keyed
 keyed_told setup (Query text) key told live is keyed = apart is refl
 keyed_told setup (InitDb schema) key told live is keyed = apart is refl
@@ -107,7 +142,7 @@ decoded_other (Some place) (Run text schema settings args) no_run = absurd (no_r
 decoded_other (Some place) Reset no_run = refl
 decoded_other (Some place) Quit no_run = refl
 
-run_like : (setup : Setup) (key : ℕ) (text schema : List ℕ) (settings : List SlotValue) (args : Args) (there here : Option Key) (live : ℕ → Bool) → IsLiveRun setup key text schema settings live → IsMatch setup key there here
+run_like : (setup : Setup) (key : ℕ) (text schema : List ℕ) (settings : List SlotValue) (args : Args) (there here : Option Key) (live : ℕ → Option ℕ) → IsLiveRun setup key text schema settings live → IsMatch setup key there here
     → IsRunLike setup.reads (decoded there (Run text schema settings args)) (decoded here (Run text schema settings args))
 run_like setup key text schema settings args there None live keyed match = record {
   text = match.entry.text;
@@ -130,7 +165,7 @@ run_like setup key text schema settings args there (Some own) live keyed match =
   core = match.core;
 }
 
-run_of : (setup : Setup) (key : ℕ) (text schema : List ℕ) (settings : List SlotValue) (args : Args) (there here : Option Key) (live : ℕ → Bool) → IsLiveRun setup key text schema settings live → IsMatch setup key there here
+run_of : (setup : Setup) (key : ℕ) (text schema : List ℕ) (settings : List SlotValue) (args : Args) (there here : Option Key) (live : ℕ → Option ℕ) → IsLiveRun setup key text schema settings live → IsMatch setup key there here
     → IsRunOf (decoded there (Run text schema settings args)) (Run text schema settings args)
 run_of setup key text schema settings args there here live keyed match = record {
   text = text;
@@ -143,8 +178,8 @@ run_of setup key text schema settings args there here live keyed match = record 
   is_told = refl;
 }
 
-pub decoded_alike : (setup : Setup) (key : ℕ) (c : Command) (told : Told) (live : ℕ → Bool) (there here : Option Key) → IsKeyed setup c key told live → (live key ≡ true → IsMatch setup key there here) → IsDecoded setup.reads (decoded there c) (decoded here c) × IsTextOf (decoded there c) c
-decoded_alike setup key (Run text schema settings args) told live there here keyed match = (inr (run_like setup key text schema settings args there here live keyed (match keyed.there)), inr (run_of setup key text schema settings args there here live keyed (match keyed.there)))
+pub decoded_alike : (setup : Setup) (key : ℕ) (c : Command) (told : Told) (live : ℕ → Option ℕ) (there here : Option Key) → IsKeyed setup c key told live → ((number : ℕ) → live key ≡ Some number → IsMatch setup key there here) → IsDecoded setup.reads (decoded there c) (decoded here c) × IsTextOf (decoded there c) c
+decoded_alike setup key (Run text schema settings args) told live there here keyed match = (inr (run_like setup key text schema settings args there here live keyed (match keyed.number keyed.there)), inr (run_of setup key text schema settings args there here live keyed (match keyed.number keyed.there)))
 decoded_alike setup key (Query text) told live there here keyed match = (inl (decoded_other there (Query text) (λ a b d e f. cc) ∙ sym (decoded_other here (Query text) (λ a b d e f. cc))), inl (decoded_other there (Query text) (λ a b d e f. cc)))
 decoded_alike setup key (InitDb schema) told live there here keyed match = (inl (decoded_other there (InitDb schema) (λ a b d e f. cc) ∙ sym (decoded_other here (InitDb schema) (λ a b d e f. cc))), inl (decoded_other there (InitDb schema) (λ a b d e f. cc)))
 decoded_alike setup key (FieldList rest) told live there here keyed match = (inl (decoded_other there (FieldList rest) (λ a b d e f. cc) ∙ sym (decoded_other here (FieldList rest) (λ a b d e f. cc))), inl (decoded_other there (FieldList rest) (λ a b d e f. cc)))

@@ -108,6 +108,10 @@ is_err reply = ending.is_err (end_of reply)
 abbrev pub is_made : Reply → Bool
 is_made reply = not (is_err reply)
 
+-- the number that the server gave to what it prepared
+abbrev pub number_in : Reply → ℕ
+number_in reply = (end_of reply).server_number
+
 abbrev pub flags : Reply → Option Bool
 flags reply = ending.shows_transaction (end_of reply)
 

@@ -2,7 +2,7 @@
 use Rattle.std.specs.Prelude.{◌≡◌, ◌≢◌, ◌⊎◌, ℕ, Bool, true, false, List, [], ◌∷◌, Option, Some, None}
 use Rattle.pin_classifier.specs.declared.class.Class.{Class}
 use Rattle.private_model.specs.Commands.{Account, Command, FieldList, InitDb, Prepare, Query, Quit, Run, SetId, class_of, is_marked}
-use Rattle.private_model.specs.Story.{Capture, Due, End, Freed, Happening, LoggedIn, Own, Prep, Question, Sent, Statement, Story, Sync, message_of}
+use Rattle.private_model.specs.Story.{Capture, Due, End, Freed, Happening, LoggedIn, Own, Prep, Question, Sent, Statement, Story, Sync, Unprepared, message_of}
 use Rattle.private_model.specs.View.{Held, Joined, Lent, Link, Nobody, Quiet, Setup, View, no_link, present, view_after}
 use Rattle.server_rule.specs.Classes.{Reads, core}
 use Rattle.session_state.specs.Classes.{Tracked, effect_of, sets_autocommit, takes}
@@ -31,13 +31,14 @@ pub record IsToldKey (setup : Setup) (key : ℕ) (text : List ℕ) (told : Told)
   pub core : core told.settings ≡ core (setup.keys key).place.settings
 
 -- a Run is of a key that is prepared on the link
-pub record IsLiveRun (setup : Setup) (key : ℕ) (text schema : List ℕ) (settings : List SlotValue) (live : ℕ → Bool) : Type 0 where
-  pub there : live key ≡ true
+pub record IsLiveRun (setup : Setup) (key : ℕ) (text schema : List ℕ) (settings : List SlotValue) (live : ℕ → Option ℕ) : Type 0 where
+  pub number : ℕ
+  pub there : live key ≡ Some number
   pub text_of : text ≡ (setup.keys key).text
   pub schema_of : schema ≡ (setup.keys key).place.schema
   pub core_of : core settings ≡ core (setup.keys key).place.settings
 
-abbrev pub IsKeyed : Setup → Command → (key : ℕ) → Told → (live : ℕ → Bool) → Type 0
+abbrev pub IsKeyed : Setup → Command → (key : ℕ) → Told → (live : ℕ → Option ℕ) → Type 0
 IsKeyed setup (Run text schema settings args) key told live = IsLiveRun setup key text schema settings live
 IsKeyed setup (Prepare text) key told live = IsToldKey setup key text told
 IsKeyed setup _ key told live = Unit {0}
@@ -54,7 +55,7 @@ pub record IdsAgree (of_link of_session : Option ℕ) : Type 0 where
   pub session : of_session ≡ Some id
 
 -- A statement of an unpinned session goes to a link of its account.
-pub record Begins (setup : Setup) (n : SessionName) (due : Due) (user : Account) (told : Told) (link_id : Option ℕ) (live : ℕ → Bool) (pin : Pin) (id : Option ℕ) : Type 0 where
+pub record Begins (setup : Setup) (n : SessionName) (due : Due) (user : Account) (told : Told) (link_id : Option ℕ) (live : ℕ → Option ℕ) (pin : Pin) (id : Option ℕ) : Type 0 where
   pub statement : is_statement due.command ≡ true
   pub keyed : IsKeyed setup due.command due.key told live
   pub unpinned : is_pinned pin ≡ false
@@ -67,7 +68,7 @@ pub record Begins (setup : Setup) (n : SessionName) (due : Due) (user : Account)
   pub marks : is_marked setup.reads due.command ≡ true → link_id ≡ id
 
 -- A statement of a pinned session goes to the session's own link.
-pub record GoesOn (setup : Setup) (due : Due) (marked : Bool) (told : Told) (link_id : Option ℕ) (live : ℕ → Bool) (pin : Pin) (id : Option ℕ) : Type 0 where
+pub record GoesOn (setup : Setup) (due : Due) (marked : Bool) (told : Told) (link_id : Option ℕ) (live : ℕ → Option ℕ) (pin : Pin) (id : Option ℕ) : Type 0 where
   pub statement : is_statement due.command ≡ true
   pub keyed : IsKeyed setup due.command due.key told live
   pub pinned : is_pinned pin ≡ true
@@ -193,6 +194,7 @@ abbrev pub MayCome : Setup → View → Happening → Type 0
 MayCome setup view (LoggedIn link server account) = view.links link ≡ no_link
 MayCome setup view (Sent link question) = MaySend setup view (view.links link) question
 MayCome setup view (Freed link) = MayFree view (view.links link)
+MayCome setup view (Unprepared link number) = (view.links link).stage ≡ Quiet
 MayCome setup view _ = Unit {0}
 
 abbrev pub IsLawful : Setup → Story → Type 0

@@ -72,6 +72,7 @@ pub data Happening : Type 0 where
   Ran : (link : LinkId) → Happening
   Heard : (link : LinkId) → Reply → Happening
   Freed : (link : LinkId) → Happening
+  Unprepared : (link : LinkId) (number : ℕ) → Happening
   Dropped : (link : LinkId) → Happening
   Gone : (link : LinkId) → Happening
   Left : (client : ClientNo) → Happening

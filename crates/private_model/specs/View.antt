@@ -5,8 +5,8 @@ use Rattle.mx_base.specs.declared.names.ClientNo.{ClientNo}
 use Rattle.mx_base.specs.declared.names.Hostgroup.{Hostgroup}
 use Rattle.mx_base.specs.declared.names.LinkId.{LinkId}
 use Rattle.mx_base.specs.declared.names.ServerId.{ServerId}
-use Rattle.private_model.specs.Commands.{Account, Command, Prepare, Quit, Reply, Reset, class_of, id_after, is_err, is_made, is_marked, is_ok, pin_statement}
-use Rattle.private_model.specs.Story.{BecameDue, Capture, Dropped, Due, End, Freed, Gone, Happening, Heard, Key, Left, LoggedIn, Prep, Question, Ran, Sent, Statement, Story, Sync, command_of, is_client, is_link_id, is_message, is_name, message_of, put}
+use Rattle.private_model.specs.Commands.{Account, Command, Prepare, Quit, Reply, Reset, class_of, id_after, is_err, is_made, is_marked, is_ok, number_in, pin_statement}
+use Rattle.private_model.specs.Story.{BecameDue, Capture, Dropped, Due, End, Freed, Gone, Happening, Heard, Key, Left, LoggedIn, Prep, Question, Ran, Sent, Statement, Story, Sync, Unprepared, command_of, is_client, is_link_id, is_message, is_name, message_of, put}
 use Rattle.server_rule.specs.Classes.{Reads}
 use Rattle.session_state.specs.Classes.{Effect, Uses, effect_of, schema_by, settings_by}
 use Rattle.session_state.specs.Pins.{is_pinned, no_pin}
@@ -34,7 +34,7 @@ pub record Link : Type 0 where
   pub usable : Bool  -- the router hasn't lost or closed it
   pub told : Told
   pub id : Option ℕ  -- its insert id, where it is known
-  pub live : (key : ℕ) → Bool  -- what is prepared there
+  pub live : (key : ℕ) → Option ℕ  -- what is prepared there, by the number that the server gave
   pub carries : Carried
   pub marked : Bool  -- a statement that marks the insert id ran there since it carries this session
   pub stage : Stage
@@ -62,7 +62,7 @@ pub record Setup : Type 0 where
   pub stored : (server : ServerId) → List ℕ
 
 abbrev pub no_link : Link
-no_link = record { server = record { 0 = 0 }; account = record { user = []; found_rows = false }; alive = false; usable = false; told = record { schema = None; settings = defaults }; id = None; live = λ key. false; carries = Nobody; marked = false; stage = Quiet }
+no_link = record { server = record { 0 = 0 }; account = record { user = []; found_rows = false }; alive = false; usable = false; told = record { schema = None; settings = defaults }; id = None; live = λ key. None; carries = Nobody; marked = false; stage = Quiet }
 
 abbrev pub new_link : (server : ServerId) (account : Account) → Link
 new_link server account = record no_link { server = server; account = account; alive = true; usable = true; told = record { schema = Some []; settings = defaults }; id = Some 0 }
@@ -157,17 +157,17 @@ abbrev pub text_of : Command → List ℕ
 text_of (Prepare text) = text
 text_of _ = []
 
-abbrev pub lived : (makes ok : Bool) → (key : ℕ) → (ℕ → Bool) → ℕ → Bool
-lived true true key live = put nat_eq live key true
-lived _ _ key live = live
+abbrev pub lived : (makes ok : Bool) → (key number : ℕ) → (ℕ → Option ℕ) → ℕ → Option ℕ
+lived true true key number live = put nat_eq live key (Some number)
+lived _ _ key number live = live
 
-abbrev pub live_after : Question → Reply → (ℕ → Bool) → ℕ → Bool
-live_after (Statement n due) reply live = lived (is_prepare due.command) (is_made reply) due.key live
-live_after (Prep n key text) reply live = lived true (is_made reply) key live
-live_after (End n) reply live = λ key. false
+abbrev pub live_after : Question → Reply → (ℕ → Option ℕ) → ℕ → Option ℕ
+live_after (Statement n due) reply live = lived (is_prepare due.command) (is_made reply) due.key (number_in reply) live
+live_after (Prep n key text) reply live = lived true (is_made reply) key (number_in reply) live
+live_after (End n) reply live = λ key. None
 live_after _ reply live = live
 
-abbrev pub soon_live : Stage → Reply → (ℕ → Bool) → ℕ → Bool
+abbrev pub soon_live : Stage → Reply → (ℕ → Option ℕ) → ℕ → Option ℕ
 soon_live (Answered question) reply live = live_after question reply live
 soon_live _ reply live = live
 
@@ -211,6 +211,14 @@ replies_by _ reply replies = replies
 abbrev pub places_by : Reads → Stage → Reply → (ClientNo → Place) → ClientNo → Place
 places_by reads (Answered (Statement n due)) reply places = put is_client places n.client (place_after reads due.command reply (places n.client))
 places_by reads _ reply places = places
+
+-- what a STMT_CLOSE of this number leaves
+abbrev pub without : (number : ℕ) → Option ℕ → Option ℕ
+without number None = None
+without number (Some n) = if nat_eq n number then None else Some n
+
+abbrev pub closed_number : (number : ℕ) → Link → Link
+closed_number number link = record link { live = λ key. without number (link.live key) }
 
 -- A link is given back, or lost, and a client leaves.
 
@@ -256,6 +264,7 @@ view_step setup view (Heard link reply) = record view {
   replies = replies_by (view.links link).stage reply view.replies;
 }
 view_step setup view (Freed link) = record view { links = put is_link_id view.links link (freed (view.links link)); held = held_freed (view.links link).carries view.held }
+view_step setup view (Unprepared link number) = record view { links = put is_link_id view.links link (closed_number number (view.links link)) }
 view_step setup view (Dropped link) = record view { links = put is_link_id view.links link (record (view.links link) { alive = false }) }
 view_step setup view (Gone link) = record view { links = put is_link_id view.links link (record (view.links link) { usable = false }); lives = lives_without (view.links link).carries view.lives }
 view_step setup view (Left client) = record view { lives = lives_left client view.lives; places = put is_client view.places client (record (view.places client) { settings = (setup.places client).settings }) }

@@ -2,8 +2,8 @@
 use Rattle.std.specs.Prelude.{nat_eq, ℕ, Bool, true, false, if◌then◌else◌, List, [], ◌∷◌, Option, Some, None}
 use Rattle.mx_base.specs.declared.names.LinkId.{LinkId}
 use Rattle.mx_base.specs.declared.names.ServerId.{ServerId}
-use Rattle.private_model.specs.Commands.{Account, Command, Outcome, Prepare, Quit, Reply, Reset, Run, Step, fresh_of, is_made}
-use Rattle.private_model.specs.Story.{Dropped, Due, End, Happening, Key, LoggedIn, Prep, Question, Ran, Statement, Story, Sync, command_of, is_link_id, is_message, is_name, is_server, message_of, put}
+use Rattle.private_model.specs.Commands.{Account, Command, Outcome, Prepare, Quit, Reply, Reset, Run, Step, fresh_of, is_made, number_in}
+use Rattle.private_model.specs.Story.{Dropped, Due, End, Happening, Key, LoggedIn, Prep, Question, Ran, Statement, Story, Sync, Unprepared, command_of, is_link_id, is_message, is_name, is_server, message_of, put}
 use Rattle.private_model.specs.View.{Asked, Carried, Held, Joined, Lent, Setup, Stage, View, is_prepare, text_of, view_after}
 use Rattle.server_rule.specs.Servers.{with_id}
 use Rattle.server_rule.specs.declared.session.Session.{Session}
@@ -17,7 +17,7 @@ use Rattle.session_state.specs.declared.place.Place.{Place}
 pub record Peer : Type 0 where
   pub session : Session
   pub answer : Reply
-  pub table : (key : ℕ) → Option Key  -- what was prepared, and where the session then was
+  pub table : (number : ℕ) → Option Key  -- what was prepared, and where the session then was
 
 pub record Real : Type 0 where
   pub stored : (server : ServerId) → List ℕ
@@ -27,16 +27,28 @@ abbrev pub no_answer : Reply
 no_answer = record { to_prepare = false; payloads = [] }
 
 abbrev pub new_peer : (account : Account) → Peer
-new_peer account = record { session = fresh_of account []; answer = no_answer; table = λ key. None }
+new_peer account = record { session = fresh_of account []; answer = no_answer; table = λ number. None }
 
 -- A Run is decoded with the text and the place of its preparation.
 abbrev pub decoded : Option Key → Command → Command
 decoded (Some entry) (Run text schema settings args) = Run entry.text entry.place.schema entry.place.settings args
 decoded _ command = command
 
-abbrev pub tabled : (makes ok : Bool) → (key : ℕ) → (text : List ℕ) → Session → (ℕ → Option Key) → ℕ → Option Key
-tabled true true key text s table = put nat_eq table key (Some (record { text = text; place = record { schema = s.schema; settings = s.settings } }))
-tabled _ _ key text s table = table
+-- the link's number of a key says which entry a Run is of
+abbrev pub entry_at : (number : Option ℕ) → (table : ℕ → Option Key) → Option Key
+entry_at None table = None
+entry_at (Some number) table = table number
+
+abbrev pub tabled : (makes ok : Bool) → (at : ℕ) → (text : List ℕ) → Session → (ℕ → Option Key) → ℕ → Option Key
+tabled true true at text s table = put nat_eq table at (Some (record { text = text; place = record { schema = s.schema; settings = s.settings } }))
+tabled _ _ at text s table = table
+
+-- a server tells what it prepared apart by numbers, a session of a client's own by keys
+abbrev pub there_table : Question → Outcome → (ℕ → Option Key) → ℕ → Option Key
+there_table (Statement n due) outcome table = tabled (is_prepare due.command) (is_made outcome.reply) (number_in outcome.reply) (text_of due.command) outcome.session table
+there_table (Prep n key text) outcome table = tabled true (is_made outcome.reply) (number_in outcome.reply) text outcome.session table
+there_table (End n) outcome table = λ number. None
+there_table _ outcome table = table
 
 abbrev pub table_after : Question → Outcome → (ℕ → Option Key) → ℕ → Option Key
 table_after (Statement n due) outcome table = tabled (is_prepare due.command) (is_made outcome.reply) due.key (text_of due.command) outcome.session table
@@ -44,19 +56,19 @@ table_after (Prep n key text) outcome table = tabled true (is_made outcome.reply
 table_after (End n) outcome table = λ key. None
 table_after _ outcome table = table
 
-abbrev pub there_command : Question → (ℕ → Option Key) → Command
-there_command (Statement n due) table = decoded (table due.key) due.command
-there_command question table = command_of question
+abbrev pub there_command : Question → (live : ℕ → Option ℕ) → (table : ℕ → Option Key) → Command
+there_command (Statement n due) live table = decoded (entry_at (live due.key) table) due.command
+there_command question live table = command_of question
 
 -- what a link's session makes of a command
 abbrev pub at_link : Step → Real → (link : LinkId) (server : ServerId) → Command → Outcome
 at_link step real link server command = step (real.stored server) (real.peers link).session command
 
-abbrev pub real_run : Step → Real → (link : LinkId) → (alive : Bool) → Stage → (server : ServerId) → Real
-real_run step real link true (Asked question) server =
-    let outcome = at_link step real link server (there_command question (real.peers link).table) in
-    record { stored = put is_server real.stored server outcome.stored; peers = put is_link_id real.peers link (record { session = outcome.session; answer = outcome.reply; table = table_after question outcome (real.peers link).table }) }
-real_run step real link _ _ server = real
+abbrev pub real_run : Step → Real → (link : LinkId) → (live : ℕ → Option ℕ) → (alive : Bool) → Stage → (server : ServerId) → Real
+real_run step real link live true (Asked question) server =
+    let outcome = at_link step real link server (there_command question live (real.peers link).table) in
+    record { stored = put is_server real.stored server outcome.stored; peers = put is_link_id real.peers link (record { session = outcome.session; answer = outcome.reply; table = there_table question outcome (real.peers link).table }) }
+real_run step real link live _ _ server = real
 
 -- the server ends the link by itself
 abbrev pub real_drop : Step → Real → (link : LinkId) → (alive : Bool) → (server : ServerId) → Real
@@ -67,7 +79,8 @@ real_drop step real link false server = real
 
 abbrev pub real_step : Step → View → Real → Happening → Real
 real_step step view real (LoggedIn link server account) = record real { peers = put is_link_id real.peers link (new_peer account) }
-real_step step view real (Ran link) = real_run step real link (view.links link).alive (view.links link).stage (view.links link).server
+real_step step view real (Ran link) = real_run step real link (view.links link).live (view.links link).alive (view.links link).stage (view.links link).server
+real_step step view real (Unprepared link number) = record real { peers = put is_link_id real.peers link (record (real.peers link) { table = put nat_eq (real.peers link).table number None }) }
 real_step step view real (Dropped link) = real_drop step real link (view.links link).alive (view.links link).server
 real_step step view real _ = real
 
