@@ -1,0 +1,149 @@
+-- Which statement was sent where, and what was answered to it in both worlds.
+use Rattle.std.specs.Prelude.{◌≡◌, Bool, true, false, Option, Some, None}
+use Rattle.std.proofs.Common.{refl, sym, ap, ◌∙◌, subst}
+use Rattle.mx_base.specs.declared.names.LinkId.{LinkId}
+use Rattle.private_model.proofs.Maps.{at_each, link_ids, messages, no_other, put-other, put-same}
+use Rattle.private_model.proofs.Stands.{AreAnswered, message_on, ran_on}
+use Rattle.private_model.specs.Commands.{Reply}
+use Rattle.private_model.specs.Story.{Capture, End, Own, Prep, Statement, Sync, is_link_id, is_message, put}
+use Rattle.private_model.specs.View.{Answered, Asked, Link, Quiet, Stage}
+use Rattle.private_model.specs.Worlds.{Peer}
+use Rattle.server_rule.specs.Servers.{fresh}
+use Rattle.session_state.specs.declared.names.MessageName.{MessageName}
+
+module _ (links : LinkId → Link) (peers : LinkId → Peer) (carriers : MessageName → Option LinkId) (replies answers : MessageName → Option Reply) (are : AreAnswered links peers carriers replies answers) (number : LinkId) where
+  -- a message on another link is another message
+  other_message : (key : MessageName) → carriers key ≡ Some number → (j : LinkId) → is_link_id j number ≡ false → (m : MessageName) → carriers m ≡ Some j → is_message m key ≡ false
+  other_message key here j other m there = go (is_message m key) refl
+    where
+      go : (b : Bool) → is_message m key ≡ b → is_message m key ≡ false
+      go true e = absurd (no_other (carriers key) number here j other (subst (λ x. carriers x ≡ Some j) (messages.of m key e) there))
+      go false e = e
+
+  -- and a message that wasn't sent is on none
+  unsent_message : (key : MessageName) → carriers key ≡ None → (j : LinkId) (m : MessageName) → carriers m ≡ Some j → is_message m key ≡ false
+  unsent_message key here j m there = go (is_message m key) refl
+    where
+      go : (b : Bool) → is_message m key ≡ b → is_message m key ≡ false
+      go true e = let same : carriers key ≡ Some j = subst (λ x. carriers x ≡ Some j) (messages.of m key e) there in absurd (cc)
+      go false e = e
+
+  -- a link whose stage says no more than before
+  pub are_still : (link : Link) (peer : Peer) → ((m : MessageName) → message_on link.stage ≡ Some m → message_on (links number).stage ≡ Some m)
+      → ((m : MessageName) → ran_on link.stage ≡ Some m → (ran_on (links number).stage ≡ Some m) × ((peers number).answer ≡ peer.answer))
+      → AreAnswered (put is_link_id links number link) (put is_link_id peers number peer) carriers replies answers
+  are_still link peer on ran = record {
+    carried = at_each link_ids (λ j. (m : MessageName) → message_on (put is_link_id links number link j).stage ≡ Some m → carriers m ≡ Some j) number
+        (λ m e. are.carried number m (on m (ap (λ l. message_on l.stage) (sym (put-same link_ids links number link)) ∙ e)))
+        (λ j f m e. are.carried j m (ap (λ l. message_on l.stage) (sym (put-other link_ids links number link j f)) ∙ e));
+    unread = at_each link_ids (λ j. (m : MessageName) → message_on (put is_link_id links number link j).stage ≡ Some m → replies m ≡ None) number
+        (λ m e. are.unread number m (on m (ap (λ l. message_on l.stage) (sym (put-same link_ids links number link)) ∙ e)))
+        (λ j f m e. are.unread j m (ap (λ l. message_on l.stage) (sym (put-other link_ids links number link j f)) ∙ e));
+    unsent = are.unsent;
+    answered = at_each link_ids (λ j. (m : MessageName) → ran_on (put is_link_id links number link j).stage ≡ Some m → answers m ≡ Some (put is_link_id peers number peer j).answer) number
+        (λ m e. let was = ran m (ap (λ l. ran_on l.stage) (sym (put-same link_ids links number link)) ∙ e) in are.answered number m was.0 ∙ ap Some was.1 ∙ ap (λ x. Some x.answer) (sym (put-same link_ids peers number peer)))
+        (λ j f m e. are.answered j m (ap (λ l. ran_on l.stage) (sym (put-other link_ids links number link j f)) ∙ e) ∙ ap (λ x. Some x.answer) (sym (put-other link_ids peers number peer j f)));
+    replied = are.replied;
+  }
+
+  pub are_linked : (link : Link) → ((m : MessageName) → message_on link.stage ≡ Some m → message_on (links number).stage ≡ Some m) → ((m : MessageName) → ran_on link.stage ≡ Some m → ran_on (links number).stage ≡ Some m)
+      → AreAnswered (put is_link_id links number link) peers carriers replies answers
+  are_linked link on ran = record {
+    carried = at_each link_ids (λ j. (m : MessageName) → message_on (put is_link_id links number link j).stage ≡ Some m → carriers m ≡ Some j) number
+        (λ m e. are.carried number m (on m (ap (λ l. message_on l.stage) (sym (put-same link_ids links number link)) ∙ e)))
+        (λ j f m e. are.carried j m (ap (λ l. message_on l.stage) (sym (put-other link_ids links number link j f)) ∙ e));
+    unread = at_each link_ids (λ j. (m : MessageName) → message_on (put is_link_id links number link j).stage ≡ Some m → replies m ≡ None) number
+        (λ m e. are.unread number m (on m (ap (λ l. message_on l.stage) (sym (put-same link_ids links number link)) ∙ e)))
+        (λ j f m e. are.unread j m (ap (λ l. message_on l.stage) (sym (put-other link_ids links number link j f)) ∙ e));
+    unsent = are.unsent;
+    answered = at_each link_ids (λ j. (m : MessageName) → ran_on (put is_link_id links number link j).stage ≡ Some m → answers m ≡ Some (peers j).answer) number
+        (λ m e. are.answered number m (ran m (ap (λ l. ran_on l.stage) (sym (put-same link_ids links number link)) ∙ e)))
+        (λ j f m e. are.answered j m (ap (λ l. ran_on l.stage) (sym (put-other link_ids links number link j f)) ∙ e));
+    replied = are.replied;
+  }
+
+  -- a statement goes out
+  pub are_sent : (link : Link) (key : MessageName) → message_on link.stage ≡ Some key → ran_on link.stage ≡ None → carriers key ≡ None
+      → AreAnswered (put is_link_id links number link) peers (put is_message carriers key (Some number)) replies answers
+  are_sent link key on not_ran fresh = record {
+    carried = at_each link_ids (λ j. (m : MessageName) → message_on (put is_link_id links number link j).stage ≡ Some m → put is_message carriers key (Some number) m ≡ Some j) number
+        (λ m e. let same : message_on link.stage ≡ Some m = ap (λ l. message_on l.stage) (sym (put-same link_ids links number link)) ∙ e in
+        let is : key ≡ m = cc in subst (λ x. put is_message carriers key (Some number) x ≡ Some number) is (put-same messages carriers key (Some number)))
+        (λ j f m e. let was = are.carried j m (ap (λ l. message_on l.stage) (sym (put-other link_ids links number link j f)) ∙ e) in
+        put-other messages carriers key (Some number) m (unsent_message key fresh j m was) ∙ was);
+    unread = at_each link_ids (λ j. (m : MessageName) → message_on (put is_link_id links number link j).stage ≡ Some m → replies m ≡ None) number
+        (λ m e. let same : message_on link.stage ≡ Some m = ap (λ l. message_on l.stage) (sym (put-same link_ids links number link)) ∙ e in
+        let is : key ≡ m = cc in subst (λ x. replies x ≡ None) is (are.unsent key fresh))
+        (λ j f m e. are.unread j m (ap (λ l. message_on l.stage) (sym (put-other link_ids links number link j f)) ∙ e));
+    unsent = at_each messages (λ m. put is_message carriers key (Some number) m ≡ None → replies m ≡ None) key
+        (λ e. are.unsent key fresh)
+        (λ m f e. are.unsent m (sym (put-other messages carriers key (Some number) m f) ∙ e));
+    answered = at_each link_ids (λ j. (m : MessageName) → ran_on (put is_link_id links number link j).stage ≡ Some m → answers m ≡ Some (peers j).answer) number
+        (λ m e. let is : ran_on link.stage ≡ Some m = ap (λ l. ran_on l.stage) (sym (put-same link_ids links number link)) ∙ e in cc)
+        (λ j f m e. are.answered j m (ap (λ l. ran_on l.stage) (sym (put-other link_ids links number link j f)) ∙ e));
+    replied = are.replied;
+  }
+
+  -- it runs, in both worlds alike
+  pub are_ran : (link : Link) (peer : Peer) (key : MessageName) (reply : Reply) → message_on (links number).stage ≡ Some key → message_on link.stage ≡ Some key → reply ≡ peer.answer
+      → ((m : MessageName) → ran_on link.stage ≡ Some m → m ≡ key)
+      → AreAnswered (put is_link_id links number link) (put is_link_id peers number peer) carriers replies (put is_message answers key (Some reply))
+  are_ran link peer key reply was on same ran = record {
+    carried = at_each link_ids (λ j. (m : MessageName) → message_on (put is_link_id links number link j).stage ≡ Some m → carriers m ≡ Some j) number
+        (λ m e. are.carried number m (to_key m (ap (λ l. message_on l.stage) (sym (put-same link_ids links number link)) ∙ e)))
+        (λ j f m e. are.carried j m (ap (λ l. message_on l.stage) (sym (put-other link_ids links number link j f)) ∙ e));
+    unread = at_each link_ids (λ j. (m : MessageName) → message_on (put is_link_id links number link j).stage ≡ Some m → replies m ≡ None) number
+        (λ m e. are.unread number m (to_key m (ap (λ l. message_on l.stage) (sym (put-same link_ids links number link)) ∙ e)))
+        (λ j f m e. are.unread j m (ap (λ l. message_on l.stage) (sym (put-other link_ids links number link j f)) ∙ e));
+    unsent = are.unsent;
+    answered = at_each link_ids (λ j. (m : MessageName) → ran_on (put is_link_id links number link j).stage ≡ Some m → put is_message answers key (Some reply) m ≡ Some (put is_link_id peers number peer j).answer) number
+        (λ m e. let is = ran m (ap (λ l. ran_on l.stage) (sym (put-same link_ids links number link)) ∙ e) in
+        subst (λ x. put is_message answers key (Some reply) x ≡ Some (put is_link_id peers number peer number).answer) (sym is)
+        (put-same messages answers key (Some reply) ∙ ap Some same ∙ ap (λ x. Some x.answer) (sym (put-same link_ids peers number peer))))
+        (λ j f m e. let ran_there = ap (λ l. ran_on l.stage) (sym (put-other link_ids links number link j f)) ∙ e in
+        put-other messages answers key (Some reply) m (other_message key (are.carried number key was) j f m (are.carried j m (is_on (links j).stage m ran_there)))
+        ∙ are.answered j m ran_there ∙ ap (λ x. Some x.answer) (sym (put-other link_ids peers number peer j f)));
+    replied = at_each messages (λ m. (r : Reply) → replies m ≡ Some r → put is_message answers key (Some reply) m ≡ Some r) key
+        (λ r e. let none : replies key ≡ None = are.unread number key was in cc)
+        (λ m f r e. put-other messages answers key (Some reply) m f ∙ are.replied m r e);
+  }
+    where
+      is_on : (stage : Stage) (m : MessageName) → ran_on stage ≡ Some m → message_on stage ≡ Some m
+      is_on (Answered (Statement n due)) m e = e
+      is_on (Answered (Prep n key text)) m e = e
+      is_on (Answered (Sync n c)) m e = e
+      is_on (Answered (Own c)) m e = e
+      is_on (Answered (End n)) m e = e
+      is_on (Answered (Capture n)) m e = e
+      is_on (Asked (Statement n due)) m e = cc
+      is_on (Asked (Prep n key text)) m e = e
+      is_on (Asked (Sync n c)) m e = e
+      is_on (Asked (Own c)) m e = e
+      is_on (Asked (End n)) m e = e
+      is_on (Asked (Capture n)) m e = e
+      is_on Quiet m e = e
+
+      to_key : (m : MessageName) → message_on link.stage ≡ Some m → message_on (links number).stage ≡ Some m
+      to_key m e = was ∙ sym on ∙ e
+
+  -- its reply is read
+  pub are_heard : (link : Link) (key : MessageName) → ran_on (links number).stage ≡ Some key → message_on (links number).stage ≡ Some key → message_on link.stage ≡ None → ran_on link.stage ≡ None
+      → AreAnswered (put is_link_id links number link) peers carriers (put is_message replies key (Some (peers number).answer)) answers
+  are_heard link key ran on off not_ran = record {
+    carried = at_each link_ids (λ j. (m : MessageName) → message_on (put is_link_id links number link j).stage ≡ Some m → carriers m ≡ Some j) number
+        (λ m e. let is : message_on link.stage ≡ Some m = ap (λ l. message_on l.stage) (sym (put-same link_ids links number link)) ∙ e in cc)
+        (λ j f m e. are.carried j m (ap (λ l. message_on l.stage) (sym (put-other link_ids links number link j f)) ∙ e));
+    unread = at_each link_ids (λ j. (m : MessageName) → message_on (put is_link_id links number link j).stage ≡ Some m → put is_message replies key (Some (peers number).answer) m ≡ None) number
+        (λ m e. let is : message_on link.stage ≡ Some m = ap (λ l. message_on l.stage) (sym (put-same link_ids links number link)) ∙ e in cc)
+        (λ j f m e. let there = ap (λ l. message_on l.stage) (sym (put-other link_ids links number link j f)) ∙ e in
+        put-other messages replies key (Some (peers number).answer) m (other_message key (are.carried number key on) j f m (are.carried j m there)) ∙ are.unread j m there);
+    unsent = at_each messages (λ m. carriers m ≡ None → put is_message replies key (Some (peers number).answer) m ≡ None) key
+        (λ e. let sent : carriers key ≡ Some number = are.carried number key on in cc)
+        (λ m f e. put-other messages replies key (Some (peers number).answer) m f ∙ are.unsent m e);
+    answered = at_each link_ids (λ j. (m : MessageName) → ran_on (put is_link_id links number link j).stage ≡ Some m → answers m ≡ Some (peers j).answer) number
+        (λ m e. let is : ran_on link.stage ≡ Some m = ap (λ l. ran_on l.stage) (sym (put-same link_ids links number link)) ∙ e in cc)
+        (λ j f m e. are.answered j m (ap (λ l. ran_on l.stage) (sym (put-other link_ids links number link j f)) ∙ e));
+    replied = at_each messages (λ m. (r : Reply) → put is_message replies key (Some (peers number).answer) m ≡ Some r → answers m ≡ Some r) key
+        (λ r e. are.answered number key ran ∙ sym (put-same messages replies key (Some (peers number).answer)) ∙ e)
+        (λ m f r e. are.replied m r (sym (put-other messages replies key (Some (peers number).answer) m f) ∙ e));
+  }

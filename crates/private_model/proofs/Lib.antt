@@ -1,0 +1,14 @@
+mod Answering
+mod Decoding
+mod Law
+mod Maps
+mod Meeting
+mod Pairs
+mod Preparing
+mod Running
+mod Sending
+mod Sessions
+mod Stands
+mod Tabling
+mod Tame
+mod FromLaws

@@ -1,0 +1,89 @@
+-- The laws of a tame server, told of the router's commands: what the proof uses of them.
+use Rattle.std.specs.Prelude.{◌≡◌, ◌⊎◌, ℕ, Bool, true, false, List, [], Some}
+use Rattle.server_rule.proofs.Ends.{Shows}
+use Rattle.private_model.specs.Commands.{Number, Args, Command, FieldList, Prepare, Query, Quit, ReadId, Reset, Run, SetId, Step, account_of, brings_id, class_of, end_of, flags, fresh_of, hides_of, is_err, is_ok, outcome_with_id}
+use Rattle.server_rule.specs.Classes.{Reads, core}
+use Rattle.server_rule.specs.Replies.{one_number}
+use Rattle.server_rule.specs.Servers.{Accepts, Tests, is_brief, is_some_of, with_diag, with_id}
+use Rattle.server_rule.specs.declared.session.Session.{Session}
+use Rattle.session_state.specs.Classes.{Tracked, Uses, effect_of, frees_locks, is_lone_savepoint, schema_by, sets_autocommit, sets_next, settings_by, takes_locks}
+use Rattle.session_vars.specs.declared.change.Change.{Change}
+use Rattle.session_vars.specs.declared.change.SlotValue.{SlotValue}
+
+-- A reset leaves a fresh session but for its schema, and a quit does the same to the data.
+pub record ResetLaw (tests : Tests) (step : Step) : Type 0 where
+  pub session : (stored : List ℕ) (s : Session) → Accepts tests stored s → (step stored s Reset).session ≡ fresh_of (account_of s) s.schema
+  pub blind : (stored : List ℕ) (s : Session) → Accepts tests stored s → (n : ℕ) (diag : List ℕ) → Accepts tests stored (with_diag diag s) → (step stored (with_diag diag (with_id n s)) Reset).stored ≡ (step stored s Reset).stored
+  pub idle : (stored : List ℕ) (s : Session) → Accepts tests stored s → s.tx ≡ [] → s.locks ≡ [] → s.deep ≡ [] → (step stored s Reset).stored ≡ stored
+  pub quit_stored : (stored : List ℕ) (s : Session) → Accepts tests stored s → (step stored s Quit).stored ≡ (step stored s Reset).stored
+  pub quit_session : (stored : List ℕ) (s : Session) → Accepts tests stored s → (step stored s Quit).session ≡ (step stored s Reset).session
+
+-- A tracked SET leaves locks and the insert id, and data and transaction too where no transaction is open or autocommit isn't among its settings.
+pub record TrackedLaw (reads : Reads) (tests : Tests) (step : Step) : Type 0 where
+  pub calm : (stored : List ℕ) (s : Session) → Accepts tests stored s → (c : Command) (changes : List Change) → effect_of (class_of reads c) ≡ Tracked changes → (s.tx ≡ []) ⊎ (sets_autocommit changes ≡ false) → (step stored s c).stored ≡ stored
+  pub calm_tx : (stored : List ℕ) (s : Session) → Accepts tests stored s → (c : Command) (changes : List Change) → effect_of (class_of reads c) ≡ Tracked changes → (s.tx ≡ []) ⊎ (sets_autocommit changes ≡ false) → (step stored s c).session.tx ≡ s.tx
+
+-- A change of the schema leaves the data and all else but the diagnostics.
+pub record UseLaw (reads : Reads) (tests : Tests) (step : Step) : Type 0 where
+  pub stored : (stored : List ℕ) (s : Session) → Accepts tests stored s → (c : Command) (schema : List ℕ) → effect_of (class_of reads c) ≡ Uses schema → (step stored s c).stored ≡ stored
+  pub session : (stored : List ℕ) (s : Session) → Accepts tests stored s → (c : Command) (schema : List ℕ) → effect_of (class_of reads c) ≡ Uses schema
+      → (step stored s c).session ≡ record s { schema = schema_by (Uses schema) (is_ok (step stored s c).reply) s.schema; diag = (step stored s c).session.diag }
+
+-- What a text that isn't deep leaves.
+pub record TextLaw (reads : Reads) (tests : Tests) (step : Step) : Type 0 where
+  pub schema : (stored : List ℕ) (s : Session) → Accepts tests stored s → (c : Command) → (class_of reads c).deep ≡ false → (step stored s c).session.schema ≡ schema_by (effect_of (class_of reads c)) (is_ok (step stored s c).reply) s.schema
+  pub settings : (stored : List ℕ) (s : Session) → Accepts tests stored s → (c : Command) → (class_of reads c).deep ≡ false → (step stored s c).session.settings ≡ settings_by (effect_of (class_of reads c)) (is_ok (step stored s c).reply) s.settings
+  pub locks : (stored : List ℕ) (s : Session) → Accepts tests stored s → (c : Command) → (class_of reads c).deep ≡ false → takes_locks (class_of reads c) (end_of (step stored s c).reply) ≡ false → s.locks ≡ [] → (step stored s c).session.locks ≡ []
+  pub none : (stored : List ℕ) (s : Session) → Accepts tests stored s → (c : Command) → (class_of reads c).deep ≡ false → sets_next (class_of reads c) (end_of (step stored s c).reply) ≡ false → is_lone_savepoint (class_of reads c) (is_some_of s.tx) ≡ false → s.deep ≡ [] → (step stored s c).session.deep ≡ []
+  pub brief : (stored : List ℕ) (s : Session) → Accepts tests stored s → (c : Command) → (class_of reads c).deep ≡ false → is_lone_savepoint (class_of reads c) (is_some_of s.tx) ≡ false → is_brief s.deep ≡ true → is_brief (step stored s c).session.deep ≡ true
+  pub ended : (stored : List ℕ) (s : Session) → Accepts tests stored s → (c : Command) → (class_of reads c).deep ≡ false → is_some_of s.tx ≡ true → is_some_of (step stored s c).session.tx ≡ false → is_brief s.deep ≡ true → (step stored s c).session.deep ≡ []
+
+-- What doesn't depend on the diagnostics, and what doesn't on the insert id.
+pub record BlindLaw (reads : Reads) (tests : Tests) (step : Step) : Type 0 where
+  pub diag : (stored : List ℕ) (s : Session) → Accepts tests stored s → (c : Command) (diag : List ℕ) → Accepts tests stored (with_diag diag s) → (class_of reads c).reads_diag ≡ false → step stored (with_diag diag s) c ≡ step stored s c
+  pub last_id : (stored : List ℕ) (s : Session) → Accepts tests stored s → (c : Command) (n : ℕ) → (class_of reads c).marks_id ≡ false → step stored (with_id n s) c ≡ outcome_with_id n (step stored s c)
+
+abbrev pub is_text : Command → Bool
+is_text (Query text) = true
+is_text (Run text schema settings args) = true
+is_text _ = false
+
+-- To prepare leaves all but the diagnostics, and a Run doesn't look at autocommit as it was at the preparation.
+pub record PrepareLaw (reads : Reads) (tests : Tests) (step : Step) : Type 0 where
+  pub stored : (stored : List ℕ) (s : Session) → Accepts tests stored s → (text : List ℕ) → (step stored s (Prepare text)).stored ≡ stored
+  pub session : (stored : List ℕ) (s : Session) → Accepts tests stored s → (text : List ℕ) → (step stored s (Prepare text)).session ≡ with_diag (step stored s (Prepare text)).session.diag s
+  pub fields_stored : (stored : List ℕ) (s : Session) → Accepts tests stored s → (rest : List ℕ) → (step stored s (FieldList rest)).stored ≡ stored
+  pub fields_session : (stored : List ℕ) (s : Session) → Accepts tests stored s → (rest : List ℕ) → (step stored s (FieldList rest)).session ≡ with_diag (step stored s (FieldList rest)).session.diag s
+  pub core : (stored : List ℕ) (s : Session) → Accepts tests stored s → (text schema : List ℕ) (there here : List SlotValue) (args : Args) → core there ≡ core here → step stored s (Run text schema here args) ≡ step stored s (Run text schema there args)
+
+-- When the insert id changes, and the two texts that set and read it.
+pub record IdLaw (reads : Reads) (tests : Tests) (step : Step) : Type 0 where
+  pub kept : (stored : List ℕ) (s : Session) → Accepts tests stored s → (c : Command) → is_text c ≡ true → (class_of reads c).deep ≡ false → hides_of reads c ≡ false → brings_id (step stored s c).reply ≡ false → (step stored s c).session.last_id ≡ s.last_id
+  pub set_stored : (stored : List ℕ) (s : Session) → Accepts tests stored s → (n : Number) → (step stored s (SetId n)).stored ≡ stored
+  pub set_done : (stored : List ℕ) (s : Session) → Accepts tests stored s → (n : Number) → is_ok (step stored s (SetId n)).reply ≡ true → (step stored s (SetId n)).session ≡ with_diag (step stored s (SetId n)).session.diag (with_id n.value s)
+  pub set_refused : (stored : List ℕ) (s : Session) → Accepts tests stored s → (n : Number) → is_ok (step stored s (SetId n)).reply ≡ false → (step stored s (SetId n)).session ≡ with_diag (step stored s (SetId n)).session.diag s
+  pub set_reply : (stored : List ℕ) (s : Session) → Accepts tests stored s → (n : Number) (k : ℕ) → (step stored (with_id k s) (SetId n)).reply ≡ (step stored s (SetId n)).reply
+  pub set_diag : (stored : List ℕ) (s : Session) → Accepts tests stored s → (n : Number) (k : ℕ) → (step stored (with_id k s) (SetId n)).session.diag ≡ (step stored s (SetId n)).session.diag
+  pub read_stored : (stored : List ℕ) (s : Session) → Accepts tests stored s → (step stored s ReadId).stored ≡ stored
+  pub read_session : (stored : List ℕ) (s : Session) → Accepts tests stored s → (step stored s ReadId).session ≡ with_diag (step stored s ReadId).session.diag s
+  pub read_row : (stored : List ℕ) (s : Session) → Accepts tests stored s → (is_err (step stored s ReadId).reply ≡ true) ⊎ (one_number (step stored s ReadId).reply.payloads ≡ Some s.last_id)
+
+-- an answer to a preparation may show no flags; what this model writes there isn't looked at
+abbrev pub is_flagged : Command → Bool
+is_flagged (Prepare text) = false
+is_flagged _ = true
+
+pub record Tame (reads : Reads) (tests : Tests) (step : Step) : Type 0 where
+  pub accepts_fresh : tests.is_session [] [] [] [] ≡ true
+  pub keeps : (stored : List ℕ) (s : Session) → Accepts tests stored s → (c : Command) → Accepts tests (step stored s c).stored (step stored s c).session
+  pub account : (stored : List ℕ) (s : Session) → Accepts tests stored s → (c : Command) → account_of (step stored s c).session ≡ account_of s
+  pub reset : ResetLaw tests step
+  pub tracked : TrackedLaw reads tests step
+  pub uses : UseLaw reads tests step
+  pub text : TextLaw reads tests step
+  pub blind : BlindLaw reads tests step
+  pub id : IdLaw reads tests step
+  pub prepare : PrepareLaw reads tests step
+  pub in_trans : (stored : List ℕ) (s : Session) → Accepts tests stored s → (c : Command) → is_flagged c ≡ true → (shown : Bool) → flags (step stored s c).reply ≡ Some shown → is_some_of (step stored s c).session.tx ≡ shown
+  pub frees : (stored : List ℕ) (s : Session) → Accepts tests stored s → (c : Command) → frees_locks (class_of reads c) (end_of (step stored s c).reply) ≡ true → (step stored s c).session.locks ≡ []
+  pub shows : (stored : List ℕ) (s : Session) → Accepts tests stored s → (c : Command) → is_flagged c ≡ true → is_err (step stored s c).reply ≡ false → Shows (end_of (step stored s c).reply)

@@ -1,0 +1,7 @@
+pub mod Commands
+pub mod Headline
+pub mod Honest
+pub mod Lawful
+pub mod Story
+pub mod View
+pub mod Worlds

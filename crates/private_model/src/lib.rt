@@ -1,0 +1,27 @@
+//! Sessions of their own: what is proved of stories, logs and servers, and of no code.
+#![tactic(auto)]
+
+ghost use Rattle.std.specs.Prelude.{◌≡◌, Some};
+ghost use Rattle.private_model.specs.Commands.{Reply, runs};
+ghost use Rattle.private_model.specs.Headline.{MeetsPrivate};
+ghost use Rattle.private_model.specs.Honest.{IsAccepted, IsHonest};
+ghost use Rattle.private_model.specs.Lawful.{IsLawful};
+ghost use Rattle.private_model.specs.Story.{Story};
+ghost use Rattle.private_model.specs.View.{Setup, view_after};
+ghost use Rattle.private_model.specs.Worlds.{real_after, private_after};
+ghost use Rattle.server_rule.specs.Laws.{IsTame};
+ghost use Rattle.server_rule.specs.Servers.{Step, Tests};
+ghost use Rattle.session_state.specs.declared.names.MessageName.{MessageName};
+
+/// Where servers are tame and answer honestly, and what is sent to them is lawful, each statement meets the session
+/// that its client would have for itself, and is answered as there.
+pub fn private_world()
+    ensures { (setup : Setup) (tests : Tests) (server : Step) (story : Story) → IsTame setup.reads tests server → IsAccepted setup tests → IsLawful setup story → IsHonest setup (runs server) story → MeetsPrivate setup.reads (view_after setup story) (real_after setup (runs server) story) (private_after setup (runs server) story) }
+{}
+
+/// What was read in answer to a message is what its client's own session answered: how a caller cites the law.
+pub fn private_replies()
+    ensures { (setup : Setup) (tests : Tests) (server : Step) (story : Story) → IsTame setup.reads tests server → IsAccepted setup tests → IsLawful setup story → IsHonest setup (runs server) story → (message : MessageName) (reply : Reply) → (view_after setup story).replies message ≡ Some reply → (private_after setup (runs server) story).answers message ≡ Some reply }
+{
+    private_world();
+}

@@ -1,0 +1,4 @@
+pub mod Classes
+pub mod Endings
+pub mod InsertIds
+pub mod Pins

@@ -1,0 +1,66 @@
+-- Why a session keeps its link.
+use Rattle.std.specs.Prelude.{Bool, true, false, not, ◌&&◌, ◌||◌, if◌then◌else◌, Option, Some, None}
+use Rattle.pin_classifier.specs.declared.class.Class.{Class}
+use Rattle.session_state.specs.Classes.{frees_locks, is_lone_savepoint, sets_next, takes_locks}
+use Rattle.session_state.specs.Endings.{is_err, is_prepared, shows_transaction, warns}
+use Rattle.session_state.specs.declared.pin.Pin.{Pin}
+use Rattle.session_state.specs.declared.reply_end.ReplyEnd.{ReplyEnd}
+
+abbrev pub no_pin : Pin
+no_pin = record { deep = false; locks = false; next_tx = false; tx = false; after_err = false; diag = false; rule = false }
+
+-- only a reset takes it back
+abbrev pub needs_reset : Pin → Bool
+needs_reset pin = pin.tx || (pin.after_err || (pin.locks || (pin.next_tx || pin.deep)))
+
+abbrev pub is_pinned : Pin → Bool
+is_pinned pin = needs_reset pin || (pin.diag || pin.rule)
+
+-- What one reply brings and takes. What it brings, it doesn't take.
+
+abbrev pub tx_after : (shown : Option Bool) → Bool → Bool
+tx_after (Some shown) old = shown
+tx_after None old = old
+
+abbrev pub locks_after : Class → ReplyEnd → Bool → Bool
+locks_after class end old = if takes_locks class end then true else if frees_locks class end then false else old
+
+-- the reply shows no transaction
+abbrev pub shows_none : (shown : Option Bool) → Bool
+shows_none (Some shown) = not shown
+shows_none None = false
+
+abbrev pub next_after : Class → ReplyEnd → Pin → Bool
+next_after class end pin =
+    if sets_next class end then true
+    else if (pin.tx && (shows_none (shows_transaction end) && not class.next_tx)) then false
+    else pin.next_tx
+
+-- a savepoint outside of a transaction, or where nobody knows of one, is deep state
+abbrev pub deep_after : Class → Pin → Bool
+deep_after class pin = pin.deep || (class.deep || is_lone_savepoint class (pin.tx && not pin.after_err))
+
+abbrev pub diag_after : Class → ReplyEnd → Pin → Bool
+diag_after class end pin = if (warns end || class.calc_rows) then true else if class.reads_diag then pin.diag else false
+
+-- the rule's word on sharing the link
+abbrev pub rule_after : (multiplex : Option Bool) → Bool → Bool
+rule_after (Some shared) old = not shared
+rule_after None old = old
+
+abbrev pub pin_answered : Class → (multiplex : Option Bool) → ReplyEnd → Pin → Pin
+pin_answered class multiplex end pin = record {
+  deep = deep_after class pin;
+  locks = locks_after class end pin.locks;
+  next_tx = next_after class end pin;
+  tx = tx_after (shows_transaction end) pin.tx;
+  after_err = is_err end;
+  diag = diag_after class end pin;
+  rule = rule_after multiplex pin.rule;
+}
+
+-- the answer to a STMT_PREPARE, by the class of its text: other than an ERR it brings and takes nothing but diagnostics
+abbrev pub pin_after : Class → (multiplex : Option Bool) → ReplyEnd → Pin → Pin
+pin_after class multiplex end pin =
+    if is_prepared end then record pin { diag = diag_after class end pin }
+    else pin_answered class multiplex end pin

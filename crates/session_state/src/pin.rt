@@ -1,0 +1,120 @@
+// What a session has that no other client may meet.
+ghost use Rattle.std.specs.Prelude.{◌≡◌};
+ghost use Rattle.session_state.specs.Classes.{frees_locks, takes_locks};
+ghost use Rattle.session_state.specs.Pins.{deep_after, diag_after, is_pinned, locks_after, needs_reset, next_after, pin_after, rule_after, shows_none};
+ghost use Rattle.session_state.specs.Endings.{shows_transaction};
+
+use crate::{EndKind, ReplyEnd};
+use pin_classifier::{Class, Locking};
+
+/// The reasons for which a session keeps its link. None stands at first.
+#[derive(Clone, Copy, Debug, PartialEq, Eq)]
+pub struct Pin {
+    /// It may have state that isn't tracked.
+    pub deep: bool,
+    /// It may hold table locks.
+    pub locks: bool,
+    /// The characteristics of the next transaction are set.
+    pub next_tx: bool,
+    /// The last reply that has status flags showed a transaction.
+    pub tx: bool,
+    /// The last reply that counts was an ERR, so that nobody knows whether a transaction is open.
+    pub after_err: bool,
+    /// There are diagnostics to read.
+    pub diag: bool,
+    /// A rule forbids that the link is shared.
+    pub rule: bool,
+}
+
+fn takes_locks(class: &Class, end: &ReplyEnd) -> bool
+    ensures { result ≡ takes_locks class.now end.now }
+{
+    class.locks == Locking::Takes && !end.is_err()
+}
+
+fn frees_locks(class: &Class, end: &ReplyEnd) -> bool
+    ensures { result ≡ frees_locks class.now end.now }
+{
+    class.locks == Locking::Frees && end.is_ok()
+}
+
+fn locks_after(locks: bool, class: &Class, end: &ReplyEnd) -> bool
+    ensures { result ≡ locks_after class.now end.now locks }
+{
+    takes_locks(class, end) || (!frees_locks(class, end) && locks)
+}
+
+fn shows_none(end: &ReplyEnd) -> bool
+    ensures { result ≡ shows_none (shows_transaction end.now) }
+{
+    match end.shows_transaction() {
+        None => false,
+        Some(shown) => !shown,
+    }
+}
+
+fn next_after(pin: Pin, class: &Class, end: &ReplyEnd) -> bool
+    ensures { result ≡ next_after class.now end.now pin }
+{
+    if class.next_tx && end.is_ok() {
+        return true;
+    }
+    let over = pin.tx && shows_none(end) && !class.next_tx;
+    !over && pin.next_tx
+}
+
+fn deep_after(pin: Pin, class: &Class) -> bool
+    ensures { result ≡ deep_after class.now pin }
+{
+    pin.deep || class.deep || (class.savepoint && (!pin.tx || pin.after_err))
+}
+
+fn diag_after(pin: Pin, class: &Class, end: &ReplyEnd) -> bool
+    ensures { result ≡ diag_after class.now end.now pin }
+{
+    end.warns() || class.calc_rows || (class.reads_diag && pin.diag)
+}
+
+fn rule_after(rule: bool, multiplex: Option<bool>) -> bool
+    ensures { result ≡ rule_after multiplex rule }
+{
+    match multiplex {
+        None => rule,
+        Some(shared) => !shared,
+    }
+}
+
+/// The reasons after a reply to a statement of this class. `multiplex` is the word of the rules on sharing the link,
+/// where they have one. An answer to a STMT_PREPARE, of the class of its text, brings and takes nothing but
+/// diagnostics, unless it is an ERR. Takes no memory.
+pub fn pin_after(pin: Pin, class: &Class, multiplex: Option<bool>, end: &ReplyEnd) -> Pin
+    ensures { result ≡ pin_after class.now multiplex end.now pin }
+{
+    let diag = diag_after(pin, class, end);
+    if end.kind == EndKind::Prepared {
+        return Pin { diag, ..pin };
+    }
+    Pin {
+        deep: deep_after(pin, class),
+        locks: locks_after(pin.locks, class, end),
+        next_tx: next_after(pin, class, end),
+        tx: end.shows_transaction().unwrap_or(pin.tx),
+        after_err: end.is_err(),
+        diag,
+        rule: rule_after(pin.rule, multiplex),
+    }
+}
+
+/// Whether only a reset makes the session another client's. Takes no memory.
+pub fn needs_reset(pin: Pin) -> bool
+    ensures { result ≡ needs_reset pin }
+{
+    pin.tx || pin.after_err || pin.locks || pin.next_tx || pin.deep
+}
+
+/// Whether a reason stands. Takes no memory.
+pub fn is_pinned(pin: Pin) -> bool
+    ensures { result ≡ is_pinned pin }
+{
+    needs_reset(pin) || pin.diag || pin.rule
+}

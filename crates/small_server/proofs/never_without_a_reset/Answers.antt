@@ -1,0 +1,16 @@
+use Rattle.std.proofs.Common.{refl}
+use Rattle.small_server.proofs.Lawfulness.{tally_tame}
+use Rattle.small_server.proofs.Told.{without_a_reset_broken, without_a_reset_honest}
+use Rattle.small_server.proofs.never_without_a_reset.Goals as goal
+use Rattle.small_server.specs.Stories.{reads, setup}
+use Rattle.small_server.specs.Tally.{tally, tests}
+use Rattle.small_server.specs.Stories.{without_a_reset as story}
+
+pub returns-clause-honest : goal.returns-clause-honest
+returns-clause-honest c = without_a_reset_honest
+
+pub returns-clause-broken : goal.returns-clause-broken
+returns-clause-broken c = without_a_reset_broken
+
+pub returns-clause-unlawful : goal.returns-clause-unlawful
+returns-clause-unlawful c = λ lawful. without_a_reset_broken (c.private_world.ensures setup tests (tally reads) story (tally_tame reads) (λ s. refl) lawful without_a_reset_honest)
