@@ -1,12 +1,12 @@
 -- A piece that was walked over up to a place.
-use Rattle.std.proofs.Common.{◌≡◌, ◌≤◌, ◌<◌, ℕ, zero, suc, ◌+◌, ◌-◌, Bool, false, nat_le, min, List, [], ◌∷◌, ◌++◌, length, take, drop, slice_set, slice_index_or, refl, ◌∙◌, sym, ap, subst, arith, length-drop, append_assoc, add-one}
+use Rattle.std.proofs.Common.{◌≡◌, ◌≤◌, ◌<◌, ℕ, zero, suc, ◌+◌, ◌-◌, Bool, false, nat_le, List, [], ◌∷◌, ◌++◌, length, take, drop, slice_set, slice_index_or, refl, ◌∙◌, sym, ap, subst, arith, length-drop, append_assoc, add-one}
 use Rattle.std.proofs.lemmas.Bool.{lt-leb}
 use Rattle.std.proofs.lemmas.List.{drop-drop, take-append-drop, take-set, drop-set}
-use Rattle.std.proofs.Math.Seq.{drop-cons, take-suc-set, take-add}
+use Rattle.std.proofs.Math.Seq.{drop-cons, take-add}
 use Rattle.std.proofs.Math.Nat.{sub-zero}
+use Rattle.mx_base.specs.Fields.{AreBytes}
 use Rattle.reply_track.specs.declared.due.Next.{Next}
-use Rattle.reply_track.specs.declared.reply.Progress.{Progress}
-use Rattle.reply_track.specs.declared.reply.Progress.TheVariants.{More, Done, Bad}
+use Rattle.reply_track.specs.declared.reply.Progress.TheVariants.{Done}
 use Rattle.reply_track.specs.declared.reply.ReplyEnd.{ReplyEnd}
 use Rattle.reply_track.specs.declared.body.Body.{Body}
 use Rattle.reply_track.specs.declared.body.Body.TheVariants.{Due as DueBody, Cell as CellBody, Number as NumberBody, Rest}
@@ -14,13 +14,14 @@ use Rattle.reply_track.specs.declared.place.Place.{Place}
 use Rattle.reply_track.specs.declared.place.Place.TheVariants.{First, Second, Third, Id as IdPlace, Body as BodyPlace}
 use Rattle.reply_track.specs.declared.place.State.{State}
 use Rattle.reply_track.specs.declared.place.Outcome.{Outcome}
-use Rattle.reply_track.specs.declared.place.Outcome.TheVariants.{On, Over, Wrong}
-use Rattle.reply_track.specs.Steps.{step, written, packet_ended}
-use Rattle.reply_track.specs.Runs.{Ending, run, run_by, renumbered, renumbered_by, progress_of, StandsAt, Walked, passed_at, passed, place_behind, behind}
-use Rattle.reply_track.specs.Runs.Ending.{Going, Ended, Failed}
+use Rattle.reply_track.specs.declared.place.Outcome.TheVariants.{On, Over}
+use Rattle.reply_track.specs.Steps.{step, written}
+use Rattle.reply_track.specs.Runs.{run, run_by, renumbered, renumbered_by, progress_of, StandsAt, Walked, passed_at, passed, place_behind, behind}
+use Rattle.reply_track.specs.Runs.Ending.{Ended}
 
 -- so far it was walked over, from the state and the bytes at the beginning
 pub record InWalk (began : State) (given : List ℕ) (state : State) (piece : List ℕ) (at : ℕ) : Type 0 where
+  pub are : AreBytes given
   pub within : at ≤ length piece
   pub size : length piece ≡ length given
   pub runs : run began given ≡ run state (drop at piece)
@@ -70,21 +71,22 @@ walk-passed began given state other piece at most count so_far inside is_most is
     let least : count ≤ most = rw is (passed_most state.body state.place most) in
     let left : drop count (drop at piece) ≡ drop (at + count) piece = drop-drop count at piece in
     rw goes (record {
+      are = so_far.are;
       within = omega arith;
       size = so_far.size;
       runs = so_far.runs ∙ skip.runs ∙ ap (run (behind state count)) left;
       writes = so_far.writes ∙ ap (λ bs. take at piece ++ bs) (skip.writes ∙ ap (λ bs. take count (drop at piece) ++ renumbered (behind state count) bs) left)
           ∙ sym (append_assoc (take at piece) (take count (drop at piece)) (renumbered (behind state count) (drop (at + count) piece))) ∙ ap (λ bs. bs ++ renumbered (behind state count) (drop (at + count) piece)) (sym (take-add at count piece));
     }) where
-  passed_most : (body : Body) (place : Place) (most : ℕ) → passed_at body place most ≤ most
-  passed_most (DueBody due) place most = omega arith
-  passed_most (CellBody cell) place most = omega arith
-  passed_most (NumberBody field size value) place most = omega arith
-  passed_most (Rest next) First most = omega arith
-  passed_most (Rest next) (Second low) most = omega arith
-  passed_most (Rest next) (Third low) most = omega arith
-  passed_most (Rest next) (IdPlace length) most = omega arith
-  passed_most (Rest next) (BodyPlace left long) most = omega arith
+      passed_most : (body : Body) (place : Place) (most : ℕ) → passed_at body place most ≤ most
+      passed_most (DueBody due) place most = omega arith
+      passed_most (CellBody cell) place most = omega arith
+      passed_most (NumberBody field size value) place most = omega arith
+      passed_most (Rest next) First most = omega arith
+      passed_most (Rest next) (Second low) most = omega arith
+      passed_most (Rest next) (Third low) most = omega arith
+      passed_most (Rest next) (IdPlace length) most = omega arith
+      passed_most (Rest next) (BodyPlace left long) most = omega arith
 
 -- it ends at this byte
 pub walk-over : (began : State) (given : List ℕ) (state : State) (piece : List ℕ) (at byte new : ℕ) (end : ReplyEnd) → InWalk began given state piece at → at < length piece → byte ≡ slice_index_or piece at 0 → new ≡ written state byte → step state byte ≡ Over end
@@ -96,6 +98,7 @@ walk-over began given state piece at byte new end so_far inside is_byte is_new o
     let set : slice_set piece at new ≡ take at piece ++ (new ∷ drop (suc at) piece) = sym (take-append-drop at (slice_set piece at new)) ∙ cc (take-set piece at new, drop-set piece at new inside, add-one at) in
     let place : length given - length (drop (suc at) piece) ≡ at + 1 = omega (arith, length-drop (suc at) piece, so_far.size) in
     record {
+      are = so_far.are;
       answers = sym (ap (progress_of (length given)) runs ∙ ap (λ n. Done n end) place);
       writes = set ∙ sym writes;
       stands = subst (StandsAt state) (sym runs) tt;

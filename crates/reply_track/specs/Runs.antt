@@ -1,7 +1,7 @@
 -- What a tracker does at all bytes of a piece.
-use Rattle.std.specs.Prelude.{◌≡◌, ◌≤◌, ℕ, ◌-◌, nat_le, nat_lt, cond, List, [], ◌∷◌, length, min, if◌then◌else◌}
+use Rattle.std.specs.Prelude.{◌≡◌, ℕ, ◌-◌, List, [], ◌∷◌, length, min}
+use Rattle.mx_base.specs.Fields.{AreBytes}
 use Rattle.reply_track.specs.declared.reply.ReplyEnd.{ReplyEnd}
-use Rattle.reply_track.specs.declared.reply.ReplyKind.{ReplyKind}
 use Rattle.reply_track.specs.declared.reply.Progress.{Progress}
 use Rattle.reply_track.specs.declared.reply.Progress.TheVariants.{More, Done, Bad}
 use Rattle.reply_track.specs.declared.body.Body.{Body}
@@ -11,7 +11,7 @@ use Rattle.reply_track.specs.declared.place.Place.TheVariants.{First, Second, Th
 use Rattle.reply_track.specs.declared.place.State.{State}
 use Rattle.reply_track.specs.declared.place.Outcome.{Outcome}
 use Rattle.reply_track.specs.declared.place.Outcome.TheVariants.{On, Over, Wrong}
-use Rattle.reply_track.specs.Steps.{first_due, step, written}
+use Rattle.reply_track.specs.Steps.{step, written}
 
 -- how bytes end: the reply goes on, it ended and these bytes are behind it, or these bytes begin with a wrong one
 pub data Ending : Type 0 where
@@ -51,6 +51,7 @@ StandsAt state (Failed behind) = Unit {0}
 
 -- a piece was walked over
 pub record Walked (state : State) (piece : List ℕ) (after : State) (made : List ℕ) (progress : Progress) : Type 0 where
+  pub are : AreBytes piece
   pub answers : progress ≡ progress_of (length piece) (run state piece)
   pub writes : made ≡ renumbered state piece
   pub stands : StandsAt after (run state piece)

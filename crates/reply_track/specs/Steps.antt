@@ -1,5 +1,5 @@
 -- What a tracker does at each byte of a reply.
-use Rattle.std.specs.Prelude.{ℕ, ◌+◌, ◌-◌, ◌*◌, ◌/◌, ◌%◌, Bool, true, false, ◌&&◌, ◌||◌, not, nat_lt, nat_le, nat_eq, bit_and, List, [], ◌∷◌, ◌++◌, Option, Some, None, if◌then◌else◌}
+use Rattle.std.specs.Prelude.{ℕ, ◌+◌, ◌-◌, ◌*◌, ◌/◌, ◌%◌, Bool, true, false, ◌&&◌, ◌||◌, not, nat_lt, nat_le, nat_eq, bit_and, Option, Some, None, if◌then◌else◌}
 use Rattle.packet_frame.specs.Packets.{longest}
 use Rattle.reply_track.specs.declared.reply.ReplyKind.{ReplyKind}
 use Rattle.reply_track.specs.declared.reply.ReplyKind.TheVariants.{Command, Prepare, Fields}
@@ -24,7 +24,7 @@ use Rattle.reply_track.specs.declared.place.Place.TheVariants.{First, Second, Th
 use Rattle.reply_track.specs.declared.place.State.{State}
 use Rattle.reply_track.specs.declared.place.Outcome.{Outcome}
 use Rattle.reply_track.specs.declared.place.Outcome.TheVariants.{On, Over, Wrong}
-use Rattle.reply_track.specs.Payloads.{ok_end, err_end, rows_end, prepared_end_of}
+use Rattle.reply_track.specs.Payloads.{size_behind, ok_end, err_end, rows_end, prepared_end_of}
 
 abbrev pub next_id : ℕ → ℕ
 next_id id = (id + 1) % 256
@@ -88,14 +88,6 @@ takes_length Field length = true
 -- bodies
 abbrev pub number_of : Number → (size : ℕ) → Body
 number_of number size = NumberBody number size 0
-
-abbrev pub size_behind : ℕ → Option ℕ
-size_behind byte =
-    if nat_lt byte 251 then Some 0
-    else if nat_eq byte 252 then Some 2
-    else if nat_eq byte 253 then Some 3
-    else if nat_eq byte 254 then Some 8
-    else None
 
 abbrev pub rest_due : Option Due → Option Body
 rest_due None = None
@@ -232,14 +224,11 @@ abbrev pub followed : State → Next → Outcome
 followed state (Goes due) = On (at_due state due)
 followed state (Ends end) = Over end
 
-abbrev pub message_ended : State → Body → Outcome
-message_ended state (Rest next) = followed state next
-message_ended state (DueBody due) = Wrong
-message_ended state (CellBody cell) = Wrong
-message_ended state (NumberBody number size value) = Wrong
-
 abbrev pub packet_ended : State → (long : Bool) → Body → Outcome
-packet_ended state long body = if long then On (record state { place = First; body = body }) else message_ended state body
+packet_ended state long (Rest next) = if long then On (record state { place = First; body = Rest next }) else followed state next
+packet_ended state long (DueBody due) = Wrong
+packet_ended state long (CellBody cell) = Wrong
+packet_ended state long (NumberBody number size value) = Wrong
 
 abbrev pub payload_by : State → (left : ℕ) (long : Bool) → Option Body → Outcome
 payload_by state left long None = Wrong
@@ -271,7 +260,7 @@ numbered state = record state { server = next_id state.server; client = next_id 
 
 abbrev pub empty_by : State → Option Body → Outcome
 empty_by state None = Wrong
-empty_by state (Some body) = message_ended state body
+empty_by state (Some body) = packet_ended state false body
 
 abbrev pub id_taken : State → (length byte : ℕ) → Outcome
 id_taken state length byte =
@@ -295,7 +284,7 @@ number_byte number left =
     if nat_eq left 4 then number % 256
     else if nat_eq left 3 then number / 256 % 256
     else if nat_eq left 2 then number / 65536 % 256
-    else number / 16777216
+    else number / 16777216 % 256
 
 abbrev pub number_written : Number → (number left byte : ℕ) → ℕ
 number_written RowsNumber number left byte = byte

@@ -1,6 +1,7 @@
 // The fields at the head of a payload that isn't a definition or a row.
 ghost use Rattle.std.specs.Prelude.{◌≡◌};
-ghost use Rattle.reply_track.specs.Steps.{size_behind, after_eof};
+ghost use Rattle.reply_track.specs.Payloads.{size_behind};
+ghost use Rattle.reply_track.specs.Steps.{after_eof};
 
 use crate::due::{Behind, Next, after_result, behind_end};
 use crate::reply::rows_end;

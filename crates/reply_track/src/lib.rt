@@ -5,8 +5,11 @@
 mod body;
 mod due;
 mod head;
+mod laws;
 mod place;
 mod reply;
 mod tracker;
 
+pub use laws::one_end;
 pub use reply::{EndKind, Progress, ReplyEnd, ReplyKind};
+pub use tracker::Tracker;

@@ -1,7 +1,7 @@
 // One byte of a reply.
 ghost use Rattle.std.specs.Prelude.{◌≡◌, ◌≤◌, ◌<◌};
 ghost use Rattle.reply_track.specs.Runs.{passed, behind};
-ghost use Rattle.reply_track.specs.Steps.{step, low_taken, length_taken, id_taken, packet_ended, message_ended, payload_taken, written, number_byte, body_takes_low, body_takes_length, empty_body, next_id};
+ghost use Rattle.reply_track.specs.Steps.{step, low_taken, length_taken, id_taken, packet_ended, payload_taken, written, number_byte, body_takes_low, body_takes_length, empty_body, next_id};
 
 use crate::body::{Body, taken};
 use crate::due::{Next, after_plain, takes_length, takes_low};
@@ -174,7 +174,7 @@ fn id_taken(state: State, length: u32, byte: u8) -> Outcome
     };
     if length == 0 {
         match empty_body(state.body) {
-            Some(body) => message_ended(state, body),
+            Some(body) => packet_ended(state, false, body),
             None => Outcome::Wrong,
         }
     } else {
@@ -220,27 +220,20 @@ fn payload_taken(state: State, left: u32, long: bool, byte: u8) -> Outcome
     }
 }
 
-// The end of a packet.
+// The end of a packet, which the message goes on behind where it is `long`.
 fn packet_ended(state: State, long: bool, body: Body) -> Outcome
     ensures { result ≡ packet_ended state long body }
 {
-    if long {
-        let place = Place::First;
-        Outcome::On(State {
-            place,
-            body,
-            ..state
-        })
-    } else {
-        message_ended(state, body)
-    }
-}
-
-// The end of a message.
-fn message_ended(state: State, body: Body) -> Outcome
-    ensures { result ≡ message_ended state body }
-{
     match body {
+        Body::Rest(next) if long => {
+            let place = Place::First;
+            let body = Body::Rest(next);
+            Outcome::On(State {
+                place,
+                body,
+                ..state
+            })
+        }
         Body::Rest(Next::Goes(due)) => Outcome::On(State {
             place: Place::First,
             body: Body::Due(due),
