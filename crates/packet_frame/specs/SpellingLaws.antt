@@ -39,7 +39,7 @@ packet_length-most (a ∷ []) are = omega (arith, are 0)
 packet_length-most (a ∷ b ∷ []) are = omega (arith, are 0, are 1)
 packet_length-most (a ∷ b ∷ c ∷ tail) are = omega (arith, are 0, are 1, are 2)
 
-spelled-longer : (id : ℕ) (body more : List ℕ) → length body ≡ longest → packets (length (body ++ more) / longest) id (body ++ more) ≡ packet id body ++ packets (length more / longest) (next_id id) more
+pub spelled-longer : (id : ℕ) (body more : List ℕ) → length body ≡ longest → packets (length (body ++ more) / longest) id (body ++ more) ≡ packet id body ++ packets (length more / longest) (next_id id) more
 spelled-longer id body more long =
     let count : length (body ++ more) / longest ≡ suc (length more / longest) = omega (arith, length-append body more, long) in
     let front : take longest (body ++ more) ≡ body = rw (← long) (take-append_seam body more) in
@@ -66,7 +66,7 @@ spelled-more id bytes one next message behind rest first spelled long is others 
       spelled = spelled ∙ ap (λ xs. packet id one.payload ++ xs) others ∙ sym (append_assoc (packet id one.payload) (packets (length next.payload / longest) (next_id id) next.payload) rest) ∙ ap (λ xs. xs ++ rest) (sym longer);
     })
 
-AreBytes-drop : (n : ℕ) (bytes : List ℕ) → AreBytes bytes → AreBytes (drop n bytes)
+pub AreBytes-drop : (n : ℕ) (bytes : List ℕ) → AreBytes bytes → AreBytes (drop n bytes)
 AreBytes-drop n bytes are i = rw (get_or-drop n bytes i 0) (are (n + i))
 
 packet_at_spelled : (limit announced id : ℕ) (bytes : List ℕ) (found : Framed) (rest : List ℕ) → AreBytes bytes → PacketAt limit announced id bytes found rest → (bytes ≡ packet id found.payload ++ rest) × (length found.payload ≤ longest) × AreBytes rest

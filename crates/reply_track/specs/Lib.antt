@@ -1,0 +1,5 @@
+pub mod Grammar
+pub mod Payloads
+pub mod Runs
+pub mod Steps
+pub mod Tracking
