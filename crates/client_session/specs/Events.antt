@@ -93,6 +93,9 @@ kept_or_dropped true up = up
 kept_or_dropped false up = dropped up
 
 -- the command in work is answered, and the server's link is kept or is to be closed
+abbrev pub rested : Session → Bool → Session
+rested session keeps = record session { phase = phase.Idle; upstream = kept_or_dropped keeps session.upstream }
+
 abbrev pub answered_with : Session → List ℕ → Bool → Session
 answered_with session packet keeps = record session { client = told packet session.client; phase = phase.Idle; upstream = kept_or_dropped keeps session.upstream }
 

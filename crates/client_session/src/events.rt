@@ -4,7 +4,7 @@ ghost use Rattle.packet_frame.specs.Packets.{spelling};
 ghost use Rattle.server_side.specs.Backend.{BackendState};
 ghost use Rattle.client_session.specs.Refusals.{payload_of};
 ghost use Rattle.client_session.specs.Errors.{bad_server_bytes, connection_lost};
-ghost use Rattle.client_session.specs.Events.{without_upstream, settled, takes_command, commanded_with, sent_on, GoesOn, ClientSays, is_begun, answered_with, Answers_by, due_on, may_stay, RepliedBy, HeardBy, FailsBy, ToldBy, GotOn, ServerSays, client_lost, ServerLost, opened_on, OpenFails};
+ghost use Rattle.client_session.specs.Events.{without_upstream, settled, takes_command, commanded_with, sent_on, GoesOn, ClientSays, is_begun, rested, answered_with, Answers_by, due_on, may_stay, RepliedBy, HeardBy, FailsBy, ToldBy, GotOn, ServerSays, client_lost, ServerLost, opened_on, OpenFails};
 
 use crate::phase::{LinkState, Phase, Server, Upstream};
 use crate::pump::{feed, pump};
@@ -116,15 +116,22 @@ fn is_begun(session: &Session) -> bool
     }
 }
 
+// No command is in work. The server's link is kept, or is to be closed.
+fn rest(session: &mut Session, keeps: bool)
+    ensures { session.new ≡ rested session.old keeps }
+{
+    if !keeps {
+        drop_upstream(session);
+    }
+    session.phase = Phase::Idle;
+}
+
 // The command in work is answered.
 fn put_answer(session: &mut Session, packet: &[u8], keeps: bool) -> Result<(), OutOfMemory>
     ensures { OnOk result (session.new ≡ answered_with session.old packet.now keeps) }
 {
     session.client.answer_grown(packet)?;
-    if !keeps {
-        drop_upstream(session);
-    }
-    session.phase = Phase::Idle;
+    rest(session, keeps);
     Ok(())
 }
 
@@ -224,9 +231,19 @@ fn replied(alloc: Global, session: &mut Session, due: Due, setup: &Setup) -> Res
     let Upstream::Open(server) = &session.upstream else {
         return Ok(());
     };
-    let packet = server.backend.reply().to_vec(alloc)?;
     let keeps = may_stay(due, &server.backend);
-    answer(alloc, session, &packet, keeps, setup)
+    match session.state {
+        LinkState::Open => {
+            session.client.answer_grown(server.backend.reply())?;
+            rest(session, keeps);
+            go_on(alloc, session, setup)?;
+            Ok(())
+        }
+        _ => {
+            drop_upstream(session);
+            Ok(())
+        }
+    }
 }
 
 // Whether the link may serve again behind a whole reply.
