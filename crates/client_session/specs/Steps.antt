@@ -89,9 +89,13 @@ ArrivesIn setup (Some message) old new more = Arrives (asked_of (has_server setu
 abbrev pub admitted : Account → (first : ℕ) → Session → Session
 admitted account first old = record old { client = record (told (spelling first own_ok) old.client) { stage = stage.Commands }; account = Some account; phase = phase.Idle }
 
+-- the packet is the last that the client is told
+abbrev pub ended_by : (packet : List ℕ) → Session → Session
+ended_by packet old = record old { client = told packet old.client; phase = phase.Ending }
+
 -- or it isn't let in
 abbrev pub denied : Response → (first : ℕ) → Session → Session
-denied response first old = record old { client = told (spelling first (access_denied response.user)) old.client; phase = phase.Ending }
+denied response first old = ended_by (spelling first (access_denied response.user)) old
 
 abbrev pub LogsInAs : Option Account → Response → (first : ℕ) → Session → Session → Bool → Type 0
 LogsInAs (Some account) response first old new more = (more ≡ true) × (new ≡ admitted account first old)
@@ -103,7 +107,7 @@ LogsIn setup (Some response) first old new more = LogsInAs (account_of setup.use
 
 -- what came is nothing that may: the error is the last that the client is told
 abbrev pub refused_within : (limit : ℕ) → ClientFault → (first : ℕ) → Session → Session
-refused_within limit fault first old = record old { client = told (spelling first (fault_error limit fault)) old.client; phase = phase.Ending }
+refused_within limit fault first old = ended_by (spelling first (fault_error limit fault)) old
 
 -- what the client says next is taken
 abbrev pub StepsBy : Setup → ClientStep → Session → Session → Bool → Type 0

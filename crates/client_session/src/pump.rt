@@ -4,7 +4,7 @@ ghost use Rattle.client_session.specs.Refusals.{payload_of};
 ghost use Rattle.client_session.specs.Errors.{own_ok};
 ghost use Rattle.client_side.specs.declared.stage.Stage.TheVariants.{Commands};
 ghost use Rattle.client_side.specs.Client.{login_of};
-ghost use Rattle.client_session.specs.Steps.{fed_with, started, answered_by, past_answer, refused_within, ArrivesIn, LogsIn, Steps, Pumps};
+ghost use Rattle.client_session.specs.Steps.{fed_with, started, answered_by, past_answer, admitted, ended_by, refused_within, ArrivesIn, LogsIn, Steps, Pumps};
 
 use crate::account::account_of;
 use crate::asked::{Asked, kind_of};
@@ -14,6 +14,7 @@ use crate::session::Session;
 use crate::setup::Setup;
 use client_side::{ClientFault, ClientStep};
 use mx_base::{Bytes, OutOfMemory};
+use server_side::Account;
 use std::alloc::Global;
 
 /// Keeps bytes that were read.
@@ -107,24 +108,46 @@ fn log_in(
     let Some(response) = session.client.login() else {
         unreachable!()
     };
-    let account = account_of(alloc, setup, response, session.client.salt())?;
-    let mut packet = Vec::new(alloc);
-    match account {
+    match account_of(alloc, setup, response, session.client.salt())? {
         Some(account) => {
-            write_own_ok(&mut packet, first)?;
-            session.client.answer_grown(&packet)?;
-            session.client.done();
-            session.account = Some(account);
-            session.phase = Phase::Idle;
+            admit(alloc, session, first, account)?;
             Ok(true)
         }
         None => {
+            let mut packet = Vec::new(alloc);
             write_denied(alloc, &mut packet, first, response.user.as_slice())?;
-            session.client.answer_grown(&packet)?;
-            session.phase = Phase::Ending;
+            end_by(session, &packet)?;
             Ok(false)
         }
     }
+}
+
+// The client is logged in.
+fn admit(
+    alloc: Global,
+    session: &mut Session,
+    first: u8,
+    account: Account,
+) -> Result<(), OutOfMemory>
+    requires { IsSome (login_of session.old.client.stage) }
+    ensures { OnOk result (session.new ≡ admitted account first session.old) }
+{
+    let mut packet = Vec::new(alloc);
+    write_own_ok(&mut packet, first)?;
+    session.client.answer_grown(&packet)?;
+    session.client.done();
+    session.account = Some(account);
+    session.phase = Phase::Idle;
+    Ok(())
+}
+
+// The packet is the last that the client is answered.
+fn end_by(session: &mut Session, packet: &[u8]) -> Result<(), OutOfMemory>
+    ensures { OnOk result (session.new ≡ ended_by packet.now session.old) }
+{
+    session.client.answer_grown(packet)?;
+    session.phase = Phase::Ending;
+    Ok(())
 }
 
 // What is kept is nothing that may come: the error is the last that the client is answered.
@@ -143,9 +166,7 @@ fn end_with(
     };
     let mut packet = Vec::new(alloc);
     write_refusal(alloc, &mut packet, first, refusal)?;
-    session.client.answer_grown(&packet)?;
-    session.phase = Phase::Ending;
-    Ok(())
+    end_by(session, &packet)
 }
 
 // The next thing that the client says is taken, if it is whole. True where the one behind it may.
