@@ -13,7 +13,10 @@ ghost use Rattle.server_rule.specs.Laws.{IsTame};
 ghost use Rattle.small_server.specs.Stories.{in_a_transaction, message, on_another_link, with_another_id_inside, reads, server, setup, shared, with_another_id, with_diagnostics, without_a_capture, without_a_reset, without_its_place};
 ghost use Rattle.small_server.specs.Tally.{LaterId, ok, tally, tests};
 
+mod refuser;
+
 use private_model::private_world;
+pub use refuser::Refuser;
 
 /// The small server is tame, whatever is read of texts.
 pub fn laws_can_be_met()
