@@ -4,6 +4,7 @@ mod Law
 mod Maps
 mod Meeting
 mod Pairs
+mod Past
 mod Preparing
 mod Running
 mod Sending

@@ -1,7 +1,7 @@
 //! Sessions of their own: what is proved of stories, logs and servers, and of no code.
 #![tactic(auto)]
 
-ghost use Rattle.std.specs.Prelude.{◌≡◌, Some};
+ghost use Rattle.std.specs.Prelude.{◌≡◌, ◌++◌, Some};
 ghost use Rattle.private_model.specs.Commands.{Reply, runs};
 ghost use Rattle.private_model.specs.Headline.{MeetsPrivate};
 ghost use Rattle.private_model.specs.Honest.{IsAccepted, IsHonest};
@@ -22,6 +22,13 @@ pub fn private_world()
 /// What was read in answer to a message is what its client's own session answered: how a caller cites the law.
 pub fn private_replies()
     ensures { (setup : Setup) (tests : Tests) (server : Step) (story : Story) → IsTame setup.reads tests server → IsAccepted setup tests → IsLawful setup story → IsHonest setup (runs server) story → (message : MessageName) (reply : Reply) → (view_after setup story).replies message ≡ Some reply → (private_after setup (runs server) story).answers message ≡ Some reply }
+{
+    private_world();
+}
+
+/// The law holds at every moment of a story: whatever came later, what was promised of the past stood then.
+pub fn private_at_each_moment()
+    ensures { (setup : Setup) (tests : Tests) (server : Step) (later past : Story) → IsTame setup.reads tests server → IsAccepted setup tests → IsLawful setup (later ++ past) → IsHonest setup (runs server) (later ++ past) → MeetsPrivate setup.reads (view_after setup past) (real_after setup (runs server) past) (private_after setup (runs server) past) }
 {
     private_world();
 }

@@ -7,7 +7,7 @@ use std::alloc::Global;
 use std::marker::Model;
 
 /// The long data of a prepared statement, which a contract sees as a list.
-#[derive(Debug, Drop)]
+#[derive(Drop)]
 pub struct LongParts {
     items: Vec<LongPart>,
 }
@@ -49,7 +49,7 @@ impl LongParts {
 }
 
 /// A command that a server runs (client/server protocol, "Command Phase").
-#[derive(Debug, Drop)]
+#[derive(Drop)]
 pub enum Cmd {
     /// COM_QUERY.
     Query {
@@ -85,7 +85,7 @@ pub enum Cmd {
 }
 
 /// The payloads of a reply, which a contract sees as a list of byte lists.
-#[derive(Debug, Drop)]
+#[derive(Drop)]
 pub struct ReplyList {
     payloads: Vec<Bytes>,
 }

@@ -4,7 +4,7 @@ use session_vars::Settings;
 
 /// The session of one connection. What stands in `tx`, `locks`, `deep` and `diag` is the server's own, and nobody else
 /// looks into it.
-#[derive(Debug, Drop)]
+#[derive(Drop)]
 pub struct Session {
     /// The user who logged in.
     pub user: Bytes,

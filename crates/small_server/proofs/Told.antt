@@ -14,7 +14,7 @@ use Rattle.private_model.specs.Lawful.{Begins, IsLawful}
 use Rattle.private_model.specs.Story.{Capture, Own, Statement, Story}
 use Rattle.private_model.specs.View.{view_after}
 use Rattle.private_model.specs.Worlds.{private_after, real_after}
-use Rattle.small_server.specs.Stories.{anybody, byte_of, digit_of, due_at, in_a_transaction, insert, message, nowhere, reads, server, session, setup, shared, show, somewhere, with_another_id, with_diagnostics, without_a_capture, without_a_reset, without_its_place, zero_id}
+use Rattle.small_server.specs.Stories.{anybody, byte_of, digit_of, due_at, in_a_transaction, insert, message, nowhere, on_another_link, reads, server, session, setup, shared, show, somewhere, with_another_id, with_another_id_inside, with_diagnostics, without_a_capture, without_a_reset, without_its_place, zero_id}
 use Rattle.small_server.specs.Tally.{NoId, LaterId, ok, row}
 
 apart : {A : Type 0} {b : Bool} → b ≡ true → b ≡ false → A
@@ -136,3 +136,21 @@ without_a_capture_broken meets =
 pub shared_answered : (private_after setup server shared).answers (message 2 1) ≡ Some (record { to_prepare = false; payloads = ok false LaterId false })
 unfolding reply_end one_number digits
 shared_answered = refl
+
+pub on_another_link_honest : IsHonest setup server on_another_link
+unfolding reply_end one_number digits
+on_another_link_honest = ((((((((((tt, tt), tt), tt), tt), record { unused = λ p m. apart p refl }), record { question = Statement (session 1) (due_at nowhere 1 true (Query (codes "BEGIN"))); ran = refl; same = refl }), tt), tt), record { unused = λ p m. apart p refl }), record { question = Statement (session 1) (due_at nowhere 2 false show); ran = refl; same = refl })
+
+pub with_another_id_inside_honest : IsHonest setup server with_another_id_inside
+unfolding reply_end one_number digits
+with_another_id_inside_honest = (((((((((((((((((tt, tt), tt), tt), record { unused = λ p m. apart p refl }), record { question = Statement (session 1) (due_at nowhere 1 true insert); ran = refl; same = refl }), tt), record { unused = λ p m. apart p refl }), record { question = Capture (session 1); ran = refl; same = refl }), tt), tt), tt), record { unused = λ p m. apart p refl }), record { question = Statement (session 2) (due_at nowhere 1 true (Query (codes "BEGIN"))); ran = refl; same = refl }), tt), tt), record { unused = λ p m. apart p refl }), record { question = Statement (session 2) (due_at nowhere 2 false (Query read_id_text)); ran = refl; same = refl })
+
+pub on_another_link_broken : Meets on_another_link → ⊥
+unfolding reply_end one_number digits
+on_another_link_broken meets =
+    differ 1 0 refl (ap (byte_of 3) (meets.replies (message 1 2) (record { to_prepare = false; payloads = ok false NoId false }) refl))
+
+pub with_another_id_inside_broken : Meets with_another_id_inside → ⊥
+unfolding reply_end one_number digits
+with_another_id_inside_broken meets =
+    differ 48 49 refl (ap (digit_of) (meets.replies (message 2 2) (record { to_prepare = false; payloads = row true 49 }) refl))

@@ -1,2 +1,4 @@
+pub mod Refusals
+pub mod Refusing
 pub mod Stories
 pub mod Tally

@@ -126,3 +126,14 @@ with_diagnostics = heard 0 (ok true NoId false) ∷ Ran (link 0) ∷ Sent (link 
 abbrev pub without_a_capture : Story
 without_a_capture = heard 1 (row false 48) ∷ Ran (link 1) ∷ Sent (link 1) (Statement (session 1) (due_at nowhere 2 true (Query read_id_text))) ∷ came 1 2 (Query read_id_text)
     ∷ Freed (link 0) ∷ heard 0 (ok false FirstId false) ∷ Ran (link 0) ∷ Sent (link 0) (Statement (session 1) (due_at nowhere 1 true insert)) ∷ came 1 1 insert ∷ login 1 ∷ login 0 ∷ []
+
+-- A statement of a transaction goes to another link.
+abbrev pub on_another_link : Story
+on_another_link = heard 1 (ok false NoId false) ∷ Ran (link 1) ∷ Sent (link 1) (Statement (session 1) (due_at nowhere 2 false show)) ∷ came 1 2 show
+    ∷ heard 0 (ok false NoId true) ∷ Ran (link 0) ∷ Sent (link 0) (Statement (session 1) (due_at nowhere 1 true (Query (codes "BEGIN")))) ∷ came 1 1 (Query (codes "BEGIN")) ∷ login 1 ∷ login 0 ∷ []
+
+-- A client asks for its insert id in a transaction, on a link that had another's when the transaction began.
+abbrev pub with_another_id_inside : Story
+with_another_id_inside = heard 0 (row true 49) ∷ Ran (link 0) ∷ Sent (link 0) (Statement (session 2) (due_at nowhere 2 false (Query read_id_text))) ∷ came 2 2 (Query read_id_text)
+    ∷ heard 0 (ok false NoId true) ∷ Ran (link 0) ∷ Sent (link 0) (Statement (session 2) (due_at nowhere 1 true (Query (codes "BEGIN")))) ∷ came 2 1 (Query (codes "BEGIN"))
+    ∷ Freed (link 0) ∷ heard 0 (row false 49) ∷ Ran (link 0) ∷ Sent (link 0) (Capture (session 1)) ∷ heard 0 (ok false FirstId false) ∷ Ran (link 0) ∷ Sent (link 0) (Statement (session 1) (due_at nowhere 1 true insert)) ∷ came 1 1 insert ∷ login 0 ∷ []

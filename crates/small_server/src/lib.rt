@@ -1,4 +1,4 @@
-//! A small server that keeps the ten laws, so that they can be met; and stories over it: a lawful one, and for each of six
+//! A small server that keeps the ten laws, so that they can be met; and stories over it: a lawful one, and for each of eight
 //! rules of sending one that breaks it and on which the promise fails.
 #![tactic(auto)]
 
@@ -10,10 +10,13 @@ ghost use Rattle.private_model.specs.View.{view_after};
 ghost use Rattle.private_model.specs.Worlds.{private_after, real_after};
 ghost use Rattle.server_rule.specs.Classes.{Reads};
 ghost use Rattle.server_rule.specs.Laws.{IsTame};
-ghost use Rattle.small_server.specs.Stories.{in_a_transaction, message, reads, server, setup, shared, with_another_id, with_diagnostics, without_a_capture, without_a_reset, without_its_place};
+ghost use Rattle.small_server.specs.Stories.{in_a_transaction, message, on_another_link, with_another_id_inside, reads, server, setup, shared, with_another_id, with_diagnostics, without_a_capture, without_a_reset, without_its_place};
 ghost use Rattle.small_server.specs.Tally.{LaterId, ok, tally, tests};
 
+mod refuser;
+
 use private_model::private_world;
+pub use refuser::Refuser;
 
 /// The small server is tame, whatever is read of texts.
 pub fn laws_can_be_met()
@@ -77,6 +80,24 @@ pub fn never_without_a_capture()
     ensures honest { IsHonest setup server without_a_capture }
     ensures broken { MeetsPrivate reads (view_after setup without_a_capture) (real_after setup server without_a_capture) (private_after setup server without_a_capture) → ⊥ }
     ensures unlawful { IsLawful setup without_a_capture → ⊥ }
+{
+    private_world();
+}
+
+/// A statement of a session with an open transaction, on another link than its own: it may happen, and the promise fails; so it isn't lawful.
+pub fn never_on_another_link()
+    ensures honest { IsHonest setup server on_another_link }
+    ensures broken { MeetsPrivate reads (view_after setup on_another_link) (real_after setup server on_another_link) (private_after setup server on_another_link) → ⊥ }
+    ensures unlawful { IsLawful setup on_another_link → ⊥ }
+{
+    private_world();
+}
+
+/// A marked statement in a transaction, on a link that has another client's insert id: it may happen, and the promise fails; so it isn't lawful.
+pub fn never_with_another_id_inside()
+    ensures honest { IsHonest setup server with_another_id_inside }
+    ensures broken { MeetsPrivate reads (view_after setup with_another_id_inside) (real_after setup server with_another_id_inside) (private_after setup server with_another_id_inside) → ⊥ }
+    ensures unlawful { IsLawful setup with_another_id_inside → ⊥ }
 {
     private_world();
 }
