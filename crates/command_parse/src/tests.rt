@@ -3,7 +3,7 @@ use crate::{Command, CommandFault, Known, parse, statement_of};
 
 #[test]
 fn parses_by_the_first_byte(rt: HostRuntime) {
-    let cases: [(&[u8], Result<Command, CommandFault>); 12] = [
+    let cases: [(&[u8], Result<Command, CommandFault>); 13] = [
         (b"", Err(CommandFault::Empty)),
         (b"\x01", Ok(Command::Quit)),
         (b"\x01more", Ok(Command::Quit)),
@@ -11,7 +11,8 @@ fn parses_by_the_first_byte(rt: HostRuntime) {
         (b"\x03", Ok(Command::Query { text: b"" })),
         (b"\x0E", Ok(Command::Ping)),
         (b"\x00", Ok(Command::Refused(0x00))),
-        (b"\x02db", Ok(Command::Refused(0x02))),
+        (b"\x02db", Ok(Command::InitDb { schema: b"db" })),
+        (b"\x04t\0%", Ok(Command::FieldList { rest: b"t\0%" })),
         (b"\x09", Ok(Command::Refused(0x09))),
         (b"\x17\x01\x00", Ok(Command::Refused(0x17))),
         (b"\x1F", Ok(Command::Refused(0x1F))),
