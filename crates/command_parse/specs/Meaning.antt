@@ -1,10 +1,10 @@
 -- What a client's payload commands.
-use Rattle.std.specs.Prelude.{ℕ, Bool, nat_eq, ◌||◌, List, [], ◌∷◌, Option, Some, None, Result, Ok, Err, if◌then◌else◌}
+use Rattle.std.specs.Prelude.{ℕ, Bool, nat_eq, ◌||◌, List, [], ◌∷◌, Option, None, Result, Ok, Err, if◌then◌else◌}
 use Rattle.std.specs.Option.{option_copied}
 use Rattle.mx_base.specs.Fields.{number_at}
 use Rattle.command_parse.specs.declared.command.Command.{Command}
 use Rattle.command_parse.specs.declared.command.Command.TheVariants as commands
-use Rattle.command_parse.specs.declared.command_byte.TheConstants.{COM_QUIT, COM_QUERY, COM_PING, COM_STMT_EXECUTE, COM_STMT_SEND_LONG_DATA, COM_STMT_CLOSE, COM_STMT_RESET, COM_STMT_FETCH}
+use Rattle.command_parse.specs.declared.command_byte.TheConstants.{COM_QUIT, COM_INIT_DB, COM_QUERY, COM_FIELD_LIST, COM_PING, COM_STMT_EXECUTE, COM_STMT_SEND_LONG_DATA, COM_STMT_CLOSE, COM_STMT_RESET, COM_STMT_FETCH}
 use Rattle.command_parse.specs.declared.fault.CommandFault.{CommandFault}
 use Rattle.command_parse.specs.declared.fault.CommandFault.TheVariants.{Empty}
 
@@ -43,7 +43,9 @@ meaning_of (commands.Refused byte) = Refused byte
 abbrev pub command_of : (byte : ℕ) → List ℕ → Meaning
 command_of byte rest =
     if nat_eq byte COM_QUIT then Quit
+    else if nat_eq byte COM_INIT_DB then InitDb rest
     else if nat_eq byte COM_QUERY then Query rest
+    else if nat_eq byte COM_FIELD_LIST then FieldList rest
     else if nat_eq byte COM_PING then Ping
     else Refused byte
 

@@ -2,8 +2,12 @@
 
 /// Ends the session (client/server protocol, "COM_QUIT").
 pub(crate) const COM_QUIT: u8 = 0x01;
+/// Changes the schema (client/server protocol, "COM_INIT_DB").
+pub(crate) const COM_INIT_DB: u8 = 0x02;
 /// Runs a statement that is given as text (client/server protocol, "COM_QUERY").
 pub(crate) const COM_QUERY: u8 = 0x03;
+/// Asks for a table's columns (client/server protocol, "COM_FIELD_LIST").
+pub(crate) const COM_FIELD_LIST: u8 = 0x04;
 /// Asks whether the server is alive (client/server protocol, "COM_PING").
 pub(crate) const COM_PING: u8 = 0x0E;
 /// Runs a prepared statement (client/server protocol, "COM_STMT_EXECUTE").

@@ -126,3 +126,12 @@ id_of_answer bytes = id_from 0 bytes
 -- what the packet that the bytes begin with still lacks, 0 while its header isn't whole
 abbrev pub lacking : List ℕ → ℕ
 lacking bytes = if nat_lt (length bytes) 4 then 0 else (4 + packet_length bytes) - length bytes
+
+-- payloads as packets, one message after the other with ids that go on, and the id behind them
+abbrev pub spellings : (first : ℕ) → List (List ℕ) → List ℕ
+spellings first [] = []
+spellings first (payload ∷ payloads) = spelling first payload ++ spellings (id_behind first payload) payloads
+
+abbrev pub ids_behind : (first : ℕ) → List (List ℕ) → ℕ
+ids_behind first [] = first
+ids_behind first (payload ∷ payloads) = ids_behind (id_behind first payload) payloads

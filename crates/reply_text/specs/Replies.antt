@@ -1,5 +1,5 @@
 -- The payloads of an OK and of an ERR.
-use Rattle.std.specs.Prelude.{ℕ, ◌+◌, ◌/◌, ◌%◌, Bool, false, ◌&&◌, ◌||◌, nat_le, nat_eq, bit_and, List, ◌∷◌, ◌++◌, length, slice_index_or, Option, Some, None, if◌then◌else◌}
+use Rattle.std.specs.Prelude.{ℕ, ◌+◌, ◌/◌, ◌%◌, Bool, false, ◌&&◌, ◌||◌, nat_le, nat_eq, bit_and, List, [], ◌∷◌, ◌++◌, length, slice_index_or, Option, Some, None, if◌then◌else◌}
 use Rattle.mx_base.specs.Fields.{number_at, lenenc_at}
 use Rattle.mx_base.specs.declared.fields.Field.{Field}
 use Rattle.mx_base.specs.declared.fields.Field.TheVariants.{Value, Null, Short, Bad}
@@ -15,6 +15,10 @@ is_err payload = nat_le 9 (length payload) && nat_eq (slice_index_or payload 0 0
 -- end; this one tells of no rows, no insert id and no warnings
 abbrev pub ok_payload : (status : ℕ) → (info : List ℕ) → List ℕ
 ok_payload status info = 0 ∷ 0 ∷ 0 ∷ status % 256 ∷ status / 256 ∷ 0 ∷ 0 ∷ info
+
+-- an EOF: 0xFE, warnings (2), status flags (2); this one tells of no warnings
+abbrev pub eof_payload : (status : ℕ) → List ℕ
+eof_payload status = 254 ∷ 0 ∷ 0 ∷ status % 256 ∷ status / 256 ∷ []
 
 -- the status flags of an OK
 abbrev pub flags_with : Option ℕ → Option ℕ → Option ℕ

@@ -9,7 +9,8 @@ use Rattle.reply_track.specs.declared.place.Outcome.{Outcome}
 use Rattle.reply_track.specs.declared.place.Outcome.TheVariants.{On, Over, Wrong}
 use Rattle.reply_track.specs.Grammar.{renamed}
 use Rattle.reply_track.specs.Steps.{step, written}
-use Rattle.reply_track.specs.Tracking.{Sought, IsWhole, GoesOn, NoneGoesOn, started, Took, IsHanded, IsMore, IsDone, IsBad, Answers, spellings}
+use Rattle.reply_track.specs.Tracking.{Sought, IsWhole, GoesOn, NoneGoesOn, started, Took, IsHanded, IsMore, IsDone, IsBad, Answers}
+use Rattle.packet_frame.specs.Packets.{spellings}
 use Rattle.reply_track.specs.Runs.{Ending, run, run_by, renumbered, renumbered_by, progress_of, StandsAt, Walked}
 use Rattle.reply_track.specs.Runs.Ending.{Going, Ended, Failed}
 use Rattle.reply_track.proofs.Sentences.{reply-sent}

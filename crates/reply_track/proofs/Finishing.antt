@@ -20,7 +20,7 @@ use Rattle.reply_track.specs.declared.place.State.{State}
 use Rattle.reply_track.specs.declared.place.Outcome.{Outcome}
 use Rattle.reply_track.specs.declared.place.Outcome.TheVariants.{On, Over, Wrong}
 use Rattle.reply_track.specs.Payloads.{IsErr, IsEof, IsPlain, err_end}
-use Rattle.reply_track.specs.Tracking.{spellings}
+use Rattle.packet_frame.specs.Packets.{spellings}
 use Rattle.reply_track.specs.Steps.{step, takes_err, eof_of, after_plain, after_eof, behind_end}
 use Rattle.reply_track.specs.Runs.{run, run_by}
 use Rattle.reply_track.specs.Runs.Ending.{Ended}

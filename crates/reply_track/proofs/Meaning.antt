@@ -16,7 +16,7 @@ use Rattle.reply_track.specs.declared.head.Eof.TheVariants.{Fields as FieldsEof}
 use Rattle.reply_track.specs.Payloads.{IsErr, IsCount, IsPlain, ok_end, err_end, rows_end}
 use Rattle.reply_track.specs.Grammar.{ErrEnds, AreDefined, IsOne, IsResult, has_more, AreResults, AreFields, AreDefinedOrNone, IsReply}
 use Rattle.reply_track.specs.Grammar.AreResults.{Last, Then}
-use Rattle.reply_track.specs.Tracking.{spellings}
+use Rattle.packet_frame.specs.Packets.{spellings}
 use Rattle.reply_track.specs.Steps.{first_due, after_eof, behind_end, prepared_end}
 use Rattle.reply_track.specs.Runs.{run}
 use Rattle.reply_track.specs.Runs.Ending.{Ended}

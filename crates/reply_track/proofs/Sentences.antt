@@ -20,7 +20,7 @@ use Rattle.reply_track.specs.declared.place.Outcome.TheVariants.{Over}
 use Rattle.reply_track.specs.Payloads.{IsEof, IsPlain, named, ok_end, err_end, rows_end}
 use Rattle.reply_track.specs.Grammar.{ErrEnds, EofEnds, AreDefined, IsSet, IsOne, IsResult, has_more, AreResults, AreDefinedOrNone, IsPreparation, IsReply, renamed}
 use Rattle.reply_track.specs.Grammar.AreResults.{Last, Then}
-use Rattle.reply_track.specs.Tracking.{spellings}
+use Rattle.packet_frame.specs.Packets.{spellings}
 use Rattle.reply_track.specs.Steps.{first_due, takes_err, eof_of, after_plain, after_result, after_prepared, behind_end, prepared_end}
 use Rattle.reply_track.proofs.Crossing.{mk, Crosses, join}
 use Rattle.reply_track.proofs.Messages.{Reads, message-crosses}

@@ -17,7 +17,7 @@ use Rattle.reply_track.specs.declared.body.Body.TheVariants.{Due as DueBody}
 use Rattle.reply_track.specs.declared.place.Place.TheVariants.{First}
 use Rattle.reply_track.specs.Payloads.{IsEof, IsPlain, err_end, rows_end}
 use Rattle.reply_track.specs.Grammar.{ErrEnds, EofEnds, AreDefined}
-use Rattle.reply_track.specs.Tracking.{spellings}
+use Rattle.packet_frame.specs.Packets.{spellings}
 use Rattle.reply_track.specs.Steps.{after_eof, behind_end}
 use Rattle.reply_track.specs.Runs.{run}
 use Rattle.reply_track.specs.Runs.Ending.{Ended}

@@ -1,7 +1,7 @@
 -- What a tracker promises.
 use Rattle.std.specs.Prelude.{◌≡◌, ◌≤◌, ◌<◌, ℕ, ◌+◌, List, [], ◌∷◌, ◌++◌, length, take, drop}
 use Rattle.mx_base.specs.Fields.{AreBytes}
-use Rattle.packet_frame.specs.Packets.{spelling, id_behind}
+use Rattle.packet_frame.specs.Packets.{spellings}
 use Rattle.reply_track.specs.declared.reply.ReplyEnd.{ReplyEnd}
 use Rattle.reply_track.specs.declared.reply.ReplyKind.{ReplyKind}
 use Rattle.reply_track.specs.declared.reply.Progress.{Progress}
@@ -13,11 +13,6 @@ use Rattle.reply_track.specs.Grammar.{IsReply, renamed}
 use Rattle.reply_track.specs.Steps.{first_due}
 use Rattle.reply_track.specs.Runs.{run, renumbered}
 use Rattle.reply_track.specs.Runs.Ending.{Going}
-
--- payloads as packets, one message after the other, with ids that go on
-abbrev pub spellings : (first : ℕ) → List (List ℕ) → List ℕ
-spellings first [] = []
-spellings first (payload ∷ payloads) = spelling first payload ++ spellings (id_behind first payload) payloads
 
 -- a reply that is sought: its kind, the ids of its first packet at the server and at the client, and the number that
 -- the client knows the prepared statement by
