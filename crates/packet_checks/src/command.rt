@@ -23,6 +23,14 @@ fn show(alloc: Global, command: Command<'_>) -> Result<String, CaseFault> {
             let text = Spelled(text);
             Ok(format!(in alloc; "query {text}")?)
         }
+        Command::InitDb { schema } => {
+            let schema = Spelled(schema);
+            Ok(format!(in alloc; "init_db {schema}")?)
+        }
+        Command::FieldList { rest } => {
+            let rest = Spelled(rest);
+            Ok(format!(in alloc; "field_list {rest}")?)
+        }
         Command::Refused(byte) => Ok(format!(in alloc; "refused {byte}")?),
         _ => Err(CaseFault::Bad),
     }

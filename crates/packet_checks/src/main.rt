@@ -13,7 +13,9 @@ mod rewrite;
 mod server;
 mod show;
 mod steps;
+mod table;
 mod text;
+mod track;
 
 use check_lines::{Case, CaseFault};
 use std::alloc::Global;
@@ -27,6 +29,9 @@ fn answer(alloc: Global, case: &mut Case<'_>) -> Result<String, CaseFault> {
         "write_message" => framing::write(alloc, case),
         "write_ok" => reply::write_ok(alloc, case),
         "write_err" => reply::write_err(alloc, case),
+        "write_eof" => reply::write_eof(alloc, case),
+        "write_table" => table::write(alloc, case),
+        "track" => track::track(alloc, case),
         "is_lone_reply" => reply::is_lone(alloc, case),
         "sha1" => password::digest(alloc, case),
         "answer" => password::answer(alloc, case),

@@ -26,6 +26,15 @@ pub fn write_err(alloc: Global, case: &mut Case<'_>) -> Result<String, CaseFault
     with_id(alloc, id, &out)
 }
 
+/// `write_eof <first> <status> <before>`: the id behind the EOF, and the bytes before with it.
+pub fn write_eof(alloc: Global, case: &mut Case<'_>) -> Result<String, CaseFault> {
+    let first = case.number()?;
+    let status = case.number()?;
+    let mut out = case.rest_bytes(alloc)?;
+    let id = reply_text::write_eof(&mut out, first, status)?;
+    with_id(alloc, id, &out)
+}
+
 /// `is_lone_reply <payload>`: whether it is a whole reply.
 pub fn is_lone(alloc: Global, case: &mut Case<'_>) -> Result<String, CaseFault> {
     debug(alloc, reply_text::is_lone_reply(&case.rest_bytes(alloc)?))

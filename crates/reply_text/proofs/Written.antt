@@ -56,5 +56,5 @@ table-ends first out count_out definitions_out eof_out rows_out count eof defini
     let rowed = written-more first out eof_out rows_out (((count ∷ []) ++ definitions) ++ eof ∷ []) rows id3 id4 ended g h in
     let last = written-more first out rows_out (rows_out ++ spelling id4 eof) ((((count ∷ []) ++ definitions) ++ eof ∷ []) ++ rows) (eof ∷ []) id4 (id_behind id4 eof) rowed (ap (λ bs. rows_out ++ bs) (one 0 id4 eof)) refl in
     let all : ((((count ∷ []) ++ definitions) ++ eof ∷ []) ++ rows) ++ eof ∷ [] ≡ (count ∷ []) ++ (definitions ++ ((eof ∷ []) ++ (rows ++ eof ∷ []))) =
-        append_assoc (((count ∷ []) ++ definitions) ++ eof ∷ []) rows (eof ∷ []) ∙ append_assoc ((count ∷ []) ++ definitions) (eof ∷ []) (rows ++ eof ∷ []) ∙ append_assoc (count ∷ []) definitions ((eof ∷ []) ++ (rows ++ eof ∷ [])) in
+    append_assoc (((count ∷ []) ++ definitions) ++ eof ∷ []) rows (eof ∷ []) ∙ append_assoc ((count ∷ []) ++ definitions) (eof ∷ []) (rows ++ eof ∷ []) ∙ append_assoc (count ∷ []) definitions ((eof ∷ []) ++ (rows ++ eof ∷ [])) in
     record { bytes = last.bytes ∙ ap (λ ps. out ++ spellings first ps) all; ids = last.ids ∙ ap (ids_behind first) all }
