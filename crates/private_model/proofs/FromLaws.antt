@@ -47,50 +47,31 @@ module _ (reads : Reads) (tests : Tests) (rule : server.Step) (tame : IsTame rea
     quit_session = tame.reset.close_session;
   }
 
-  tracked_calm : (stored : List ℕ) (s : Session) → Accepts tests stored s → (c : Command) (changes : List Change) → effect_of (class_of reads c) ≡ Tracked changes → (s.tx ≡ []) ⊎ (sets_autocommit changes ≡ false) → (step stored s c).stored ≡ stored
-  tracked_calm stored s ok (Query text) changes e calm = tame.tracked.calm stored s ok (cmd.Query text) changes e calm
-  tracked_calm stored s ok (Run text schema settings args) changes e calm = tame.tracked.calm stored s ok (cmd_of (Run text schema settings args)) changes e calm
-  tracked_calm stored s ok (InitDb schema) changes e calm = uses_tracked e
-  tracked_calm stored s ok (FieldList rest) changes e calm = neither_tracked e
-  tracked_calm stored s ok (SetId n) changes e calm = neither_tracked e
-  tracked_calm stored s ok ReadId changes e calm = neither_tracked e
-  tracked_calm stored s ok (Prepare text) changes e calm = neither_tracked e
-  tracked_calm stored s ok Reset changes e calm = neither_tracked e
-  tracked_calm stored s ok Quit changes e calm = neither_tracked e
+  tracked_law : (stored : List ℕ) (s : Session) → Accepts tests stored s → (c : Command) (changes : List Change) → effect_of (class_of reads c) ≡ Tracked changes → (s.tx ≡ []) ⊎ (sets_autocommit changes ≡ false)
+      → ((step stored s c).stored ≡ stored) × ((step stored s c).session.tx ≡ s.tx)
+  tracked_law stored s ok (Query text) changes e calm = (tame.tracked.calm stored s ok (cmd.Query text) changes e calm, tame.tracked.calm_tx stored s ok (cmd.Query text) changes e calm)
+  tracked_law stored s ok (Run text schema settings args) changes e calm =
+      let c = cmd_of (Run text schema settings args) in (tame.tracked.calm stored s ok c changes e calm, tame.tracked.calm_tx stored s ok c changes e calm)
+  tracked_law stored s ok (InitDb schema) changes e calm = uses_tracked e
+  tracked_law stored s ok (FieldList rest) changes e calm = neither_tracked e
+  tracked_law stored s ok (SetId n) changes e calm = neither_tracked e
+  tracked_law stored s ok ReadId changes e calm = neither_tracked e
+  tracked_law stored s ok (Prepare text) changes e calm = neither_tracked e
+  tracked_law stored s ok Reset changes e calm = neither_tracked e
+  tracked_law stored s ok Quit changes e calm = neither_tracked e
 
-  tracked_tx : (stored : List ℕ) (s : Session) → Accepts tests stored s → (c : Command) (changes : List Change) → effect_of (class_of reads c) ≡ Tracked changes → (s.tx ≡ []) ⊎ (sets_autocommit changes ≡ false) → (step stored s c).session.tx ≡ s.tx
-  tracked_tx stored s ok (Query text) changes e calm = tame.tracked.calm_tx stored s ok (cmd.Query text) changes e calm
-  tracked_tx stored s ok (Run text schema settings args) changes e calm = tame.tracked.calm_tx stored s ok (cmd_of (Run text schema settings args)) changes e calm
-  tracked_tx stored s ok (InitDb schema) changes e calm = uses_tracked e
-  tracked_tx stored s ok (FieldList rest) changes e calm = neither_tracked e
-  tracked_tx stored s ok (SetId n) changes e calm = neither_tracked e
-  tracked_tx stored s ok ReadId changes e calm = neither_tracked e
-  tracked_tx stored s ok (Prepare text) changes e calm = neither_tracked e
-  tracked_tx stored s ok Reset changes e calm = neither_tracked e
-  tracked_tx stored s ok Quit changes e calm = neither_tracked e
-
-  uses_stored : (stored : List ℕ) (s : Session) → Accepts tests stored s → (c : Command) (schema : List ℕ) → effect_of (class_of reads c) ≡ Uses schema → (step stored s c).stored ≡ stored
-  uses_stored stored s ok (Query text) schema e = tame.schemas.stored stored s ok (cmd.Query text) schema e
-  uses_stored stored s ok (Run text schema' settings args) schema e = tame.schemas.stored stored s ok (cmd_of (Run text schema' settings args)) schema e
-  uses_stored stored s ok (InitDb schema') schema e = tame.schemas.stored stored s ok (cmd.InitDb schema') schema e
-  uses_stored stored s ok (FieldList rest) schema e = neither_uses e
-  uses_stored stored s ok (SetId n) schema e = neither_uses e
-  uses_stored stored s ok ReadId schema e = neither_uses e
-  uses_stored stored s ok (Prepare text) schema e = neither_uses e
-  uses_stored stored s ok Reset schema e = neither_uses e
-  uses_stored stored s ok Quit schema e = neither_uses e
-
-  uses_session : (stored : List ℕ) (s : Session) → Accepts tests stored s → (c : Command) (schema : List ℕ) → effect_of (class_of reads c) ≡ Uses schema
-      → (step stored s c).session ≡ record s { schema = schema_by (Uses schema) (is_ok (step stored s c).reply) s.schema; diag = (step stored s c).session.diag }
-  uses_session stored s ok (Query text) schema e = tame.schemas.session stored s ok (cmd.Query text) schema e
-  uses_session stored s ok (Run text schema' settings args) schema e = tame.schemas.session stored s ok (cmd_of (Run text schema' settings args)) schema e
-  uses_session stored s ok (InitDb schema') schema e = tame.schemas.session stored s ok (cmd.InitDb schema') schema e
-  uses_session stored s ok (FieldList rest) schema e = neither_uses e
-  uses_session stored s ok (SetId n) schema e = neither_uses e
-  uses_session stored s ok ReadId schema e = neither_uses e
-  uses_session stored s ok (Prepare text) schema e = neither_uses e
-  uses_session stored s ok Reset schema e = neither_uses e
-  uses_session stored s ok Quit schema e = neither_uses e
+  uses_law : (stored : List ℕ) (s : Session) → Accepts tests stored s → (c : Command) (schema : List ℕ) → effect_of (class_of reads c) ≡ Uses schema
+      → ((step stored s c).stored ≡ stored) × ((step stored s c).session ≡ record s { schema = schema_by (Uses schema) (is_ok (step stored s c).reply) s.schema; diag = (step stored s c).session.diag })
+  uses_law stored s ok (Query text) schema e = (tame.schemas.stored stored s ok (cmd.Query text) schema e, tame.schemas.session stored s ok (cmd.Query text) schema e)
+  uses_law stored s ok (Run text schema' settings args) schema e =
+      let c = cmd_of (Run text schema' settings args) in (tame.schemas.stored stored s ok c schema e, tame.schemas.session stored s ok c schema e)
+  uses_law stored s ok (InitDb schema') schema e = (tame.schemas.stored stored s ok (cmd.InitDb schema') schema e, tame.schemas.session stored s ok (cmd.InitDb schema') schema e)
+  uses_law stored s ok (FieldList rest) schema e = neither_uses e
+  uses_law stored s ok (SetId n) schema e = neither_uses e
+  uses_law stored s ok ReadId schema e = neither_uses e
+  uses_law stored s ok (Prepare text) schema e = neither_uses e
+  uses_law stored s ok Reset schema e = neither_uses e
+  uses_law stored s ok Quit schema e = neither_uses e
 
   -- the session after the text that sets the insert id, but for that and the diagnostics
   set_leaves : {A : Type 0} (f : Session → A) → ((n : ℕ) (diag : List ℕ) (x : Session) → f (with_diag diag (with_id n x)) ≡ f x) → ((diag : List ℕ) (x : Session) → f (with_diag diag x) ≡ f x)
@@ -105,14 +86,14 @@ module _ (reads : Reads) (tests : Tests) (rule : server.Step) (tame : IsTame rea
       → ((changes : List Change) → effect ≡ Tracked changes → (step stored s c).session.schema ≡ s.schema) → (effect ≡ Neither → (step stored s c).session.schema ≡ s.schema)
       → (step stored s c).session.schema ≡ schema_by effect (is_ok (step stored s c).reply) s.schema
   schema_text stored s ok c text ok' (Tracked changes) e tracked neither = tracked changes refl
-  schema_text stored s ok c text ok' (Uses schema) e tracked neither = ap (λ (x : Session). x.schema) (uses_session stored s ok c schema e)
+  schema_text stored s ok c text ok' (Uses schema) e tracked neither = ap (λ (x : Session). x.schema) (uses_law stored s ok c schema e).1
   schema_text stored s ok c text ok' Neither e tracked neither = neither refl
 
   settings_text : (stored : List ℕ) (s : Session) → Accepts tests stored s → (c : Command) (effect : Effect) → effect_of (class_of reads c) ≡ effect
       → ((changes : List Change) → effect ≡ Tracked changes → (step stored s c).session.settings ≡ settings_by (Tracked changes) (is_ok (step stored s c).reply) s.settings) → (effect ≡ Neither → (step stored s c).session.settings ≡ s.settings)
       → (step stored s c).session.settings ≡ settings_by effect (is_ok (step stored s c).reply) s.settings
   settings_text stored s ok c (Tracked changes) e tracked neither = tracked changes refl
-  settings_text stored s ok c (Uses schema) e tracked neither = ap (λ (x : Session). x.settings) (uses_session stored s ok c schema e)
+  settings_text stored s ok c (Uses schema) e tracked neither = ap (λ (x : Session). x.settings) (uses_law stored s ok c schema e).1
   settings_text stored s ok c Neither e tracked neither = neither refl
 
   schema_after : (stored : List ℕ) (s : Session) → Accepts tests stored s → (c : Command) → (class_of reads c).deep ≡ false → (step stored s c).session.schema ≡ schema_by (effect_of (class_of reads c)) (is_ok (step stored s c).reply) s.schema
@@ -120,7 +101,7 @@ module _ (reads : Reads) (tests : Tests) (rule : server.Step) (tame : IsTame rea
   schema_after stored s ok (Run text schema settings args) shallow =
       let c = cmd_of (Run text schema settings args) in
       schema_text stored s ok (Run text schema settings args) text ok (effect_of (reads.class text)) refl (λ changes e. tame.tracked.schema stored s ok c changes e) (λ e. tame.texts.schema stored s ok c text refl shallow e)
-  schema_after stored s ok (InitDb schema) shallow = ap (λ (x : Session). x.schema) (uses_session stored s ok (InitDb schema) schema refl)
+  schema_after stored s ok (InitDb schema) shallow = ap (λ (x : Session). x.schema) (uses_law stored s ok (InitDb schema) schema refl).1
   schema_after stored s ok (FieldList rest) shallow = ap (λ (x : Session). x.schema) (tame.preparing.fields_session stored s ok rest)
   schema_after stored s ok (SetId n) shallow = set_leaves (λ (x : Session). x.schema) (λ n d x. refl) (λ d x. refl) stored s ok n
   schema_after stored s ok ReadId shallow = ap (λ (x : Session). x.schema) (tame.insert_id.read_session stored s ok)
@@ -133,7 +114,7 @@ module _ (reads : Reads) (tests : Tests) (rule : server.Step) (tame : IsTame rea
   settings_after stored s ok (Run text schema settings args) shallow =
       let c = cmd_of (Run text schema settings args) in
       settings_text stored s ok (Run text schema settings args) (effect_of (reads.class text)) refl (λ changes e. tame.tracked.settings stored s ok c changes e) (λ e. tame.texts.settings stored s ok c text refl shallow e)
-  settings_after stored s ok (InitDb schema) shallow = ap (λ (x : Session). x.settings) (uses_session stored s ok (InitDb schema) schema refl)
+  settings_after stored s ok (InitDb schema) shallow = ap (λ (x : Session). x.settings) (uses_law stored s ok (InitDb schema) schema refl).1
   settings_after stored s ok (FieldList rest) shallow = ap (λ (x : Session). x.settings) (tame.preparing.fields_session stored s ok rest)
   settings_after stored s ok (SetId n) shallow = set_leaves (λ (x : Session). x.settings) (λ n d x. refl) (λ d x. refl) stored s ok n
   settings_after stored s ok ReadId shallow = ap (λ (x : Session). x.settings) (tame.insert_id.read_session stored s ok)
@@ -148,7 +129,7 @@ module _ (reads : Reads) (tests : Tests) (rule : server.Step) (tame : IsTame rea
   locks_after : (stored : List ℕ) (s : Session) → Accepts tests stored s → (c : Command) → (class_of reads c).deep ≡ false → takes_locks (class_of reads c) (end_of (step stored s c).reply) ≡ false → s.locks ≡ [] → (step stored s c).session.locks ≡ []
   locks_after stored s ok (Query text) shallow takes none = tame.texts.locks stored s ok (cmd.Query text) text refl shallow takes none
   locks_after stored s ok (Run text schema settings args) shallow takes none = tame.texts.locks stored s ok (cmd_of (Run text schema settings args)) text refl shallow takes none
-  locks_after stored s ok (InitDb schema) shallow takes none = ap (λ (x : Session). x.locks) (uses_session stored s ok (InitDb schema) schema refl) ∙ none
+  locks_after stored s ok (InitDb schema) shallow takes none = ap (λ (x : Session). x.locks) (uses_law stored s ok (InitDb schema) schema refl).1 ∙ none
   locks_after stored s ok (FieldList rest) shallow takes none = ap (λ (x : Session). x.locks) (tame.preparing.fields_session stored s ok rest) ∙ none
   locks_after stored s ok (SetId n) shallow takes none = set_leaves (λ (x : Session). x.locks) (λ n d x. refl) (λ d x. refl) stored s ok n ∙ none
   locks_after stored s ok ReadId shallow takes none = ap (λ (x : Session). x.locks) (tame.insert_id.read_session stored s ok) ∙ none
@@ -159,7 +140,7 @@ module _ (reads : Reads) (tests : Tests) (rule : server.Step) (tame : IsTame rea
   none_after : (stored : List ℕ) (s : Session) → Accepts tests stored s → (c : Command) → (class_of reads c).deep ≡ false → sets_next (class_of reads c) (end_of (step stored s c).reply) ≡ false → is_lone_savepoint (class_of reads c) (is_some_of s.tx) ≡ false → s.deep ≡ [] → (step stored s c).session.deep ≡ []
   none_after stored s ok (Query text) shallow next inside none = tame.texts.none stored s ok (cmd.Query text) text refl shallow next inside none
   none_after stored s ok (Run text schema settings args) shallow next inside none = tame.texts.none stored s ok (cmd_of (Run text schema settings args)) text refl shallow next inside none
-  none_after stored s ok (InitDb schema) shallow next inside none = ap (λ (x : Session). x.deep) (uses_session stored s ok (InitDb schema) schema refl) ∙ none
+  none_after stored s ok (InitDb schema) shallow next inside none = ap (λ (x : Session). x.deep) (uses_law stored s ok (InitDb schema) schema refl).1 ∙ none
   none_after stored s ok (FieldList rest) shallow next inside none = ap (λ (x : Session). x.deep) (tame.preparing.fields_session stored s ok rest) ∙ none
   none_after stored s ok (SetId n) shallow next inside none = set_leaves (λ (x : Session). x.deep) (λ n d x. refl) (λ d x. refl) stored s ok n ∙ none
   none_after stored s ok ReadId shallow next inside none = ap (λ (x : Session). x.deep) (tame.insert_id.read_session stored s ok) ∙ none
@@ -170,7 +151,7 @@ module _ (reads : Reads) (tests : Tests) (rule : server.Step) (tame : IsTame rea
   brief_after : (stored : List ℕ) (s : Session) → Accepts tests stored s → (c : Command) → (class_of reads c).deep ≡ false → is_lone_savepoint (class_of reads c) (is_some_of s.tx) ≡ false → is_brief s.deep ≡ true → is_brief (step stored s c).session.deep ≡ true
   brief_after stored s ok (Query text) shallow inside brief = tame.texts.brief stored s ok (cmd.Query text) text refl shallow inside brief
   brief_after stored s ok (Run text schema settings args) shallow inside brief = tame.texts.brief stored s ok (cmd_of (Run text schema settings args)) text refl shallow inside brief
-  brief_after stored s ok (InitDb schema) shallow inside brief = ap (λ (x : Session). is_brief x.deep) (uses_session stored s ok (InitDb schema) schema refl) ∙ brief
+  brief_after stored s ok (InitDb schema) shallow inside brief = ap (λ (x : Session). is_brief x.deep) (uses_law stored s ok (InitDb schema) schema refl).1 ∙ brief
   brief_after stored s ok (FieldList rest) shallow inside brief = ap (λ (x : Session). is_brief x.deep) (tame.preparing.fields_session stored s ok rest) ∙ brief
   brief_after stored s ok (SetId n) shallow inside brief = ap is_brief (set_leaves (λ (x : Session). x.deep) (λ n d x. refl) (λ d x. refl) stored s ok n) ∙ brief
   brief_after stored s ok ReadId shallow inside brief = ap (λ (x : Session). is_brief x.deep) (tame.insert_id.read_session stored s ok) ∙ brief
@@ -185,7 +166,7 @@ module _ (reads : Reads) (tests : Tests) (rule : server.Step) (tame : IsTame rea
   ended_after : (stored : List ℕ) (s : Session) → Accepts tests stored s → (c : Command) → (class_of reads c).deep ≡ false → is_some_of s.tx ≡ true → is_some_of (step stored s c).session.tx ≡ false → is_brief s.deep ≡ true → (step stored s c).session.deep ≡ []
   ended_after stored s ok (Query text) shallow there over brief = tame.texts.ended stored s ok (cmd.Query text) text refl shallow there over brief
   ended_after stored s ok (Run text schema settings args) shallow there over brief = tame.texts.ended stored s ok (cmd_of (Run text schema settings args)) text refl shallow there over brief
-  ended_after stored s ok (InitDb schema) shallow there over brief = still_open (InitDb schema) stored s (ap (λ (x : Session). x.tx) (uses_session stored s ok (InitDb schema) schema refl)) there over
+  ended_after stored s ok (InitDb schema) shallow there over brief = still_open (InitDb schema) stored s (ap (λ (x : Session). x.tx) (uses_law stored s ok (InitDb schema) schema refl).1) there over
   ended_after stored s ok (FieldList rest) shallow there over brief = still_open (FieldList rest) stored s (ap (λ (x : Session). x.tx) (tame.preparing.fields_session stored s ok rest)) there over
   ended_after stored s ok (SetId n) shallow there over brief = still_open (SetId n) stored s (set_leaves (λ (x : Session). x.tx) (λ n d x. refl) (λ d x. refl) stored s ok n) there over
   ended_after stored s ok ReadId shallow there over brief = still_open ReadId stored s (ap (λ (x : Session). x.tx) (tame.insert_id.read_session stored s ok)) there over
@@ -278,8 +259,8 @@ module _ (reads : Reads) (tests : Tests) (rule : server.Step) (tame : IsTame rea
     keeps = λ stored s ok c. tame.tests_kept.keeps stored s ok (cmd_of c);
     account = account_law;
     reset = reset_law;
-    tracked = record { calm = tracked_calm; calm_tx = tracked_tx };
-    uses = record { stored = uses_stored; session = uses_session };
+    tracked = record { calm = λ stored s ok c changes e calm. (tracked_law stored s ok c changes e calm).0; calm_tx = λ stored s ok c changes e calm. (tracked_law stored s ok c changes e calm).1 };
+    uses = record { stored = λ stored s ok c schema e. (uses_law stored s ok c schema e).0; session = λ stored s ok c schema e. (uses_law stored s ok c schema e).1 };
     text = record { schema = schema_after; settings = settings_after; locks = locks_after; none = none_after; brief = brief_after; ended = ended_after };
     blind = record { diag = diag_law; last_id = id_law };
     id = record {

@@ -131,49 +131,22 @@ plain stored s ok = none_by s.locks s.deep ok.1
 
 -- What no text touches.
 
-kind_locks : (k : Kind) (rows : Bool) (text stored : List ℕ) (s : Session) → (by_kind k rows text stored s).session.locks ≡ s.locks
-kind_locks (SetsId n) rows text stored s = refl
-kind_locks ReadsId rows text stored s = refl
-kind_locks (Tracks changes) rows text stored s = refl
-kind_locks (Chooses schema) rows text stored s = refl
-kind_locks Begins rows text stored s = refl
-kind_locks Commits rows text stored s = refl
-kind_locks Adds rows text stored s = refl
-kind_locks Shows rows text stored s = refl
-kind_locks Refuses rows text stored s = refl
+pub record Keeps (k : Kind) (rows : Bool) (text stored : List ℕ) (s : Session) : Type 0 where
+  pub user : (by_kind k rows text stored s).session.user ≡ s.user
+  pub found_rows : (by_kind k rows text stored s).session.found_rows ≡ s.found_rows
+  pub locks : (by_kind k rows text stored s).session.locks ≡ s.locks
+  pub deep : (by_kind k rows text stored s).session.deep ≡ s.deep
 
-kind_deep : (k : Kind) (rows : Bool) (text stored : List ℕ) (s : Session) → (by_kind k rows text stored s).session.deep ≡ s.deep
-kind_deep (SetsId n) rows text stored s = refl
-kind_deep ReadsId rows text stored s = refl
-kind_deep (Tracks changes) rows text stored s = refl
-kind_deep (Chooses schema) rows text stored s = refl
-kind_deep Begins rows text stored s = refl
-kind_deep Commits rows text stored s = refl
-kind_deep Adds rows text stored s = refl
-kind_deep Shows rows text stored s = refl
-kind_deep Refuses rows text stored s = refl
-
-kind_user : (k : Kind) (rows : Bool) (text stored : List ℕ) (s : Session) → (by_kind k rows text stored s).session.user ≡ s.user
-kind_user (SetsId n) rows text stored s = refl
-kind_user ReadsId rows text stored s = refl
-kind_user (Tracks changes) rows text stored s = refl
-kind_user (Chooses schema) rows text stored s = refl
-kind_user Begins rows text stored s = refl
-kind_user Commits rows text stored s = refl
-kind_user Adds rows text stored s = refl
-kind_user Shows rows text stored s = refl
-kind_user Refuses rows text stored s = refl
-
-kind_found_rows : (k : Kind) (rows : Bool) (text stored : List ℕ) (s : Session) → (by_kind k rows text stored s).session.found_rows ≡ s.found_rows
-kind_found_rows (SetsId n) rows text stored s = refl
-kind_found_rows ReadsId rows text stored s = refl
-kind_found_rows (Tracks changes) rows text stored s = refl
-kind_found_rows (Chooses schema) rows text stored s = refl
-kind_found_rows Begins rows text stored s = refl
-kind_found_rows Commits rows text stored s = refl
-kind_found_rows Adds rows text stored s = refl
-kind_found_rows Shows rows text stored s = refl
-kind_found_rows Refuses rows text stored s = refl
+kind_keeps : (k : Kind) (rows : Bool) (text stored : List ℕ) (s : Session) → Keeps k rows text stored s
+kind_keeps (SetsId n) rows text stored s = record { user = refl; found_rows = refl; locks = refl; deep = refl }
+kind_keeps ReadsId rows text stored s = record { user = refl; found_rows = refl; locks = refl; deep = refl }
+kind_keeps (Tracks changes) rows text stored s = record { user = refl; found_rows = refl; locks = refl; deep = refl }
+kind_keeps (Chooses schema) rows text stored s = record { user = refl; found_rows = refl; locks = refl; deep = refl }
+kind_keeps Begins rows text stored s = record { user = refl; found_rows = refl; locks = refl; deep = refl }
+kind_keeps Commits rows text stored s = record { user = refl; found_rows = refl; locks = refl; deep = refl }
+kind_keeps Adds rows text stored s = record { user = refl; found_rows = refl; locks = refl; deep = refl }
+kind_keeps Shows rows text stored s = record { user = refl; found_rows = refl; locks = refl; deep = refl }
+kind_keeps Refuses rows text stored s = record { user = refl; found_rows = refl; locks = refl; deep = refl }
 
 kind_flags : (k : Kind) (rows : Bool) (text stored : List ℕ) (s : Session) (shown : Bool) → shows_transaction (reply_end false (by_kind k rows text stored s).reply) ≡ Some shown → is_some_of (by_kind k rows text stored s).session.tx ≡ shown
 kind_flags (SetsId n) rows text stored s shown e = let is = ok_shows false NoId (is_some_of s.tx) in cc
@@ -399,7 +372,7 @@ module _ (reads : Reads) where
       let class = reads.class text in
       let k = kind_of class text in
       let rows = rows_by class.reads_diag s in
-      ap (λ x. not (is_some_of x) && not (is_some_of (by_kind k rows text stored s).session.deep)) (kind_locks k rows text stored s) ∙ ap (λ x. not (is_some_of s.locks) && not (is_some_of x)) (kind_deep k rows text stored s) ∙ good
+      ap (λ x. not (is_some_of x) && not (is_some_of (by_kind k rows text stored s).session.deep)) ((kind_keeps k rows text stored s).locks) ∙ ap (λ x. not (is_some_of s.locks) && not (is_some_of x)) ((kind_keeps k rows text stored s).deep) ∙ good
 
   keeps : (stored : List ℕ) (s : Session) → Accepts tests stored s → (c : Cmd) → Accepts tests (tally reads stored s c).stored (tally reads stored s c).session
   keeps stored s ok (Query text) = (refl, text_keeps stored s ok.1 text)
@@ -411,8 +384,8 @@ module _ (reads : Reads) where
   keeps stored s ok Close = (refl, refl)
 
   user_law : (stored : List ℕ) (s : Session) → Accepts tests stored s → (c : Cmd) → (tally reads stored s c).session.user ≡ s.user
-  user_law stored s ok (Query text) = kind_user (kind_of (reads.class text) text) (rows_by (reads.class text).reads_diag s) text stored s
-  user_law stored s ok (Run text schema settings types nulls values long) = kind_user (kind_of (reads.class text) text) (rows_by (reads.class text).reads_diag s) text stored s
+  user_law stored s ok (Query text) = (kind_keeps (kind_of (reads.class text) text) (rows_by (reads.class text).reads_diag s) text stored s).user
+  user_law stored s ok (Run text schema settings types nulls values long) = (kind_keeps (kind_of (reads.class text) text) (rows_by (reads.class text).reads_diag s) text stored s).user
   user_law stored s ok (InitDb schema) = refl
   user_law stored s ok (FieldList rest) = refl
   user_law stored s ok (Prepare text) = refl
@@ -420,8 +393,8 @@ module _ (reads : Reads) where
   user_law stored s ok Close = refl
 
   found_rows_law : (stored : List ℕ) (s : Session) → Accepts tests stored s → (c : Cmd) → (tally reads stored s c).session.found_rows ≡ s.found_rows
-  found_rows_law stored s ok (Query text) = kind_found_rows (kind_of (reads.class text) text) (rows_by (reads.class text).reads_diag s) text stored s
-  found_rows_law stored s ok (Run text schema settings types nulls values long) = kind_found_rows (kind_of (reads.class text) text) (rows_by (reads.class text).reads_diag s) text stored s
+  found_rows_law stored s ok (Query text) = (kind_keeps (kind_of (reads.class text) text) (rows_by (reads.class text).reads_diag s) text stored s).found_rows
+  found_rows_law stored s ok (Run text schema settings types nulls values long) = (kind_keeps (kind_of (reads.class text) text) (rows_by (reads.class text).reads_diag s) text stored s).found_rows
   found_rows_law stored s ok (InitDb schema) = refl
   found_rows_law stored s ok (FieldList rest) = refl
   found_rows_law stored s ok (Prepare text) = refl
@@ -480,11 +453,11 @@ module _ (reads : Reads) where
   text_law = record {
     schema = λ stored s ok c text is shallow none. of_text stored s c text is (λ o. o.session.schema ≡ s.schema) (stays_neither (effect_of (reads.class text)) (reads.class text) (rows_of text s) text stored s none).schema;
     settings = λ stored s ok c text is shallow none. of_text stored s c text is (λ o. o.session.settings ≡ s.settings) (stays_neither (effect_of (reads.class text)) (reads.class text) (rows_of text s) text stored s none).settings;
-    locks = λ stored s ok c text is shallow takes none. of_text stored s c text is (λ o. o.session.locks ≡ []) (kind_locks (kind_at text) (rows_of text s) text stored s ∙ none);
-    none = λ stored s ok c text is shallow next inside none. of_text stored s c text is (λ o. o.session.deep ≡ []) (kind_deep (kind_at text) (rows_of text s) text stored s ∙ none);
-    brief = λ stored s ok c text is shallow inside brief. of_text stored s c text is (λ o. is_brief o.session.deep ≡ true) (ap is_brief (kind_deep (kind_at text) (rows_of text s) text stored s) ∙ brief);
-    ended = λ stored s ok c text is shallow there over brief. of_text stored s c text is (λ o. o.session.deep ≡ []) (kind_deep (kind_at text) (rows_of text s) text stored s ∙ (plain stored s ok).1);
-    unset = λ stored s ok c text is shallow next err. of_text stored s c text is (λ o. o.session.deep ≡ s.deep) (kind_deep (kind_at text) (rows_of text s) text stored s);
+    locks = λ stored s ok c text is shallow takes none. of_text stored s c text is (λ o. o.session.locks ≡ []) ((kind_keeps (kind_at text) (rows_of text s) text stored s).locks ∙ none);
+    none = λ stored s ok c text is shallow next inside none. of_text stored s c text is (λ o. o.session.deep ≡ []) ((kind_keeps (kind_at text) (rows_of text s) text stored s).deep ∙ none);
+    brief = λ stored s ok c text is shallow inside brief. of_text stored s c text is (λ o. is_brief o.session.deep ≡ true) (ap is_brief ((kind_keeps (kind_at text) (rows_of text s) text stored s).deep) ∙ brief);
+    ended = λ stored s ok c text is shallow there over brief. of_text stored s c text is (λ o. o.session.deep ≡ []) ((kind_keeps (kind_at text) (rows_of text s) text stored s).deep ∙ (plain stored s ok).1);
+    unset = λ stored s ok c text is shallow next err. of_text stored s c text is (λ o. o.session.deep ≡ s.deep) ((kind_keeps (kind_at text) (rows_of text s) text stored s).deep);
   }
 
   text_diag : (stored : List ℕ) (s : Session) (text diag : List ℕ) → (reads.class text).reads_diag ≡ false → on_text (reads.class text) text stored (with_diag diag s) ≡ on_text (reads.class text) text stored s
@@ -557,7 +530,7 @@ module _ (reads : Reads) where
     tracked = record {
       settings = λ stored s ok c changes e. sets stored s c changes e (λ o. o.session.settings ≡ settings_by (Tracked changes) (is_ok (reply_end false o.reply)) s.settings) (λ k rows text is. is.settings);
       schema = λ stored s ok c changes e. sets stored s c changes e (λ o. o.session.schema ≡ s.schema) (λ k rows text is. is.schema);
-      locks = λ stored s ok c changes e. sets stored s c changes e (λ o. o.session.locks ≡ s.locks) (λ k rows text is. kind_locks k rows text stored s);
+      locks = λ stored s ok c changes e. sets stored s c changes e (λ o. o.session.locks ≡ s.locks) (λ k rows text is. (kind_keeps k rows text stored s).locks);
       last_id = λ stored s ok c changes e. sets stored s c changes e (λ o. o.session.last_id ≡ s.last_id) (λ k rows text is. is.last_id);
       calm = λ stored s ok c changes e calm. sets stored s c changes e (λ o. o.stored ≡ stored) (λ k rows text is. is.stored_is);
       calm_tx = λ stored s ok c changes e calm. sets stored s c changes e (λ o. o.session.tx ≡ s.tx) (λ k rows text is. is.tx);
@@ -575,7 +548,7 @@ module _ (reads : Reads) where
       params = λ stored stored' s s' ok ok' text fine fine'. params_law text ∙ sym (params_law text);
       run = λ stored s ok text schema there here types nulls values long same. refl;
     };
-    unlock = record { frees = λ stored s ok c text is frees. of_text stored s c text is (λ o. o.session.locks ≡ []) (kind_locks (kind_at text) (rows_of text s) text stored s ∙ (plain stored s ok).0) };
+    unlock = record { frees = λ stored s ok c text is frees. of_text stored s c text is (λ o. o.session.locks ≡ []) ((kind_keeps (kind_at text) (rows_of text s) text stored s).locks ∙ (plain stored s ok).0) };
     replies = record {
       changes = changes_law;
       set_id = λ stored s ok n small. of_set (λ k. IsOkOrErr (by_kind k (rows_of (set_id_text n) s) (set_id_text n) stored s).reply) (reads.class (set_id_text n)) n small (answers false NoId (is_some_of s.tx)) refuses;

@@ -14,7 +14,11 @@ use Rattle.server_rule.specs.Replies.{first_payload}
 use Rattle.server_rule.specs.Texts.{read_id_text}
 use Rattle.private_model.specs.Commands.{Account, Command, Query, SetId, Number, Reply, Step, plain_class, runs}
 use Rattle.private_model.specs.Story.{Due, Happening, LoggedIn, BecameDue, Sent, Ran, Heard, Freed, Left, Statement, Own, Capture, Story}
-use Rattle.private_model.specs.View.{Setup}
+use Rattle.private_model.specs.Headline.{MeetsPrivate}
+use Rattle.private_model.specs.Honest.{IsHonest}
+use Rattle.private_model.specs.Lawful.{IsLawful}
+use Rattle.private_model.specs.View.{Setup, view_after}
+use Rattle.private_model.specs.Worlds.{private_after, real_after}
 use Rattle.small_server.specs.Tally.{NoId, FirstId, LaterId, id_set, is_special, ok, row, tally}
 
 -- INSERT is marked, as are the two texts of the insert id; SHOW WARNINGS reads diagnostics; nothing else is known of a text
@@ -137,3 +141,9 @@ abbrev pub with_another_id_inside : Story
 with_another_id_inside = heard 0 (row true 49) ∷ Ran (link 0) ∷ Sent (link 0) (Statement (session 2) (due_at nowhere 2 false (Query read_id_text))) ∷ came 2 2 (Query read_id_text)
     ∷ heard 0 (ok false NoId true) ∷ Ran (link 0) ∷ Sent (link 0) (Statement (session 2) (due_at nowhere 1 true (Query (codes "BEGIN")))) ∷ came 2 1 (Query (codes "BEGIN"))
     ∷ Freed (link 0) ∷ heard 0 (row false 49) ∷ Ran (link 0) ∷ Sent (link 0) (Capture (session 1)) ∷ heard 0 (ok false FirstId false) ∷ Ran (link 0) ∷ Sent (link 0) (Statement (session 1) (due_at nowhere 1 true insert)) ∷ came 1 1 insert ∷ login 0 ∷ []
+
+-- It may happen, and the promise fails; so it isn't lawful.
+pub record IsBreach (story : Story) : Type 0 where
+  pub honest : IsHonest setup server story
+  pub broken : MeetsPrivate reads (view_after setup story) (real_after setup server story) (private_after setup server story) → ⊥
+  pub unlawful : IsLawful setup story → ⊥
