@@ -5,6 +5,7 @@ use Rattle.std.proofs.Math.Bool.{or_assoc, or-false, and-true}
 use Rattle.std.proofs.lemmas.Bool.{and_right}
 use Rattle.sql_tokens.specs.Words.{word_of, is_word, is_symbol}
 use Rattle.sql_tokens.specs.declared.token.Token.{Token}
+use Rattle.pin_classifier.specs.Functions.{calls_any}
 use Rattle.pin_classifier.specs.Passing.{callee, with_next, seen_behind}
 use Rattle.pin_classifier.specs.Statement.{calls, neighbours}
 use Rattle.pin_classifier.specs.declared.seen.Seen.{Seen}
@@ -55,6 +56,13 @@ seen_pair text field test pair_test start step none first same tokens =
 call_is : (named : Option (List ℕ)) (name : List ℕ) (opens : Bool) → is_word (cond opens named None) name ≡ (is_word named name && opens)
 call_is named name true = sym (and-true (is_word named name))
 call_is named name false = sym (and_right (is_word named name) false refl)
+
+passes_if : (test : Option (List ℕ) → Bool) (named : Option (List ℕ)) (opens : Bool) → test None ≡ false → test (cond opens named None) ≡ (test named && opens)
+passes_if test named true absent = sym (and-true (test named))
+passes_if test named false absent = absent ∙ sym (and_right (test named) false refl)
+
+pub callee_passes : (text : List ℕ) (test : Option (List ℕ) → Bool) → test None ≡ false → (before token : Token) → test (callee text (Some before) token) ≡ calls_any text test (before, token)
+callee_passes text test absent before token = passes_if test (word_of text before) (is_symbol text token 40) absent
 
 pub callee_is : (text name : List ℕ) (before token : Token) → is_word (callee text (Some before) token) name ≡ calls text name (before, token)
 callee_is text name before token = call_is (word_of text before) name (is_symbol text token 40)

@@ -4,4 +4,3 @@ pub mod Firsts
 pub mod Sets
 pub mod Sightings
 pub mod Together
-pub mod Worked

@@ -3,8 +3,15 @@ use Rattle.std.specs.Prelude.{ℕ, Bool, true, false, ◌||◌, is_some, List, c
 use Rattle.pin_classifier.specs.declared.class.Class.{Class}
 use Rattle.pin_classifier.specs.declared.class.ClassName.{ClassName}
 use Rattle.pin_classifier.specs.declared.class.ClassName.TheVariants.{Refused, Deep, Locks, NextTx, Diag, Plain}
+use Rattle.pin_classifier.specs.declared.class.Refusal.{Refusal}
+use Rattle.pin_classifier.specs.declared.class.Refusal.TheVariants.{SetsServer, NamesConnection}
 use Rattle.pin_classifier.specs.declared.class.Locking.{Locking}
 use Rattle.pin_classifier.specs.declared.class.Locking.TheVariants.{Takes}
+
+-- the number of the error
+abbrev pub code_of : Refusal → ℕ
+code_of SetsServer = 9108
+code_of NamesConnection = 9107
 
 abbrev pub takes_locks : Locking → Bool
 takes_locks Takes = true

@@ -1,5 +1,8 @@
 pub mod Classes
+pub mod Diagnostics
+pub mod Functions
 pub mod Kinds
+pub mod Marks
 pub mod Passing
 pub mod Shapes
 pub mod Sides

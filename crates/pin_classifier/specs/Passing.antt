@@ -2,7 +2,10 @@
 use Rattle.std.specs.Prelude.{ℕ, Bool, false, ◌||◌, is_none, List, [], ◌∷◌, slice_get, codes, Option, Some, None, if◌then◌else◌}
 use Rattle.sql_tokens.specs.Words.{word_of, is_word, says, is_symbol}
 use Rattle.sql_tokens.specs.declared.token.Token.{Token}
-use Rattle.pin_classifier.specs.Statement.{has_word, has_call, has_release, has_variable, has_hidden, is_hidden, is_part, releases, variable_of}
+use Rattle.std.specs.List.{list_any}
+use Rattle.pin_classifier.specs.Diagnostics.{is_executed}
+use Rattle.pin_classifier.specs.Functions.{has_call_of, names_session_function, names_thread_function}
+use Rattle.pin_classifier.specs.Statement.{calls_quoted, has_quoted_call, has_word, has_call, has_release, has_variable, has_hidden, is_hidden, is_part, releases, variable_of}
 use Rattle.pin_classifier.specs.declared.calls.Calls.{Calls}
 use Rattle.pin_classifier.specs.declared.opening.Opening.{Opening}
 use Rattle.pin_classifier.specs.declared.seen.Seen.{Seen}
@@ -33,12 +36,17 @@ abbrev pub is_release : (text : List ℕ) → (before : Option Token) → Token 
 is_release text None token = false
 is_release text (Some before) token = releases text (before, token)
 
+-- a `(` behind a quoted text in `"`
+abbrev pub is_quoted_call : (text : List ℕ) → (before : Option Token) → Token → Bool
+is_quoted_call text None token = false
+is_quoted_call text (Some before) token = calls_quoted text (before, token)
+
 -- the functions that are called
 abbrev pub calls_of : (text : List ℕ) → List Token → Calls
-calls_of text tokens = record { get_lock = has_call text tokens (codes "GET_LOCK"); connection_id = has_call text tokens (codes "CONNECTION_ID"); last_insert_id = has_call text tokens (codes "LAST_INSERT_ID"); row_count = has_call text tokens (codes "ROW_COUNT"); found_rows = has_call text tokens (codes "FOUND_ROWS") }
+calls_of text tokens = record { session_function = has_call_of text tokens names_session_function; thread_function = has_call_of text tokens names_thread_function; connection_id = has_call text tokens (codes "CONNECTION_ID"); last_insert_id = has_call text tokens (codes "LAST_INSERT_ID"); row_count = has_call text tokens (codes "ROW_COUNT"); found_rows = has_call text tokens (codes "FOUND_ROWS") }
 
 abbrev pub with_call : Calls → Option (List ℕ) → Calls
-with_call calls name = record { get_lock = calls.get_lock || is_word name (codes "GET_LOCK"); connection_id = calls.connection_id || is_word name (codes "CONNECTION_ID"); last_insert_id = calls.last_insert_id || is_word name (codes "LAST_INSERT_ID"); row_count = calls.row_count || is_word name (codes "ROW_COUNT"); found_rows = calls.found_rows || is_word name (codes "FOUND_ROWS") }
+with_call calls name = record { session_function = calls.session_function || names_session_function name; thread_function = calls.thread_function || names_thread_function name; connection_id = calls.connection_id || is_word name (codes "CONNECTION_ID"); last_insert_id = calls.last_insert_id || is_word name (codes "LAST_INSERT_ID"); row_count = calls.row_count || is_word name (codes "ROW_COUNT"); found_rows = calls.found_rows || is_word name (codes "FOUND_ROWS") }
 
 -- the system variables that are named
 abbrev pub variables_of : (text : List ℕ) → List Token → Variables
@@ -49,11 +57,11 @@ with_variable variables name = record { last_insert_id = variables.last_insert_i
 
 -- what is seen of a statement
 abbrev pub seen_of : (text : List ℕ) → List Token → Seen
-seen_of text tokens = record { opening = opening_of tokens; hidden = has_hidden text tokens; calls = calls_of text tokens; variables = variables_of text tokens; temporary = has_word text tokens (codes "TEMPORARY"); release = has_release text tokens; calc_rows = has_word text tokens (codes "SQL_CALC_FOUND_ROWS") }
+seen_of text tokens = record { opening = opening_of tokens; hidden = has_hidden text tokens; calls = calls_of text tokens; variables = variables_of text tokens; temporary = has_word text tokens (codes "TEMPORARY"); release = has_release text tokens; calc_rows = has_word text tokens (codes "SQL_CALC_FOUND_ROWS"); returning = has_word text tokens (codes "RETURNING"); value = has_word text tokens (codes "VALUE"); executed = list_any is_executed tokens; quoted_call = has_quoted_call text tokens }
 
 -- what is seen once a token more went by, behind the one before it
 abbrev pub with_next : (text : List ℕ) → Seen → (before : Option Token) → Token → Seen
-with_next text seen before token = record { opening = with_token seen.opening token; hidden = seen.hidden || is_hidden text token; calls = with_call seen.calls (callee text before token); variables = with_variable seen.variables (variable_of text token); temporary = seen.temporary || says text token (codes "TEMPORARY"); release = seen.release || is_release text before token; calc_rows = seen.calc_rows || says text token (codes "SQL_CALC_FOUND_ROWS") }
+with_next text seen before token = record { opening = with_token seen.opening token; hidden = seen.hidden || is_hidden text token; calls = with_call seen.calls (callee text before token); variables = with_variable seen.variables (variable_of text token); temporary = seen.temporary || says text token (codes "TEMPORARY"); release = seen.release || is_release text before token; calc_rows = seen.calc_rows || says text token (codes "SQL_CALC_FOUND_ROWS"); returning = seen.returning || says text token (codes "RETURNING"); value = seen.value || says text token (codes "VALUE"); executed = seen.executed || is_executed token; quoted_call = seen.quoted_call || is_quoted_call text before token }
 
 abbrev pub seen_behind : (text : List ℕ) → Seen → (before : Option Token) → List Token → Seen
 seen_behind text seen before [] = seen

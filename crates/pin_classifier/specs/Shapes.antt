@@ -1,5 +1,6 @@
 -- The statements whose whole shape matters: SELECT CONNECTION_ID(), USE, and SET.
-use Rattle.std.specs.Prelude.{ℕ, Bool, true, false, ◌&&◌, nat_eq, is_none, List, [], ◌∷◌, slice_get, codes, Option, Some, None, option_and_then, if◌then◌else◌}
+use Rattle.std.specs.Prelude.{ℕ, Bool, true, false, ◌&&◌, nat_eq, nat_lt, is_none, List, [], ◌∷◌, slice_get, codes, Option, Some, None, option_and_then, if◌then◌else◌}
+use Rattle.std.specs.List.{list_all}
 use Rattle.sql_tokens.specs.Words.{bytes_of, inside, says, is_symbol}
 use Rattle.sql_tokens.specs.declared.token.Token.{Token}
 use Rattle.sql_tokens.specs.declared.token.TokenKind.{TokenKind}
@@ -49,9 +50,10 @@ denoted text token = denoted_by token.kind (bytes_of text token)
 unfoldable pub used_schema : (text : List ℕ) → List Token → Option (List ℕ)
 used_schema text tokens = if is_there text (slice_get tokens 0) (codes "USE") && is_end text (slice_get tokens 2) (slice_get tokens 3) then option_and_then (denoted text) (slice_get tokens 1) else None
 
+-- a name in ASCII alone: what a server makes of other bytes depends on the connection
 abbrev pub use_or_other : Option (List ℕ) → Shape
 use_or_other None = Other
-use_or_other (Some schema) = Use schema
+use_or_other (Some schema) = if list_all (λ b. nat_lt b 128) schema then Use schema else Other
 
 -- the shape of a statement
 unfoldable pub shape_of : (text : List ℕ) → Shape

@@ -38,16 +38,43 @@ abbrev pub begins_unknown : (text : List ℕ) → (first : Option Token) → Boo
 begins_unknown text None = false
 begins_unknown text (Some token) = not (is_known (opening_word text token))
 
--- DROP DATABASE and DROP SCHEMA, which may take the session's schema away
-unfoldable pub drops_schema : (first second : Option (List ℕ)) → Bool
-drops_schema first second = is_word first (codes "DROP") && (is_word second (codes "DATABASE") || is_word second (codes "SCHEMA"))
+unfoldable pub names_tables : (second : Option (List ℕ)) → Bool
+names_tables second = is_word second (codes "TABLE") || is_word second (codes "TABLES")
+
+unfoldable pub names_schema : (word : Option (List ℕ)) → Bool
+names_schema word = is_word word (codes "DATABASE") || is_word word (codes "SCHEMA")
+
+-- DROP, ALTER or CREATE OR REPLACE with DATABASE or SCHEMA, which may change the session's schema or its defaults
+unfoldable pub changes_schema : (first second third fourth : Option (List ℕ)) → Bool
+changes_schema first second third fourth =
+    ((is_word first (codes "DROP") || is_word first (codes "ALTER")) && names_schema second)
+    || (is_word first (codes "CREATE") && is_word second (codes "OR") && is_word third (codes "REPLACE") && names_schema fourth)
+
+-- ANALYZE but for ANALYZE TABLE, with NO_WRITE_TO_BINLOG or LOCAL between them or without
+unfoldable pub analyzes_other : (first second third : Option (List ℕ)) → Bool
+analyzes_other first second third =
+    is_word first (codes "ANALYZE") && not (names_tables second || ((is_word second (codes "NO_WRITE_TO_BINLOG") || is_word second (codes "LOCAL")) && names_tables third))
+
+-- EXPLAIN, DESCRIBE and DESC
+unfoldable pub explains : (first : Option (List ℕ)) → Bool
+explains first = is_word first (codes "EXPLAIN") || is_word first (codes "DESCRIBE") || is_word first (codes "DESC")
+
+-- statements that may give the insert id by LAST_INSERT_ID with an argument and go on sharing
+unfoldable pub gives_rows : (first : Option (List ℕ)) → Bool
+gives_rows first = is_word first (codes "INSERT") || is_word first (codes "REPLACE") || is_word first (codes "UPDATE")
+
+-- those that may end in RETURNING and so show no insert id
+unfoldable pub returns_rows : (first : Option (List ℕ)) → Bool
+returns_rows first = is_word first (codes "INSERT") || is_word first (codes "REPLACE")
+
+-- SET ROLE and SET RESOURCE GROUP, which no reset takes back
+unfoldable pub outlasts_reset : (first second third : Option (List ℕ)) → Bool
+outlasts_reset first second third =
+    is_word first (codes "SET") && (is_word second (codes "ROLE") || (is_word second (codes "RESOURCE") && is_word third (codes "GROUP")))
 
 -- START but for START TRANSACTION
 unfoldable pub starts_other : (first second : Option (List ℕ)) → Bool
 starts_other first second = is_word first (codes "START") && not (is_word second (codes "TRANSACTION"))
-
-unfoldable pub names_tables : (second : Option (List ℕ)) → Bool
-names_tables second = is_word second (codes "TABLE") || is_word second (codes "TABLES")
 
 -- LOCK TABLES, LOCK TABLE
 unfoldable pub locks_tables : (first second : Option (List ℕ)) → Bool

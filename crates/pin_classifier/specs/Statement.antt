@@ -1,11 +1,11 @@
 -- What stands in a statement: its tokens without comments, and among these words, calls of functions and system variables.
-use Rattle.std.specs.Prelude.{ℕ, Bool, true, false, not, ◌||◌, ◌&&◌, nat_eq, List, [], ◌∷◌, drop, codes, Option, Some, None, option_and_then, if◌then◌else◌}
+use Rattle.std.specs.Prelude.{ℕ, ◌-◌, Bool, true, false, not, ◌||◌, ◌&&◌, nat_eq, List, [], ◌∷◌, length, drop, slice_index_or, codes, Option, Some, None, option_and_then, if◌then◌else◌}
 use Rattle.std.specs.List.{list_any, slice_split}
 use Rattle.sql_tokens.specs.Tokens.{tokens_of}
 use Rattle.sql_tokens.specs.Words.{bytes_of, word_of, same_text, says, is_symbol}
 use Rattle.sql_tokens.specs.declared.token.Token.{Token}
 use Rattle.sql_tokens.specs.declared.token.TokenKind.{TokenKind}
-use Rattle.sql_tokens.specs.declared.token.TokenKind.TheVariants.{UserVar, SysVar, Executed, Unclosed}
+use Rattle.sql_tokens.specs.declared.token.TokenKind.TheVariants.{Quoted, UserVar, SysVar, Executed, Unclosed}
 use Rattle.session_vars.specs.Statement.{without_comments}
 
 -- the tokens of a text that count: all but its comments
@@ -39,6 +39,17 @@ calls text name pair = says text pair.0 name && is_symbol text pair.1 40
 abbrev pub has_call : (text : List ℕ) → List Token → (name : List ℕ) → Bool
 has_call text tokens name = list_any (calls text name) (neighbours tokens)
 
+abbrev pub is_double_quoted : TokenKind → List ℕ → Bool
+is_double_quoted Quoted bytes = nat_eq (slice_index_or bytes 0 0) 34
+is_double_quoted _ bytes = false
+
+-- a quoted text in `"` with `(` behind it, which is the name of a function where `"` quotes names
+abbrev pub calls_quoted : (text : List ℕ) → Token × Token → Bool
+calls_quoted text pair = is_double_quoted pair.0.kind (bytes_of text pair.0) && is_symbol text pair.1 40
+
+abbrev pub has_quoted_call : (text : List ℕ) → List Token → Bool
+has_quoted_call text tokens = list_any (calls_quoted text) (neighbours tokens)
+
 -- a word RELEASE that doesn't follow NO, behind a first word
 abbrev pub releases : (text : List ℕ) → Token × Token → Bool
 releases text pair = says text pair.1 (codes "RELEASE") && not (says text pair.0 (codes "NO"))
@@ -66,16 +77,25 @@ is_part (Some name) part = has_part name part
 abbrev pub has_variable : (text : List ℕ) → List Token → (part : List ℕ) → Bool
 has_variable text tokens part = list_any (λ token. is_part (variable_of text token) part) tokens
 
--- what lives in a session, or can't be read as a server does: a user variable, an executed comment, what isn't closed, and
--- a NUL byte
+-- what lives in a session, or can't be read as a server does: a user variable, an executed comment, what isn't closed, a
+-- NUL byte, and half of a system variable
 abbrev pub is_hidden_kind : TokenKind → Bool
 is_hidden_kind UserVar = true
 is_hidden_kind Executed = true
 is_hidden_kind Unclosed = true
 is_hidden_kind _ = false
 
+-- scopes that are no names of variables
+abbrev pub variable_scopes : List (List ℕ)
+variable_scopes = codes "global" ∷ codes "session" ∷ codes "local" ∷ codes "persist" ∷ codes "persist_only" ∷ []
+
+-- a system variable that is a scope alone or ends in a dot, so that its name goes on
+abbrev pub is_half : TokenKind → List ℕ → Bool
+is_half SysVar bytes = list_any (same_text (drop 2 bytes)) variable_scopes || nat_eq (slice_index_or bytes (length bytes - 1) 0) 46
+is_half _ bytes = false
+
 abbrev pub is_hidden : (text : List ℕ) → Token → Bool
-is_hidden text token = is_hidden_kind token.kind || is_symbol text token 0
+is_hidden text token = is_hidden_kind token.kind || is_symbol text token 0 || is_half token.kind (bytes_of text token)
 
 abbrev pub has_hidden : (text : List ℕ) → List Token → Bool
 has_hidden text tokens = list_any (is_hidden text) tokens

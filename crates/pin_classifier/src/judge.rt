@@ -1,28 +1,24 @@
 // The class of a statement.
 ghost use Rattle.std.specs.Prelude.{◌≡◌, IfOk, option_copied};
-ghost use Rattle.pin_classifier.specs.Classes.{class_of, is_connection_id, is_deep, is_global, is_next_transaction, is_other, is_use, locking_of, names_connection, reads_diagnostics, reads_id, refusal_of};
+ghost use Rattle.pin_classifier.specs.Classes.{begins_other, class_of, gives_id, is_connection_id, is_deep, is_deep_inside, is_deep_start, is_global, is_next_transaction, is_other, is_use, locking_of, names_connection, reads_diagnostics, reads_id, refusal_of, sets_id};
 ghost use Rattle.pin_classifier.specs.Passing.{seen_of};
 ghost use Rattle.pin_classifier.specs.Shapes.{set_in, shape_of};
 ghost use Rattle.pin_classifier.specs.Statement.{statement};
 
+use crate::marks::{Mark, has_blank_byte, stands};
 use crate::seen::Seen;
-use crate::shape::shape_of;
+use crate::shape::{is_end, shape_of};
 use crate::starts::{
-    begins_unknown, drops_schema, ends_transaction, is_savepoint, locks_other, locks_tables,
-    makes_id, shows_diagnostics, starts_other, unlocks_tables,
+    analyzes_other, begins_unknown, changes_schema, ends_transaction, explains, gives_rows,
+    is_savepoint, locks_other, locks_tables, makes_id, outlasts_reset, returns_rows,
+    shows_diagnostics, starts_other, unlocks_tables,
 };
 use crate::words::{first_word, next_word};
-use crate::{Class, Locking, Shape};
+use crate::{Class, Locking, Refusal, Shape};
 use mx_base::OutOfMemory;
 use session_vars::SetShape;
 use sql_tokens::is_word;
 use std::alloc::Global;
-
-// The error of a statement that sets something of the whole server.
-const SETS_SERVER: u16 = 9108;
-
-// The error of a statement that names a connection.
-const NAMES_CONNECTION: u16 = 9107;
 
 fn is_global(shape: &Shape) -> bool
     ensures { result ≡ is_global (set_in shape.now) }
@@ -68,25 +64,71 @@ fn locking_of(first: Option<&[u8]>, second: Option<&[u8]>) -> Locking
     }
 }
 
+// Whether a statement calls LAST_INSERT_ID with an argument.
+#[tactic(auto, unfolding(crate::specs::Classes::gives_id))]
+fn gives_id(text: &[u8], seen: &Seen) -> bool
+    requires { seen.now ≡ seen_of text.now (statement text.now) }
+    ensures { result ≡ gives_id text.now }
+{
+    seen.calls.last_insert_id && stands(text, Mark::GivenId)
+}
+
+// Whether something in it lives in a session, or can't be read as a server does.
+#[tactic(auto, unfolding(crate::specs::Classes::is_deep_inside))]
+fn is_deep_inside(text: &[u8], seen: &Seen) -> bool
+    requires { seen.now ≡ seen_of text.now (statement text.now) }
+    ensures { result ≡ is_deep_inside text.now }
+{
+    seen.hidden
+        || seen.calls.session_function
+        || seen.quoted_call
+        || (seen.value && stands(text, Mark::SequenceValue))
+        || (has_blank_byte(text) && stands(text, Mark::BlankInWord))
+        || (gives_id(text, seen) && !gives_rows(first_word(text, seen.opening.first)))
+}
+
+// BEGIN but for BEGIN, BEGIN WORK and a `;`.
+#[tactic(auto, unfolding(crate::specs::Classes::begins_other))]
+fn begins_other(text: &[u8], seen: &Seen) -> bool
+    requires { seen.now ≡ seen_of text.now (statement text.now) }
+    ensures { result ≡ begins_other text.now }
+{
+    is_word(first_word(text, seen.opening.first), b"BEGIN")
+        && !is_word(next_word(text, seen.opening.second), b"WORK")
+        && !is_end(text, seen.opening.second, seen.opening.third)
+}
+
+// Whether a statement that begins so may change its session in a way that isn't tracked.
+#[tactic(auto, unfolding(crate::specs::Classes::is_deep_start, crate::specs::Classes::makes_temporary, crate::specs::Classes::ends_session))]
+fn is_deep_start(text: &[u8], seen: &Seen) -> bool
+    requires { seen.now ≡ seen_of text.now (statement text.now) }
+    ensures { result ≡ is_deep_start text.now }
+{
+    let first = first_word(text, seen.opening.first);
+    let second = next_word(text, seen.opening.second);
+    let third = next_word(text, seen.opening.third);
+    let fourth = next_word(text, seen.opening.fourth);
+    (is_word(first, b"CREATE") && seen.temporary)
+        || changes_schema(first, second, third, fourth)
+        || (ends_transaction(first) && seen.release)
+        || starts_other(first, second)
+        || begins_other(text, seen)
+        || analyzes_other(first, second, third)
+        || locks_other(first, second)
+        || begins_unknown(text, seen.opening.first)
+}
+
 // Whether a statement may change its session in a way that isn't tracked.
-#[tactic(auto, using(crate::proofs::Sets::shape_of_set), unfolding(crate::specs::Classes::is_deep, crate::specs::Classes::makes_temporary, crate::specs::Classes::ends_session, crate::specs::Classes::uses_other))]
+#[tactic(auto, using(crate::proofs::Sets::shape_of_set), unfolding(crate::specs::Classes::is_deep, crate::specs::Classes::uses_other))]
 fn is_deep(text: &[u8], seen: &Seen, shape: &Shape) -> bool
     requires seen { seen.now ≡ seen_of text.now (statement text.now) }
     requires shape { shape.now ≡ shape_of text.now }
     ensures { result ≡ is_deep text.now }
 {
-    let first = first_word(text, seen.opening.first);
-    let second = next_word(text, seen.opening.second);
-    seen.hidden
-        || seen.calls.get_lock
-        || (is_word(first, b"CREATE") && seen.temporary)
-        || drops_schema(first, second)
-        || (ends_transaction(first) && seen.release)
-        || starts_other(first, second)
-        || locks_other(first, second)
+    is_deep_inside(text, seen)
+        || is_deep_start(text, seen)
         || is_other(shape)
-        || (is_word(first, b"USE") && !is_use(shape))
-        || begins_unknown(text, seen.opening.first)
+        || (is_word(first_word(text, seen.opening.first), b"USE") && !is_use(shape))
 }
 
 // Whether a statement reads the insert id.
@@ -96,6 +138,16 @@ fn reads_id(text: &[u8], seen: &Seen) -> bool
     ensures { result ≡ reads_id text.now }
 {
     seen.calls.last_insert_id || seen.variables.last_insert_id || seen.variables.identity
+}
+
+// Whether a statement sets the insert id where its reply doesn't show it.
+#[tactic(auto, unfolding(crate::specs::Classes::sets_id))]
+fn sets_id(text: &[u8], seen: &Seen) -> bool
+    requires { seen.now ≡ seen_of text.now (statement text.now) }
+    ensures { result ≡ sets_id text.now }
+{
+    let first = first_word(text, seen.opening.first);
+    (gives_id(text, seen) && gives_rows(first)) || (returns_rows(first) && seen.returning)
 }
 
 // Whether a statement reads what the statement before it left.
@@ -111,6 +163,7 @@ fn reads_diagnostics(text: &[u8], seen: &Seen) -> bool
         || shows_diagnostics(first, second)
         || seen.variables.warning_count
         || seen.variables.error_count
+        || (seen.executed && stands(text, Mark::Diagnostic))
 }
 
 // Whether a statement names a connection.
@@ -120,22 +173,25 @@ fn names_connection(text: &[u8], seen: &Seen, shape: &Shape) -> bool
     requires shape { shape.now ≡ shape_of text.now }
     ensures { result ≡ names_connection text.now }
 {
-    is_word(first_word(text, seen.opening.first), b"KILL")
+    let first = first_word(text, seen.opening.first);
+    is_word(first, b"KILL")
         || (seen.calls.connection_id && !is_connection_id(shape))
+        || seen.calls.thread_function
         || seen.variables.pseudo_thread_id
+        || (explains(first) && stands(text, Mark::ForConnection))
 }
 
-// The error by which a statement is refused.
+// Why a statement is refused.
 #[tactic(auto, using(crate::proofs::Sets::shape_of_set), unfolding(crate::specs::Classes::refusal_of))]
-fn refusal_of(text: &[u8], seen: &Seen, shape: &Shape) -> Option<u16>
+fn refusal_of(text: &[u8], seen: &Seen, shape: &Shape) -> Option<Refusal>
     requires seen { seen.now ≡ seen_of text.now (statement text.now) }
     requires shape { shape.now ≡ shape_of text.now }
     ensures { result ≡ refusal_of text.now }
 {
     if is_global(shape) {
-        Some(SETS_SERVER)
+        Some(Refusal::SetsServer)
     } else if names_connection(text, seen, shape) {
-        Some(NAMES_CONNECTION)
+        Some(Refusal::NamesConnection)
     } else {
         None
     }
@@ -150,6 +206,7 @@ fn class_by(text: &[u8], seen: &Seen, shape: Shape) -> Class
 {
     let first = first_word(text, seen.opening.first);
     let second = next_word(text, seen.opening.second);
+    let third = next_word(text, seen.opening.third);
     let deep = is_deep(text, seen, &shape);
     let reads_id = reads_id(text, seen);
     Class {
@@ -157,7 +214,9 @@ fn class_by(text: &[u8], seen: &Seen, shape: Shape) -> Class
         locks: locking_of(first, second),
         next_tx: is_next_transaction(&shape),
         savepoint: is_savepoint(first),
+        outlasts_reset: outlasts_reset(first, second, third),
         marks_id: reads_id | deep | makes_id(first),
+        sets_id: sets_id(text, seen),
         reads_id,
         reads_diag: reads_diagnostics(text, seen),
         calc_rows: seen.calc_rows,
@@ -168,8 +227,8 @@ fn class_by(text: &[u8], seen: &Seen, shape: Shape) -> Class
 
 /// The class of a statement, whatever bytes it has. It is read by its tokens without comments; words are read in any ASCII
 /// case, and a name in backticks counts as the word inside (MySQL Reference Manual, "Language Structure"). One pass over the
-/// text, and a second one over a SET statement. Takes no memory but for the values of a SET statement and the name behind
-/// USE.
+/// text, a second one over a SET statement, and more where it has words that matter by those beside them. Takes no memory
+/// but for the values of a SET statement and the name behind USE.
 pub fn classify(alloc: Global, text: &[u8]) -> Result<Class, OutOfMemory>
     ensures { IfOk result (λ class. class ≡ class_of text.now) }
 {

@@ -3,15 +3,18 @@
 
 mod calls;
 mod class;
+mod diagnostics;
 mod judge;
 mod laws;
+mod marks;
 mod opening;
+mod recent;
 mod seen;
 mod shape;
 mod starts;
 mod variables;
 mod words;
 
-pub use class::{Class, ClassName, Locking, Shape};
+pub use class::{Class, ClassName, Locking, Refusal, Shape};
 pub use judge::classify;
 pub use laws::{call_stands, release_stands, shape_of_set};

@@ -4,16 +4,17 @@ ghost use Rattle.pin_classifier.specs.Passing.{seen_of, with_next};
 ghost use Rattle.pin_classifier.specs.Statement.{statement};
 
 use crate::calls::Calls;
+use crate::diagnostics::is_executed;
 use crate::opening::Opening;
 use crate::variables::Variables;
-use crate::words::{callee, is_hidden, is_release, variable_of};
+use crate::words::{callee, is_hidden, is_quoted_call, is_release, variable_of};
 use sql_tokens::{Token, TokenKind, Tokens, says};
 
 // The first tokens of a statement, and what stands anywhere in it.
 #[derive(Clone, Copy)]
 pub(crate) struct Seen {
     pub opening: Opening,
-    // A user variable, an executed comment, what isn't closed, or a NUL byte.
+    // A user variable, an executed comment, what isn't closed, a NUL byte, or half of a system variable.
     pub hidden: bool,
     pub calls: Calls,
     pub variables: Variables,
@@ -21,6 +22,11 @@ pub(crate) struct Seen {
     pub temporary: bool,
     pub release: bool,
     pub calc_rows: bool,
+    // The words RETURNING and VALUE, an executed comment, and `(` behind a quoted text in `"`.
+    pub returning: bool,
+    pub value: bool,
+    pub executed: bool,
+    pub quoted_call: bool,
 }
 
 impl Seen {
@@ -35,6 +41,10 @@ impl Seen {
             temporary: false,
             release: false,
             calc_rows: false,
+            returning: false,
+            value: false,
+            executed: false,
+            quoted_call: false,
         }
     }
 
@@ -49,6 +59,10 @@ impl Seen {
         self.temporary |= says(text, &token, b"TEMPORARY");
         self.release |= is_release(text, before, &token);
         self.calc_rows |= says(text, &token, b"SQL_CALC_FOUND_ROWS");
+        self.returning |= says(text, &token, b"RETURNING");
+        self.value |= says(text, &token, b"VALUE");
+        self.executed |= is_executed(&token);
+        self.quoted_call |= is_quoted_call(text, before, &token);
     }
 
     // What is seen of a statement. Takes no memory.

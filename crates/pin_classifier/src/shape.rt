@@ -1,5 +1,6 @@
 // The shape of a statement.
-ghost use Rattle.std.specs.Prelude.{◌≡◌, Some, None, IfOk, option_map, option_copied};
+ghost use Rattle.std.specs.Prelude.{◌≡◌, nat_lt, IfOk};
+ghost use Rattle.std.specs.List.{list_all};
 ghost use Rattle.pin_classifier.specs.Passing.{opening_of};
 ghost use Rattle.pin_classifier.specs.Shapes.{asks_connection_id, is_end, undoubled, denoted, used_schema, use_or_other, shape_of};
 ghost use Rattle.pin_classifier.specs.Statement.{statement};
@@ -14,7 +15,7 @@ use sql_tokens::{Token, TokenKind, bytes_of, is_symbol, word_of};
 use std::alloc::Global;
 
 // Whether nothing is left, or one `;` and nothing.
-fn is_end(text: &[u8], token: Option<Token>, more: Option<Token>) -> bool
+pub(crate) fn is_end(text: &[u8], token: Option<Token>, more: Option<Token>) -> bool
     ensures { result ≡ is_end text.now token more }
 {
     match token {
@@ -82,6 +83,22 @@ fn used_schema(alloc: Global, text: &[u8], opening: &Opening) -> Result<Option<B
     }
 }
 
+fn is_ascii(bytes: &[u8]) -> bool
+    ensures { result ≡ list_all (λ b. nat_lt b 128) bytes.now }
+{
+    bytes.iter().all(|byte| *byte < 0x80)
+}
+
+// What a server makes of a name with other bytes than ASCII depends on the connection.
+fn use_or_other(schema: Option<Bytes>) -> Shape
+    ensures { result ≡ use_or_other schema }
+{
+    match schema {
+        Some(schema) if is_ascii(schema.as_slice()) => Shape::Use(schema),
+        _ => Shape::Other,
+    }
+}
+
 // What a statement is as a whole, where that matters.
 #[tactic(auto, unfolding(crate::specs::Shapes::shape_of))]
 pub(crate) fn shape_of(alloc: Global, text: &[u8], opening: &Opening) -> Result<Shape, OutOfMemory>
@@ -94,8 +111,5 @@ pub(crate) fn shape_of(alloc: Global, text: &[u8], opening: &Opening) -> Result<
     if asks_connection_id(text, opening) {
         return Ok(Shape::ConnectionId);
     }
-    match used_schema(alloc, text, opening)? {
-        Some(schema) => Ok(Shape::Use(schema)),
-        None => Ok(Shape::Other),
-    }
+    Ok(use_or_other(used_schema(alloc, text, opening)?))
 }

@@ -1,6 +1,6 @@
 // How statements begin.
 ghost use Rattle.std.specs.Prelude.{◌≡◌, option_copied};
-ghost use Rattle.pin_classifier.specs.Starts.{is_known, begins_unknown, drops_schema, starts_other, names_tables, locks_tables, unlocks_tables, locks_other, ends_transaction, is_savepoint, makes_id, shows_diagnostics};
+ghost use Rattle.pin_classifier.specs.Starts.{is_known, begins_unknown, analyzes_other, changes_schema, explains, gives_rows, names_schema, outlasts_reset, returns_rows, starts_other, names_tables, locks_tables, unlocks_tables, locks_other, ends_transaction, is_savepoint, makes_id, shows_diagnostics};
 
 use crate::words::opening_word;
 use sql_tokens::{Token, is_one_of, is_word};
@@ -69,12 +69,80 @@ pub(crate) fn begins_unknown(text: &[u8], first: Option<Token>) -> bool
     }
 }
 
-// DROP DATABASE, DROP SCHEMA.
-#[tactic(auto, unfolding(crate::specs::Starts::drops_schema))]
-pub(crate) fn drops_schema(first: Option<&[u8]>, second: Option<&[u8]>) -> bool
-    ensures { result ≡ drops_schema (option_copied first.entry) (option_copied second.entry) }
+#[tactic(auto, unfolding(crate::specs::Starts::names_schema))]
+fn names_schema(word: Option<&[u8]>) -> bool
+    ensures { result ≡ names_schema (option_copied word.entry) }
 {
-    is_word(first, b"DROP") && (is_word(second, b"DATABASE") || is_word(second, b"SCHEMA"))
+    is_word(word, b"DATABASE") || is_word(word, b"SCHEMA")
+}
+
+// DROP, ALTER or CREATE OR REPLACE with DATABASE or SCHEMA.
+#[tactic(auto, unfolding(crate::specs::Starts::changes_schema))]
+pub(crate) fn changes_schema(
+    first: Option<&[u8]>,
+    second: Option<&[u8]>,
+    third: Option<&[u8]>,
+    fourth: Option<&[u8]>,
+) -> bool
+    ensures { result ≡ changes_schema (option_copied first.entry) (option_copied second.entry) (option_copied third.entry) (option_copied fourth.entry) }
+{
+    ((is_word(first, b"DROP") || is_word(first, b"ALTER")) && names_schema(second))
+        || (is_word(first, b"CREATE")
+            && is_word(second, b"OR")
+            && is_word(third, b"REPLACE")
+            && names_schema(fourth))
+}
+
+// ANALYZE but for ANALYZE TABLE, with NO_WRITE_TO_BINLOG or LOCAL between them or without.
+#[tactic(auto, unfolding(crate::specs::Starts::analyzes_other))]
+pub(crate) fn analyzes_other(
+    first: Option<&[u8]>,
+    second: Option<&[u8]>,
+    third: Option<&[u8]>,
+) -> bool
+    ensures { result ≡ analyzes_other (option_copied first.entry) (option_copied second.entry) (option_copied third.entry) }
+{
+    is_word(first, b"ANALYZE")
+        && !(names_tables(second)
+            || ((is_word(second, b"NO_WRITE_TO_BINLOG") || is_word(second, b"LOCAL"))
+                && names_tables(third)))
+}
+
+// EXPLAIN, DESCRIBE, DESC.
+#[tactic(auto, unfolding(crate::specs::Starts::explains))]
+pub(crate) fn explains(first: Option<&[u8]>) -> bool
+    ensures { result ≡ explains (option_copied first.entry) }
+{
+    is_word(first, b"EXPLAIN") || is_word(first, b"DESCRIBE") || is_word(first, b"DESC")
+}
+
+// Statements that may give the insert id by LAST_INSERT_ID with an argument and go on sharing.
+#[tactic(auto, unfolding(crate::specs::Starts::gives_rows))]
+pub(crate) fn gives_rows(first: Option<&[u8]>) -> bool
+    ensures { result ≡ gives_rows (option_copied first.entry) }
+{
+    is_word(first, b"INSERT") || is_word(first, b"REPLACE") || is_word(first, b"UPDATE")
+}
+
+// Those that may end in RETURNING and so show no insert id.
+#[tactic(auto, unfolding(crate::specs::Starts::returns_rows))]
+pub(crate) fn returns_rows(first: Option<&[u8]>) -> bool
+    ensures { result ≡ returns_rows (option_copied first.entry) }
+{
+    is_word(first, b"INSERT") || is_word(first, b"REPLACE")
+}
+
+// SET ROLE and SET RESOURCE GROUP, which no reset takes back.
+#[tactic(auto, unfolding(crate::specs::Starts::outlasts_reset))]
+pub(crate) fn outlasts_reset(
+    first: Option<&[u8]>,
+    second: Option<&[u8]>,
+    third: Option<&[u8]>,
+) -> bool
+    ensures { result ≡ outlasts_reset (option_copied first.entry) (option_copied second.entry) (option_copied third.entry) }
+{
+    is_word(first, b"SET")
+        && (is_word(second, b"ROLE") || (is_word(second, b"RESOURCE") && is_word(third, b"GROUP")))
 }
 
 // START but for START TRANSACTION.

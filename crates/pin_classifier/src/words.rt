@@ -1,12 +1,14 @@
 // What the tokens of a statement say.
-ghost use Rattle.std.specs.Prelude.{◌≡◌, drop, nat_eq, slice_range, option_copied};
+ghost use Rattle.std.specs.Prelude.{◌≡◌, ◌-◌, nat_eq, length, slice_index_or, option_copied};
 ghost use Rattle.std.specs.List.{list_any, slice_split};
 ghost use Rattle.sql_tokens.specs.Words.{is_word, same_text};
-ghost use Rattle.pin_classifier.specs.Passing.{callee, is_release};
+ghost use Rattle.pin_classifier.specs.Passing.{callee, is_quoted_call, is_release};
 ghost use Rattle.pin_classifier.specs.Shapes.{is_there, is_byte};
-ghost use Rattle.pin_classifier.specs.Statement.{first_word, next_word, opening_word, has_part, is_part, is_hidden, is_hidden_kind, releases, variable_of};
+ghost use Rattle.pin_classifier.specs.Statement.{first_word, next_word, opening_word, has_part, is_part, is_double_quoted, is_half, is_hidden, is_hidden_kind, releases, variable_of};
 
-use sql_tokens::{Token, TokenKind, behind, bytes_of, is_symbol, same_text, says, word_of};
+use sql_tokens::{
+    Token, TokenKind, behind, bytes_of, is_one_of, is_symbol, same_text, says, word_of,
+};
 
 // Whether a token that is there says this word.
 pub(crate) fn is_there(text: &[u8], token: Option<Token>, word: &[u8]) -> bool
@@ -65,6 +67,27 @@ pub(crate) fn callee<'a>(text: &'a [u8], before: Option<Token>, token: &Token) -
     }
 }
 
+fn is_double_quoted(kind: TokenKind, bytes: &[u8]) -> bool
+    ensures { result ≡ is_double_quoted kind bytes.now }
+{
+    match kind {
+        TokenKind::Quoted => !bytes.is_empty() && bytes[0] == b'"',
+        _ => false,
+    }
+}
+
+// Whether this token is a `(` behind a quoted text in `"`, which is the name of a function where `"` quotes names.
+pub(crate) fn is_quoted_call(text: &[u8], before: Option<Token>, token: &Token) -> bool
+    ensures { result ≡ is_quoted_call text.now before token.now }
+{
+    match before {
+        Some(before) => {
+            is_double_quoted(before.kind, bytes_of(text, &before)) && is_symbol(text, token, b'(')
+        }
+        None => false,
+    }
+}
+
 // Whether this token is the word RELEASE behind a token that isn't NO.
 pub(crate) fn is_release(text: &[u8], before: Option<Token>, token: &Token) -> bool
     ensures { result ≡ is_release text.now before token.now }
@@ -85,11 +108,32 @@ fn is_hidden_kind(kind: TokenKind) -> bool
     }
 }
 
+// Scopes that are no names of variables.
+static VARIABLE_SCOPES: [&[u8]; 5] = [b"global", b"session", b"local", b"persist", b"persist_only"];
+
+// A system variable that is a scope alone or ends in a dot, so that its name goes on.
+fn is_half(kind: TokenKind, bytes: &[u8]) -> bool
+    ensures { result ≡ is_half kind bytes.now }
+{
+    match kind {
+        TokenKind::SysVar => { is_one_of(behind(bytes, 2), &VARIABLE_SCOPES) || ends_in_dot(bytes) }
+        _ => false,
+    }
+}
+
+fn ends_in_dot(bytes: &[u8]) -> bool
+    ensures { result ≡ nat_eq (slice_index_or bytes.now (length bytes.now - 1) 0) 46 }
+{
+    !bytes.is_empty() && bytes[bytes.len() - 1] == b'.'
+}
+
 // Whether this token lives in a session, or can't be read as a server does.
 pub(crate) fn is_hidden(text: &[u8], token: &Token) -> bool
     ensures { result ≡ is_hidden text.now token.now }
 {
-    is_hidden_kind(token.kind) || is_symbol(text, token, b'\0')
+    is_hidden_kind(token.kind)
+        || is_symbol(text, token, b'\0')
+        || is_half(token.kind, bytes_of(text, token))
 }
 
 // The name of a system variable, behind its `@@`.

@@ -3,6 +3,7 @@ ghost use Rattle.std.specs.Prelude.{◌≡◌, ◌<◌, [], false, length, slice
 ghost use Rattle.std.specs.Option.{option_map};
 
 use indexmap::IndexMap;
+use indexmap::map::Iter;
 use mx_base::{Bytes, Hostgroup, OutOfMemory};
 use std::alloc::Global;
 use std::marker::Model;
@@ -85,9 +86,16 @@ impl DigestTable {
         Some((key, *count))
     }
 
+    /// The keys and their counts, in the order of first sight. Takes no memory.
+    pub fn iter(&self) -> Iter<'_, DigestKey, u64>
+        ensures { result ≡ self.now }
+    {
+        self.counts.iter()
+    }
+
     /// Counts one statement of this key. A count stays at the last value of a `u64`. OutOfMemory changes nothing, and
     /// comes only with a new key for which there is room.
-    pub fn count(&mut self, key: DigestKey) -> Result<Counted, OutOfMemory>
+    pub fn record(&mut self, key: DigestKey) -> Result<Counted, OutOfMemory>
         ensures ok { IfOk result (λ answer. (answer, self.new) ≡ counted self.old key) }
         ensures err { OnErr result (self.new ≡ self.old) }
         ensures only_new { OnErr result ((has_key self.old key ≡ false) × (length self.old < 10000)) }

@@ -18,7 +18,7 @@ use Rattle.session_vars.specs.Values.{kept, is_plain_byte, is_default, plain_val
 use Rattle.session_vars.specs.declared.change.SlotValue.{SlotValue}
 use Rattle.session_vars.specs.declared.change.SlotValue.TheVariants.{Default, Text}
 use Rattle.session_vars.specs.declared.slot.Slot.{Slot}
-use Rattle.session_vars.specs.declared.slot.Slot.TheVariants.{Names, CharacterSetResults, SqlMode}
+use Rattle.session_vars.specs.declared.slot.Slot.TheVariants.{Names, CharacterSetResults, SqlMode, SqlAutoIsNull}
 use Rattle.session_vars.proofs.OneToken.{word_front, number_front, alone, some_if, kept_is, quoted_value}
 use Rattle.session_vars.proofs.Rules.{IsWordText, IsNumberText, in_quotes, word_piece, number_piece, quoted_piece}
 
@@ -91,6 +91,7 @@ inside_quotes bytes =
 abbrev may_be_inside : Slot → List ℕ → Bool
 may_be_inside CharacterSetResults text = is_character_set text
 may_be_inside SqlMode text = not (has_reading_mode text)
+may_be_inside SqlAutoIsNull text = false
 may_be_inside _ text = true
 
 abbrev quoted_by : Slot → List ℕ → Option SlotValue
@@ -100,6 +101,7 @@ quoted_is : (slot : Slot) (bytes : List ℕ) → value_of slot Quoted bytes ≡ 
 unfolding value_of plain_value
 quoted_is CharacterSetResults bytes = refl
 quoted_is SqlMode bytes = refl
+quoted_is SqlAutoIsNull bytes = refl
 quoted_is _ bytes = refl
 
 quoted_assignable : (slot : Slot) (bytes : List ℕ) (value : SlotValue) → value_of slot Quoted bytes ≡ Some value → IsAssignable slot value

@@ -325,7 +325,7 @@ at_place _ = refl
 one_slot : (a b : Slot) → place_of a ≡ place_of b → a ≡ b
 one_slot a b same = let both : Some a ≡ Some b = sym (at_place a) ∙ ap (slice_get all_slots) same ∙ at_place b in cc
 
-within : (slot : Slot) → place_of slot < 20
+within : (slot : Slot) → place_of slot < 21
 within Names = omega arith
 within _ = omega arith
 

@@ -25,10 +25,10 @@ unchanged_is from to slot h = same_value_is _ _ (not-false _ h)
 
 -- these slots stand at the places from one on to the last
 pub IsRun : (place : ℕ) → List Slot → Type 0
-IsRun place [] = place ≡ 20
+IsRun place [] = place ≡ 21
 IsRun place (slot ∷ slots) = (place_of slot ≡ place) × IsRun (suc place) slots
 
-run_within : (place : ℕ) (slots : List Slot) → IsRun place slots → place ≤ 20
+run_within : (place : ℕ) (slots : List Slot) → IsRun place slots → place ≤ 21
 unfolding IsRun
 run_within place [] run = omega (arith, run)
 run_within place (slot ∷ slots) run = omega (arith, run_within (suc place) slots run.1)
@@ -55,14 +55,14 @@ keep_next from to place in_from in_to same =
     ap (λ (rest : List SlotValue). take place to ++ rest) (drop_more from place Default in_from ∙ ap (λ n. get_or from place Default ∷ drop n from) (add-one place) ∙ ap (λ (value : SlotValue). value ∷ drop (suc place) from) same)
     ∙ wanted_next from to place in_to
 
-pub lead : (from to : List SlotValue) (place : ℕ) (slots : List Slot) → IsRun place slots → length from ≡ 20 → length to ≡ 20 → applied (partly from to place) (changes_of from to slots) ≡ to
+pub lead : (from to : List SlotValue) (place : ℕ) (slots : List Slot) → IsRun place slots → length from ≡ 21 → length to ≡ 21 → applied (partly from to place) (changes_of from to slots) ≡ to
 unfolding IsRun
 lead from to place [] run in_from in_to =
     ap (λ (front : List SlotValue). front ++ drop place from) (take_all place to (omega (arith, run)))
     ∙ ap (λ (rest : List SlotValue). to ++ rest) (drop_all place from (omega (arith, run)))
     ∙ append-nil to
 lead from to place (slot ∷ slots) run in_from in_to =
-    let within : suc place ≤ 20 = run_within (suc place) slots run.1 in
+    let within : suc place ≤ 21 = run_within (suc place) slots run.1 in
     let rest = lead from to (suc place) slots run.1 in_from in_to in
     elim (cases_Bool (has_to_change from to slot)) [
       | inl e ↦
@@ -79,7 +79,7 @@ lead from to place (slot ∷ slots) run in_from in_to =
 
 all_run : IsRun 0 all_slots
 unfolding IsRun
-all_run = (refl, (refl, (refl, (refl, (refl, (refl, (refl, (refl, (refl, (refl, (refl, (refl, (refl, (refl, (refl, (refl, (refl, (refl, (refl, (refl, refl))))))))))))))))))))
+all_run = (refl, (refl, (refl, (refl, (refl, (refl, (refl, (refl, (refl, (refl, (refl, (refl, (refl, (refl, (refl, (refl, (refl, (refl, (refl, (refl, (refl, refl)))))))))))))))))))))
 
 -- the slots behind `names` and character_set_results
 abbrev pub others : List Slot

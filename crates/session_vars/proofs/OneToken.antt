@@ -6,7 +6,7 @@ use Rattle.std.proofs.lemmas.Bool.{cond-true, cond-false, cases_Bool, both_ways,
 use Rattle.std.proofs.lemmas.List.{append-nil, length-take-le}
 use Rattle.std.proofs.Math.Seq.{take-length}
 use Rattle.sql_tokens.specs.Bytes.{has_byte, is_word_byte}
-use Rattle.sql_tokens.specs.Comments.{begins_line_comment, line_length, begins_block, block_length}
+use Rattle.sql_tokens.specs.Comments.{begins_line_comment, line_length, begins_block, block_length, executes}
 use Rattle.sql_tokens.specs.Numbers.{number_length}
 use Rattle.sql_tokens.specs.Numerals.{IsNumeral}
 use Rattle.sql_tokens.specs.Quotes.{begins_quoted, begins_name, quoted_length}
@@ -57,7 +57,7 @@ block_refused false = refl
 plain_rule : (bytes : List ℕ) (found : TokenKind × ℕ) → is_word_or_number found.0 ≡ true → token_at bytes ≡ found → plain_token_at bytes ≡ found
 unfolding token_at
 plain_rule bytes found kind is =
-    let block = closed (cond (has_byte bytes 2 33) Executed Comment) (block_length bytes) bytes in
+    let block = closed (cond (executes bytes) Executed Comment) (block_length bytes) bytes in
     let quoted = closed Quoted (quoted_length bytes) bytes in
     let name = closed Name (quoted_length bytes) bytes in
     elim (cases_Bool (begins_line_comment bytes)) [
@@ -65,7 +65,7 @@ plain_rule bytes found kind is =
       | inr no_comment ↦
           let after_comment = sym (cond-false (begins_line_comment bytes) _ _ no_comment) ∙ is in
           elim (cases_Bool (begins_block bytes)) [
-            | inl e ↦ absurd (no_kind is_word_or_number block found (sym (cond-true (begins_block bytes) _ _ e) ∙ after_comment) (closed_refused _ (block_length bytes) bytes (block_refused (has_byte bytes 2 33))) kind)
+            | inl e ↦ absurd (no_kind is_word_or_number block found (sym (cond-true (begins_block bytes) _ _ e) ∙ after_comment) (closed_refused _ (block_length bytes) bytes (block_refused (executes bytes))) kind)
             | inr no_block ↦
                 let after_block = sym (cond-false (begins_block bytes) _ _ no_block) ∙ after_comment in
                 elim (cases_Bool (begins_quoted bytes)) [

@@ -53,7 +53,7 @@ other_slots = drop 2 all_slots
 
 others_without : IsWithoutResults other_slots
 unfolding IsWithoutResults
-others_without = ((λ _. refl), ((λ _. refl), ((λ _. refl), ((λ _. refl), ((λ _. refl), ((λ _. refl), ((λ _. refl), ((λ _. refl), ((λ _. refl), ((λ _. refl), ((λ _. refl), ((λ _. refl), ((λ _. refl), ((λ _. refl), ((λ _. refl), ((λ _. refl), ((λ _. refl), ((λ _. refl), tt))))))))))))))))))
+others_without = ((λ _. refl), ((λ _. refl), ((λ _. refl), ((λ _. refl), ((λ _. refl), ((λ _. refl), ((λ _. refl), ((λ _. refl), ((λ _. refl), ((λ _. refl), ((λ _. refl), ((λ _. refl), ((λ _. refl), ((λ _. refl), ((λ _. refl), ((λ _. refl), ((λ _. refl), ((λ _. refl), ((λ _. refl), tt)))))))))))))))))))
 
 none_as_left : (from to : List SlotValue) → names_differ from to ≡ false → list_any is_results_default (difference_of from to) ≡ false
 unfolding names_differ results_differ

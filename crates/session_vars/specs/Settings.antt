@@ -1,4 +1,4 @@
--- The settings of a session: one value for each of the twenty, in their order.
+-- The settings of a session: one value for each of the twenty-one, in their order.
 use Rattle.std.specs.Prelude.{◌≡◌, ℕ, Bool, true, false, not, ◌&&◌, ◌||◌, nat_eq, bytes_eq, List, [], ◌∷◌, length, slice_index_or, slice_set, replicate, codes, if◌then◌else◌}
 use Rattle.session_vars.specs.Slots.{place_of, all_slots}
 use Rattle.session_vars.specs.declared.change.Change.{Change}
@@ -7,9 +7,9 @@ use Rattle.session_vars.specs.declared.change.SlotValue.TheVariants.{Default, Te
 use Rattle.session_vars.specs.declared.slot.Slot.{Slot}
 use Rattle.session_vars.specs.declared.slot.Slot.TheVariants.{Names, CharacterSetResults}
 
--- twenty values
+-- twenty-one values
 abbrev pub AreSettings : List SlotValue → Type 0
-AreSettings values = length values ≡ 20
+AreSettings values = length values ≡ 21
 
 -- the value of one of them
 abbrev pub value_at : List SlotValue → Slot → SlotValue
@@ -26,7 +26,7 @@ applied values (change ∷ changes) = applied (changed values change) changes
 
 -- the settings of a session that set nothing
 abbrev pub defaults : List SlotValue
-defaults = replicate 20 Default
+defaults = replicate 21 Default
 
 -- what the collation that a client names as it logs in gives the setting `names`
 unfoldable pub collation_names : ℕ → List ℕ

@@ -2,7 +2,7 @@
 use Rattle.std.specs.Prelude.{ℕ, List, [], ◌∷◌, Option, Some, None, find, codes}
 use Rattle.sql_tokens.specs.Words.{same_text}
 use Rattle.session_vars.specs.declared.slot.Slot.{Slot}
-use Rattle.session_vars.specs.declared.slot.Slot.TheVariants.{Names, CharacterSetResults, Autocommit, SqlMode, TimeZone, TransactionIsolation, TransactionReadOnly, SqlSafeUpdates, ForeignKeyChecks, UniqueChecks, SqlSelectLimit, GroupConcatMaxLen, LcTimeNames, LcMessages, WaitTimeout, NetReadTimeout, NetWriteTimeout, InnodbLockWaitTimeout, LockWaitTimeout, MaxExecutionTime}
+use Rattle.session_vars.specs.declared.slot.Slot.TheVariants.{Names, CharacterSetResults, Autocommit, SqlMode, TimeZone, TransactionIsolation, TransactionReadOnly, SqlSafeUpdates, ForeignKeyChecks, UniqueChecks, SqlSelectLimit, GroupConcatMaxLen, LcTimeNames, LcMessages, WaitTimeout, NetReadTimeout, NetWriteTimeout, InnodbLockWaitTimeout, LockWaitTimeout, MaxExecutionTime, SqlAutoIsNull}
 
 -- the name of the system variable; `names` stands for the three that SET NAMES sets
 abbrev pub name_of : Slot → List ℕ
@@ -26,8 +26,9 @@ name_of NetWriteTimeout = codes "net_write_timeout"
 name_of InnodbLockWaitTimeout = codes "innodb_lock_wait_timeout"
 name_of LockWaitTimeout = codes "lock_wait_timeout"
 name_of MaxExecutionTime = codes "max_execution_time"
+name_of SqlAutoIsNull = codes "sql_auto_is_null"
 
--- the place of a setting among the twenty
+-- the place of a setting among them
 abbrev pub place_of : Slot → ℕ
 place_of Names = 0
 place_of CharacterSetResults = 1
@@ -49,12 +50,13 @@ place_of NetWriteTimeout = 16
 place_of InnodbLockWaitTimeout = 17
 place_of LockWaitTimeout = 18
 place_of MaxExecutionTime = 19
+place_of SqlAutoIsNull = 20
 
 -- all but `names`, which no assignment sets
 abbrev pub assigned_slots : List Slot
-assigned_slots = CharacterSetResults ∷ Autocommit ∷ SqlMode ∷ TimeZone ∷ TransactionIsolation ∷ TransactionReadOnly ∷ SqlSafeUpdates ∷ ForeignKeyChecks ∷ UniqueChecks ∷ SqlSelectLimit ∷ GroupConcatMaxLen ∷ LcTimeNames ∷ LcMessages ∷ WaitTimeout ∷ NetReadTimeout ∷ NetWriteTimeout ∷ InnodbLockWaitTimeout ∷ LockWaitTimeout ∷ MaxExecutionTime ∷ []
+assigned_slots = CharacterSetResults ∷ Autocommit ∷ SqlMode ∷ TimeZone ∷ TransactionIsolation ∷ TransactionReadOnly ∷ SqlSafeUpdates ∷ ForeignKeyChecks ∷ UniqueChecks ∷ SqlSelectLimit ∷ GroupConcatMaxLen ∷ LcTimeNames ∷ LcMessages ∷ WaitTimeout ∷ NetReadTimeout ∷ NetWriteTimeout ∷ InnodbLockWaitTimeout ∷ LockWaitTimeout ∷ MaxExecutionTime ∷ SqlAutoIsNull ∷ []
 
--- all twenty
+-- all twenty-one
 abbrev pub all_slots : List Slot
 all_slots = Names ∷ assigned_slots
 

@@ -1,11 +1,11 @@
 -- The values that an assignment may give a setting, and what is kept of them.
-use Rattle.std.specs.Prelude.{ℕ, ◌-◌, Bool, true, false, not, ◌&&◌, ◌||◌, nat_eq, nat_le, List, [], ◌∷◌, ◌++◌, length, take, drop, codes, Option, Some, None, if◌then◌else◌}
+use Rattle.std.specs.Prelude.{ℕ, ◌-◌, Bool, true, false, not, ◌&&◌, ◌||◌, nat_eq, nat_le, bytes_eq, List, [], ◌∷◌, ◌++◌, length, take, drop, slice_index_or, codes, Option, Some, None, if◌then◌else◌}
 use Rattle.std.specs.List.{list_all, list_any, slice_split, prefix_len, suffix_len}
 use Rattle.sql_tokens.specs.Words.{inside, same_text}
 use Rattle.sql_tokens.specs.declared.token.TokenKind.{TokenKind}
 use Rattle.sql_tokens.specs.declared.token.TokenKind.TheVariants.{Word, Quoted, Number}
 use Rattle.session_vars.specs.declared.slot.Slot.{Slot}
-use Rattle.session_vars.specs.declared.slot.Slot.TheVariants.{CharacterSetResults, SqlMode}
+use Rattle.session_vars.specs.declared.slot.Slot.TheVariants.{CharacterSetResults, SqlMode, SqlSelectLimit, SqlAutoIsNull}
 use Rattle.session_vars.specs.declared.change.SlotValue.{SlotValue}
 use Rattle.session_vars.specs.declared.change.SlotValue.TheVariants.{Default, Text}
 
@@ -67,9 +67,22 @@ may_be_modes Word bytes = is_default bytes
 may_be_modes Quoted bytes = not (has_reading_mode (inside bytes))
 may_be_modes _ bytes = false
 
+-- sql_select_limit takes no number of 0 or below: one that begins with `0` or `.` isn't looked at further
+abbrev pub may_be_limit : TokenKind → List ℕ → Bool
+may_be_limit Number bytes = nat_le 49 (slice_index_or bytes 0 0)
+may_be_limit _ bytes = true
+
+-- sql_auto_is_null takes what turns it off, or DEFAULT
+abbrev pub may_be_off : TokenKind → List ℕ → Bool
+may_be_off Number bytes = bytes_eq bytes (codes "0")
+may_be_off Word bytes = same_text bytes (codes "OFF") || is_default bytes
+may_be_off _ bytes = false
+
 abbrev pub may_be : Slot → TokenKind → List ℕ → Bool
 may_be CharacterSetResults kind bytes = may_be_results kind bytes
 may_be SqlMode kind bytes = may_be_modes kind bytes
+may_be SqlSelectLimit kind bytes = may_be_limit kind bytes
+may_be SqlAutoIsNull kind bytes = may_be_off kind bytes
 may_be _ kind bytes = true
 
 -- the value of one token
@@ -79,6 +92,8 @@ value_of slot kind bytes = if may_be slot kind bytes then plain_value kind bytes
 abbrev pub takes_numbers : Slot → Bool
 takes_numbers CharacterSetResults = false
 takes_numbers SqlMode = false
+takes_numbers SqlSelectLimit = false
+takes_numbers SqlAutoIsNull = false
 takes_numbers _ = true
 
 abbrev pub is_number : TokenKind → Bool

@@ -10,15 +10,10 @@ use crate::statement::is_session_word;
 use crate::value::{negative_value, value_of};
 use crate::{Change, Changes, Slot, SlotValue};
 use mx_base::OutOfMemory;
-use sql_tokens::{Token, TokenKind, behind, bytes_of, inside, is_symbol, same_text, word_of};
+use sql_tokens::{
+    Token, TokenKind, behind, bytes_of, front, inside, is_symbol, same_text, word_of,
+};
 use std::alloc::Global;
-
-// So many bytes from the front on, as far as they are there.
-fn front(bytes: &[u8], count: usize) -> &[u8]
-    ensures { result.now ≡ take count bytes.now }
-{
-    &bytes[..count.min(bytes.len())]
-}
 
 // The setting of `@@session.name`, `@@local.name` or `@@name`.
 #[tactic(auto, unfolding(crate::specs::Assignments::slot_of_variable))]

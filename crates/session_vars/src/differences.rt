@@ -3,7 +3,7 @@ ghost use Rattle.std.specs.Prelude.{◌≡◌, ◌∷◌, ◌++◌, List, IsTrue
 ghost use Rattle.session_vars.specs.declared.slot.Slot.{Slot};
 ghost use Rattle.session_vars.specs.Settings.{is_text, value_at, same_value, differs, names_differ, results_differ, has_to_change, changes_of, difference_of};
 
-use crate::{Change, Changes, SLOTS, Settings, Slot, SlotValue};
+use crate::{Change, Changes, Settings, Slot, SlotValue};
 use mx_base::OutOfMemory;
 use std::alloc::Global;
 
@@ -79,7 +79,7 @@ pub fn difference(alloc: Global, from: &Settings, to: &Settings) -> Result<Chang
     ensures { IfOk result (λ changes. changes ≡ difference_of from.now to.now) }
 {
     let mut changes = Changes::new(alloc);
-    for slot in &SLOTS {
+    for slot in &Slot::ALL {
         push_change(alloc, &mut changes, from, to, *slot)?;
     }
     Ok(changes)

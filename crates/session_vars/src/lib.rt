@@ -29,6 +29,6 @@ pub use long_part::LongPart;
 pub use read::read_set;
 pub use settings::Settings;
 pub use shape::SetShape;
-pub use slot::{SLOTS, Slot};
+pub use slot::Slot;
 pub use statement::Statement;
 pub use text::{SetTexts, can_be_set, set_texts};

@@ -8,7 +8,7 @@ use std::alloc::Global;
 use std::marker::Model;
 
 // How many settings there are.
-const COUNT: usize = 20;
+const COUNT: usize = 21;
 
 /// The settings of a session, one value for each slot. A contract sees the list of the values, in the order of the
 /// slots.
@@ -25,7 +25,7 @@ impl Model for Settings {
 
     ghost view = { λ s. s.values.items };
 
-    ghost invariant = { λ s. length s.values.items ≡ 20 };
+    ghost invariant = { λ s. length s.values.items ≡ 21 };
 }
 
 // The names that a client's collation stands for.

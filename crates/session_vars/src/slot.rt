@@ -29,33 +29,35 @@ pub enum Slot {
     InnodbLockWaitTimeout,
     LockWaitTimeout,
     MaxExecutionTime,
+    SqlAutoIsNull,
 }
 
-/// All of them, in order.
-pub static SLOTS: [Slot; 20] = [
-    Slot::Names,
-    Slot::CharacterSetResults,
-    Slot::Autocommit,
-    Slot::SqlMode,
-    Slot::TimeZone,
-    Slot::TransactionIsolation,
-    Slot::TransactionReadOnly,
-    Slot::SqlSafeUpdates,
-    Slot::ForeignKeyChecks,
-    Slot::UniqueChecks,
-    Slot::SqlSelectLimit,
-    Slot::GroupConcatMaxLen,
-    Slot::LcTimeNames,
-    Slot::LcMessages,
-    Slot::WaitTimeout,
-    Slot::NetReadTimeout,
-    Slot::NetWriteTimeout,
-    Slot::InnodbLockWaitTimeout,
-    Slot::LockWaitTimeout,
-    Slot::MaxExecutionTime,
-];
-
 impl Slot {
+    /// All of them, in order.
+    pub const ALL: [Slot; 21] = [
+        Slot::Names,
+        Slot::CharacterSetResults,
+        Slot::Autocommit,
+        Slot::SqlMode,
+        Slot::TimeZone,
+        Slot::TransactionIsolation,
+        Slot::TransactionReadOnly,
+        Slot::SqlSafeUpdates,
+        Slot::ForeignKeyChecks,
+        Slot::UniqueChecks,
+        Slot::SqlSelectLimit,
+        Slot::GroupConcatMaxLen,
+        Slot::LcTimeNames,
+        Slot::LcMessages,
+        Slot::WaitTimeout,
+        Slot::NetReadTimeout,
+        Slot::NetWriteTimeout,
+        Slot::InnodbLockWaitTimeout,
+        Slot::LockWaitTimeout,
+        Slot::MaxExecutionTime,
+        Slot::SqlAutoIsNull,
+    ];
+
     /// The name of the system variable. Takes no memory.
     pub fn name(self) -> &'static [u8]
         ensures { result.now ≡ name_of self }
@@ -81,21 +83,22 @@ impl Slot {
             Slot::InnodbLockWaitTimeout => b"innodb_lock_wait_timeout",
             Slot::LockWaitTimeout => b"lock_wait_timeout",
             Slot::MaxExecutionTime => b"max_execution_time",
+            Slot::SqlAutoIsNull => b"sql_auto_is_null",
         }
     }
 
-    // The place of a setting among the twenty.
+    // The place of a setting among all.
     pub(crate) fn place(self) -> usize
         ensures { result ≡ place_of self }
     {
         self as usize
     }
 
-    // The setting that a name assigns, in any ASCII case. No assignment sets `Names`, the first.
-    pub(crate) fn named(name: &[u8]) -> Option<Slot>
+    /// The setting that a name assigns, in any ASCII case. No assignment sets `Names`, the first. Takes no memory.
+    pub fn named(name: &[u8]) -> Option<Slot>
         ensures { result ≡ slot_named name.now }
     {
-        SLOTS[1..]
+        Slot::ALL[1..]
             .iter()
             .copied()
             .find(|slot| same_text(name, slot.name()))

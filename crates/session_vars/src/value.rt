@@ -2,7 +2,7 @@
 ghost use Rattle.std.specs.Prelude.{◌≡◌, ◌≤◌, ◌++◌, length, IfOk};
 ghost use Rattle.std.specs.List.{list_all, prefix_len, suffix_len};
 ghost use Rattle.sql_tokens.specs.Words.{inside};
-ghost use Rattle.session_vars.specs.Values.{kept, is_plain_byte, is_default, plain_value, is_character_set, is_reading_mode, is_blank, without_last_blanks, without_blanks, has_reading_mode, may_be_results, may_be_modes, may_be, value_of, takes_numbers, negative_value};
+ghost use Rattle.session_vars.specs.Values.{kept, is_plain_byte, is_default, plain_value, is_character_set, is_reading_mode, is_blank, without_last_blanks, without_blanks, has_reading_mode, may_be_results, may_be_modes, may_be_limit, may_be_off, may_be, value_of, takes_numbers, negative_value};
 
 use crate::{Slot, SlotValue};
 use mx_base::{Bytes, OutOfMemory};
@@ -155,6 +155,27 @@ fn may_be_modes(kind: TokenKind, bytes: &[u8]) -> bool
     }
 }
 
+// Whether sql_select_limit may get it: no number of 0 or below, and none that begins with `0` or `.`.
+fn may_be_limit(kind: TokenKind, bytes: &[u8]) -> bool
+    ensures { result ≡ may_be_limit kind bytes.now }
+{
+    match kind {
+        TokenKind::Number => !bytes.is_empty() && bytes[0] >= b'1',
+        _ => true,
+    }
+}
+
+// Whether it turns sql_auto_is_null off.
+fn may_be_off(kind: TokenKind, bytes: &[u8]) -> bool
+    ensures { result ≡ may_be_off kind bytes.now }
+{
+    match kind {
+        TokenKind::Number => bytes == b"0".as_slice(),
+        TokenKind::Word => same_text(bytes, b"OFF") || is_default(bytes),
+        _ => false,
+    }
+}
+
 // Whether a setting may get such a value.
 fn may_be(slot: Slot, kind: TokenKind, bytes: &[u8]) -> bool
     ensures { result ≡ may_be slot kind bytes.now }
@@ -162,6 +183,8 @@ fn may_be(slot: Slot, kind: TokenKind, bytes: &[u8]) -> bool
     match slot {
         Slot::CharacterSetResults => may_be_results(kind, bytes),
         Slot::SqlMode => may_be_modes(kind, bytes),
+        Slot::SqlSelectLimit => may_be_limit(kind, bytes),
+        Slot::SqlAutoIsNull => may_be_off(kind, bytes),
         _ => true,
     }
 }
@@ -187,7 +210,9 @@ fn takes_numbers(slot: Slot) -> bool
     ensures { result ≡ takes_numbers slot }
 {
     match slot {
-        Slot::CharacterSetResults | Slot::SqlMode => false,
+        Slot::CharacterSetResults | Slot::SqlMode | Slot::SqlSelectLimit | Slot::SqlAutoIsNull => {
+            false
+        }
         _ => true,
     }
 }

@@ -4,7 +4,7 @@ use Rattle.std.specs.List.{prefix_len}
 use Rattle.std.proofs.lemmas.Bool.{cond_both, cond-true, and_parts, or_cases, eqb-true, eqb-false, not-true, not_from_false, ne_eqb}
 use Rattle.std.proofs.lemmas.List.Sums.{prefix_len-le-length}
 use Rattle.sql_tokens.specs.Bytes.{has_byte, is_word_byte, is_white_or_control}
-use Rattle.sql_tokens.specs.Comments.{begins_line_comment, line_length, begins_block, block_length}
+use Rattle.sql_tokens.specs.Comments.{begins_line_comment, line_length, begins_block, block_length, executes}
 use Rattle.sql_tokens.specs.Quotes.{begins_quoted, begins_name, quoted_length}
 use Rattle.sql_tokens.specs.Variables.{system_variable_length, variable_name_length}
 use Rattle.sql_tokens.specs.Numbers.{number_length}
@@ -76,7 +76,7 @@ pub token_at-size : (bytes : List ℕ) → 0 < length bytes → IsSize bytes (to
 unfolding token_at
 token_at-size bytes some =
     let P : TokenKind × ℕ → Type 0 = λ t. IsSize bytes t.1 in
-    let block_kind : TokenKind = cond (has_byte bytes 2 33) Executed Comment in
+    let block_kind : TokenKind = cond (executes bytes) Executed Comment in
     let block = closed block_kind (block_length bytes) bytes in
     let quoted = closed Quoted (quoted_length bytes) bytes in
     let name = closed Name (quoted_length bytes) bytes in

@@ -24,6 +24,10 @@ to_block_end (b ∷ bytes) = if closes_block (b ∷ bytes) then Some 2 else late
 unfoldable pub begins_block : List ℕ → Bool
 begins_block bytes = has_byte bytes 0 47 && has_byte bytes 1 42
 
+-- `!` or `M!` behind the `/*`, so that servers execute what stands inside
+abbrev pub executes : List ℕ → Bool
+executes bytes = has_byte bytes 2 33 || (has_byte bytes 2 77 && has_byte bytes 3 33)
+
 -- to the first `*/` behind the whole `/*`
 unfoldable pub block_length : List ℕ → Option ℕ
 block_length bytes = later 2 (to_block_end (drop 2 bytes))

@@ -2,7 +2,7 @@
 use Rattle.std.specs.Prelude.{◌≡◌, ◌≤◌, ℕ, zero, suc, ◌+◌, ◌-◌, not, nat_eq, List, [], ◌∷◌, length, drop, Option, Some, None, if◌then◌else◌}
 use Rattle.std.specs.List.{prefix_len}
 use Rattle.sql_tokens.specs.Bytes.{has_byte, is_white, is_word_byte}
-use Rattle.sql_tokens.specs.Comments.{begins_line_comment, line_length, begins_block, block_length}
+use Rattle.sql_tokens.specs.Comments.{begins_line_comment, line_length, begins_block, block_length, executes}
 use Rattle.sql_tokens.specs.Quotes.{begins_quoted, begins_name, quoted_length}
 use Rattle.sql_tokens.specs.Variables.{system_variable_length, variable_name_length}
 use Rattle.sql_tokens.specs.Numbers.{number_length}
@@ -28,7 +28,7 @@ plain_token_at bytes =
 unfoldable pub token_at : List ℕ → TokenKind × ℕ
 token_at bytes =
     if begins_line_comment bytes then (Comment, line_length bytes)
-    else if begins_block bytes then closed (if has_byte bytes 2 33 then Executed else Comment) (block_length bytes) bytes
+    else if begins_block bytes then closed (if executes bytes then Executed else Comment) (block_length bytes) bytes
     else if begins_quoted bytes then closed Quoted (quoted_length bytes) bytes
     else if begins_name bytes then closed Name (quoted_length bytes) bytes
     else plain_token_at bytes

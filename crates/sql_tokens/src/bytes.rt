@@ -1,5 +1,5 @@
 // Bytes at the front of a slice.
-ghost use Rattle.std.specs.Prelude.{◌≡◌, ◌+◌, ◌<◌, ◌^◌, length, drop};
+ghost use Rattle.std.specs.Prelude.{◌≡◌, ◌+◌, ◌<◌, ◌^◌, length, take, drop};
 ghost use Rattle.std.specs.List.{prefix_len};
 ghost use Rattle.std.specs.Char.{is_ascii_digit, is_ascii_hexdigit};
 ghost use Rattle.sql_tokens.specs.Bytes.{has_byte, followed_by, is_white, is_word_byte, is_name_byte};
@@ -17,6 +17,13 @@ pub fn behind(bytes: &[u8], count: usize) -> &[u8]
     ensures small { length bytes.now < 2 ^ 64 }
 {
     &bytes[count.min(bytes.len())..]
+}
+
+/// So many bytes from the front on, as far as they are there. Takes no memory.
+pub fn front(bytes: &[u8], count: usize) -> &[u8]
+    ensures { result.now ≡ take count bytes.now }
+{
+    &bytes[..count.min(bytes.len())]
 }
 
 // So many bytes and behind them a run, which mustn't be empty; 0 where it is.

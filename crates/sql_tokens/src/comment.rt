@@ -1,7 +1,7 @@
 // Comments (MySQL Reference Manual, "Comments").
 ghost use Rattle.std.specs.Prelude.{◌≡◌};
 ghost use Rattle.sql_tokens.specs.Bytes.{is_white_or_control};
-ghost use Rattle.sql_tokens.specs.Comments.{begins_line_comment, line_length, closes_block, to_block_end, begins_block, block_length};
+ghost use Rattle.sql_tokens.specs.Comments.{begins_line_comment, line_length, closes_block, to_block_end, begins_block, block_length, executes};
 
 use crate::bytes::{behind, has_byte};
 
@@ -36,6 +36,13 @@ pub(crate) fn begins_block(bytes: &[u8]) -> bool
     ensures { result ≡ begins_block bytes.now }
 {
     has_byte(bytes, 0, b'/') && has_byte(bytes, 1, b'*')
+}
+
+// `!` or `M!` behind the `/*`, so that servers execute what stands inside (MySQL Reference Manual and MariaDB, "Comments").
+pub(crate) fn executes(bytes: &[u8]) -> bool
+    ensures { result ≡ executes bytes.now }
+{
+    has_byte(bytes, 2, b'!') || (has_byte(bytes, 2, b'M') && has_byte(bytes, 3, b'!'))
 }
 
 // `*/`.

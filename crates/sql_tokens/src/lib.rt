@@ -12,7 +12,7 @@ mod tokens;
 mod variable;
 mod word;
 
-pub use bytes::behind;
+pub use bytes::{behind, front};
 pub use laws::{block_end, closing_quote, longest_number, one_token_list};
 pub use token::{Token, TokenKind};
 pub use tokens::Tokens;

@@ -4,7 +4,7 @@ ghost use Rattle.sql_tokens.specs.Tokens.{closed, plain_token_at, token_at};
 
 use crate::TokenKind;
 use crate::bytes::{behind, has_byte, word_run};
-use crate::comment::{begins_block, begins_line_comment, block_length, line_length};
+use crate::comment::{begins_block, begins_line_comment, block_length, executes, line_length};
 use crate::number::number_length;
 use crate::quote::{begins_name, begins_quoted, quoted_length};
 use crate::variable::{system_variable_length, variable_name_length};
@@ -53,7 +53,7 @@ pub(crate) fn token_at(bytes: &[u8]) -> (TokenKind, usize)
     if begins_line_comment(bytes) {
         (TokenKind::Comment, line_length(bytes))
     } else if begins_block(bytes) {
-        let kind = if has_byte(bytes, 2, b'!') {
+        let kind = if executes(bytes) {
             TokenKind::Executed
         } else {
             TokenKind::Comment

@@ -18,9 +18,9 @@ pub enum TokenKind {
     /// One byte that begins nothing else.
     Symbol,
     /// `#`, or `--` before white space, a control byte or the end, to before the line feed or to the end; or `/*` to
-    /// its `*/`, but not `/*!`.
+    /// its `*/`, but not `/*!` and `/*M!`.
     Comment,
-    /// `/*!` to its `*/`, whose inside a server executes.
+    /// `/*!` or `/*M!` to its `*/`, whose inside a server executes.
     Executed,
     /// A `/*` comment, quoted text or name whose end is missing, to the end of the text.
     Unclosed,

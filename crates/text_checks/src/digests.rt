@@ -1,128 +1,125 @@
 // Digests, their hashes, and tables of them.
-use crate::show::{push_part, shown};
+use crate::show::{or_none, push_bytes, push_quoted, separate};
 use check_lines::{Case, CaseFault};
 use mx_base::{Bytes, Hostgroup};
 use query_digest::{DigestKey, DigestTable, digest, digest_hash};
 use std::alloc::Global;
 
-pub(crate) fn answer(alloc: Global, case: &mut Case<'_>) -> Result<String, CaseFault> {
-    match case.reader {
-        "digest" => {
-            let digest = digest(alloc, &case.rest_bytes(alloc)?)?;
-            Ok(format!(in alloc; "\"{}\"", shown(alloc, digest.as_slice())?)?)
-        }
-        "hash" => {
-            let hash = digest_hash(&case.rest_bytes(alloc)?);
-            Ok(format!(in alloc; "{hash:016x}")?)
-        }
-        "table" => table(alloc, case.rest_text()),
-        "fill" => fill(alloc, case),
-        _ => Err(CaseFault::Bad),
+pub(crate) fn answer(
+    alloc: Global,
+    case: &mut Case<'_>,
+    out: &mut String,
+) -> Result<(), CaseFault> {
+    let text = case.rest_bytes(alloc)?;
+    if case.reader == "hash" {
+        write!(out, "{:016x}", digest_hash(&text))?;
+        return Ok(());
     }
+    push_quoted(out, digest(alloc, &text)?.as_slice())
 }
 
-fn key_of(
-    alloc: Global,
-    hostgroup: u16,
-    schema: &[u8],
-    user: &[u8],
-    text: &[u8],
-) -> Result<DigestKey, CaseFault> {
+// A key of the schema `s` and the user `u`.
+fn key_in(alloc: Global, hostgroup: u16, text: &[u8]) -> Result<DigestKey, CaseFault> {
     Ok(DigestKey {
         hostgroup: Hostgroup(hostgroup),
-        schema: Bytes::from_slice(alloc, schema)?,
-        user: Bytes::from_slice(alloc, user)?,
+        schema: Bytes::from_slice(alloc, b"s")?,
+        user: Bytes::from_slice(alloc, b"u")?,
         digest: digest(alloc, text)?,
     })
 }
 
 // The key of a statement as a case writes it: hostgroup, schema, user and text.
-fn key_written(alloc: Global, text: &str) -> Result<DigestKey, CaseFault> {
+fn key_of(alloc: Global, text: &str) -> Result<DigestKey, CaseFault> {
     let mut fields = Case {
         reader: "",
         rest: text,
     };
-    let hostgroup = fields.number()?;
-    let schema = fields.bytes(alloc)?;
-    let user = fields.bytes(alloc)?;
-    key_of(alloc, hostgroup, &schema, &user, &fields.rest_bytes(alloc)?)
+    Ok(DigestKey {
+        hostgroup: Hostgroup(fields.number()?),
+        schema: Bytes::from_vec(fields.bytes(alloc)?),
+        user: Bytes::from_vec(fields.bytes(alloc)?),
+        digest: digest(alloc, fields.rest_text().as_bytes())?,
+    })
 }
 
-// Counts statements with ` | ` between them: what each did, and the rows of the table.
-fn table(alloc: Global, text: &str) -> Result<String, CaseFault> {
+// Records statements with ` | ` between them: what each did, and the rows of the table.
+pub(crate) fn table(alloc: Global, text: &str, out: &mut String) -> Result<(), CaseFault> {
     let mut table = DigestTable::new(alloc);
-    if text.is_empty() {
-        return rows(alloc, &table);
+    if !text.is_empty() {
+        record_all(alloc, text, &mut table, out)?;
     }
-    let mut did = String::new(alloc);
-    for part in text.split(" | ") {
-        push_count(alloc, &mut did, &mut table, key_written(alloc, part)?)?;
-    }
-    Ok(format!(in alloc; "{did}: {}", rows(alloc, &table)?)?)
+    push_rows(&table, out)
 }
 
-// Appends what counting a key did.
-fn push_count(
+fn record_all(
     alloc: Global,
-    did: &mut String,
+    text: &str,
+    table: &mut DigestTable,
+    out: &mut String,
+) -> Result<(), CaseFault> {
+    for part in text.split(" | ") {
+        separate(out, 0, " ")?;
+        push_recorded(table, key_of(alloc, part)?, out)?;
+    }
+    out.push_str(": ")?;
+    Ok(())
+}
+
+// Records a key, and appends what that did.
+fn push_recorded(
     table: &mut DigestTable,
     key: DigestKey,
+    out: &mut String,
 ) -> Result<(), CaseFault> {
-    let counted = format!(in alloc; "{:?}", table.count(key)?)?;
-    push_part(did, " ", &counted)
+    let recorded = table.record(key)?;
+    write!(out, "{recorded:?}")?;
+    Ok(())
 }
 
-fn rows(alloc: Global, table: &DigestTable) -> Result<String, CaseFault> {
-    let mut text = String::new(alloc);
-    for at in 0..table.len() {
-        push_row(alloc, &mut text, table, at)?;
+fn push_rows(table: &DigestTable, out: &mut String) -> Result<(), CaseFault> {
+    let start = out.len();
+    for (key, count) in table.iter() {
+        separate(out, start, " | ")?;
+        push_row(key, *count, out)?;
     }
-    if table.is_empty() {
-        text.push_str("empty")?;
-    }
-    Ok(text)
+    or_none(out, start, "empty")
 }
 
-fn push_row(
-    alloc: Global,
-    text: &mut String,
-    table: &DigestTable,
-    at: usize,
-) -> Result<(), CaseFault> {
-    let Some((key, count)) = table.row(at) else {
-        return Err(CaseFault::Bad);
-    };
-    let hostgroup = key.hostgroup.0;
-    let schema = shown(alloc, key.schema.as_slice())?;
-    let user = shown(alloc, key.user.as_slice())?;
-    let digest = shown(alloc, key.digest.as_slice())?;
-    let row = format!(in alloc; "{hostgroup} {schema} {user} \"{digest}\" {count}")?;
-    push_part(text, " | ", &row)
+fn push_row(key: &DigestKey, count: u64, out: &mut String) -> Result<(), CaseFault> {
+    write!(out, "{} ", key.hostgroup.0)?;
+    push_bytes(out, key.schema.as_slice())?;
+    out.push(' ')?;
+    push_bytes(out, key.user.as_slice())?;
+    out.push(' ')?;
+    push_quoted(out, key.digest.as_slice())?;
+    write!(out, " {count}")?;
+    Ok(())
 }
 
-// Counts one statement in so many hostgroups, and then in two that are named: how many rows there are, and what the two did.
-fn fill(alloc: Global, case: &mut Case<'_>) -> Result<String, CaseFault> {
-    let count: u16 = case.number()?;
-    let first = case.number()?;
-    let second = case.number()?;
-    let text = case.rest_bytes(alloc)?;
+// Records one statement in so many hostgroups, and then in two that are named: how many rows there are, and what the two
+// did.
+pub(crate) fn fill(alloc: Global, case: &mut Case<'_>, out: &mut String) -> Result<(), CaseFault> {
+    let count = case.number()?;
+    let named = [case.number()?, case.number()?];
+    let text = case.rest_text().as_bytes();
     let mut table = DigestTable::new(alloc);
-    for hostgroup in 0..count {
-        table.count(key_of(alloc, hostgroup, b"s", b"u", &text)?)?;
+    record_in(alloc, count, text, &mut table)?;
+    write!(out, "{} rows:", table.len())?;
+    for hostgroup in named {
+        out.push(' ')?;
+        push_recorded(&mut table, key_in(alloc, hostgroup, text)?, out)?;
     }
-    let rows = table.len();
-    let mut did = String::new(alloc);
-    push_count(
-        alloc,
-        &mut did,
-        &mut table,
-        key_of(alloc, first, b"s", b"u", &text)?,
-    )?;
-    push_count(
-        alloc,
-        &mut did,
-        &mut table,
-        key_of(alloc, second, b"s", b"u", &text)?,
-    )?;
-    Ok(format!(in alloc; "{rows} rows: {did}")?)
+    Ok(())
+}
+
+fn record_in(
+    alloc: Global,
+    count: u16,
+    text: &[u8],
+    table: &mut DigestTable,
+) -> Result<(), CaseFault> {
+    for hostgroup in 0..count {
+        table.record(key_in(alloc, hostgroup, text)?)?;
+    }
+    Ok(())
 }

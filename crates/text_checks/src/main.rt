@@ -12,11 +12,23 @@ use std::alloc::Global;
 use std::io;
 
 fn answer(alloc: Global, case: &mut Case<'_>) -> Result<String, CaseFault> {
+    let mut out = String::new(alloc);
+    answer_into(alloc, case, &mut out)?;
+    Ok(out)
+}
+
+// Appends the answer.
+fn answer_into(alloc: Global, case: &mut Case<'_>, out: &mut String) -> Result<(), CaseFault> {
     match case.reader {
-        "tokens" | "says" | "token_at" => tokens::answer(alloc, case),
-        "digest" | "hash" | "table" | "fill" => digests::answer(alloc, case),
-        "set" | "collation" | "texts" | "bring" => settings::answer(alloc, case),
-        "class" | "opening" => classes::answer(alloc, case),
+        "tokens" | "says" | "token_at" => tokens::answer(alloc, case, out),
+        "digest" | "hash" => digests::answer(alloc, case, out),
+        "table" => digests::table(alloc, case.rest_text(), out),
+        "fill" => digests::fill(alloc, case, out),
+        "set" | "collation" => settings::answer(alloc, case, out),
+        "texts" => settings::texts(alloc, case.rest_text(), out),
+        "bring" => settings::bring(alloc, case.rest_text(), out),
+        "class" => classes::class(alloc, case, out),
+        "opening" => classes::opening(alloc, case.rest_text(), out),
         _ => Err(CaseFault::Bad),
     }
 }

@@ -1,32 +1,31 @@
 // SET statements, settings and the statements that lead from some to others.
-use crate::show::{push_part, shown};
+use crate::show::{or_none, push_bytes, push_text, separate};
 use check_lines::{Case, CaseFault};
 use mx_base::Bytes;
 use session_vars::{
-    Change, Changes, SLOTS, SetShape, SetTexts, Settings, Slot, SlotValue, can_be_set, difference,
+    Change, Changes, SetShape, SetTexts, Settings, Slot, SlotValue, can_be_set, difference,
     read_set, set_texts,
 };
 use std::alloc::Global;
 
-pub(crate) fn answer(alloc: Global, case: &mut Case<'_>) -> Result<String, CaseFault> {
-    match case.reader {
-        "set" => shape_shown(alloc, &read_set(alloc, &case.rest_bytes(alloc)?)?),
-        "collation" => settings_shown(alloc, &Settings::for_collation(alloc, case.number()?)?),
-        "texts" => texts(alloc, case.rest_text()),
-        "bring" => bring(alloc, case.rest_text()),
-        _ => Err(CaseFault::Bad),
+pub(crate) fn answer(
+    alloc: Global,
+    case: &mut Case<'_>,
+    out: &mut String,
+) -> Result<(), CaseFault> {
+    if case.reader == "collation" {
+        return push_settings(&Settings::for_collation(alloc, case.number()?)?, out);
     }
+    let shape = read_set(alloc, &case.rest_bytes(alloc)?)?;
+    push_shape(&shape, out)
 }
 
 // A SET statement by its shape, and its changes where it is tracked.
-fn shape_shown(alloc: Global, shape: &SetShape) -> Result<String, CaseFault> {
-    let name = shape_name(shape);
+fn push_shape(shape: &SetShape, out: &mut String) -> Result<(), CaseFault> {
+    out.push_str(shape_name(shape))?;
     match shape {
-        SetShape::Tracked(changes) => {
-            let changes = changes_shown(alloc, changes.as_slice())?;
-            Ok(format!(in alloc; "{name}: {changes}")?)
-        }
-        _ => Ok(String::from_str(alloc, name)?),
+        SetShape::Tracked(changes) => push_changes(changes.as_slice(), out),
+        _ => Ok(()),
     }
 }
 
@@ -40,52 +39,46 @@ pub(crate) fn shape_name(shape: &SetShape) -> &'static str {
     }
 }
 
-fn changes_shown(alloc: Global, changes: &[Change]) -> Result<String, CaseFault> {
-    let mut text = String::new(alloc);
+fn push_changes(changes: &[Change], out: &mut String) -> Result<(), CaseFault> {
+    out.push_str(": ")?;
+    let start = out.len();
     for change in changes {
-        push_value(alloc, &mut text, change.slot, &change.value)?;
+        separate(out, start, ", ")?;
+        push_value(change.slot, &change.value, out)?;
     }
-    Ok(text)
+    Ok(())
 }
 
 // Settings but for those at their default.
-pub(crate) fn settings_shown(alloc: Global, settings: &Settings) -> Result<String, CaseFault> {
-    let mut text = String::new(alloc);
-    for slot in &SLOTS {
-        let value = settings.value(*slot);
+pub(crate) fn push_settings(settings: &Settings, out: &mut String) -> Result<(), CaseFault> {
+    let start = out.len();
+    for slot in Slot::ALL {
+        let value = settings.value(slot);
         if value.is_text() {
-            push_value(alloc, &mut text, *slot, value)?;
+            separate(out, start, ", ")?;
+            push_value(slot, value, out)?;
         }
     }
-    if text.is_empty() {
-        text.push_str("defaults")?;
-    }
-    Ok(text)
+    or_none(out, start, "defaults")
 }
 
 // Appends `name = value`.
-fn push_value(
-    alloc: Global,
-    text: &mut String,
-    slot: Slot,
-    value: &SlotValue,
-) -> Result<(), CaseFault> {
-    let name = shown(alloc, slot.name())?;
-    let value = match value {
-        SlotValue::Default => String::from_str(alloc, "DEFAULT")?,
-        SlotValue::Text(value) => shown(alloc, value.as_slice())?,
-    };
-    push_part(text, ", ", &format!(in alloc; "{name} = {value}")?)
+fn push_value(slot: Slot, value: &SlotValue, out: &mut String) -> Result<(), CaseFault> {
+    push_bytes(out, slot.name())?;
+    out.push_str(" = ")?;
+    match value {
+        SlotValue::Default => push_text(out, "DEFAULT"),
+        SlotValue::Text(value) => push_bytes(out, value.as_slice()),
+    }
 }
 
 // Changes as a case writes them: `name = value`, with `; ` between them.
 fn changes_of(alloc: Global, text: &str) -> Result<Changes, CaseFault> {
     let mut changes = Changes::new(alloc);
-    if text.is_empty() {
-        return Ok(changes);
-    }
-    for part in text.split("; ") {
-        changes.push(change_of(alloc, part)?)?;
+    if !text.is_empty() {
+        for part in text.split("; ") {
+            changes.push(change_of(alloc, part)?)?;
+        }
     }
     Ok(changes)
 }
@@ -94,42 +87,53 @@ fn change_of(alloc: Global, text: &str) -> Result<Change, CaseFault> {
     let Some((name, value)) = text.split_once(" = ") else {
         return Err(CaseFault::Bad);
     };
-    let slot = slot_named(name)?;
-    let value = match value {
-        "DEFAULT" => SlotValue::Default,
-        _ => SlotValue::Text(Bytes::from_slice(alloc, value.as_bytes())?),
+    let Some(slot) = slot_named(name) else {
+        return Err(CaseFault::Bad);
     };
+    let value = value_of(alloc, value)?;
     Ok(Change { slot, value })
 }
 
-fn slot_named(name: &str) -> Result<Slot, CaseFault> {
-    for slot in &SLOTS {
-        if slot.name() == name.as_bytes() {
-            return Ok(*slot);
-        }
+fn slot_named(name: &str) -> Option<Slot> {
+    match name {
+        "names" => Some(Slot::Names),
+        _ => Slot::named(name.as_bytes()),
     }
-    Err(CaseFault::Bad)
+}
+
+fn value_of(alloc: Global, text: &str) -> Result<SlotValue, CaseFault> {
+    match text {
+        "DEFAULT" => Ok(SlotValue::Default),
+        _ => Ok(SlotValue::Text(Bytes::from_slice(alloc, text.as_bytes())?)),
+    }
 }
 
 // The statements that make changes.
-fn texts(alloc: Global, text: &str) -> Result<String, CaseFault> {
-    let changes = changes_of(alloc, text)?;
-    if !can_be_set(changes.as_slice()) {
-        return Ok(String::from_str(alloc, "can't be set")?);
+pub(crate) fn texts(alloc: Global, text: &str, out: &mut String) -> Result<(), CaseFault> {
+    match texts_of(alloc, &changes_of(alloc, text)?)? {
+        Some(texts) => push_texts(&texts, out),
+        None => push_text(out, "can't be set"),
     }
-    texts_shown(alloc, &set_texts(alloc, changes.as_slice())?)
 }
 
-fn texts_shown(alloc: Global, texts: &SetTexts) -> Result<String, CaseFault> {
-    let names = text_shown(alloc, &texts.names)?;
-    let session = text_shown(alloc, &texts.session)?;
-    Ok(format!(in alloc; "{names} | {session}")?)
+fn texts_of(alloc: Global, changes: &Changes) -> Result<Option<SetTexts>, CaseFault> {
+    if can_be_set(changes.as_slice()) {
+        Ok(Some(set_texts(alloc, changes.as_slice())?))
+    } else {
+        Ok(None)
+    }
 }
 
-fn text_shown(alloc: Global, text: &Option<Bytes>) -> Result<String, CaseFault> {
+fn push_texts(texts: &SetTexts, out: &mut String) -> Result<(), CaseFault> {
+    push_statement(&texts.names, out)?;
+    out.push_str(" | ")?;
+    push_statement(&texts.session, out)
+}
+
+fn push_statement(text: &Option<Bytes>, out: &mut String) -> Result<(), CaseFault> {
     match text {
-        Some(text) => shown(alloc, text.as_slice()),
-        None => Ok(String::from_str(alloc, "-")?),
+        Some(text) => push_bytes(out, text.as_slice()),
+        None => push_text(out, "-"),
     }
 }
 
@@ -142,39 +146,51 @@ fn settings_of(alloc: Global, text: &str) -> Result<Settings, CaseFault> {
     let Ok(number) = number.parse::<u8>() else {
         return Err(CaseFault::Bad);
     };
+    let changes = changes_of(alloc, changes)?;
     let mut settings = Settings::for_collation(alloc, number)?;
-    settings.apply(changes_of(alloc, changes)?.as_slice())?;
+    settings.apply(changes.as_slice())?;
     Ok(settings)
 }
 
 // The statements that lead from settings to others, and whether they do once they are read.
-fn bring(alloc: Global, text: &str) -> Result<String, CaseFault> {
+pub(crate) fn bring(alloc: Global, text: &str, out: &mut String) -> Result<(), CaseFault> {
     let Some((from, to)) = text.split_once(" -> ") else {
         return Err(CaseFault::Bad);
     };
-    let from = settings_of(alloc, from)?;
     let to = settings_of(alloc, to)?;
-    if !to.value(Slot::Names).is_text() {
-        return Ok(String::from_str(alloc, "names have to be wanted")?);
+    let mut held = settings_of(alloc, from)?;
+    match leading(alloc, &held, &to)? {
+        Some(texts) => lead(alloc, &texts, &mut held, &to, out),
+        None => push_text(out, "names have to be wanted"),
     }
-    let changes = difference(alloc, &from, &to)?;
-    lead(alloc, from, &to, &changes)
+}
+
+// The statements that lead from settings to others, where `Names` is wanted as a text.
+fn leading(alloc: Global, from: &Settings, to: &Settings) -> Result<Option<SetTexts>, CaseFault> {
+    if !to.value(Slot::Names).is_text() {
+        return Ok(None);
+    }
+    texts_of(alloc, &difference(alloc, from, to)?)
 }
 
 fn lead(
     alloc: Global,
-    mut held: Settings,
+    texts: &SetTexts,
+    held: &mut Settings,
     to: &Settings,
-    changes: &Changes,
-) -> Result<String, CaseFault> {
-    if !can_be_set(changes.as_slice()) {
-        return Ok(String::from_str(alloc, "can't be set")?);
-    }
-    let texts = set_texts(alloc, changes.as_slice())?;
-    apply_text(alloc, &mut held, &texts.names)?;
-    apply_text(alloc, &mut held, &texts.session)?;
-    let same = if are_same(&held, to) { "same" } else { "other" };
-    Ok(format!(in alloc; "{} | {same}", texts_shown(alloc, &texts)?)?)
+    out: &mut String,
+) -> Result<(), CaseFault> {
+    push_texts(texts, out)?;
+    apply_text(alloc, held, &texts.names)?;
+    apply_text(alloc, held, &texts.session)?;
+    push_text(
+        out,
+        if are_same(held, to) {
+            " | same"
+        } else {
+            " | other"
+        },
+    )
 }
 
 // Reads a statement and makes its changes.
@@ -183,16 +199,17 @@ fn apply_text(
     settings: &mut Settings,
     text: &Option<Bytes>,
 ) -> Result<(), CaseFault> {
-    if let Some(text) = text {
-        if let SetShape::Tracked(changes) = read_set(alloc, text.as_slice())? {
-            settings.apply(changes.as_slice())?;
-        }
+    let Some(text) = text else {
+        return Ok(());
+    };
+    if let SetShape::Tracked(changes) = read_set(alloc, text.as_slice())? {
+        settings.apply(changes.as_slice())?;
     }
     Ok(())
 }
 
 fn are_same(a: &Settings, b: &Settings) -> bool {
-    SLOTS
+    Slot::ALL
         .iter()
         .all(|slot| same_value(a.value(*slot), b.value(*slot)))
 }

@@ -1,6 +1,5 @@
 // Texts as answers show them.
 use check_lines::CaseFault;
-use std::alloc::Global;
 
 // The most bytes that are shown whole.
 const MOST_SHOWN: usize = 200;
@@ -8,40 +7,61 @@ const MOST_SHOWN: usize = 200;
 // How many bytes of a longer text are shown at each end.
 const AT_THE_ENDS: usize = 8;
 
-/// Bytes as a person reads them: printable ASCII as it is, and `\x` with two digits for each other byte. Of more than 200
-/// how many there are, and the first 8 and the last 8.
-pub(crate) fn shown(alloc: Global, bytes: &[u8]) -> Result<String, CaseFault> {
+/// Appends bytes as a person reads them: printable ASCII as it is, and `\x` with two digits for each other byte. Of more
+/// than 200 how many there are, and the first 8 and the last 8.
+pub(crate) fn push_bytes(out: &mut String, bytes: &[u8]) -> Result<(), CaseFault> {
     let count = bytes.len();
     if count <= MOST_SHOWN {
-        return whole(alloc, bytes);
+        return push_whole(out, bytes);
     }
-    let first = whole(alloc, &bytes[..AT_THE_ENDS])?;
-    let last = whole(alloc, &bytes[count - AT_THE_ENDS..])?;
-    Ok(format!(in alloc; "{count} bytes {first}..{last}")?)
+    write!(out, "{count} bytes ")?;
+    push_whole(out, &bytes[..AT_THE_ENDS])?;
+    out.push_str("..")?;
+    push_whole(out, &bytes[count - AT_THE_ENDS..])
 }
 
-fn whole(alloc: Global, bytes: &[u8]) -> Result<String, CaseFault> {
-    let mut text = String::new(alloc);
+fn push_whole(out: &mut String, bytes: &[u8]) -> Result<(), CaseFault> {
     for byte in bytes {
-        push_byte(alloc, &mut text, *byte)?;
-    }
-    Ok(text)
-}
-
-fn push_byte(alloc: Global, text: &mut String, byte: u8) -> Result<(), CaseFault> {
-    if byte.is_ascii_graphic() || byte == b' ' {
-        text.push(char::from(byte))?;
-    } else {
-        text.push_str(&format!(in alloc; "\\x{byte:02x}")?)?;
+        push_byte(out, *byte)?;
     }
     Ok(())
 }
 
-/// Appends a part, with a separator before it where it isn't the first.
-pub(crate) fn push_part(text: &mut String, separator: &str, part: &str) -> Result<(), CaseFault> {
-    if !text.is_empty() {
-        text.push_str(separator)?;
+fn push_byte(out: &mut String, byte: u8) -> Result<(), CaseFault> {
+    if byte.is_ascii_graphic() || byte == b' ' {
+        out.push(char::from(byte))?;
+    } else {
+        write!(out, "\\x{byte:02x}")?;
     }
-    text.push_str(part)?;
+    Ok(())
+}
+
+/// Appends bytes between quotes.
+pub(crate) fn push_quoted(out: &mut String, bytes: &[u8]) -> Result<(), CaseFault> {
+    out.push('"')?;
+    push_bytes(out, bytes)?;
+    out.push('"')?;
+    Ok(())
+}
+
+/// Appends what stands between the parts of a list that begins at this length, but before its first.
+pub(crate) fn separate(out: &mut String, start: usize, between: &str) -> Result<(), CaseFault> {
+    if out.len() > start {
+        out.push_str(between)?;
+    }
+    Ok(())
+}
+
+/// Appends a word for a list that has no parts and begins at this length.
+pub(crate) fn or_none(out: &mut String, start: usize, word: &str) -> Result<(), CaseFault> {
+    if out.len() <= start {
+        out.push_str(word)?;
+    }
+    Ok(())
+}
+
+/// Appends a text.
+pub(crate) fn push_text(out: &mut String, text: &str) -> Result<(), CaseFault> {
+    out.push_str(text)?;
     Ok(())
 }

@@ -1,57 +1,54 @@
 // Tokens of texts.
-use crate::show::{push_part, shown};
+use crate::show::{or_none, push_bytes, push_quoted, push_text, separate};
 use check_lines::{Case, CaseFault};
 use sql_tokens::{Token, TokenKind, Tokens, bytes_of, says, word_of};
 use std::alloc::Global;
 
-pub(crate) fn answer(alloc: Global, case: &mut Case<'_>) -> Result<String, CaseFault> {
+pub(crate) fn answer(
+    alloc: Global,
+    case: &mut Case<'_>,
+    out: &mut String,
+) -> Result<(), CaseFault> {
     match case.reader {
-        "tokens" => tokens(alloc, &case.rest_bytes(alloc)?),
+        "tokens" => tokens(&case.rest_bytes(alloc)?, out),
         "says" => {
             let word = case.bytes(alloc)?;
-            first_says(alloc, &case.rest_bytes(alloc)?, &word)
+            push_text(out, first_says(&case.rest_bytes(alloc)?, &word))
         }
-        "token_at" => {
-            let start = case.number()?;
-            let end = case.number()?;
-            word_at(alloc, &case.rest_bytes(alloc)?, start, end)
+        _ => {
+            let token = Token {
+                kind: TokenKind::Word,
+                start: case.number()?,
+                end: case.number()?,
+            };
+            word_at(&case.rest_bytes(alloc)?, &token, out)
         }
-        _ => Err(CaseFault::Bad),
     }
 }
 
 // Each token by its kind and its bytes.
-fn tokens(alloc: Global, text: &[u8]) -> Result<String, CaseFault> {
-    let mut found = String::new(alloc);
+fn tokens(text: &[u8], out: &mut String) -> Result<(), CaseFault> {
     for token in Tokens::of(text) {
-        let bytes = shown(alloc, bytes_of(text, &token))?;
-        let one = format!(in alloc; "{:?}:{bytes}", token.kind)?;
-        push_part(&mut found, " ", &one)?;
+        separate(out, 0, " ")?;
+        write!(out, "{:?}:", token.kind)?;
+        push_bytes(out, bytes_of(text, &token))?;
     }
-    if found.is_empty() {
-        found.push_str("none")?;
-    }
-    Ok(found)
+    or_none(out, 0, "none")
 }
 
 // Whether the first token names a word.
-fn first_says(alloc: Global, text: &[u8], word: &[u8]) -> Result<String, CaseFault> {
-    let answer = match Tokens::of(text).next() {
+fn first_says(text: &[u8], word: &[u8]) -> &'static str {
+    match Tokens::of(text).next() {
         Some(token) if says(text, &token, word) => "yes",
         Some(_) => "no",
         None => "no token",
-    };
-    Ok(String::from_str(alloc, answer)?)
+    }
 }
 
-// What stands in a text from one place to another, and the word that this names.
-fn word_at(alloc: Global, text: &[u8], start: usize, end: usize) -> Result<String, CaseFault> {
-    let token = Token {
-        kind: TokenKind::Word,
-        start,
-        end,
-    };
-    let bytes = shown(alloc, bytes_of(text, &token))?;
-    let word = shown(alloc, word_of(text, &token).unwrap_or(b""))?;
-    Ok(format!(in alloc; "bytes \"{bytes}\" word \"{word}\"")?)
+// What stands in a text where a token is said to be, and the word that this names.
+fn word_at(text: &[u8], token: &Token, out: &mut String) -> Result<(), CaseFault> {
+    out.push_str("bytes ")?;
+    push_quoted(out, bytes_of(text, token))?;
+    out.push_str(" word ")?;
+    push_quoted(out, word_of(text, token).unwrap_or(b""))
 }

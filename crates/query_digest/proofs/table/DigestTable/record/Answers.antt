@@ -6,7 +6,7 @@ use Rattle.query_digest.specs.declared.table.DigestKey.{DigestKey}
 use Rattle.query_digest.specs.declared.table.Counted.{Counted}
 use Rattle.query_digest.specs.declared.table.Counted.TheVariants.{Added, First, Full}
 use Rattle.query_digest.proofs.Counting.{counted-seen, counted-full, counted-new, nothing_found, only_new}
-use Rattle.query_digest.proofs.table.DigestTable.count.Goals as goal
+use Rattle.query_digest.proofs.table.DigestTable.record.Goals as goal
 
 pub returns-in-Some-clause-ok : goal.returns-in-Some-clause-ok
 returns-in-Some-clause-ok c =
