@@ -121,7 +121,7 @@ brings_id reply = ending.brings_id (end_of reply)
 -- The class of a command.
 
 abbrev pub plain_class : Class
-plain_class = record { deep = false; locks = locking.None; next_tx = false; savepoint = false; marks_id = false; reads_id = false; reads_diag = false; calc_rows = false; refusal = None; shape = shape.Other }
+plain_class = record { deep = false; locks = locking.None; next_tx = false; savepoint = false; marks_id = false; reads_id = false; reads_diag = false; calc_rows = false; refusal = None; outlasts_reset = false; sets_id = false; shape = shape.Other }
 
 -- to prepare a text does nothing of what it says; of a reset and an end nothing is known by their class
 abbrev pub class_of : Reads → Command → Class

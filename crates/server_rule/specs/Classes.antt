@@ -17,7 +17,7 @@ pub record Reads : Type 0 where
 
 -- as the router reads them
 unfoldable pub router_reads : Reads
-router_reads = record { class = class_of; hides_id = λ text. false }
+router_reads = record { class = class_of; hides_id = λ text. (class_of text).sets_id }
 
 -- the text that a command runs
 abbrev pub text_run : Cmd → Option (List ℕ)
