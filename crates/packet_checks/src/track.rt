@@ -1,5 +1,5 @@
 // Replies that are followed to their ends.
-use check_lines::{Case, CaseFault, shown};
+use check_lines::{Case, CaseFault, bytes_of, shown};
 use reply_track::{Progress, ReplyKind, Tracker};
 use std::alloc::Global;
 
@@ -10,8 +10,8 @@ pub fn track(alloc: Global, case: &mut Case<'_>) -> Result<String, CaseFault> {
     let number = case.number()?;
     let mut tracker = Tracker::start(kind, first, 1, number);
     let mut answers = String::new(alloc);
-    while !case.is_done() {
-        let (progress, answer) = taken(alloc, &mut tracker, case)?;
+    for piece in case.rest_text().split(' ') {
+        let (progress, answer) = taken(alloc, &mut tracker, piece)?;
         if !answers.is_empty() {
             answers.push_str("; ")?;
         }
@@ -27,9 +27,9 @@ pub fn track(alloc: Global, case: &mut Case<'_>) -> Result<String, CaseFault> {
 fn taken(
     alloc: Global,
     tracker: &mut Tracker,
-    case: &mut Case<'_>,
+    piece: &str,
 ) -> Result<(Progress, String), CaseFault> {
-    let mut piece = case.bytes(alloc)?;
+    let mut piece = bytes_of(alloc, piece)?;
     let progress = tracker.take(&mut piece);
     let bytes = shown(alloc, &piece)?;
     Ok((progress, format!(in alloc; "{progress:?} {bytes}")?))
