@@ -1,0 +1,5 @@
+pub mod Talks
+pub mod Logins
+pub mod Commands
+pub mod Replies
+pub mod Dues

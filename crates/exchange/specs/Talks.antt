@@ -1,0 +1,107 @@
+-- What a client says, and what it is told of its login and of bytes that can't be a message.
+use Rattle.std.specs.Prelude.{◌≡◌, ℕ, ◌+◌, Bool, true, false, List, [], ◌∷◌, ◌++◌, Option, Some, None, Result, Ok, Err}
+use Rattle.packet_frame.specs.declared.fault.FrameFault.{FrameFault}
+use Rattle.packet_frame.specs.declared.fault.FrameFault.TheVariants.{OutOfOrder, TooLarge}
+use Rattle.packet_frame.specs.Packets.{Framed, Split, next_id, split, spelling}
+use Rattle.command_parse.specs.Meaning.{Meaning, parsed}
+use Rattle.command_parse.specs.Meaning.Meaning.{Query, Ping, Quit}
+use Rattle.command_parse.specs.declared.fault.CommandFault.{CommandFault}
+use Rattle.handshake.specs.declared.response.Response.{Response}
+use Rattle.client_side.specs.declared.step.ClientFault.{ClientFault}
+use Rattle.client_side.specs.declared.step.ClientFault.TheVariants.{Hand, Frame}
+use Rattle.client_side.specs.Login.{fault_id, Opening, Waits, Says, Fails, opening}
+use Rattle.client_side.specs.Reading.{said}
+use Rattle.server_side.specs.Account.{Account}
+use Rattle.client_session.specs.Setups.{Setup}
+use Rattle.client_session.specs.Accounts.{account_of}
+use Rattle.client_session.specs.Errors.{own_ok, unknown_command, malformed_command, bad_handshake, access_denied, packet_too_large, packet_out_of_order}
+
+-- What a client says.
+
+-- what sessions go by, the client's number and salt, and the bytes that were read of it
+pub record Talk : Type 0 where
+  pub setup : Setup
+  pub number : ℕ
+  pub salt : List ℕ
+  pub read : List ℕ
+
+abbrev pub heard_more : Talk → List ℕ → Talk
+heard_more talk more = record talk { read = talk.read ++ more }
+
+-- how far its login is
+abbrev pub opening_of : Talk → Opening
+opening_of talk = opening talk.setup.limit talk.read
+
+-- who it is, once it is logged in
+abbrev pub account_in : Talk → Opening → Option Account
+account_in talk (Says switched response id rest) = account_of talk.setup.users talk.salt response
+account_in talk _ = None
+
+abbrev pub account : Talk → Option Account
+account talk = account_in talk (opening_of talk)
+
+-- the bytes of its commands: those behind its login
+abbrev pub if_known : Option Account → List ℕ → List ℕ
+if_known None rest = []
+if_known (Some account) rest = rest
+
+abbrev pub commands_in : Talk → Opening → List ℕ
+commands_in talk (Says switched response id rest) = if_known (account_of talk.setup.users talk.salt response) rest
+commands_in talk _ = []
+
+abbrev pub commands : Talk → List ℕ
+commands talk = commands_in talk (opening_of talk)
+
+-- its commands are messages that begin with the id 0
+abbrev pub client_messages : (limit : ℕ) → List ℕ → Split
+client_messages limit bytes = split limit 0 bytes
+
+abbrev pub messages_of : Talk → Split
+messages_of talk = client_messages talk.setup.limit (commands talk)
+
+-- The answer to its login.
+
+abbrev pub greeted : Talk → (switched : Bool) → List ℕ
+greeted talk switched = said talk.number talk.salt talk.setup.version switched
+
+abbrev pub login_answer : Response → Option Account → List ℕ
+login_answer response None = access_denied response.user
+login_answer response (Some account) = own_ok
+
+abbrev pub frame_error : (limit : ℕ) → FrameFault → List ℕ
+frame_error limit (OutOfOrder expected found) = packet_out_of_order expected found
+frame_error limit (TooLarge length) = packet_too_large length limit
+
+abbrev pub fault_error : (limit : ℕ) → ClientFault → List ℕ
+fault_error limit (Hand fault) = bad_handshake
+fault_error limit (Frame fault) = frame_error limit fault
+
+-- what comes before the answers to its commands
+abbrev pub front_in : Talk → Opening → List ℕ
+front_in talk (Waits switched) = greeted talk switched
+front_in talk (Says switched response id rest) = greeted talk switched ++ spelling id (login_answer response (account_of talk.setup.users talk.salt response))
+front_in talk (Fails switched fault id) = greeted talk switched ++ spelling id (fault_error talk.setup.limit fault)
+
+abbrev pub front : Talk → List ℕ
+front talk = front_in talk (opening_of talk)
+
+-- Its commands.
+
+abbrev pub query_by : Result Meaning CommandFault → Bool
+query_by (Ok (Query text)) = true
+query_by _ = false
+
+abbrev pub is_query : List ℕ → Bool
+is_query payload = query_by (parsed payload)
+
+abbrev pub quit_by : Result Meaning CommandFault → Bool
+quit_by (Ok Quit) = true
+quit_by _ = false
+
+abbrev pub is_quit : List ℕ → Bool
+is_quit payload = quit_by (parsed payload)
+
+-- a message that can't be is answered once, and none after it
+abbrev pub fault_answer : (limit : ℕ) → Option FrameFault → List ℕ
+fault_answer limit None = []
+fault_answer limit (Some fault) = spelling (fault_id 0 fault) (frame_error limit fault)

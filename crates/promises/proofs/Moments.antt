@@ -1,0 +1,89 @@
+-- When messages become due.
+use Rattle.std.specs.Prelude.{◌≡◌, ℕ, zero, suc, Bool, true, false, ◌&&◌, is_some, cond, List, [], ◌∷◌, ◌++◌, Option, Some, None, refl}
+use Rattle.std.proofs.Common.{sym, ◌∙◌, ap, subst, append-nil, append_assoc, arith}
+use Rattle.mx_wire.specs.Log.{Log}
+use Rattle.packet_frame.specs.Packets.{Framed}
+use Rattle.exchange.specs.Talks.{Talk, messages_of}
+use Rattle.exchange.specs.Replies.{Answer}
+use Rattle.promises.specs.Service.{Service}
+use Rattle.promises.specs.Owners.{talk_of}
+use Rattle.promises.specs.Due.{Work, message_of, answer, first_behind, is_answered, due_at, first_without, work_in, work_of}
+use Rattle.promises.specs.Follows.{IsDue}
+use Rattle.promises.proofs.InWork.{in-work, some-same}
+
+-- The first moment of which something holds is a moment, of which it holds, and stays the first.
+first-is : (holds : Log → Bool) (before log due : Log) → first_behind holds before log ≡ Some due → IsDue holds due (before ++ log)
+first-is holds before [] due is = by (holds before) refl is where
+  by : (b : Bool) → holds before ≡ b → cond b (Some before) None ≡ Some due → IsDue holds due (before ++ [])
+  by true at is = subst (λ (l : Log). IsDue holds l (before ++ [])) (some-same before due is) (record { later = []; moment = refl; holds = at })
+  by false at is = absurd (let no : None ≡ Some due = is in cc)
+first-is holds before (e ∷ log) due is = by (holds before) refl (first-is holds (before ++ e ∷ []) log due) is where
+  by : (b : Bool) → holds before ≡ b → (first_behind holds (before ++ e ∷ []) log ≡ Some due → IsDue holds due ((before ++ e ∷ []) ++ log)) → cond b (Some before) (first_behind holds (before ++ e ∷ []) log) ≡ Some due → IsDue holds due (before ++ e ∷ log)
+  by true at later is = subst (λ (l : Log). IsDue holds l (before ++ e ∷ log)) (some-same before due is) (record { later = e ∷ log; moment = refl; holds = at })
+  by false at later is = subst (IsDue holds due) (append_assoc before (e ∷ []) log) (later is)
+
+first-stays : (holds : Log → Bool) (before log more due : Log) → first_behind holds before log ≡ Some due → first_behind holds before (log ++ more) ≡ Some due
+first-stays holds before [] more due is = by (holds before) refl more is where
+  by : (b : Bool) → holds before ≡ b → (more : Log) → cond b (Some before) None ≡ Some due → first_behind holds before more ≡ Some due
+  by true at [] is = ap (λ b. cond b (Some before) None) at ∙ is
+  by true at (e ∷ more) is = ap (λ b. cond b (Some before) (first_behind holds (before ++ e ∷ []) more)) at ∙ is
+  by false at more is = absurd (let no : None ≡ Some due = is in cc)
+first-stays holds before (e ∷ log) more due is = by (holds before) (first-stays holds (before ++ e ∷ []) log more due) is where
+  by : (b : Bool) → (first_behind holds (before ++ e ∷ []) log ≡ Some due → first_behind holds (before ++ e ∷ []) (log ++ more) ≡ Some due) → cond b (Some before) (first_behind holds (before ++ e ∷ []) log) ≡ Some due
+      → cond b (Some before) (first_behind holds (before ++ e ∷ []) (log ++ more)) ≡ Some due
+  by true later is = is
+  by false later is = later is
+
+-- what holds of the whole log has a first moment
+first-some : (holds : Log → Bool) (before log : Log) → holds (before ++ log) ≡ true → (due : Log) × (first_behind holds before log ≡ Some due)
+first-some holds before [] now = (before, ap (λ b. cond b (Some before) None) (ap holds (sym (append-nil before)) ∙ now))
+first-some holds before (e ∷ log) now = by (holds before) (first-some holds (before ++ e ∷ []) log (ap holds (append_assoc before (e ∷ []) log) ∙ now)) where
+  by : (b : Bool) → (due : Log) × (first_behind holds (before ++ e ∷ []) log ≡ Some due) → (due : Log) × (cond b (Some before) (first_behind holds (before ++ e ∷ []) log) ≡ Some due)
+  by true later = (before, refl)
+  by false later = later
+
+abbrev becomes : Service → (n i : ℕ) → Log → Bool
+becomes service n i moment = is_some (message_of service n (suc i) moment) && is_answered service n i (due_at service n i moment) moment
+
+-- A message becomes due once: at a moment, which stays.
+pub due-stays : (service : Service) (n i : ℕ) (log more due : Log) → due_at service n i log ≡ Some due → due_at service n i (log ++ more) ≡ Some due
+due-stays service n zero log more due is = absurd (let no : None ≡ Some due = is in cc)
+due-stays service n (suc i) log more due is = first-stays (becomes service n i) [] log more due is
+
+pub due-moment : (service : Service) (n i : ℕ) (log due : Log) → due_at service n i log ≡ Some due → (later : Log) × (due ++ later ≡ log)
+due-moment service n zero log due is = absurd (let no : None ≡ Some due = is in cc)
+due-moment service n (suc i) log due is = (let first = first-is (becomes service n i) [] log due is in (first.later, first.moment))
+
+-- What is in work became due.
+record Before (reply : ℕ → Option Answer) (j ordinal : ℕ) : Type 0 where
+  before : ℕ
+  counts : ordinal ≡ suc before
+  answered : (k : ℕ) → before ≡ suc k → (before ≡ j → is_some (reply before) ≡ true) → is_some (reply before) ≡ true
+
+work-before : (reply : ℕ → Option Answer) (j : ℕ) (messages : List Framed) (work : Work) → first_without reply (suc j) messages ≡ Some work → Before reply j work.ordinal
+work-before reply j [] work is = absurd (let no : None ≡ Some work = is in cc)
+work-before reply j (m ∷ messages) work is = by (is_some (reply (suc j))) refl (work-before reply (suc j) messages work) is where
+  by : (b : Bool) → is_some (reply (suc j)) ≡ b → (first_without reply (suc (suc j)) messages ≡ Some work → Before reply (suc j) work.ordinal) → cond b (first_without reply (suc (suc j)) messages) (Some (record { ordinal = suc j; message = m })) ≡ Some work → Before reply j work.ordinal
+  by true at later is = (let b = later is in record { before = b.before; counts = b.counts; answered = λ k count here. b.answered k count (λ same. ap (λ p. is_some (reply p)) same ∙ at) })
+  by false at later is = record { before = j; counts = ap (λ (w : Work). w.ordinal) (sym (some-same (record { ordinal = suc j; message = m }) work is)); answered = λ k count here. here refl }
+
+work-talk : (service : Service) (n : ℕ) (log : Log) (talk : Option Talk) (work : Work) → work_in service n log talk ≡ Some work → Before (λ i. answer service n i log) 0 work.ordinal
+work-talk service n log None work is = absurd (let no : None ≡ Some work = is in cc)
+work-talk service n log (Some talk) work is = work-before (λ i. answer service n i log) 0 (messages_of talk).messages work is
+
+pub work-due : (service : Service) (n : ℕ) (log : Log) (work : Work) → work_of service n log ≡ Some work → (due : Log) × (due_at service n work.ordinal log ≡ Some due)
+work-due service n log work is = by (work-talk service n log (talk_of service n log) work is) where
+  by : Before (λ i. answer service n i log) 0 work.ordinal → (due : Log) × (due_at service n work.ordinal log ≡ Some due)
+  by b = (first.0, ap (λ i. due_at service n i log) b.counts ∙ first.1) where
+    there : is_some (message_of service n (suc b.before) log) ≡ true
+    there = ap (λ i. is_some (message_of service n i log)) (sym b.counts) ∙ ap is_some (in-work service n log work is).0
+
+    done : (k : ℕ) → b.before ≡ k → is_answered service n k (due_at service n k log) log ≡ true
+    done zero same = refl
+    done (suc k) same = ap (λ p. is_some (answer service n p log)) (sym same) ∙ b.answered k same (λ none. absurd (let no : suc k ≡ 0 = sym same ∙ none in omega arith))
+
+    both : (a c : Bool) → a ≡ true → c ≡ true → (a && c) ≡ true
+    both a c one two = ap (λ x. x && c) one ∙ two
+
+    first : (due : Log) × (first_behind (becomes service n b.before) [] log ≡ Some due)
+    first = first-some (becomes service n b.before) [] log (both _ _ there (done b.before refl))

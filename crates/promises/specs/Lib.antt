@@ -1,0 +1,11 @@
+pub mod Closes
+pub mod Due
+pub mod Follows
+pub mod Headline
+pub mod Owners
+pub mod Replay
+pub mod Rest
+pub mod Sends
+pub mod Service
+pub mod Sizes
+pub mod Worked
