@@ -2,4 +2,3 @@ pub mod Talks
 pub mod Logins
 pub mod Commands
 pub mod Replies
-pub mod Dues
