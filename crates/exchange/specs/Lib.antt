@@ -1,4 +1,3 @@
-pub mod Talks
 pub mod Logins
 pub mod Commands
 pub mod Replies

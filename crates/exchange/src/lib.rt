@@ -1,3 +1,2 @@
-//! What passes on the links of the router: what clients say, and the commands on a link to a server with the replies to them. Definitions
-//! alone.
+//! What passes on the links to servers: the router's login there, the commands, and the replies to them. Definitions alone.
 #![tactic(auto)]

@@ -16,7 +16,7 @@ use Rattle.packet_frame.specs.PacketLaws.{nat_eq-true}
 use Rattle.packet_frame.specs.Packets.{Framed}
 use Rattle.command_parse.specs.Meaning.{parsed}
 use Rattle.server_side.specs.Account.{Account}
-use Rattle.exchange.specs.Talks.{is_query}
+use Rattle.client_session.specs.Answers.{is_query}
 use Rattle.client_session.specs.Arrivals.{Arrival, arrival_of, arrival_in, arrivals_behind, connected}
 use Rattle.client_session.specs.Errors.{connection_refused, no_server}
 use Rattle.exchange.specs.Logins.{login_fails}

@@ -11,7 +11,7 @@ use Rattle.packet_frame.specs.Laws.{split-nothing, first_message-empty}
 use Rattle.client_side.specs.Login.{Opening, Waits, Says, Fails, switched_of}
 use Rattle.client_side.specs.Laws.{opening-says-more, opening-fails-more, opening-switched-more}
 use Rattle.client_session.specs.Arrivals.{Arrival, arrival_of, is_served}
-use Rattle.exchange.specs.Talks.{Talk, heard_more, opening_of, greeted, front_in, front, messages_of, fault_answer}
+use Rattle.client_session.specs.Answers.{Talk, heard_more, opening_of, greeted, front_in, front, messages_of, fault_answer}
 use Rattle.exchange.specs.Logins.{IsPrefix, loses, before_loss}
 use Rattle.exchange.specs.Replies.{Answer, spelt}
 use Rattle.promises.specs.Service.{Service}
@@ -61,7 +61,7 @@ after-grows old new stay talk more = by (messages-grow talk more) where
 
 -- before its login is whole
 waits-none : (reply : ℕ → Option Answer) (talk : Talk) (switched : Bool) → opening_of talk ≡ Waits switched → said_after reply talk.setup.limit (messages_of talk) ≡ []
-waits-none reply talk switched is = ap (λ (o : Opening). said_after reply talk.setup.limit (split talk.setup.limit 0 (Rattle.exchange.specs.Talks.commands_in talk o))) is
+waits-none reply talk switched is = ap (λ (o : Opening). said_after reply talk.setup.limit (split talk.setup.limit 0 (Rattle.client_session.specs.Answers.commands_in talk o))) is
     ∙ ap (said_after reply talk.setup.limit) (split-nothing talk.setup.limit 0 [] (first_message-empty talk.setup.limit 0))
 
 greeted-first : (talk : Talk) (switched : Bool) → IsPrefix (greeted talk false) (greeted talk switched)

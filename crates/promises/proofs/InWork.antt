@@ -12,7 +12,7 @@ use Rattle.command_parse.specs.Meaning.{Meaning, parsed}
 use Rattle.command_parse.specs.Meaning.Meaning.{Query}
 use Rattle.command_parse.specs.declared.fault.CommandFault.{CommandFault}
 use Rattle.client_session.specs.declared.setup.ServerAt.{ServerAt}
-use Rattle.exchange.specs.Talks.{Talk, messages_of, query_by}
+use Rattle.client_session.specs.Answers.{Talk, messages_of, query_by}
 use Rattle.exchange.specs.Replies.{Answer}
 use Rattle.promises.specs.Service.{Turn, Service}
 use Rattle.promises.specs.Owners.{talk_of, refused_by, refused_behind, refused, is_turn, is_refused}

@@ -3,7 +3,7 @@ use Rattle.std.specs.Prelude.{◌≡◌, ℕ, zero, suc, Bool, true, false, ◌&
 use Rattle.std.proofs.Common.{sym, ◌∙◌, ap, subst, append-nil, append_assoc, arith}
 use Rattle.mx_wire.specs.Log.{Log}
 use Rattle.packet_frame.specs.Packets.{Framed}
-use Rattle.exchange.specs.Talks.{Talk, messages_of}
+use Rattle.client_session.specs.Answers.{Talk, messages_of}
 use Rattle.exchange.specs.Replies.{Answer}
 use Rattle.promises.specs.Service.{Service}
 use Rattle.promises.specs.Owners.{talk_of}

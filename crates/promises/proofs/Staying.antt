@@ -31,7 +31,7 @@ use Rattle.client_side.specs.Login.{Opening as ClientOpening, Waits, Says, Fails
 use Rattle.client_side.specs.Laws.{opening-says-more}
 use Rattle.client_session.specs.Accounts.{account_of}
 use Rattle.client_session.specs.Arrivals.{Arrival, arrival_of, arrivals, arrival_in, arrivals_behind}
-use Rattle.exchange.specs.Talks.{Talk, heard_more, opening_of, account_in, account, if_known, commands_in as commands_in_talk, client_messages, messages_of}
+use Rattle.client_session.specs.Answers.{Talk, heard_more, opening_of, account_in, account, if_known, commands_in as commands_in_talk, client_messages, messages_of}
 use Rattle.client_session.specs.Errors.{no_server, connection_refused}
 use Rattle.promises.specs.Service.{Turn, Service, open_try, open_tries, turn_by, turn_of}
 use Rattle.promises.specs.Owners.{talk_with, user_of, user_on, is_refused}

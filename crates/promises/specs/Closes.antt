@@ -9,7 +9,7 @@ use Rattle.mx_wire.specs.declared.entry.Entry.TheVariants.{Wrote, WriteNothing, 
 use Rattle.server_side.specs.Account.{Account}
 use Rattle.client_side.specs.Login.{Opening, Waits, Says, Fails}
 use Rattle.client_session.specs.Arrivals.{Arrival, arrival_of, is_served}
-use Rattle.exchange.specs.Talks.{Talk, opening_of, account, messages_of, is_query, is_quit}
+use Rattle.client_session.specs.Answers.{Talk, opening_of, account, messages_of, is_query, is_quit}
 use Rattle.exchange.specs.Logins.{was_lost, was_broken}
 use Rattle.exchange.specs.Replies.{Clean, Runs, Spoilt, standing_on}
 use Rattle.promises.specs.Service.{Service}

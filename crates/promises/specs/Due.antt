@@ -13,7 +13,7 @@ use Rattle.server_side.specs.Account.{Account}
 use Rattle.client_session.specs.declared.setup.ServerAt.{ServerAt}
 use Rattle.client_session.specs.Setups.{Setup}
 use Rattle.client_session.specs.Arrivals.{Arrival, arrival_of, is_served}
-use Rattle.exchange.specs.Talks.{Talk, front, messages_of, fault_answer}
+use Rattle.client_session.specs.Answers.{Talk, front, messages_of, fault_answer}
 use Rattle.client_session.specs.Errors.{own_ok, unknown_command, malformed_command, too_many_connections, no_server, connection_refused}
 use Rattle.exchange.specs.Commands.{commands_on, place_in, carrier_of}
 use Rattle.exchange.specs.Replies.{Answer, spelt, reply_at, replies_on}

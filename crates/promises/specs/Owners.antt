@@ -8,7 +8,7 @@ use Rattle.mx_wire.specs.declared.entry.Entry.{Entry}
 use Rattle.mx_wire.specs.declared.entry.Entry.TheVariants.{OpenFailed}
 use Rattle.server_side.specs.Account.{Account}
 use Rattle.client_session.specs.Arrivals.{Arrival, arrival_of}
-use Rattle.exchange.specs.Talks.{Talk, account}
+use Rattle.client_session.specs.Answers.{Talk, account}
 use Rattle.exchange.specs.Logins.{was_lost, login_fails}
 use Rattle.exchange.specs.Commands.{carrier_of}
 use Rattle.promises.specs.Service.{Turn, Service, next_turn, turn_of}

@@ -12,7 +12,7 @@ use Rattle.ready_loop.specs.Drained.{all_accepted, all_named, read_dry, write_dr
 use Rattle.server_side.specs.Account.{Account}
 use Rattle.server_side.specs.Login.{Goes}
 use Rattle.client_session.specs.Arrivals.{Arrival, arrival_of, is_served}
-use Rattle.exchange.specs.Talks.{is_query}
+use Rattle.client_session.specs.Answers.{is_query}
 use Rattle.exchange.specs.Logins.{login_on}
 use Rattle.exchange.specs.Commands.{Command, commands_on}
 use Rattle.exchange.specs.Replies.{Enters, Sends, Runs, Spoilt, standing_on}

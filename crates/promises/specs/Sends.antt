@@ -9,7 +9,7 @@ use Rattle.server_side.specs.Account.{Account}
 use Rattle.server_side.specs.Login.{said_of}
 use Rattle.client_session.specs.declared.setup.ServerAt.{ServerAt}
 use Rattle.client_session.specs.Arrivals.{Arrival, arrival_of, is_served}
-use Rattle.exchange.specs.Talks.{is_query}
+use Rattle.client_session.specs.Answers.{is_query}
 use Rattle.exchange.specs.Logins.{IsPrefix, IsLoggedIn, login_on}
 use Rattle.exchange.specs.Commands.{Command, commands_on, carrier_of}
 use Rattle.exchange.specs.Replies.{Standing, Clean, Sends, Spoilt, standing_on}

@@ -12,7 +12,7 @@ use Rattle.mem_wire.specs.Came.{Known, known, with_link, unread, known_room}
 use Rattle.server_side.specs.Account.{Account}
 use Rattle.server_side.specs.Login.{said_of}
 use Rattle.client_session.specs.Arrivals.{Arrival, arrivals}
-use Rattle.exchange.specs.Talks.{is_query}
+use Rattle.client_session.specs.Answers.{is_query}
 use Rattle.exchange.specs.Logins.{login_on}
 use Rattle.exchange.specs.Commands.{Command, commands_on}
 use Rattle.exchange.specs.Replies.{Standing, Clean, Sends, standing_on}

@@ -18,7 +18,7 @@ ghost use Rattle.promises.specs.Rest.{IsAtRest};
 ghost use Rattle.promises.specs.Sends.{Asks, MayOpen, MaySend};
 ghost use Rattle.packet_frame.specs.Packets.{Framed};
 ghost use Rattle.mx_wire.specs.Moments.{AllLawful};
-ghost use Rattle.exchange.specs.Talks.{is_query};
+ghost use Rattle.client_session.specs.Answers.{is_query};
 ghost use Rattle.client_session.specs.Arrivals.{Arrival, arrival_of};
 ghost use Rattle.client_session.specs.Errors.{connection_refused};
 ghost use Rattle.server_side.specs.Account.{Account};
