@@ -1,7 +1,7 @@
 -- What a client's link is to its callers.
-use Rattle.std.specs.Prelude.{◌≡◌, ℕ, ◌+◌, nat_lt, List, [], ◌++◌, length, drop, Option, Some, None, IsSome, if◌then◌else◌}
+use Rattle.std.specs.Prelude.{◌≡◌, ℕ, ◌+◌, nat_lt, List, [], ◌++◌, Option, Some, None, IsSome, if◌then◌else◌}
 use Rattle.mx_base.specs.declared.names.ClientNo.{ClientNo}
-use Rattle.packet_frame.specs.FramerState.{FramerState}
+use Rattle.packet_frame.specs.FramerState.{FramerState, past}
 use Rattle.packet_frame.specs.Packets.{Framed}
 use Rattle.handshake.specs.declared.response.Response.{Response}
 use Rattle.client_side.specs.declared.stage.Stage.{Stage}
@@ -41,7 +41,7 @@ counted n = if nat_lt n 18446744073709551615 then n + 1 else n
 
 -- the framer without the message that it found
 abbrev pub past_message : Framed → FramerState → FramerState
-past_message message framer = record framer { kept = drop (4 + length message.payload) framer.kept; found = None }
+past_message message framer = past framer
 
 -- What was found: a login, or a command.
 

@@ -2,7 +2,7 @@
 use Rattle.std.specs.Prelude.{◌≡◌, ℕ, Bool, true, false, Result, Ok, Err, if◌then◌else◌, refl}
 use Rattle.std.proofs.Common.{sym, ◌∙◌, ap, subst, inl, inr}
 use Rattle.packet_frame.specs.FramerState.{FramerState, look, seen}
-use Rattle.packet_frame.specs.Packets.{Found}
+use Rattle.packet_frame.specs.Packets.{Found, next_id}
 use Rattle.packet_frame.specs.Packets.Found.{Nothing, Whole, Faulty}
 use Rattle.handshake.specs.declared.fault.HandFault.{HandFault}
 use Rattle.handshake.specs.declared.response.Response.{Response}
@@ -25,17 +25,17 @@ answer-same client response Nothing = (refl, refl, refl, refl)
 answer-same client response (Whole message rest) = (refl, refl, refl, refl)
 answer-same client response (Faulty fault) = (refl, refl, refl, refl)
 
-choice-same : (client : ClientState) (response : Response) (switches : Bool) → IsSame client (if switches then answer_found response (asked response client) (look 3 client.framer) else logs_in response 2 client).client
-choice-same client response true = answer-same (asked response client) response (look 3 client.framer)
-choice-same client response false = (refl, refl, refl, refl)
+choice-same : (client : ClientState) (id : ℕ) (response : Response) (switches : Bool) → IsSame client (if switches then answer_found response (asked response client) (look 3 client.framer) else logs_in response id client).client
+choice-same client id response true = answer-same (asked response client) response (look 3 client.framer)
+choice-same client id response false = (refl, refl, refl, refl)
 
-read-same : (client : ClientState) (decoded : Result Response HandFault) → IsSame client (response_read decoded client).client
-read-same client (Err fault) = (refl, refl, refl, refl)
-read-same client (Ok response) = choice-same client response (needs_switch response.plugin)
+read-same : (client : ClientState) (id : ℕ) (decoded : Result Response HandFault) → IsSame client (response_read id decoded client).client
+read-same client id (Err fault) = (refl, refl, refl, refl)
+read-same client id (Ok response) = choice-same client id response (needs_switch response.plugin)
 
 response-same : (client : ClientState) (found : Found) → IsSame client (response_found client found).client
 response-same client Nothing = (refl, refl, refl, refl)
-response-same client (Whole message rest) = read-same (behind message client) (response_of message.payload)
+response-same client (Whole message rest) = read-same (behind message client) (next_id message.last) (response_of message.payload)
 response-same client (Faulty fault) = (refl, refl, refl, refl)
 
 command-same : (client : ClientState) (found : Found) → IsSame client (command_found client found).client
@@ -68,17 +68,17 @@ answer-looked client response =
     let found : Found = look 3 client.framer in
     ap (answer_found response (looked client found)) (look-seen 3 client.framer found refl) ∙ answer-again client response found
 
-asked-again : (client new : ClientState) (decoded : Result Response HandFault) → IsAskedOnly decoded client new → next_of new.stage new ≡ response_read decoded client
-asked-again client new (Err fault) held = absurd held
-asked-again client new (Ok response) held =
-    subst (λ (n : ClientState). next_of n.stage n ≡ response_read (Ok response) client) (sym held.1) (rw held.0 (answer-looked (asked response client) response))
+asked-again : (client new : ClientState) (id : ℕ) (decoded : Result Response HandFault) → IsAskedOnly decoded client new → next_of new.stage new ≡ response_read id decoded client
+asked-again client new id (Err fault) held = absurd held
+asked-again client new id (Ok response) held =
+    subst (λ (n : ClientState). next_of n.stage n ≡ response_read id (Ok response) client) (sym held.1) (rw held.0 (answer-looked (asked response client) response))
 
 unanswered-again : (old new : ClientState) (found : Found) → old.stage ≡ stage.Response → look 1 old.framer ≡ found → IsUnanswered old found new → next_of new.stage new ≡ response_found old found
 unanswered-again old new Nothing due is held = absurd held
 unanswered-again old new (Whole message rest) due is (inl same) =
     subst (λ (n : ClientState). next_of n.stage n ≡ response_found old (Whole message rest)) (sym same)
     (ap (λ (s : Stage). next_of s (looked old (Whole message rest))) due ∙ ap (response_found (looked old (Whole message rest))) is)
-unanswered-again old new (Whole message rest) due is (inr asks) = asked-again (behind message old) new (response_of message.payload) asks
+unanswered-again old new (Whole message rest) due is (inr asks) = asked-again (behind message old) new (next_id message.last) (response_of message.payload) asks
 unanswered-again old new (Faulty fault) due is held = absurd held
 
 held-again : (at : Stage) (old new : ClientState) → old.stage ≡ at → IsHeldUp at old new → next_of new.stage new ≡ next_of at old

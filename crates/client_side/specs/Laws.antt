@@ -6,7 +6,7 @@ use Rattle.packet_frame.specs.Packets.{Framed, Found, longest, next_id, first_me
 use Rattle.packet_frame.specs.Packets.Found.{Nothing, Whole, Faulty}
 use Rattle.packet_frame.specs.FramerState.{FramerState, look, look_by}
 use Rattle.packet_frame.specs.Laws.{first_message-whole-more, first_message-faulty-more}
-use Rattle.packet_frame.specs.OnePacket.{first_message-whole}
+use Rattle.packet_frame.specs.MessageLaws.{first_message-goes}
 use Rattle.handshake.specs.declared.fault.HandFault.{HandFault}
 use Rattle.handshake.specs.declared.response.Response.{Response}
 use Rattle.handshake.specs.Response.{response_of}
@@ -48,20 +48,12 @@ logging-fed client version read piece bytes at = fed_at client.stage client vers
 looked_into : (first : ℕ) (framer : FramerState) → framer.fault ≡ None → look first framer ≡ first_message framer.limit first framer.kept
 looked_into first framer faultless = ap (λ fault. look_by fault (first_message framer.limit first framer.kept)) faultless
 
--- a message at the front of the bytes, the id of its answer, and what is behind it
-pub record IsTaken (first : ℕ) (framer : FramerState) (message : Framed) (rest : List ℕ) : Type 0 where
-  pub ends : message.last ≡ first
-  pub goes : rest ≡ (past_message message framer).kept
-  pub whatever : (more : List ℕ) → first_message framer.limit first (framer.kept ++ more) ≡ Whole message ((past_message message framer).kept ++ more)
-
-taken : (first : ℕ) (framer : FramerState) (message : Framed) (rest : List ℕ) → IsReading framer → first_message framer.limit first framer.kept ≡ Whole message rest → IsTaken first framer message rest
-taken first framer message rest at whole =
-    let is = first_message-whole framer.limit first framer.kept message rest at.short whole in
-    record {
-      ends = is.ends;
-      goes = is.goes;
-      whatever = λ more. first_message-whole-more framer.limit first framer.kept more message rest whole ∙ ap (λ behind. Whole message (behind ++ more)) is.goes;
-    }
+-- a message at the front of the bytes stays, and so does what is behind it
+taken : (first : ℕ) (framer : FramerState) (message : Framed) (rest more : List ℕ) → first_message framer.limit first framer.kept ≡ Whole message rest
+    → first_message framer.limit first (framer.kept ++ more) ≡ Whole message ((past_message message framer).kept ++ more)
+taken first framer message rest more whole =
+    first_message-whole-more framer.limit first framer.kept more message rest whole
+    ∙ ap (λ behind. Whole message (behind ++ more)) (first_message-goes framer.limit first framer.kept message rest whole)
 
 reading-past : (message : Framed) (framer : FramerState) → IsReading framer → IsReading (past_message message framer)
 reading-past message framer at = record { short = at.short; unfound = refl; faultless = at.faultless }
@@ -82,11 +74,10 @@ answered client response version read written due at Nothing is =
     ap (opening client.framer.limit) (sym (append-nil read)) ∙ at.1 [] ∙ ap (answer_in client.framer.limit response) (append-nil client.framer.kept) ∙ ap (by_answer response) is in
     (still_due (stage.Answer response) client version read (written ++ client.outgoing) due (reading-looked client at.0, at.1, at.2), true, waits, at.2)
 answered client response version read written due at (Whole message rest) is =
-    let one = taken 3 client.framer message rest at.0 is in
     let own : Response = record response { answer = message.payload } in
     let kept = (past_message message client.framer).kept in
-    let says : (more : List ℕ) → opening client.framer.limit (read ++ more) ≡ Says true own 4 (kept ++ more) =
-    λ more. at.1 more ∙ ap (by_answer response) (one.whatever more) ∙ ap (λ last. Says true own (next_id last) (kept ++ more)) one.ends in
+    let says : (more : List ℕ) → opening client.framer.limit (read ++ more) ≡ Says true own (next_id message.last) (kept ++ more) =
+    λ more. at.1 more ∙ ap (by_answer response) (taken 3 client.framer message rest more is) in
     (own, refl, (true, reading-past message client.framer at.0, record { whatever = says }, at.2))
 answered client response version read written due at (Faulty fault) is =
     (true, λ more. at.1 more ∙ ap (by_answer response) (first_message-faulty-more client.framer.limit 3 client.framer.kept more fault is), at.2)
@@ -97,27 +88,27 @@ answering client response version read written due at =
     subst (λ (found : Found). HasStepped (answer_found response client found).step (answer_found response client found).client client.framer.limit version read (written ++ (answer_found response client found).client.outgoing))
     (sym (looked_into 3 client.framer at.0.faultless)) (answered client response version read written due at (first_message client.framer.limit 3 client.framer.kept) refl)
 
--- what is behind the response
-pub record IsBehind (client : ClientState) (read : List ℕ) (decoded : Result Response HandFault) : Type 0 where
+-- what is behind the response, where the id of an answer to it is `id`
+pub record IsBehind (client : ClientState) (read : List ℕ) (id : ℕ) (decoded : Result Response HandFault) : Type 0 where
   pub reading : IsReading client.framer
-  pub whatever : (more : List ℕ) → opening client.framer.limit (read ++ more) ≡ by_response client.framer.limit 2 decoded (client.framer.kept ++ more)
+  pub whatever : (more : List ℕ) → opening client.framer.limit (read ++ more) ≡ by_response client.framer.limit id decoded (client.framer.kept ++ more)
 
-chosen : (client : ClientState) (response : Response) (version read written : List ℕ) → IsBehind client read (Ok response) → written ++ client.outgoing ≡ said_to client version false → (b : Bool) → needs_switch response.plugin ≡ b
-    → HasStepped (response_read (Ok response) client).step (response_read (Ok response) client).client client.framer.limit version read (written ++ (response_read (Ok response) client).client.outgoing)
-chosen client response version read written at bytes false is =
-    let says : (more : List ℕ) → opening client.framer.limit (read ++ more) ≡ Says false response 2 (client.framer.kept ++ more) = λ more. rw is at (at.whatever more) in
+chosen : (client : ClientState) (id : ℕ) (response : Response) (version read written : List ℕ) → IsBehind client read id (Ok response) → written ++ client.outgoing ≡ said_to client version false → (b : Bool) → needs_switch response.plugin ≡ b
+    → HasStepped (response_read id (Ok response) client).step (response_read id (Ok response) client).client client.framer.limit version read (written ++ (response_read id (Ok response) client).client.outgoing)
+chosen client id response version read written at bytes false is =
+    let says : (more : List ℕ) → opening client.framer.limit (read ++ more) ≡ Says false response id (client.framer.kept ++ more) = λ more. rw is at (at.whatever more) in
     rw is (response, refl, (false, at.reading, record { whatever = says }, bytes))
-chosen client response version read written at bytes true is =
+chosen client id response version read written at bytes true is =
     let switch = switch_said client.salt in
     let goes : (more : List ℕ) → opening client.framer.limit (read ++ more) ≡ answer_in client.framer.limit response (client.framer.kept ++ more) = λ more. rw is at (at.whatever more) in
     let asks : written ++ (client.outgoing ++ switch) ≡ said_to client version true =
     sym (append_assoc written client.outgoing switch) ∙ ap (λ xs. xs ++ switch) (bytes ∙ append-nil (greeting_said client.number.0 client.salt version)) in
     rw is (answering (asked response client) response version read written refl (at.reading, goes, asks))
 
-decided : (client : ClientState) (decoded : Result Response HandFault) (version read written : List ℕ) → IsBehind client read decoded → written ++ client.outgoing ≡ said_to client version false
-    → HasStepped (response_read decoded client).step (response_read decoded client).client client.framer.limit version read (written ++ (response_read decoded client).client.outgoing)
-decided client (Err fault) version read written at bytes = (false, at.whatever, bytes)
-decided client (Ok response) version read written at bytes = chosen client response version read written at bytes (needs_switch response.plugin) refl
+decided : (client : ClientState) (id : ℕ) (decoded : Result Response HandFault) (version read written : List ℕ) → IsBehind client read id decoded → written ++ client.outgoing ≡ said_to client version false
+    → HasStepped (response_read id decoded client).step (response_read id decoded client).client client.framer.limit version read (written ++ (response_read id decoded client).client.outgoing)
+decided client id (Err fault) version read written at bytes = (false, at.whatever, bytes)
+decided client id (Ok response) version read written at bytes = chosen client id response version read written at bytes (needs_switch response.plugin) refl
 
 -- the response is due
 responded : (client : ClientState) (version read written : List ℕ) → client.stage ≡ stage.Response → IsLoggingIn stage.Response client version read (written ++ client.outgoing)
@@ -128,12 +119,10 @@ responded client version read written due at Nothing is =
     let waits : opening client.framer.limit read ≡ Waits false = ap (λ bytes. by_message client.framer.limit (first_message client.framer.limit 1 bytes)) (sym at.1) ∙ ap (by_message client.framer.limit) is in
     (still_due stage.Response client version read (written ++ client.outgoing) due (reading-looked client at.0, at.1, at.2), false, waits, at.2)
 responded client version read written due at (Whole message rest) is =
-    let one = taken 1 client.framer message rest at.0 is in
     let kept = (past_message message client.framer).kept in
-    let whatever : (more : List ℕ) → opening client.framer.limit (read ++ more) ≡ by_response client.framer.limit 2 (response_of message.payload) (kept ++ more) =
-    λ more. ap (λ bytes. by_message client.framer.limit (first_message client.framer.limit 1 (bytes ++ more))) (sym at.1) ∙ ap (by_message client.framer.limit) (one.whatever more)
-    ∙ ap (λ last. by_response client.framer.limit (next_id last) (response_of message.payload) (kept ++ more)) one.ends in
-    decided (behind message client) (response_of message.payload) version read written (record { reading = reading-past message client.framer at.0; whatever = whatever }) at.2
+    let whatever : (more : List ℕ) → opening client.framer.limit (read ++ more) ≡ by_response client.framer.limit (next_id message.last) (response_of message.payload) (kept ++ more) =
+    λ more. ap (λ bytes. by_message client.framer.limit (first_message client.framer.limit 1 (bytes ++ more))) (sym at.1) ∙ ap (by_message client.framer.limit) (taken 1 client.framer message rest more is) in
+    decided (behind message client) (next_id message.last) (response_of message.payload) version read written (record { reading = reading-past message client.framer at.0; whatever = whatever }) at.2
 responded client version read written due at (Faulty fault) is =
     (false, λ more. ap (λ bytes. by_message client.framer.limit (first_message client.framer.limit 1 (bytes ++ more))) (sym at.1) ∙ ap (by_message client.framer.limit) (first_message-faulty-more client.framer.limit 1 client.framer.kept more fault is), at.2)
 

@@ -1,8 +1,8 @@
 -- How the bytes of a client begin: its response to the greeting, and the bare answer where it is asked to switch the login method.
-use Rattle.std.specs.Prelude.{ℕ, ◌%◌, Bool, true, false, not, bytes_eq, List, Option, Some, None, Result, Ok, Err, if◌then◌else◌}
+use Rattle.std.specs.Prelude.{ℕ, ◌+◌, ◌-◌, ◌/◌, ◌%◌, Bool, true, false, not, bytes_eq, List, Option, Some, None, Result, Ok, Err, if◌then◌else◌}
 use Rattle.packet_frame.specs.declared.fault.FrameFault.{FrameFault}
 use Rattle.packet_frame.specs.declared.fault.FrameFault.TheVariants.{OutOfOrder, TooLarge}
-use Rattle.packet_frame.specs.Packets.{Found, next_id, first_message, spelling}
+use Rattle.packet_frame.specs.Packets.{Found, longest, next_id, first_message, spelling}
 use Rattle.packet_frame.specs.Packets.Found.{Nothing, Whole, Faulty}
 use Rattle.handshake.specs.declared.fault.HandFault.{HandFault}
 use Rattle.handshake.specs.declared.greeting.Greeting.{Greeting}
@@ -33,10 +33,11 @@ abbrev pub needs_switch : Option (List ℕ) → Bool
 needs_switch None = false
 needs_switch (Some plugin) = not (bytes_eq plugin native_password)
 
--- the id of an answer to a packet that can't be, where one of the id `due` was due
+-- the id of an answer to a packet that can't be, of a message that begins with the id `due`; of one that is too large
+-- the packets before that one have the longest body
 abbrev pub fault_id : (due : ℕ) → FrameFault → ℕ
 fault_id due (OutOfOrder expected found) = next_id found
-fault_id due (TooLarge length) = next_id due
+fault_id due (TooLarge length) = next_id (due + (length - 1) / longest)
 
 -- Not all of the login is there; who the client is, with its answer, the id of the answer to that, and the bytes behind the login; or why it
 -- can't be read, with that id. Each says whether the client is asked to switch.

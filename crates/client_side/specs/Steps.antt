@@ -1,7 +1,7 @@
 -- What a client says next, and what is left of it.
 use Rattle.std.specs.Prelude.{◌≡◌, ◌⊎◌, ℕ, true, ◌++◌, IsSome, Result, Ok, Err, if◌then◌else◌}
 use Rattle.packet_frame.specs.FramerState.{look, seen}
-use Rattle.packet_frame.specs.Packets.{Framed, Found}
+use Rattle.packet_frame.specs.Packets.{Framed, Found, next_id}
 use Rattle.packet_frame.specs.Packets.Found.{Nothing, Whole, Faulty}
 use Rattle.handshake.specs.declared.fault.HandFault.{HandFault}
 use Rattle.handshake.specs.declared.response.Response.{Response}
@@ -26,7 +26,7 @@ looked client found = record client { framer = seen client.framer found }
 abbrev pub nothing : ClientState → Next
 nothing client = record { step = step.Nothing; client = looked client Nothing }
 
--- a packet can't be, where one of the id `due` was due
+-- a packet can't be, of a message that begins with the id `due`
 abbrev pub unframed : (due : ℕ) → Rattle.packet_frame.specs.declared.fault.FrameFault.FrameFault → ClientState → Next
 unframed due fault client = record { step = step.Refused (fault_id due fault) (Frame fault); client = looked client (Faulty fault) }
 
@@ -41,27 +41,27 @@ logs_in response first client = record { step = step.Login first; client = recor
 -- the bare answer
 abbrev pub answer_found : Response → ClientState → Found → Next
 answer_found response client Nothing = nothing client
-answer_found response client (Whole message rest) = logs_in (record response { answer = message.payload }) 4 (behind message client)
+answer_found response client (Whole message rest) = logs_in (record response { answer = message.payload }) (next_id message.last) (behind message client)
 answer_found response client (Faulty fault) = unframed 3 fault client
 
 -- the client is asked to switch
 abbrev pub asked : Response → ClientState → ClientState
 asked response client = record client { stage = stage.Answer response; outgoing = client.outgoing ++ switch_said client.salt }
 
--- the response
-abbrev pub response_read : Result Response HandFault → ClientState → Next
-response_read (Err fault) client = record { step = step.Refused 2 (Hand fault); client = record client { stage = stage.Refused 2 fault } }
-response_read (Ok response) client = if needs_switch response.plugin then answer_found response (asked response client) (look 3 client.framer) else logs_in response 2 client
+-- the response, where the id of an answer to it is `id`
+abbrev pub response_read : (id : ℕ) → Result Response HandFault → ClientState → Next
+response_read id (Err fault) client = record { step = step.Refused id (Hand fault); client = record client { stage = stage.Refused id fault } }
+response_read id (Ok response) client = if needs_switch response.plugin then answer_found response (asked response client) (look 3 client.framer) else logs_in response id client
 
 abbrev pub response_found : ClientState → Found → Next
 response_found client Nothing = nothing client
-response_found client (Whole message rest) = response_read (response_of message.payload) (behind message client)
+response_found client (Whole message rest) = response_read (next_id message.last) (response_of message.payload) (behind message client)
 response_found client (Faulty fault) = unframed 1 fault client
 
 -- a command
 abbrev pub command_found : ClientState → Found → Next
 command_found client Nothing = nothing client
-command_found client (Whole message rest) = record { step = step.Message (counted client.arrived) 1; client = looked client (Whole message rest) }
+command_found client (Whole message rest) = record { step = step.Message (counted client.arrived) (next_id message.last); client = looked client (Whole message rest) }
 command_found client (Faulty fault) = unframed 0 fault client
 
 -- by how far the login is
@@ -78,7 +78,7 @@ IsAnswerNext (stage.Answer response) client next = next ≡ answer_found respons
 IsAnswerNext _ client next = Unit {0}
 
 abbrev pub IsAnswerRead : Stage → Framed → ClientState → Next → Type 0
-IsAnswerRead (stage.Answer response) message client next = next ≡ logs_in (record response { answer = message.payload }) 4 (behind message client)
+IsAnswerRead (stage.Answer response) message client next = next ≡ logs_in (record response { answer = message.payload }) (next_id message.last) (behind message client)
 IsAnswerRead _ message client next = Unit {0}
 
 -- what was found stays until it is done with

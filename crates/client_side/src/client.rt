@@ -30,9 +30,9 @@ impl Model for Client {
 }
 
 impl Client {
-    ghost use Rattle.std.specs.Prelude.{◌≡◌, ◌<◌, ◌≤◌, ◌++◌, length, drop, IsSome, IfSome, IfOk, OnOk, OnErr};
+    ghost use Rattle.std.specs.Prelude.{◌≡◌, ◌≤◌, ◌++◌, length, drop, IsSome, IfSome, IfOk, OnOk, OnErr};
     ghost use Rattle.std.specs.Option.{option_copied};
-    ghost use Rattle.packet_frame.specs.Packets.{longest, lacking, id_of_answer};
+    ghost use Rattle.packet_frame.specs.Packets.{lacking, id_of_answer};
     ghost use Rattle.handshake.specs.Spelling.{IsText};
     ghost use Rattle.client_side.specs.Client.{ClientState, told_first, new_client, fed, login_of, HasFound, IsDone};
 
@@ -45,7 +45,6 @@ impl Client {
         limit: u64,
         version: &[u8],
     ) -> Result<Self, OutOfMemory>
-        requires limit { limit < longest }
         requires text { IsText version.now }
         requires short { length version.now ≤ 255 }
         ensures { IfOk result (λ client. client ≡ new_client number salt limit version.now) }
@@ -63,7 +62,6 @@ impl Client {
         limit: u64,
         first: &[u8],
     ) -> Result<Self, OutOfMemory>
-        requires limit { limit < longest }
         ensures { IfOk result (λ client. client ≡ told_first number salt limit first.now) }
     {
         let mut outgoing = ByteQueue::new(alloc);

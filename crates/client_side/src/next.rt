@@ -1,6 +1,7 @@
 // What a client says next.
 ghost use Rattle.std.specs.Prelude.{◌≡◌, IfOk};
 ghost use Rattle.handshake.specs.declared.response.Response.{Response};
+ghost use Rattle.packet_frame.specs.Packets.{next_id};
 ghost use Rattle.client_side.specs.Client.{counted};
 ghost use Rattle.client_side.specs.Login.{fault_id, needs_switch};
 
@@ -13,6 +14,9 @@ use mx_base::{Bytes, OutOfMemory};
 use packet_frame::FrameFault;
 use std::mem;
 
+// The length of the longest body of a packet.
+const LONGEST: u64 = 16_777_215;
+
 /// One more, unless it is the last value.
 pub fn counted(count: u64) -> u64
     ensures { result ≡ counted count }
@@ -20,14 +24,25 @@ pub fn counted(count: u64) -> u64
     if count < u64::MAX { count + 1 } else { count }
 }
 
-// The sequence id of the answer to a packet that can't be, where one of the id `due` was due.
+// The sequence id of the answer to a packet that can't be, of a message that begins with the id `due`: the packets before
+// one that makes it too large have the longest body.
 fn fault_id(due: u8, fault: FrameFault) -> u8
     ensures { result ≡ fault_id due fault }
 {
     match fault {
-        FrameFault::OutOfOrder { found, .. } => found.wrapping_add(1),
-        FrameFault::TooLarge { .. } => due.wrapping_add(1),
+        FrameFault::OutOfOrder { found, .. } => following(found),
+        FrameFault::TooLarge { length } => {
+            let before = length.saturating_sub(1) / LONGEST % 256;
+            following(due.wrapping_add(before as u8))
+        }
     }
+}
+
+// The sequence id that follows.
+fn following(id: u8) -> u8
+    ensures { result ≡ next_id id }
+{
+    id.wrapping_add(1)
 }
 
 // Whether the response names another login method than the one that the router has.
@@ -46,6 +61,7 @@ impl Client {
     ghost use Rattle.handshake.specs.Reading.{Gives};
     ghost use Rattle.handshake.specs.Response.{response_of};
     ghost use Rattle.client_side.specs.Client.{ClientState, IsSame};
+    ghost use Rattle.packet_frame.specs.Packets.{next_id};
     ghost use Rattle.packet_frame.specs.FramerState.{look};
     ghost use Rattle.client_side.specs.Login.{switch_said};
     ghost use Rattle.client_side.specs.Steps.{next_of, response_found, response_read, answer_found, command_found, behind, asked, looked, IsAnswerNext, IsAnswerRead, IsFoundBy, IsUnread, IsUnanswered, IsHeldUp};
@@ -81,7 +97,7 @@ impl Client {
     {
         match self.framer.next(1) {
             Ok(None) => Ok(ClientStep::Nothing),
-            Ok(Some(_)) => self.read(),
+            Ok(Some(message)) => self.read(following(message.last)),
             Err(fault) => Ok(ClientStep::Refused {
                 first: fault_id(1, fault),
                 fault: ClientFault::Frame(fault),
@@ -89,10 +105,10 @@ impl Client {
         }
     }
 
-    // The response that was found.
-    fn read(&mut self) -> Result<ClientStep, OutOfMemory>
+    // The response that was found; `first` is the sequence id of an answer to it.
+    fn read(&mut self, first: u8) -> Result<ClientStep, OutOfMemory>
         requires { IsSome self.old.framer.found }
-        ensures step { IfOk result (λ step. IfSome self.old.framer.found (λ message. record { step = step; client = self.new } ≡ response_read (response_of message.payload) (behind message self.old))) }
+        ensures step { IfOk result (λ step. IfSome self.old.framer.found (λ message. record { step = step; client = self.new } ≡ response_read first (response_of message.payload) (behind message self.old))) }
         ensures err { OnErr result (IfSome self.old.framer.found (λ message. IsUnread message self.old self.new)) }
     {
         match read_response(self.alloc, self.framer.payload()) {
@@ -102,28 +118,28 @@ impl Client {
                     self.next_answer()
                 } else {
                     self.framer.done();
-                    self.stage = Stage::Login { response, first: 2 };
-                    Ok(ClientStep::Login { first: 2 })
+                    self.stage = Stage::Login { response, first };
+                    Ok(ClientStep::Login { first })
                 }
             }
-            Err(fault) => self.refuse(fault),
+            Err(fault) => self.refuse(first, fault),
         }
     }
 
     // The response that was found can't be read.
     #[tactic(auto, using(crate::proofs::Given::given_fault))]
-    fn refuse(&mut self, fault: HandFault) -> Result<ClientStep, OutOfMemory>
+    fn refuse(&mut self, first: u8, fault: HandFault) -> Result<ClientStep, OutOfMemory>
         requires { IsSome self.old.framer.found }
-        ensures step { IfOk result (λ step. IfSome self.old.framer.found (λ message. (read : Result Response HandFault) → Gives (Err fault) read → record { step = step; client = self.new } ≡ response_read read (behind message self.old))) }
+        ensures step { IfOk result (λ step. IfSome self.old.framer.found (λ message. (read : Result Response HandFault) → Gives (Err fault) read → record { step = step; client = self.new } ≡ response_read first read (behind message self.old))) }
         ensures err { OnErr result (self.new ≡ self.old) }
     {
         match fault {
             HandFault::OutOfMemory => Err(OutOfMemory),
             fault => {
                 self.framer.done();
-                self.stage = Stage::Refused { first: 2, fault };
+                self.stage = Stage::Refused { first, fault };
                 Ok(ClientStep::Refused {
-                    first: 2,
+                    first,
                     fault: ClientFault::Hand(fault),
                 })
             }
@@ -158,7 +174,7 @@ impl Client {
     {
         match self.framer.next(3) {
             Ok(None) => Ok(ClientStep::Nothing),
-            Ok(Some(_)) => self.read_answer(),
+            Ok(Some(message)) => self.read_answer(following(message.last)),
             Err(fault) => Ok(ClientStep::Refused {
                 first: fault_id(3, fault),
                 fault: ClientFault::Frame(fault),
@@ -166,10 +182,10 @@ impl Client {
         }
     }
 
-    // The bare answer that was found.
-    fn read_answer(&mut self) -> Result<ClientStep, OutOfMemory>
+    // The bare answer that was found; `first` is the sequence id of an answer to it.
+    fn read_answer(&mut self, first: u8) -> Result<ClientStep, OutOfMemory>
         requires { IsSome self.old.framer.found }
-        ensures step { IfOk result (λ step. IfSome self.old.framer.found (λ message. IsAnswerRead self.old.stage message self.old (record { step = step; client = self.new }))) }
+        ensures step { IfOk result (λ step. IfSome self.old.framer.found (λ message. first ≡ next_id message.last → IsAnswerRead self.old.stage message self.old (record { step = step; client = self.new }))) }
         ensures err { OnErr result (self.new ≡ self.old) }
     {
         let answer = Bytes::from_slice(self.alloc, self.framer.payload())?;
@@ -177,9 +193,9 @@ impl Client {
         let stage = mem::replace(&mut self.stage, Stage::Commands);
         if let Stage::Answer(mut response) = stage {
             response.answer = answer;
-            self.stage = Stage::Login { response, first: 4 };
+            self.stage = Stage::Login { response, first };
         }
-        Ok(ClientStep::Login { first: 4 })
+        Ok(ClientStep::Login { first })
     }
 
     // The command, where one is whole.
@@ -188,9 +204,9 @@ impl Client {
     {
         match self.framer.next(0) {
             Ok(None) => ClientStep::Nothing,
-            Ok(Some(_)) => ClientStep::Message {
+            Ok(Some(message)) => ClientStep::Message {
                 ordinal: counted(self.arrived),
-                first: 1,
+                first: following(message.last),
             },
             Err(fault) => ClientStep::Refused {
                 first: fault_id(0, fault),

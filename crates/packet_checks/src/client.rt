@@ -1,10 +1,8 @@
 // The link of a client.
-ghost use Rattle.std.specs.Prelude.{◌<◌};
-
 use crate::login::show_response;
 use crate::show::{debug, nothing, word};
 use crate::steps::{Steps, take_steps};
-use crate::text::{LONGEST, is_text, limit_of, number_of, salt_of};
+use crate::text::{is_text, number_of, salt_of};
 use check_lines::{Case, CaseFault, bytes_of, shown};
 use client_side::{Client, ClientStep};
 use mx_base::ClientNo;
@@ -15,7 +13,7 @@ use std::alloc::Global;
 /// the words of `look`. `told <number> <limit> <salt> <bytes> <step> ..`: one that is told these bytes in the greeting's place.
 pub fn serve(alloc: Global, case: &mut Case<'_>) -> Result<String, CaseFault> {
     let number = ClientNo(case.number()?);
-    let limit = limit_of(case)?;
+    let limit = case.number()?;
     let salt = salt_of(alloc, case)?;
     let first = case.bytes(alloc)?;
     match begun(alloc, case.reader, number, salt, limit, &first) {
@@ -32,9 +30,7 @@ fn begun(
     salt: [u8; 20],
     limit: u64,
     first: &[u8],
-) -> Result<Client, CaseFault>
-    requires { limit < LONGEST }
-{
+) -> Result<Client, CaseFault> {
     if reader == "told" {
         return Ok(Client::told(alloc, number, salt, limit, first)?);
     }

@@ -1,7 +1,7 @@
 // Messages out of packets, and back.
 use crate::show::{debug, nothing, with_id};
 use crate::steps::{Steps, take_steps};
-use crate::text::{id_of, limit_of};
+use crate::text::id_of;
 use check_lines::{Case, CaseFault, bytes_of, shown};
 use mx_base::{Bytes, OutOfMemory};
 use packet_frame::{Framer, Payloads, payloads_of, write_message};
@@ -10,7 +10,7 @@ use std::alloc::Global;
 /// `framer <limit> <step> ..`: a Framer that is led through the steps `feed=<piece>`, `next=<first>`, `kept`, `announced`,
 /// `err_id=<unfed>` and `take=<first>`, which is next, then payload and done where a message is found.
 pub fn feed(alloc: Global, case: &mut Case<'_>) -> Result<String, CaseFault> {
-    let mut framer = Framer::new(alloc, limit_of(case)?);
+    let mut framer = Framer::new(alloc, case.number()?);
     take_steps(alloc, case, &mut framer)
 }
 
@@ -42,7 +42,7 @@ fn take(alloc: Global, framer: &mut Framer, first: u8) -> Result<String, CaseFau
 
 /// `payloads_of <limit> <first> <piece> ..`: the fault behind the messages of the pieces, and their payloads.
 pub fn join(alloc: Global, case: &mut Case<'_>) -> Result<String, CaseFault> {
-    let limit = limit_of(case)?;
+    let limit = case.number()?;
     let first = case.number()?;
     let pieces = pieces_of(alloc, case.rest_text())?;
     match payloads_of(alloc, limit, first, &pieces) {

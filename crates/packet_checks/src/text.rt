@@ -1,22 +1,9 @@
 // What the texts of a case spell.
-ghost use Rattle.std.specs.Prelude.{◌<◌, ◌↔◌, IsTrue, IfOk};
+ghost use Rattle.std.specs.Prelude.{◌↔◌, IsTrue};
 ghost use Rattle.handshake.specs.Spelling.{IsText};
 
 use check_lines::{Case, CaseFault};
 use std::alloc::Global;
-
-/// The length of the longest body of a packet.
-pub const LONGEST: u64 = 16_777_215;
-
-/// The next field, a limit of messages, which are of one packet.
-pub fn limit_of(case: &mut Case<'_>) -> Result<u64, CaseFault>
-    ensures { IfOk result (λ limit. limit < LONGEST) }
-{
-    match case.number()? {
-        limit if limit < LONGEST => Ok(limit),
-        _ => Err(CaseFault::Bad),
-    }
-}
 
 /// The next field, the 20 bytes of a salt.
 pub fn salt_of(alloc: Global, case: &mut Case<'_>) -> Result<[u8; 20], CaseFault> {

@@ -1,13 +1,13 @@
 -- Messages that are taken from a framer, one after the other.
-use Rattle.std.proofs.Common.{◌≡◌, ◌≤◌, ◌<◌, ℕ, zero, suc, ◌+◌, List, [], ◌∷◌, ◌++◌, length, map, take, drop, slice_index_or, Option, Some, None, Result, Ok, Err, refl, ◌∙◌, sym, ap, subst, arith, length-drop, append_assoc, append-nil}
+use Rattle.std.proofs.Common.{◌≡◌, ◌<◌, ℕ, zero, suc, ◌+◌, List, [], ◌∷◌, ◌++◌, length, map, take, drop, slice_index_or, Option, Some, None, Result, Ok, Err, refl, ◌∙◌, sym, ap, subst, arith, append_assoc, append-nil}
 use Rattle.std.proofs.lemmas.List.{map-append}
 use Rattle.packet_frame.specs.declared.fault.FrameFault.{FrameFault}
 use Rattle.packet_frame.specs.declared.message.Message.{Message}
-use Rattle.packet_frame.specs.Packets.{Framed, Found, first_message, Split, with_front, split, grown, longest}
+use Rattle.packet_frame.specs.Packets.{Framed, Found, first_message, Split, with_front, split, grown, message_size}
 use Rattle.packet_frame.specs.Packets.Found.{Nothing, Whole, Faulty}
-use Rattle.packet_frame.specs.Laws.{split-nothing, split-whole, split-faulty, split-grown, first_message-empty}
-use Rattle.packet_frame.specs.OnePacket.{first_message-whole}
-use Rattle.packet_frame.specs.FramerState.{FramerState, look_by, look, seen, answer}
+use Rattle.packet_frame.specs.Laws.{split-nothing, split-whole, split-faulty, split-grown, first_message-empty, first_message-shorter}
+use Rattle.packet_frame.specs.MessageLaws.{first_message-goes}
+use Rattle.packet_frame.specs.FramerState.{FramerState, look_by, look, seen, answer, past}
 use Rattle.packet_frame.specs.Pieces.{joined, payload_of, pending_by, pending, IsTaken, AllTaken}
 
 -- more bytes
@@ -24,7 +24,6 @@ pub taken-fed : (first : ℕ) (bytes piece : List ℕ) (payloads : List (List �
 taken-fed first bytes piece payloads state at =
     let left : Split = pending first state in
     record {
-      short = at.short;
       taken = at.taken;
       are = at.are;
       others = split-grown state.limit first bytes piece
@@ -55,7 +54,6 @@ pub taken-looked : (first : ℕ) (all : Split) (payloads : List (List ℕ)) (sta
 taken-looked first all payloads state next is at =
     let left : pending first (seen state (look first state)) ≡ pending first state = looked-left state.limit first state.kept state.found state.fault (first_message state.limit first state.kept) refl in
     subst (IsTaken first all payloads) (sym is) (record {
-      short = rw (seen-limit state (look first state)) at.short;
       taken = at.taken;
       are = at.are;
       others = at.others ∙ ap (with_front at.taken) (sym left);
@@ -95,32 +93,36 @@ looked-fault first state next result fault is gives faulty =
 pub record Ready (first : ℕ) (message : Framed) (state : FramerState) : Type 0 where
   pub found : state.found ≡ Some message
   pub faultless : state.fault ≡ None
-  pub there : 4 + length message.payload ≤ length state.kept
-  pub left : split state.limit first state.kept ≡ with_front (message ∷ []) (split state.limit first (drop (4 + length message.payload) state.kept))
+  pub shorter : length (past state).kept < length state.kept
+  pub left : split state.limit first state.kept ≡ with_front (message ∷ []) (split state.limit first (past state).kept)
 
 found-message : (found : Found) (message : Message) → answer found ≡ Ok (Some message) → (framed : Framed) × (rest : List ℕ) × (found ≡ Whole framed rest)
 found-message Nothing message is = absurd (cc)
 found-message (Whole framed rest) message is = (framed, rest, refl)
 found-message (Faulty fault) message is = absurd (cc)
 
-ready-by : (limit first : ℕ) (kept : List ℕ) (fault : Option FrameFault) (message : Framed) (rest : List ℕ) → limit < longest → look_by fault (first_message limit first kept) ≡ Whole message rest → Ready first message (record { limit = limit; kept = kept; found = Some message; fault = fault })
-ready-by limit first kept None message rest short is =
-    let at = first_message-whole limit first kept message rest short is in
-    record { found = refl; faultless = refl; there = at.there; left = split-whole limit first kept message rest is ∙ ap (λ xs. with_front (message ∷ []) (split limit first xs)) at.goes }
-ready-by limit first kept (Some fault) message rest short is = absurd (cc)
+ready-by : (limit first : ℕ) (kept : List ℕ) (fault : Option FrameFault) (message : Framed) (rest : List ℕ) → look_by fault (first_message limit first kept) ≡ Whole message rest → Ready first message (record { limit = limit; kept = kept; found = Some message; fault = fault })
+ready-by limit first kept None message rest is =
+    let goes : rest ≡ drop (message_size kept) kept = first_message-goes limit first kept message rest is in
+    record {
+      found = refl;
+      faultless = refl;
+      shorter = omega (arith, first_message-shorter limit first kept message rest is, ap length goes);
+      left = split-whole limit first kept message rest is ∙ ap (λ xs. with_front (message ∷ []) (split limit first xs)) goes;
+    }
+ready-by limit first kept (Some fault) message rest is = absurd (cc)
 
-pub looked-message : (first : ℕ) (state next : FramerState) (result : Result (Option Message) FrameFault) (message : Message) → state.limit < longest → next ≡ seen state (look first state) → result ≡ answer (look first state) → result ≡ Ok (Some message) → (framed : Framed) × Ready first framed next
-looked-message first state next result message short is gives found =
+pub looked-message : (first : ℕ) (state next : FramerState) (result : Result (Option Message) FrameFault) (message : Message) → next ≡ seen state (look first state) → result ≡ answer (look first state) → result ≡ Ok (Some message) → (framed : Framed) × Ready first framed next
+looked-message first state next result message is gives found =
     let at = found-message (look first state) message (sym gives ∙ found) in
-    (at.0, subst (Ready first at.0) (sym (is ∙ ap (seen state) at.2)) (ready-by state.limit first state.kept state.fault at.0 at.1 short at.2))
+    (at.0, subst (Ready first at.0) (sym (is ∙ ap (seen state) at.2)) (ready-by state.limit first state.kept state.fault at.0 at.1 at.2))
 
-pub taken-done : (first : ℕ) (all : Split) (payloads more : List (List ℕ)) (message : Framed) (state next : FramerState) → Ready first message state → more ≡ payloads ++ message.payload ∷ [] → next ≡ record state { kept = drop (4 + length message.payload) state.kept; found = None } → IsTaken first all payloads state → IsTaken first all more next
+pub taken-done : (first : ℕ) (all : Split) (payloads more : List (List ℕ)) (message : Framed) (state next : FramerState) → Ready first message state → more ≡ payloads ++ message.payload ∷ [] → next ≡ past state → IsTaken first all payloads state → IsTaken first all more next
 taken-done first all payloads more message state next ready more_is next_is at =
-    let rest : Split = split state.limit first (drop (4 + length message.payload) state.kept) in
+    let rest : Split = split state.limit first (past state).kept in
     let left : pending first state ≡ with_front (message ∷ []) rest = ap (λ fault. pending_by fault state.kept (split state.limit first state.kept)) ready.faultless ∙ ready.left in
-    let behind : pending first (record state { kept = drop (4 + length message.payload) state.kept; found = None }) ≡ rest = ap (λ fault. pending_by fault (drop (4 + length message.payload) state.kept) rest) ready.faultless in
+    let behind : pending first (past state) ≡ rest = ap (λ fault. pending_by fault (past state).kept rest) ready.faultless in
     subst (IsTaken first all more) (sym next_is) (record {
-      short = at.short;
       taken = at.taken ++ message ∷ [];
       are = more_is ∙ ap (λ xs. xs ++ message.payload ∷ []) at.are ∙ sym (map-append payload_of at.taken (message ∷ []));
       others = at.others ∙ ap (with_front at.taken) left
@@ -128,16 +130,16 @@ taken-done first all payloads more message state next ready more_is next_is at =
           ∙ ap (with_front (at.taken ++ message ∷ [])) (sym behind);
     })
 
-pub taken-shorter : (first : ℕ) (message : Framed) (state next : FramerState) → Ready first message state → next ≡ record state { kept = drop (4 + length message.payload) state.kept; found = None } → length next.kept < length state.kept
-taken-shorter first message state next ready is = omega (arith, ready.there, ap (λ (s : FramerState). length s.kept) is, length-drop (4 + length message.payload) state.kept)
+pub taken-shorter : (first : ℕ) (message : Framed) (state next : FramerState) → Ready first message state → next ≡ past state → length next.kept < length state.kept
+taken-shorter first message state next ready is = omega (arith, ready.shorter, ap (λ (s : FramerState). length s.kept) is)
 
 -- all that the bytes have
-pub all-none : (limit first : ℕ) → limit < longest → AllTaken limit first [] [] None (record { limit = limit; kept = []; found = None; fault = None })
-all-none limit first short =
+pub all-none : (limit first : ℕ) → AllTaken limit first [] [] None (record { limit = limit; kept = []; found = None; fault = None })
+all-none limit first =
     let none = split-nothing limit first [] (first_message-empty limit first) in
     record {
       same = refl;
-      part = record { short = short; taken = []; are = refl; others = refl };
+      part = record { taken = []; are = refl; others = refl };
       dry = ap (λ (s : Split). s.messages) none;
       faulty = ap (λ (s : Split). s.fault) none;
     }

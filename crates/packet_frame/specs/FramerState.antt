@@ -1,9 +1,10 @@
 -- What a framer is to its callers, and what it finds.
-use Rattle.std.specs.Prelude.{ℕ, ◌+◌, ◌≤◌, List, length, take, drop, Option, Some, None, Result, Ok, Err}
+use Rattle.std.specs.Prelude.{ℕ, List, drop, Option, Some, None, Result, Ok, Err}
 use Rattle.packet_frame.specs.declared.fault.FrameFault.{FrameFault}
 use Rattle.packet_frame.specs.declared.message.Message.{Message}
-use Rattle.packet_frame.specs.Packets.{Framed, Found, first_message}
+use Rattle.packet_frame.specs.Packets.{Framed, Found, first_message, message_size}
 use Rattle.packet_frame.specs.Packets.Found.{Nothing, Whole, Faulty}
+use Rattle.packet_frame.specs.Joining.{Joined, as_read, joined_message, told}
 
 -- the length of the longest message that it takes, the bytes that it keeps, the message that it found, and its fault
 pub record FramerState : Type 0 where
@@ -28,14 +29,17 @@ seen state (Faulty fault) = record state { found = None; fault = Some fault }
 
 abbrev pub answer : Found → Result (Option Message) FrameFault
 answer Nothing = Ok None
-answer (Whole message rest) = Ok (Some (record { last = message.last; length = length message.payload }))
+answer (Whole message rest) = Ok (Some (told message))
 answer (Faulty fault) = Err fault
 
--- a message that was found at the front of the kept bytes, which is one packet
-abbrev pub framed : Option Message → List ℕ → Option Framed
-framed None kept = None
-framed (Some message) kept = Some (record { first = message.last; last = message.last; payload = take message.length (drop 4 kept) })
+-- the state without the message that was found
+abbrev pub past : FramerState → FramerState
+past state = record state { kept = drop (message_size state.kept) state.kept; found = None }
 
-abbrev pub IsKept : (limit : ℕ) → Option Message → List ℕ → Type 0
-IsKept limit None kept = Unit {0}
-IsKept limit (Some message) kept = (message.length ≤ limit) × (4 + message.length ≤ length kept)
+-- what a framer is by the packets that it joined: a message is found while there is no fault
+abbrev pub found_unless : Option FrameFault → Option Framed → Option Framed
+found_unless None message = message
+found_unless (Some fault) message = None
+
+abbrev pub framer_of : (limit : ℕ) → Option FrameFault → Joined → FramerState
+framer_of limit fault joined = record { limit = limit; kept = as_read joined; found = found_unless fault (joined_message joined); fault = fault }

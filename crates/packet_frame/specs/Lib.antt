@@ -1,4 +1,5 @@
 pub mod FramerState
+pub mod Joining
 pub mod Laws
 pub mod MessageLaws
 pub mod OnePacket

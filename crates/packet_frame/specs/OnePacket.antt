@@ -1,17 +1,13 @@
 -- Messages shorter than the longest body are one packet.
 use Rattle.std.specs.Prelude.{◌≡◌, ◌≤◌, ◌<◌, ℕ, ◌+◌, ◌/◌, false, nat_eq, List, [], ◌∷◌, ◌++◌, length, take, drop, refl}
-use Rattle.std.proofs.Common.{◌∙◌, sym, ap, arith, length-drop}
+use Rattle.std.proofs.Common.{◌∙◌, sym, ap, arith}
 use Rattle.std.proofs.lemmas.Bool.Decides.{nat_tests}
-use Rattle.std.proofs.lemmas.List.{length-take-le}
 use Rattle.mx_base.specs.Fields.{AreBytes}
-use Rattle.packet_frame.specs.Packets.{Framed, Found, first_packet, packet_length, and_then, continued, message_within, first_message, next_id, longest, packet, spelling}
+use Rattle.packet_frame.specs.Packets.{Framed, Found, first_packet, and_then, continued, message_within, first_message, message_size, next_id, longest, packet, spelling}
 use Rattle.packet_frame.specs.Packets.Found.{Nothing, Whole, Faulty}
-use Rattle.packet_frame.specs.PacketLaws.{PacketAt, first_packet-whole}
+use Rattle.packet_frame.specs.PacketLaws.{packet_size, first_packet-whole}
+use Rattle.packet_frame.specs.MessageLaws.{first_message-goes}
 use Rattle.packet_frame.specs.SpellingLaws.{first_message-spelled}
-
--- the length of the packet that is there
-pub packet_size : (limit announced id : ℕ) (bytes : List ℕ) (found : Framed) (rest : List ℕ) → PacketAt limit announced id bytes found rest → length found.payload ≡ packet_length bytes
-packet_size limit announced id bytes found rest at = ap (λ (m : Framed). length m.payload) at.is ∙ length-take-le (packet_length bytes) (drop 4 bytes) (omega (arith, length-drop 4 bytes, at.there))
 
 apart : (a b : ℕ) → a < b → nat_eq a b ≡ false
 apart a b less = grind (arith, nat_tests)
@@ -36,7 +32,7 @@ pub record IsMessageOf (limit first : ℕ) (bytes : List ℕ) (message : Framed)
   pub fits : length message.payload ≤ limit
   pub there : 4 + length message.payload ≤ length bytes
   pub is : message.payload ≡ take (length message.payload) (drop 4 bytes)
-  pub goes : rest ≡ drop (4 + length message.payload) bytes
+  pub goes : rest ≡ drop (message_size bytes) bytes
   pub spelled : AreBytes bytes → bytes ≡ spelling first message.payload ++ rest
 
 pub first_message-whole : (limit first : ℕ) (bytes : List ℕ) (message : Framed) (rest : List ℕ) → limit < longest → first_message limit first bytes ≡ Whole message rest → IsMessageOf limit first bytes message rest
@@ -49,7 +45,7 @@ first_message-whole limit first bytes message rest short whole =
       fits = omega (arith, size, at.allowed);
       there = omega (arith, size, at.there);
       is = rw size (ap (λ (m : Framed). m.payload) at.is);
-      goes = rw size at.goes;
+      goes = first_message-goes limit first bytes message rest whole;
       spelled = λ are. (first_message-spelled limit first bytes message rest are whole).1;
     }
 

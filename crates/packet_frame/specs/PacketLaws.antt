@@ -69,6 +69,10 @@ pub first_packet-is : (limit announced id : ℕ) (bytes : List ℕ) → 4 ≤ le
     → first_packet limit announced id bytes ≡ Whole (record { first = id; last = id; payload = take (packet_length bytes) (drop 4 bytes) }) (drop (4 + packet_length bytes) bytes)
 first_packet-is limit announced id bytes header due allowed there = rw (le-ltb (length bytes) 4 header, due, le-ltb limit (announced + packet_length bytes) allowed, le-ltb (length bytes) (4 + packet_length bytes) there) (grind arith)
 
+-- the length of the packet that is there
+pub packet_size : (limit announced id : ℕ) (bytes : List ℕ) (found : Framed) (rest : List ℕ) → PacketAt limit announced id bytes found rest → length found.payload ≡ packet_length bytes
+packet_size limit announced id bytes found rest at = ap (λ (m : Framed). length m.payload) at.is ∙ length-take-le (packet_length bytes) (drop 4 bytes) (omega (arith, length-drop 4 bytes, at.there))
+
 -- where it begins with a fault
 pub record FaultAt (limit announced id : ℕ) (bytes : List ℕ) (fault : FrameFault) : Type 0 where
   pub header : 4 ≤ length bytes
@@ -124,5 +128,4 @@ first_packet-faulty-more limit announced id bytes more fault faulty =
 
 pub packet_shorter : (limit announced id : ℕ) (bytes : List ℕ) (found : Framed) (rest : List ℕ) → PacketAt limit announced id bytes found rest → length rest + length found.payload + 4 ≤ length bytes
 packet_shorter limit announced id bytes found rest at =
-    let payload : length found.payload ≡ packet_length bytes = ap (λ (m : Framed). length m.payload) at.is ∙ length-take-le (packet_length bytes) (drop 4 bytes) (omega (arith, length-drop 4 bytes, at.there)) in
-    omega (arith, payload, ap length at.goes, length-drop (4 + packet_length bytes) bytes, at.there)
+    omega (arith, packet_size limit announced id bytes found rest at, ap length at.goes, length-drop (4 + packet_length bytes) bytes, at.there)

@@ -1,7 +1,7 @@
 -- Packets and messages of a list of bytes. A packet is a length of 3 bytes, a sequence id of 1, and a body of that
 -- length. A message is packets with bodies of 16,777,215 bytes and a last one with a shorter body, maybe an empty
 -- one; their ids follow each other, 0 after 255.
-use Rattle.std.specs.Prelude.{ℕ, zero, suc, ◌+◌, ◌-◌, ◌/◌, ◌%◌, nat_lt, nat_eq, not, List, [], ◌∷◌, ◌++◌, length, take, drop, slice_index_or, Option, Some, None, if◌then◌else◌}
+use Rattle.std.specs.Prelude.{ℕ, zero, suc, ◌+◌, ◌-◌, ◌/◌, ◌%◌, nat_lt, nat_le, nat_eq, not, ◌&&◌, List, [], ◌∷◌, ◌++◌, length, take, drop, slice_index_or, Option, Some, None, if◌then◌else◌}
 use Rattle.mx_base.specs.Fields.{little_endian}
 use Rattle.packet_frame.specs.declared.fault.FrameFault.{FrameFault}
 use Rattle.packet_frame.specs.declared.fault.FrameFault.TheVariants.{OutOfOrder, TooLarge}
@@ -123,9 +123,26 @@ id_from last bytes = id_within (length bytes) last bytes
 abbrev pub id_of_answer : List ℕ → ℕ
 id_of_answer bytes = id_from 0 bytes
 
--- what the packet that the bytes begin with still lacks, 0 while its header isn't whole
-abbrev pub lacking : List ℕ → ℕ
-lacking bytes = if nat_lt (length bytes) 4 then 0 else (4 + packet_length bytes) - length bytes
+-- what the last packet of the first message still lacks of which a byte is there, 0 while its header isn't whole
+abbrev pub lacking_within : (packets : ℕ) → List ℕ → ℕ
+lacking_within zero bytes = 0
+lacking_within (suc packets) bytes =
+    if nat_lt (length bytes) 4 then 0
+    else if nat_eq (packet_length bytes) longest && nat_le (4 + longest) (length bytes) then lacking_within packets (drop (4 + longest) bytes)
+    else (4 + packet_length bytes) - length bytes
+
+unfoldable pub lacking : List ℕ → ℕ
+lacking bytes = lacking_within (length bytes) bytes
+
+-- how many bytes the packets of the first message take
+abbrev pub size_within : (packets : ℕ) → List ℕ → ℕ
+size_within zero bytes = 0
+size_within (suc packets) bytes =
+    if nat_eq (packet_length bytes) longest then 4 + longest + size_within packets (drop (4 + longest) bytes)
+    else 4 + packet_length bytes
+
+unfoldable pub message_size : List ℕ → ℕ
+message_size bytes = size_within (length bytes) bytes
 
 -- payloads as packets, one message after the other with ids that go on, and the id behind them
 abbrev pub spellings : (first : ℕ) → List (List ℕ) → List ℕ

@@ -1,7 +1,7 @@
 -- Bytes that come in pieces.
-use Rattle.std.specs.Prelude.{◌≡◌, ◌<◌, ℕ, List, [], ◌∷◌, ◌++◌, map, Option, Some, None}
+use Rattle.std.specs.Prelude.{◌≡◌, ℕ, List, [], ◌∷◌, ◌++◌, map, Option, Some, None}
 use Rattle.packet_frame.specs.declared.fault.FrameFault.{FrameFault}
-use Rattle.packet_frame.specs.Packets.{Framed, Split, with_front, split, longest}
+use Rattle.packet_frame.specs.Packets.{Framed, Split, with_front, split}
 use Rattle.packet_frame.specs.FramerState.{FramerState}
 
 abbrev pub joined : List (List ℕ) → List ℕ
@@ -21,7 +21,6 @@ pending first state = pending_by state.fault state.kept (split state.limit first
 
 -- of all the messages those with these payloads were taken, and the others are still in the framer
 pub record IsTaken (first : ℕ) (all : Split) (payloads : List (List ℕ)) (state : FramerState) : Type 0 where
-  pub short : state.limit < longest
   pub taken : List Framed
   pub are : payloads ≡ map payload_of taken
   pub others : all ≡ with_front taken (pending first state)

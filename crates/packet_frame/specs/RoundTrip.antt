@@ -14,17 +14,26 @@ three_back n small =
     let outer : n / 65536 ≡ n / 256 / 256 = omega arith in
     omega (arith, outer)
 
-packet-again : (limit announced id : ℕ) (body rest : List ℕ) → length body ≤ longest → announced + length body ≤ limit → first_packet limit announced id (packet id body ++ rest) ≡ Whole (record { first = id; last = id; payload = body }) rest
+-- the header and what is behind its packet
+pub packet_length-spelled : (id : ℕ) (body rest : List ℕ) → length body ≤ longest → packet_length (packet id body ++ rest) ≡ length body
+packet_length-spelled id body rest small = three_back (length body) small
+
+pub length-spelled : (id : ℕ) (body rest : List ℕ) → length (packet id body ++ rest) ≡ 4 + length body + length rest
+length-spelled id body rest = omega (arith, length-append body rest)
+
+pub behind-spelled : (id : ℕ) (body rest : List ℕ) → drop (4 + length body) (packet id body ++ rest) ≡ rest
+behind-spelled id body rest = drop-append-add (length body % 256 ∷ length body / 256 % 256 ∷ length body / 65536 ∷ id ∷ []) (body ++ rest) (length body) ∙ drop-append_seam body rest
+
+pub packet-again : (limit announced id : ℕ) (body rest : List ℕ) → length body ≤ longest → announced + length body ≤ limit → first_packet limit announced id (packet id body ++ rest) ≡ Whole (record { first = id; last = id; payload = body }) rest
 packet-again limit announced id body rest small allowed =
-    let size : packet_length (packet id body ++ rest) ≡ length body = three_back (length body) small in
-    let whole : length (packet id body ++ rest) ≡ 4 + length body + length rest = omega (arith, length-append body rest) in
+    let size : packet_length (packet id body ++ rest) ≡ length body = packet_length-spelled id body rest small in
+    let whole : length (packet id body ++ rest) ≡ 4 + length body + length rest = length-spelled id body rest in
     let payload : take (packet_length (packet id body ++ rest)) (body ++ rest) ≡ body = rw size (take-append_seam body rest) in
-    let behind : drop (4 + packet_length (packet id body ++ rest)) (packet id body ++ rest) ≡ rest =
-    rw size (drop-append-add (length body % 256 ∷ length body / 256 % 256 ∷ length body / 65536 ∷ id ∷ []) (body ++ rest) (length body) ∙ drop-append_seam body rest) in
+    let behind : drop (4 + packet_length (packet id body ++ rest)) (packet id body ++ rest) ≡ rest = rw size (behind-spelled id body rest) in
     first_packet-is limit announced id (packet id body ++ rest) (omega (arith, whole)) refl (omega (arith, size)) (omega (arith, size, whole))
     ∙ cc (payload, behind)
 
-same_size : (n : ℕ) → n ≡ longest → nat_eq n longest ≡ true
+pub same_size : (n : ℕ) → n ≡ longest → nat_eq n longest ≡ true
 same_size n is = rw is refl
 
 other_size : (n : ℕ) → n < longest → nat_eq n longest ≡ false

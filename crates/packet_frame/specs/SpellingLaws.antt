@@ -4,10 +4,10 @@ use Rattle.std.proofs.Common.{◌∙◌, sym, ap, subst, inl, inr, arith, length
 use Rattle.std.proofs.Math.Seq.{take-append_seam, drop-append_seam, drop-append-add}
 use Rattle.std.proofs.lemmas.List.{length-take-le, take-append-drop, get_or-drop}
 use Rattle.mx_base.specs.Fields.{AreBytes}
-use Rattle.packet_frame.specs.Packets.{Framed, first_packet, packet_length, packet_id, continued, message_within, first_message, next_id, longest, packet, packets, spelling}
+use Rattle.packet_frame.specs.Packets.{Framed, packet_length, packet_id, message_within, first_message, next_id, longest, packet, packets, spelling}
 use Rattle.packet_frame.specs.Packets.Found.{Whole}
-use Rattle.packet_frame.specs.PacketLaws.{PacketAt, first_packet-whole, nat_eq-true, nat_eq-false}
-use Rattle.packet_frame.specs.MessageLaws.{and_then-whole, chosen-whole}
+use Rattle.packet_frame.specs.PacketLaws.{PacketAt, nat_eq-true, nat_eq-false}
+use Rattle.packet_frame.specs.MessageLaws.{led}
 
 -- three bytes and the number that they spell
 three_bytes : (a b c n : ℕ) → a < 256 → b < 256 → c < 256 → n ≡ a + 256 * (b + 256 * c) → (n % 256 ≡ a) × (n / 256 % 256 ≡ b) × (n / 65536 ≡ c) × (n ≤ longest)
@@ -69,7 +69,7 @@ spelled-more id bytes one next message behind rest first spelled long is others 
 pub AreBytes-drop : (n : ℕ) (bytes : List ℕ) → AreBytes bytes → AreBytes (drop n bytes)
 AreBytes-drop n bytes are i = rw (get_or-drop n bytes i 0) (are (n + i))
 
-packet_at_spelled : (limit announced id : ℕ) (bytes : List ℕ) (found : Framed) (rest : List ℕ) → AreBytes bytes → PacketAt limit announced id bytes found rest → (bytes ≡ packet id found.payload ++ rest) × (length found.payload ≤ longest) × AreBytes rest
+pub packet_at_spelled : (limit announced id : ℕ) (bytes : List ℕ) (found : Framed) (rest : List ℕ) → AreBytes bytes → PacketAt limit announced id bytes found rest → (bytes ≡ packet id found.payload ++ rest) × (length found.payload ≤ longest) × AreBytes rest
 packet_at_spelled limit announced id bytes found rest are at =
     let payload : found.payload ≡ take (packet_length bytes) (drop 4 bytes) = ap (λ (m : Framed). m.payload) at.is in
     let size : length found.payload ≡ packet_length bytes = ap length payload ∙ length-take-le (packet_length bytes) (drop 4 bytes) (omega (arith, length-drop 4 bytes, at.there)) in
@@ -79,17 +79,14 @@ packet_at_spelled limit announced id bytes found rest are at =
 within-spelled : (packets limit announced id : ℕ) (bytes : List ℕ) (message : Framed) (rest : List ℕ) → AreBytes bytes → message_within packets limit announced id bytes ≡ Whole message rest → IsSpelled id bytes message rest
 within-spelled zero limit announced id bytes message rest are whole = absurd (cc)
 within-spelled (suc count) limit announced id bytes message rest are whole =
-    let begins = and_then-whole (first_packet limit announced id bytes) (λ (p : Framed) (r : List ℕ). continued p r (message_within count limit (announced + longest) (next_id id) r)) message rest whole in
-    let one : Framed = begins.0 in
-    let behind : List ℕ = begins.1 in
-    let at = first_packet-whole limit announced id bytes one behind begins.2 in
-    let spelled = packet_at_spelled limit announced id bytes one behind are at in
-    let first : one.first ≡ id = ap (λ (m : Framed). m.first) at.is in
-    elim (chosen-whole (nat_eq (length one.payload) longest) one message behind rest (message_within count limit (announced + longest) (next_id id) behind) begins.3) [
-      | inl last ↦ spelled-last id bytes one message behind rest first spelled.0 spelled.1 last.0 last.1 last.2
+    let by = led count limit announced id bytes message rest whole in
+    let spelled = packet_at_spelled limit announced id bytes by.packet by.behind are by.at in
+    let first : by.packet.first ≡ id = ap (λ (m : Framed). m.first) by.at.is in
+    elim by.goes [
+      | inl last ↦ spelled-last id bytes by.packet message by.behind rest first spelled.0 spelled.1 last.0 last.1 last.2
       | inr long ↦
-          let others = within-spelled count limit (announced + longest) (next_id id) behind long.1 rest spelled.2 long.2 in
-          spelled-more id bytes one long.1 message behind rest first spelled.0 long.0 long.3 others.spelled
+          let others = within-spelled count limit (announced + longest) (next_id id) by.behind long.1 rest spelled.2 long.2 in
+          spelled-more id bytes by.packet long.1 message by.behind rest first spelled.0 long.0 long.3 others.spelled
     ]
 
 pub first_message-spelled : (limit first : ℕ) (bytes : List ℕ) (message : Framed) (rest : List ℕ) → AreBytes bytes → first_message limit first bytes ≡ Whole message rest → (message.first ≡ first) × (bytes ≡ spelling first message.payload ++ rest)

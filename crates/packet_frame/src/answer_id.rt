@@ -1,18 +1,27 @@
 // The sequence id of an answer to bytes that are no whole message.
-ghost use Rattle.std.specs.Prelude.{◌≡◌, ◌≤◌, ◌++◌, length, SomeIff};
+ghost use Rattle.std.specs.Prelude.{◌≡◌, ◌≤◌, ℕ, ◌++◌, length, SomeIff};
 ghost use Rattle.mx_base.specs.Fields.{number_at};
 ghost use Rattle.packet_frame.specs.Packets.{packet_length, packet_id, id_of_answer, id_from};
+ghost use Rattle.packet_frame.specs.Joining.{as_read, IsJoined};
 
 use crate::header::Header;
+use crate::kept::Kept;
 use crate::write::{LONGEST, following};
 use mx_base::get_u8;
 
 /// The id behind that of the last whole header of the first message in the bytes `kept` with `unfed` behind them,
 /// 0 where no header is whole.
-pub(crate) fn answer_id(kept: &[u8], unfed: &[u8]) -> u8
-    ensures { result ≡ id_of_answer (kept.now ++ unfed.now) }
+pub(crate) fn answer_id(kept: &Kept, unfed: &[u8]) -> u8
+    requires { (limit : ℕ) × IsJoined limit kept.now }
+    ensures { result ≡ id_of_answer (as_read kept.now ++ unfed.now) }
 {
-    id_behind_headers(0, kept, unfed)
+    if kept.packets() == 0 {
+        return id_behind_headers(0, kept.rest(), unfed);
+    }
+    match kept.message() {
+        Some(_) => kept.due(),
+        None => id_behind_headers(kept.due(), kept.rest(), unfed),
+    }
 }
 
 // The same, where the id is `last` until a header is whole.

@@ -5,6 +5,8 @@ mod answer_id;
 mod fault;
 mod framer;
 mod header;
+mod joining;
+mod kept;
 mod laws;
 mod message;
 mod pieces;

@@ -1,6 +1,6 @@
 // The messages of bytes that come in pieces.
-ghost use Rattle.std.specs.Prelude.{◌≡◌, ◌<◌, [], IfOk, OnOk, map};
-ghost use Rattle.packet_frame.specs.Packets.{Split, split, longest};
+ghost use Rattle.std.specs.Prelude.{◌≡◌, [], IfOk, OnOk, map};
+ghost use Rattle.packet_frame.specs.Packets.{Split, split};
 ghost use Rattle.packet_frame.specs.Pieces.{joined, payload_of, pending, IsTaken};
 
 use crate::fault::FrameFault;
@@ -24,7 +24,6 @@ pub fn payloads_of(
     first: u8,
     pieces: &[Bytes],
 ) -> Result<Payloads, OutOfMemory>
-    requires { limit < longest }
     ensures payloads { IfOk result (λ found. found.payloads.items ≡ map payload_of (split limit first (joined pieces.now)).messages) }
     ensures fault { IfOk result (λ found. found.fault ≡ (split limit first (joined pieces.now)).fault) }
 {
@@ -45,7 +44,6 @@ fn take_messages(
     first: u8,
     payloads: &mut Vec<Bytes>,
 ) -> Result<Option<FrameFault>, OutOfMemory>
-    requires { framer.old.limit < longest }
     ensures same { framer.new.limit ≡ framer.old.limit }
     ensures part { OnOk result ((all : Split) → IsTaken first all payloads.old.items framer.old → IsTaken first all payloads.new.items framer.new) }
     ensures dry { OnOk result ((pending first framer.new).messages ≡ []) }

@@ -1,6 +1,6 @@
 -- What is heard on a link to a server, and what is left of it.
-use Rattle.std.specs.Prelude.{◌≡◌, ℕ, zero, suc, ◌+◌, ◌-◌, nat_eq, not, ◌&&◌, bytes_eq, List, ◌++◌, length, drop, Option, Some, None, Result, Ok, Err, if◌then◌else◌}
-use Rattle.packet_frame.specs.FramerState.{FramerState, look, seen}
+use Rattle.std.specs.Prelude.{◌≡◌, ℕ, zero, suc, ◌+◌, ◌-◌, nat_eq, not, ◌&&◌, bytes_eq, List, ◌++◌, length, Option, Some, None, Result, Ok, Err, if◌then◌else◌}
+use Rattle.packet_frame.specs.FramerState.{FramerState, look, seen, past}
 use Rattle.packet_frame.specs.Packets.{Framed, Found, spelling}
 use Rattle.packet_frame.specs.Packets.Found.{Nothing, Whole, Faulty}
 use Rattle.reply_text.specs.Replies.{is_lone}
@@ -45,7 +45,7 @@ bad = Fails (BadBytes 0)
 
 -- the framer without the message that it found
 abbrev pub past_message : Framed → FramerState → FramerState
-past_message message framer = record framer { kept = drop (4 + length message.payload) framer.kept; found = None }
+past_message message framer = past framer
 
 abbrev pub behind : Framed → BackendState → BackendState
 behind message backend = record backend { framer = past_message message backend.framer }

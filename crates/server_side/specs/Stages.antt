@@ -7,7 +7,7 @@ use Rattle.packet_frame.specs.Packets.Found.{Nothing, Whole, Faulty}
 use Rattle.packet_frame.specs.PacketLaws.{nat_eq-true, nat_eq-false}
 use Rattle.packet_frame.specs.FramerState.{FramerState, look, look_by}
 use Rattle.packet_frame.specs.Laws.{first_message-whole-more}
-use Rattle.packet_frame.specs.OnePacket.{first_message-whole}
+use Rattle.packet_frame.specs.MessageLaws.{first_message-goes}
 use Rattle.reply_text.specs.Replies.{is_lone}
 use Rattle.handshake.specs.declared.fault.HandFault.{HandFault}
 use Rattle.handshake.specs.declared.greeting.Greeting.{Greeting}
@@ -46,7 +46,7 @@ past-reading message framer reading = record { limited = reading.limited; unfoun
 whole-more : (first : ℕ) (framer : FramerState) (message : Framed) (rest more : List ℕ) → first_message most_payload first framer.kept ≡ Whole message rest → first_message most_payload first (framer.kept ++ more) ≡ Whole message ((past_message message framer).kept ++ more)
 whole-more first framer message rest more is =
     first_message-whole-more most_payload first framer.kept more message rest is
-    ∙ ap (λ r. Whole message (r ++ more)) ((first_message-whole most_payload first framer.kept message rest (omega arith) is).goes)
+    ∙ ap (λ r. Whole message (r ++ more)) (first_message-goes most_payload first framer.kept message rest is)
 
 -- how the login is, by how it is with any more bytes
 now-by : (account : Account) (read kept : List ℕ) (by : List ℕ → Opening) → ((more : List ℕ) → opening account (read ++ more) ≡ by (kept ++ more)) → opening account read ≡ by kept

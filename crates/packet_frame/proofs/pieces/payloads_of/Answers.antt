@@ -7,7 +7,7 @@ use Rattle.packet_frame.proofs.Taking.{all-none, all-fed, all-payloads, all-faul
 use Rattle.packet_frame.proofs.pieces.payloads_of.Goals as goal
 
 pub loop-piece-init : goal.loop-piece-init
-loop-piece-init c = rw (c.new-framer.ensures, c.new-payloads.ensures.items) (all-none c.args.limit c.args.first c.requires)
+loop-piece-init c = rw (c.new-framer.ensures, c.new-payloads.ensures.items) (all-none c.args.limit c.args.first)
 
 pub loop-piece-preserved : goal.loop-piece-preserved
 loop-piece-preserved c =

@@ -1,28 +1,28 @@
 use Rattle.std.proofs.Common.{◌≡◌, IfSome, Bool, List, ℕ, Option, Some, None, sym, ap, subst, ◌∙◌}
 use Rattle.std.specs.Prelude.{Result}
 use Rattle.reply_text.specs.Replies.{is_lone}
-use Rattle.packet_frame.specs.FramerState.{FramerState}
+use Rattle.packet_frame.specs.FramerState.{FramerState, past}
 use Rattle.packet_frame.specs.Packets.{Framed}
 use Rattle.server_side.specs.declared.fault.BackendFault.{BackendFault}
 use Rattle.server_side.specs.declared.hear.Heard.{Heard}
 use Rattle.server_side.specs.Login.{denied}
 use Rattle.server_side.specs.Backend.{BackendState}
-use Rattle.server_side.specs.Hearing.{Tells, accepted_by, past_message, behind, end_told, end_read}
+use Rattle.server_side.specs.Hearing.{Tells, accepted_by, behind, end_told, end_read}
 use Rattle.server_side.proofs.backend.Backend.read_end.Goals as goal
 
 ended : (found : Option Framed) (heard : Result Heard BackendFault) (new old : BackendState) (framer : FramerState) (payload again : List ℕ) (accepted : Bool)
     → IfSome found (λ message. payload ≡ message.payload) → denied payload ≡ None
     → IfSome found (λ message. again ≡ message.payload) → accepted ≡ is_lone again
-    → IfSome found (λ message. framer ≡ past_message message old.framer)
+    → framer ≡ past old.framer
     → Tells heard new (accepted_by accepted (record old { framer = framer }))
     → IfSome found (λ message. Tells heard new (end_read message (behind message old)))
-ended None heard new old framer payload again accepted is undenied also lone past tells = tt
-ended (Some message) heard new old framer payload again accepted is undenied also lone past tells =
+ended None heard new old framer payload again accepted is undenied also lone gone tells = tt
+ended (Some message) heard new old framer payload again accepted is undenied also lone gone tells =
     let none : denied message.payload ≡ None = ap denied (sym is) ∙ undenied in
     let takes : is_lone message.payload ≡ accepted = ap is_lone (sym also) ∙ sym lone in
     subst (λ (d : Option ℕ). Tells heard new (end_told d message (behind message old))) (sym none)
     (subst (λ (b : Bool). Tells heard new (accepted_by b (behind message old))) (sym takes)
-    (subst (λ (f : FramerState). Tells heard new (accepted_by accepted (record old { framer = f }))) past tells))
+    (subst (λ (f : FramerState). Tells heard new (accepted_by accepted (record old { framer = f }))) gone tells))
 
 pub returns : goal.returns
 returns c =
