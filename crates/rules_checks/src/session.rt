@@ -1,0 +1,96 @@
+// What rules say of a session's texts.
+use crate::table::read_rows;
+use check_lines::{CaseFault, bytes_of};
+use mx_base::{Bytes, Hostgroup};
+use query_rules::{Ask, Routed, Rules, Stop};
+use std::alloc::Global;
+
+// The client's default.
+const DEFAULT_HOSTGROUP: Hostgroup = Hostgroup(0);
+
+/// What the rules of a case say of each text behind the ` => `, one after the other in a session of this user and schema:
+/// the hostgroup and the text, and what else a rule has set. Texts have ` | ` between them. Rules may be missing.
+pub fn route(alloc: Global, client: (&str, &str), case: &str) -> Result<String, CaseFault> {
+    let (table, texts) = match case.split_once("=> ") {
+        Some((table, texts)) => (table.trim_end(), texts),
+        None => (case, ""),
+    };
+    let mut rows = Vec::new(alloc);
+    if !table.is_empty() {
+        rows = read_rows(alloc, table)?;
+    }
+    match Rules::build(alloc, &rows) {
+        Ok(rules) => follow(alloc, &rules, client, texts),
+        Err(fault) => Ok(format!(in alloc; "refused: {fault:?}")?),
+    }
+}
+
+fn ask_of(alloc: Global, client: (&str, &str), flag: u16, text: &str) -> Result<Ask, CaseFault> {
+    Ok(Ask {
+        user: Bytes::from_slice(alloc, client.0.as_bytes())?,
+        schema: Bytes::from_slice(alloc, client.1.as_bytes())?,
+        flag,
+        text: Bytes::from_vec(bytes_of(alloc, text)?),
+        default_hostgroup: DEFAULT_HOSTGROUP,
+    })
+}
+
+// Appends what the rules say of a text, and gives the flag of the next one.
+fn push_answer(out: &mut String, rules: &Rules, ask: &Ask) -> Result<u16, CaseFault> {
+    if !out.is_empty() {
+        out.push_str(" | ")?;
+    }
+    let routed = rules.route(ask)?;
+    push_routed(out, &routed)?;
+    Ok(routed.next_flag.unwrap_or(ask.flag))
+}
+
+fn follow(
+    alloc: Global,
+    rules: &Rules,
+    client: (&str, &str),
+    texts: &str,
+) -> Result<String, CaseFault> {
+    let mut out = String::new(alloc);
+    let mut flag = 0;
+    for text in texts.split(" | ") {
+        let ask = ask_of(alloc, client, flag, text)?;
+        flag = push_answer(&mut out, rules, &ask)?;
+    }
+    Ok(out)
+}
+
+fn push_routed(out: &mut String, routed: &Routed) -> Result<(), CaseFault> {
+    write!(out, "{} ", routed.hostgroup.0)?;
+    push_quoted(out, &routed.text)?;
+    if let Some(flag) = routed.next_flag {
+        write!(out, ", next flag {flag}")?;
+    }
+    if let Some(multiplex) = routed.multiplex {
+        write!(out, ", multiplex {multiplex}")?;
+    }
+    match &routed.stop {
+        Some(Stop::Error(message)) => push_stop(out, ", error ", message),
+        Some(Stop::Ok(message)) => push_stop(out, ", OK ", message),
+        None => Ok(()),
+    }
+}
+
+fn push_stop(out: &mut String, word: &str, message: &Bytes) -> Result<(), CaseFault> {
+    out.push_str(word)?;
+    push_quoted(out, message)
+}
+
+// Printable ASCII as it is, and `\x` with two digits for each other byte.
+fn push_quoted(out: &mut String, bytes: &Bytes) -> Result<(), CaseFault> {
+    out.push('"')?;
+    for byte in bytes.as_slice() {
+        if byte.is_ascii_graphic() || *byte == b' ' {
+            out.push(char::from(*byte))?;
+        } else {
+            write!(out, "\\x{byte:02x}")?;
+        }
+    }
+    out.push('"')?;
+    Ok(())
+}
