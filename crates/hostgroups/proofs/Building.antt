@@ -8,7 +8,7 @@ use Rattle.hostgroups.specs.declared.fault.ServersFault.{ServersFault}
 use Rattle.hostgroups.specs.declared.fault.ServersFault.TheVariants.{Duplicate, TooMany}
 use Rattle.hostgroups.specs.declared.row.ServerRow.{ServerRow}
 use Rattle.hostgroups.specs.Rows.{name_of, number_of, has_server, connections_of, fault_of, first_fault_behind, first_fault}
-use Rattle.hostgroups.specs.declared.servers.Server.{Server}
+use Rattle.hostgroups.specs.declared.server.Server.{Server}
 use Rattle.hostgroups.specs.Servers.{in_force, rows_of}
 
 pub rows_of-in_force : (rows : List ServerRow) → rows_of (map in_force rows) ≡ rows
@@ -36,7 +36,8 @@ no_or false b h = (refl, h)
 
 pub stands : (before : List ServerRow) (row : ServerRow) → fault_of before row ≡ None → Stands before row
 stands before row h =
-    let apart = neither (has_server before (name_of row)) (nat_le 1024 (length before) || nat_lt 10000 (connections_of before + row.max_connections)) (length before + 1) h in
+    let apart = neither (has_server before (name_of row)) (nat_le 1024 (length before) || nat_lt 10000
+    (connections_of before + row.max_connections)) (length before + 1) h in
     let bounds = no_or _ _ apart.1 in
     record {
       new = absent _ apart.0;
@@ -46,7 +47,8 @@ stands before row h =
 
 -- the next row's fault, or the first one behind it
 pub first_fault_behind-drop : (rows : List ServerRow) (i : ℕ) (d : ServerRow) → i < length rows
-    → first_fault_behind (take i rows) (drop i rows) ≡ option_or (fault_of (take i rows) (get_or rows i d)) (first_fault_behind (take (i + 1) rows) (drop (i + 1) rows))
+    → first_fault_behind (take i rows) (drop i rows) ≡ option_or (fault_of (take i rows) (get_or rows i d))
+    (first_fault_behind (take (i + 1) rows) (drop (i + 1) rows))
 first_fault_behind-drop rows i d h = rw (drop_more rows i d h, take_more rows i d h) refl
 
 -- what a loop over the rows keeps, of the rows so far
@@ -60,17 +62,20 @@ pub record Builds (rows : List ServerRow) (i : ℕ) (servers : List Server) (con
 so_far : (rows : List ServerRow) (i : ℕ) (servers : List Server) → servers ≡ map in_force (take i rows) → rows_of servers ≡ take i rows
 so_far rows i servers stand = rw stand (rows_of-in_force (take i rows))
 
-pub refused : (rows : List ServerRow) (i : ℕ) (servers : List Server) (connections : ℕ) (d : ServerRow) (fault : ServersFault) → Builds rows i servers connections → i < length rows
+pub refused : (rows : List ServerRow) (i : ℕ) (servers : List Server) (connections : ℕ) (d : ServerRow) (fault : ServersFault)
+    → Builds rows i servers connections → i < length rows
     → Some fault ≡ fault_of (rows_of servers) (get_or rows i d) → first_fault rows ≡ Some fault
 refused rows i servers connections d fault builds h e =
     let here : fault_of (take i rows) (get_or rows i d) ≡ Some fault = sym (rw (so_far rows i servers builds.stand) at e) in
     sym builds.left ∙ first_fault_behind-drop rows i d h ∙ rw here refl
 
-pub fits : (rows : List ServerRow) (i : ℕ) (servers : List Server) (connections : ℕ) (d : ServerRow) → Builds rows i servers connections → i < length rows
+pub fits : (rows : List ServerRow) (i : ℕ) (servers : List Server) (connections : ℕ) (d : ServerRow) → Builds rows i servers connections
+    → i < length rows
     → None ≡ fault_of (rows_of servers) (get_or rows i d) → Stands (take i rows) (get_or rows i d)
 fits rows i servers connections d builds h e = stands _ _ (sym (rw (so_far rows i servers builds.stand) at e))
 
-pub builds_on : (rows : List ServerRow) (i : ℕ) (servers : List Server) (connections : ℕ) (d : ServerRow) → Builds rows i servers connections → i < length rows
+pub builds_on : (rows : List ServerRow) (i : ℕ) (servers : List Server) (connections : ℕ) (d : ServerRow)
+    → Builds rows i servers connections → i < length rows
     → None ≡ fault_of (rows_of servers) (get_or rows i d)
     → Builds rows (i + 1) (servers ++ in_force (get_or rows i d) ∷ []) (connections + (get_or rows i d).max_connections)
 builds_on rows i servers connections d builds h e =
@@ -78,7 +83,8 @@ builds_on rows i servers connections d builds h e =
     let here = fits rows i servers connections d builds h e in
     let none : fault_of (take i rows) row ≡ None = sym (rw (so_far rows i servers builds.stand) at e) in
     let size : length (take i rows) ≡ i = length-take-le i rows (omega arith) in
-    let sum : connections_of (take (i + 1) rows) ≡ connections_of (take i rows) + row.max_connections = sum_by_more (λ (r : ServerRow). r.max_connections) rows i d h in
+    let sum : connections_of (take (i + 1) rows) ≡ connections_of (take i rows) + row.max_connections = sum_by_more
+    (λ (r : ServerRow). r.max_connections) rows i d h in
     record {
       stand = rw (builds.stand, take_more rows i d h) (sym (map_push in_force (take i rows) row));
       counted = rw (sum, builds.counted) refl;

@@ -23,7 +23,12 @@ same_server-true a b h =
     moved
 
 pub same_server-self : (a : ServerName) → same_server a a ≡ true
-same_server-self a = rw (eq-eqb a.hostgroup.0 a.hostgroup.0 refl, (bytes_eq-Decides a.address.ip a.address.ip).1 refl, eq-eqb a.address.port a.address.port refl)
+same_server-self a = rw (
+  eq-eqb a.hostgroup.0 a.hostgroup.0 refl,
+  (bytes_eq-Decides a.address.ip a.address.ip).1 refl,
+  eq-eqb
+      a.address.port a.address.port refl,
+)
 
 apart_back : (a b : ServerName) → same_server a b ≡ false → same_server b a ≡ false
 apart_back a b apart =
@@ -40,16 +45,19 @@ option_or-None None = refl
 option_or-None (Some x) = refl
 
 number_from-last : (n : ℕ) (names : List ServerName) (last q : ServerName)
-    → number_from n (names ++ last ∷ []) q ≡ option_or (number_from n names q) (cond (same_server q last) (Some (record { 0 = n + length names })) None)
+    → number_from n (names ++ last ∷ []) q ≡ option_or (number_from n names q)
+    (cond (same_server q last) (Some (record { 0 = n + length names })) None)
 number_from-last n [] last q = ap (λ (k : ℕ). cond (same_server q last) (Some (record { 0 = k })) None) (omega arith)
 number_from-last n (first ∷ names) last q =
     elim (cases_Bool (same_server q first)) [
       | inl same ↦ rw same refl
-      | inr other ↦ rw other (number_from-last (suc n) names last q ∙ ap (λ (k : ℕ). option_or (number_from (suc n) names q) (cond (same_server q last) (Some (record { 0 = k })) None)) (omega arith))
+      | inr other ↦ rw other (number_from-last (suc n) names last q ∙ ap
+          (λ (k : ℕ). option_or (number_from (suc n) names q) (cond (same_server q last) (Some (record { 0 = k })) None)) (omega arith))
     ]
 
 -- the last one has the number behind the others, and these keep theirs
-pub number_of-last : (names : List ServerName) (name q : ServerName) (before after : Option ServerId) → number_of names name ≡ None → before ≡ number_of names q
+pub number_of-last : (names : List ServerName) (name q : ServerName) (before after : Option ServerId) → number_of names name ≡ None
+    → before ≡ number_of names q
     → after ≡ cond (same_server name q) (Some (record { 0 = length names + 1 })) before → after ≡ number_of (names ++ name ∷ []) q
 number_of-last names name q before after new had has =
     elim (cases_Bool (same_server name q)) [

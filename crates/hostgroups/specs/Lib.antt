@@ -1,3 +1,9 @@
+pub mod Dealing
 pub mod Keys
+pub mod Picks
+pub mod Rounds
 pub mod Rows
 pub mod Servers
+pub mod Statuses
+pub mod Tables
+pub mod Turns

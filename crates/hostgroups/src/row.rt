@@ -1,5 +1,6 @@
 // The rows of the table of servers.
 ghost use Rattle.std.specs.Prelude.{◌≡◌};
+ghost use Rattle.hostgroups.specs.Statuses.{is_online, once_failed, once_ticked};
 
 use mx_base::{Address, Hostgroup};
 
@@ -14,6 +15,43 @@ pub enum ServerStatus {
     OfflineSoft,
     /// It isn't used, and what runs on it is broken off.
     OfflineHard,
+}
+
+/// How long a server is shunned once an open failed, in milliseconds.
+const SHUNNED_MS: u64 = 10_000;
+
+impl ServerStatus {
+    // Whether the server gets new work.
+    pub(crate) fn is_online(self) -> bool
+        ensures { result ≡ is_online self }
+    {
+        match self {
+            ServerStatus::Online => true,
+            _ => false,
+        }
+    }
+
+    // The status once an open failed.
+    pub(crate) fn once_failed(self, now_ms: u64) -> Self
+        ensures { result ≡ once_failed now_ms self }
+    {
+        match self {
+            ServerStatus::Online => ServerStatus::Shunned {
+                until_ms: now_ms.saturating_add(SHUNNED_MS),
+            },
+            other => other,
+        }
+    }
+
+    // The status at this moment, where it was this one.
+    pub(crate) fn once_ticked(self, now_ms: u64) -> Self
+        ensures { result ≡ once_ticked now_ms self }
+    {
+        match self {
+            ServerStatus::Shunned { until_ms } if until_ms <= now_ms => ServerStatus::Online,
+            other => other,
+        }
+    }
 }
 
 /// A row of the table of servers (ProxySQL, "mysql_servers"): a server, and how it may be used in its hostgroup.

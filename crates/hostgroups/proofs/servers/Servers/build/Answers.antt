@@ -1,9 +1,5 @@
-use Rattle.hostgroups.proofs.Building.{refused, builds_on}
+use Rattle.hostgroups.proofs.Fairness.{holds_built}
 use Rattle.hostgroups.proofs.servers.Servers.build.Goals as goal
 
-pub returns-in-Some-clause-fault : goal.returns-in-Some-clause-fault
-returns-in-Some-clause-fault c = λ _. refused _ _ _ _ _ _ c.loop-row.invariant c.loop-row-test.true c.in-Some.ensures
-
-pub loop-row-preserved : goal.loop-row-preserved
-loop-row-preserved c =
-    rw (c.in_ok-add-in-None.ensures, c.from-connections.ensures) (builds_on _ _ _ _ _ c.loop-row.invariant c.loop-row-test.true c.in-None.ensures)
+pub invariant_of-result : goal.invariant_of-result
+invariant_of-result c = rw c.in_ok-servers.ensures.servers (holds_built c.args.rows.now _ c.requires.weights c.in_ok-rounds.ensures)
