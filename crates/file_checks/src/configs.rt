@@ -2,7 +2,9 @@
 use crate::words::{debug, lines, small, text_of};
 use check_lines::{Case, CaseFault};
 use hostgroups::ServerRow;
+use mx_base::Bytes;
 use mx_config::{Config, ConfigFault, ConfigRefusal, ProxyRow, UserRow, read_config};
+use query_rules::RuleRow;
 use std::alloc::{AllocError, Global};
 use std::fmt::Write;
 
@@ -29,6 +31,24 @@ pub(crate) fn rows(alloc: Global, case: &mut Case<'_>) -> Result<String, CaseFau
         Ok(config) => debug(alloc, &counts(&config)),
         Err(refusal) => fault(alloc, &refusal),
     }
+}
+
+/// `rules <count>`: how many rules a configuration of so many has, or its first fault.
+pub(crate) fn rules(alloc: Global, case: &mut Case<'_>) -> Result<String, CaseFault> {
+    let mut text = String::from_str(alloc, PROXY)?;
+    put_users(&mut text, 1)?;
+    put_rules(&mut text, small(case)?)?;
+    match read_config(alloc, text.as_bytes()) {
+        Ok(config) => debug(alloc, &config.rules.as_slice().len()),
+        Err(refusal) => fault(alloc, &refusal),
+    }
+}
+
+fn put_rules(text: &mut String, count: u16) -> Result<(), AllocError> {
+    for n in 0..count {
+        write!(text, "[[rules]]\nrule_id = 1{n}\n")?;
+    }
+    Ok(())
 }
 
 fn counts(config: &Config) -> (usize, usize) {
@@ -77,6 +97,9 @@ fn whole(alloc: Global, config: &Config) -> Result<String, CaseFault> {
     for row in config.servers.as_slice() {
         put_server(&mut text, row)?;
     }
+    for row in config.rules.as_slice() {
+        put_rule(&mut text, row)?;
+    }
     Ok(text)
 }
 
@@ -97,4 +120,39 @@ fn put_user(text: &mut String, row: &UserRow) -> Result<(), AllocError> {
 
 fn put_server(text: &mut String, row: &ServerRow) -> Result<(), AllocError> {
     write!(text, "; {row:?}")
+}
+
+fn put_rule(text: &mut String, row: &RuleRow) -> Result<(), AllocError> {
+    let start = (row.rule_id, row.active, row.apply, row.negate_match_pattern);
+    put_conditions(text, start, row)?;
+    put_effects(text, row)
+}
+
+fn put_conditions(
+    text: &mut String,
+    start: (u32, bool, bool, bool),
+    row: &RuleRow,
+) -> Result<(), AllocError> {
+    let client = (field(&row.username), field(&row.schemaname), row.flagIN);
+    let patterns = (
+        row.digest,
+        field(&row.match_digest),
+        field(&row.match_pattern),
+    );
+    write!(text, "; rule {start:?} {client:?} {patterns:?}")
+}
+
+fn put_effects(text: &mut String, row: &RuleRow) -> Result<(), AllocError> {
+    let flags = (row.flagOUT, row.next_query_flagIN);
+    let route = (
+        field(&row.replace_pattern),
+        row.destination_hostgroup,
+        row.multiplex,
+    );
+    let answers = (field(&row.error_msg), field(&row.OK_msg));
+    write!(text, " {flags:?} {route:?} {answers:?}")
+}
+
+fn field(field: &Option<Bytes>) -> Option<&str> {
+    field.as_ref().map(text_of)
 }

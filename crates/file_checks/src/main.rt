@@ -19,6 +19,7 @@ fn answer(alloc: Global, case: &mut Case<'_>) -> Result<String, CaseFault> {
     match case.reader {
         "config" => configs::config(alloc, case),
         "rows" => configs::rows(alloc, case),
+        "rules" => configs::rules(alloc, case),
         "servers" => servers::servers(alloc, case),
         "like_servers" => servers::like_servers(alloc, case),
         "number" => servers::number(alloc, case),

@@ -1,9 +1,9 @@
 -- The faults of a configuration, and what a reader answered beside what there is to read.
 use Rattle.std.specs.Prelude.{◌≡◌, ℕ, List, Option, Some, None, Result, Ok, Err}
 use Rattle.mx_config.specs.declared.fault.Kind.{Kind}
-use Rattle.mx_config.specs.declared.fault.Kind.TheVariants.{NotToml, UnknownKey, MissingKey, WrongType, OutOfRange, DuplicateUser, DuplicateServer, BadAddress}
+use Rattle.mx_config.specs.declared.fault.Kind.TheVariants.{NotToml, UnknownKey, MissingKey, WrongType, OutOfRange, DuplicateUser, DuplicateServer, DuplicateRule, BadPattern, ReplaceWithoutPattern, BadAddress}
 use Rattle.mx_config.specs.declared.fault.TableName.{TableName}
-use Rattle.mx_config.specs.declared.fault.TableName.TheVariants.{File, Proxy, Users, Servers}
+use Rattle.mx_config.specs.declared.fault.TableName.TheVariants.{File, Proxy, Users, Servers, Rules}
 use Rattle.mx_config.specs.declared.fault.Place.{Place}
 use Rattle.mx_config.specs.declared.fault.ConfigFault.{ConfigFault}
 use Rattle.mx_config.specs.declared.fault.ConfigRefusal.{ConfigRefusal}
@@ -17,6 +17,9 @@ kind_number WrongType = 4
 kind_number OutOfRange = 5
 kind_number DuplicateUser = 6
 kind_number DuplicateServer = 7
+kind_number DuplicateRule = 8
+kind_number BadPattern = 9
+kind_number ReplaceWithoutPattern = 10
 kind_number BadAddress = 11
 
 abbrev pub table_number : TableName → ℕ
@@ -24,6 +27,7 @@ table_number File = 0
 table_number Proxy = 1
 table_number Users = 2
 table_number Servers = 3
+table_number Rules = 4
 
 -- what is said of a row or a key, or its first fault
 abbrev pub Said : Type 0 → Type 0

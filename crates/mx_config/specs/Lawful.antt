@@ -8,6 +8,9 @@ use Rattle.mx_config.specs.declared.proxy.ProxyTexts.{ProxyTexts}
 use Rattle.mx_config.specs.declared.proxy.ProxyLimits.{ProxyLimits}
 use Rattle.mx_config.specs.declared.config.UserRow.{UserRow}
 use Rattle.mx_config.specs.declared.value.TextForm.TheVariants.{Any, NotEmpty, Short}
+use Rattle.query_rules.specs.Rows.{replaces_nothing}
+use Rattle.query_rules.specs.declared.row.RuleRow.{RuleRow}
+use Rattle.mx_config.specs.RuleRows.{AreLawfulKeys, has_rule}
 use Rattle.mx_config.specs.Tables.{has_user}
 use Rattle.mx_config.specs.Values.{fits}
 
@@ -66,7 +69,18 @@ pub record AreLawfulServers (rows : List ServerRow) : Type 0 where
   pub weights : All (λ row. 1 ≤ row.weight) rows
   pub stand : first_fault rows ≡ None
 
+-- a rule behind these: it is new, and its texts, patterns and template can stand
+pub record IsLawfulRule (before : List RuleRow) (row : RuleRow) : Type 0 where
+  pub keys : AreLawfulKeys row
+  pub replaces : replaces_nothing row ≡ false
+  pub new : has_rule before row.rule_id ≡ false
+
+pub record AreLawfulRules (rows : List RuleRow) : Type 0 where
+  pub count : length rows ≤ 10000
+  pub each : EachBehind IsLawfulRule [] rows
+
 pub record IsLawful (config : Config) : Type 0 where
   pub proxy : IsLawfulProxy config.proxy
   pub users : AreLawfulUsers config.users
   pub servers : AreLawfulServers config.servers
+  pub rules : AreLawfulRules config.rules

@@ -5,5 +5,6 @@ pub mod Lent
 pub mod Names
 pub mod Reading
 pub mod Rows
+pub mod RuleRows
 pub mod Tables
 pub mod Values

@@ -45,6 +45,15 @@ or_default None None = Err MissingKey
 unfoldable pub key_of : {X : Type 0} → Place → (key : List ℕ) → (default : Option X) → (value : Data → Valued X) → Members → Said X
 key_of place key default value ms = placed place key (or_default default (option_map value (get_member key ms)))
 
+abbrev pub if_there : {X : Type 0} → (given : Option (Valued X)) → Valued (Option X)
+if_there None = Ok None
+if_there (Some (Ok x)) = Ok (Some x)
+if_there (Some (Err kind)) = Err kind
+
+-- a key of a row that may be absent
+unfoldable pub optional_key : {X : Type 0} → Place → (key : List ℕ) → (value : Data → Valued X) → Members → Said (Option X)
+optional_key place key value ms = placed place key (if_there (option_map value (get_member key ms)))
+
 abbrev pub or_wrong : {X : Type 0} → Place → Option X → Said X
 or_wrong place None = Err (fault_at place WrongType [])
 or_wrong place (Some x) = Ok x

@@ -1,16 +1,20 @@
 -- What the value of a key may be, and what it then denotes.
-use Rattle.std.specs.Prelude.{ℕ, ℤ, pos, negsuc, ◌==◌, ◌&&◌, not, nat_le, Bool, true, if◌then◌else◌, List, length, codes, bytes_eq, Option, Some, None, Result, Ok, Err}
+use Rattle.std.specs.Prelude.{◌≡◌, ℕ, ℤ, pos, negsuc, ◌==◌, ◌&&◌, not, nat_le, Bool, true, false, if◌then◌else◌, List, length, codes, bytes_eq, Option, Some, None, Result, Ok, Err}
 use Rattle.std.specs.List.{list_any}
 use Rattle.std.specs.Borrow.{Bor}
 use Rattle.toml.specs.Data.{Data, as_str, as_integer}
+use Rattle.hex.specs.Hex.{decode_sized}
+use Rattle.hex.specs.declared.error.FromHexError.{FromHexError}
+use Rattle.query_rules.specs.Patterns.{IsPattern, IsRefused}
+use Rattle.std.specs.Int.{from_be_bytes, w64}
 use Rattle.hostgroups.specs.declared.row.ServerStatus.{ServerStatus}
 use Rattle.hostgroups.specs.declared.row.ServerStatus.TheVariants.{Online, OfflineSoft, OfflineHard}
 use Rattle.mx_base.specs.declared.names.Address.{Address}
 use Rattle.mx_config.specs.Address.{ipv4, address}
 use Rattle.mx_config.specs.declared.fault.Kind.{Kind}
-use Rattle.mx_config.specs.declared.fault.Kind.TheVariants.{WrongType, OutOfRange, BadAddress}
+use Rattle.mx_config.specs.declared.fault.Kind.TheVariants.{WrongType, OutOfRange, BadPattern, BadAddress}
 use Rattle.mx_config.specs.declared.value.TextForm.{TextForm}
-use Rattle.mx_config.specs.declared.value.TextForm.TheVariants.{Any, NotEmpty, Short}
+use Rattle.mx_config.specs.declared.value.TextForm.TheVariants.{Any, NotEmpty, Short, Message}
 
 -- the value, or the kind of its fault
 abbrev pub Valued : Type 0 → Type 0
@@ -37,6 +41,7 @@ abbrev pub has_length : TextForm → ℕ → Bool
 has_length Any n = true
 has_length NotEmpty n = not (n == 0)
 has_length Short n = nat_le n 255
+has_length Message n = nat_le n 1024
 
 abbrev pub fits : TextForm → List ℕ → Bool
 fits form t = not (list_any (λ b. b == 0) t) && has_length form (length t)
@@ -76,3 +81,45 @@ status_of (Some t) =
 -- a status that an operator may give
 unfoldable pub status_value : Data → Valued ServerStatus
 status_value d = status_of (as_str d)
+
+abbrev pub switched : Valued ℕ → Valued Bool
+switched (Ok n) = Ok (n == 1)
+switched (Err kind) = Err kind
+
+-- 1 for yes, 0 for no
+unfoldable pub switch_value : Data → Valued Bool
+switch_value d = switched (number 0 1 d)
+
+abbrev pub hashed : Result (List ℕ) FromHexError → Valued ℕ
+hashed (Ok bytes) = Ok (from_be_bytes w64 bytes)
+hashed (Err fault) = Err OutOfRange
+
+abbrev pub digest_of : Option (List ℕ) → Valued ℕ
+digest_of None = Err WrongType
+digest_of (Some t) = hashed (decode_sized t 8)
+
+-- the hash of a digest: 16 hexadecimal digits of either case, the highest first
+unfoldable pub digest_value : Data → Valued ℕ
+digest_value d = digest_of (as_str d)
+
+-- a text that is there is of a form; one that is there is a pattern
+abbrev pub AllFit : TextForm → Option (List ℕ) → Type 0
+AllFit form None = Unit {0}
+AllFit form (Some t) = fits form t ≡ true
+
+abbrev pub ArePatterns : Option (List ℕ) → Type 0
+ArePatterns None = Unit {0}
+ArePatterns (Some t) = IsPattern t
+
+-- a test of texts that tells patterns from texts that `regex` refuses
+pub record Agrees (is_pattern : List ℕ → Bool) : Type 0 where
+  pub yes : (t : List ℕ) → IsPattern t → is_pattern t ≡ true
+  pub no : (t : List ℕ) → IsRefused t → is_pattern t ≡ false
+
+abbrev pub judged : (is_pattern : List ℕ → Bool) → Valued (List ℕ) → Valued (List ℕ)
+judged is_pattern (Ok t) = if is_pattern t then Ok t else Err BadPattern
+judged is_pattern (Err kind) = Err kind
+
+-- a text that is a pattern
+unfoldable pub pattern_value : (is_pattern : List ℕ → Bool) → Data → Valued (List ℕ)
+pattern_value is_pattern d = judged is_pattern (text Any d)

@@ -1,6 +1,7 @@
 // What a configuration says.
 use hostgroups::ServerRow;
 use mx_base::{Address, Bytes, Hostgroup, Items};
+use query_rules::RuleRow;
 
 /// What a configuration file says.
 #[derive(Drop)]
@@ -8,6 +9,7 @@ pub struct Config {
     pub proxy: ProxyRow,
     pub users: Items<UserRow>,
     pub servers: Items<ServerRow>,
+    pub rules: Items<RuleRow>,
 }
 
 /// The table `proxy`: where the proxy listens, how it greets, and its limits.

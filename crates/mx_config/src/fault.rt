@@ -22,6 +22,12 @@ pub(crate) enum Kind {
     DuplicateUser,
     /// An earlier row has the hostgroup, host and port.
     DuplicateServer,
+    /// An earlier row has the id.
+    DuplicateRule,
+    /// The text is no pattern.
+    BadPattern,
+    /// There is a template, but no match that it could take the place of.
+    ReplaceWithoutPattern,
     /// The text is no address of the form asked for.
     BadAddress,
 }
@@ -33,6 +39,7 @@ pub(crate) enum TableName {
     Proxy,
     Users,
     Servers,
+    Rules,
 }
 
 /// Where a fault stands: the table, and its row, counted from 1; 0 is the table as a whole.
@@ -53,9 +60,12 @@ pub(crate) struct Place {
 /// | 5 | a value out of range, or too many or too few rows |
 /// | 6 | a user whose name an earlier row has |
 /// | 7 | a server whose hostgroup, host and port an earlier row has |
+/// | 8 | a rule whose id an earlier row has |
+/// | 9 | a text that is no pattern |
+/// | 10 | a template without a pattern, or with one that has to find nothing |
 /// | 11 | a text that is no address |
 ///
-/// The table is 0 for the file, 1 for `proxy`, 2 for `users` and 3 for `servers`. The row counts from 1, and is 0 for
+/// The table is 0 for the file, 1 for `proxy`, 2 for `users`, 3 for `servers` and 4 for `rules`. The row counts from 1, and is 0 for
 /// the table as a whole, and for `proxy`. The key is empty where the fault is no key's.
 #[derive(Debug, Drop)]
 pub struct ConfigFault {
@@ -94,6 +104,9 @@ impl Kind {
             Kind::OutOfRange => 5,
             Kind::DuplicateUser => 6,
             Kind::DuplicateServer => 7,
+            Kind::DuplicateRule => 8,
+            Kind::BadPattern => 9,
+            Kind::ReplaceWithoutPattern => 10,
             Kind::BadAddress => 11,
         }
     }
@@ -108,6 +121,7 @@ impl TableName {
             TableName::Proxy => 1,
             TableName::Users => 2,
             TableName::Servers => 3,
+            TableName::Rules => 4,
         }
     }
 }

@@ -1,4 +1,4 @@
-//! The configuration file: a TOML document of the tables `proxy`, `users` and `servers`.
+//! The configuration file: a TOML document of the tables `proxy`, `users`, `servers` and `rules`.
 #![tactic(auto)]
 
 mod address;
@@ -7,6 +7,7 @@ mod fault;
 mod proxy;
 mod read;
 mod row;
+mod rules;
 mod servers;
 mod users;
 mod value;

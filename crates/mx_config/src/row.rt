@@ -1,5 +1,5 @@
 // The keys of a row.
-ghost use Rattle.std.specs.Prelude.{◌≡◌, ◌≤◌, true, IfOk, map, not, string_bytes};
+ghost use Rattle.std.specs.Prelude.{◌≡◌, ◌≤◌, ℕ, Bool, List, true, IfOk, OnOk, Some, Ok, map, not, string_bytes};
 ghost use Rattle.std.specs.BTreeMap.{keys, IsOrdered};
 ghost use Rattle.std.specs.List.{find};
 ghost use Rattle.std.specs.Option.{option_copied, ForSome};
@@ -7,18 +7,21 @@ ghost use Rattle.std.specs.String.{string_cmp};
 ghost use Rattle.toml.specs.View.{view, table_view};
 ghost use Rattle.mx_config.specs.Faults.{Gives};
 ghost use Rattle.mx_config.specs.Lent.{GivesTable, GivesRow};
-ghost use Rattle.mx_config.specs.Rows.{key_of, placed, or_default, known_only, least_unknown, is_known, table_at};
+ghost use Rattle.mx_config.specs.Rows.{key_of, optional_key, placed, if_there, or_default, known_only, least_unknown, is_known, table_at};
 ghost use Rattle.mx_config.specs.Tables.{row_at};
-ghost use Rattle.mx_config.specs.Values.{number, text, fits, address_value, host_value, status_value};
+ghost use Rattle.mx_config.specs.Values.{Agrees, AllFit, ArePatterns, judged, number, text, fits, address_value, host_value, pattern_value, status_value, switch_value, digest_value};
+ghost use Rattle.mx_config.specs.declared.value.TextForm.TheVariants.{Any};
+ghost use Rattle.query_rules.specs.Patterns.{IsPattern};
 
 use crate::ConfigRefusal;
 use crate::fault::{Kind, Place, refusal};
 use crate::value::{
-    TextForm, member, read_address_value, read_host_value, read_number, read_status_value,
-    read_text,
+    TextForm, member, read_address_value, read_digest_value, read_host_value, read_number,
+    read_status_value, read_switch_value, read_text,
 };
 use hostgroups::ServerStatus;
 use mx_base::{Address, Bytes};
+use query_rules::is_pattern;
 use std::alloc::Global;
 use toml::{Table, Value};
 
@@ -130,6 +133,111 @@ impl Row<'_> {
             default,
             member(self.members, key).map(read_status_value),
         )
+    }
+
+    /// Yes or no, of a key that is 1 or 0.
+    #[tactic(auto, unfolding(crate::specs::Rows::key_of))]
+    pub(crate) fn switch(&self, key: &str, default: bool) -> Result<bool, ConfigRefusal>
+        ensures { Gives result (key_of self.now.place key.now (Some default) switch_value (table_view self.now.members.now)) }
+    {
+        self.given(
+            key,
+            Some(default),
+            member(self.members, key).map(read_switch_value),
+        )
+    }
+
+    /// The number of a key in a range, None where the key isn't there.
+    #[tactic(auto, unfolding(crate::specs::Rows::optional_key))]
+    pub(crate) fn small_if_there(&self, key: &str) -> Result<Option<u16>, ConfigRefusal>
+        ensures { Gives result (optional_key self.now.place key.now (number 0 65535) (table_view self.now.members.now)) }
+    {
+        match member(self.members, key) {
+            Some(value) => match read_number(value, 0, 65_535) {
+                Ok(n) => Ok(Some(n as u16)),
+                Err(kind) => Err(refusal(self.alloc, self.place, kind, key)),
+            },
+            None => Ok(None),
+        }
+    }
+
+    /// Yes or no, None where the key isn't there.
+    #[tactic(auto, unfolding(crate::specs::Rows::optional_key))]
+    pub(crate) fn switch_if_there(&self, key: &str) -> Result<Option<bool>, ConfigRefusal>
+        ensures { Gives result (optional_key self.now.place key.now switch_value (table_view self.now.members.now)) }
+    {
+        self.given_if_there(key, member(self.members, key).map(read_switch_value))
+    }
+
+    /// The hash of a digest, None where the key isn't there.
+    #[tactic(auto, unfolding(crate::specs::Rows::optional_key))]
+    pub(crate) fn digest_if_there(&self, key: &str) -> Result<Option<u64>, ConfigRefusal>
+        ensures { Gives result (optional_key self.now.place key.now digest_value (table_view self.now.members.now)) }
+    {
+        self.given_if_there(key, member(self.members, key).map(read_digest_value))
+    }
+
+    /// The text of a key, of a form, None where the key isn't there.
+    #[tactic(auto, unfolding(crate::specs::Rows::optional_key))]
+    pub(crate) fn text_if_there(
+        &self,
+        key: &str,
+        form: TextForm,
+    ) -> Result<Option<Bytes>, ConfigRefusal>
+        ensures value { Gives result (optional_key self.now.place key.now (text form) (table_view self.now.members.now)) }
+        ensures fits { IfOk result (λ t. AllFit form t) }
+    {
+        let text = match member(self.members, key) {
+            Some(value) => match read_text(value, form) {
+                Ok(text) => text,
+                Err(kind) => return Err(refusal(self.alloc, self.place, kind, key)),
+            },
+            None => return Ok(None),
+        };
+        Ok(Some(Bytes::from_slice(self.alloc, text.as_bytes())?))
+    }
+
+    /// The pattern of a key, None where the key isn't there.
+    pub(crate) fn pattern_if_there(&self, key: &str) -> Result<Option<Bytes>, ConfigRefusal>
+        ensures value { (is_pattern : List ℕ → Bool) → Agrees is_pattern
+            → Gives result (optional_key self.now.place key.now (pattern_value is_pattern) (table_view self.now.members.now)) }
+        ensures fits { IfOk result (λ t. AllFit Any t) }
+        ensures pattern { IfOk result (λ t. ArePatterns t) }
+    {
+        let text = self.text_if_there(key, TextForm::Any)?;
+        match text {
+            Some(text) => self.pattern(key, text),
+            None => Ok(None),
+        }
+    }
+
+    // The text of a key as a pattern.
+    fn pattern(&self, key: &str, text: Bytes) -> Result<Option<Bytes>, ConfigRefusal>
+        ensures value { (test : List ℕ → Bool) → Agrees test
+            → Gives result (placed self.now.place key.now (if_there (Some (judged test (Ok text))))) }
+        ensures same { IfOk result (λ t. t ≡ Some text) }
+        ensures pattern { OnOk result (IsPattern text) }
+    {
+        let found = is_pattern(self.alloc, text.as_slice())?;
+        if !found {
+            return Err(refusal(self.alloc, self.place, Kind::BadPattern, key));
+        }
+        Ok(Some(text))
+    }
+
+    // What is given for a key, None where it isn't there, or why it can't be.
+    fn given_if_there<T: Drop>(
+        &self,
+        key: &str,
+        value: Option<Result<T, Kind>>,
+    ) -> Result<Option<T>, ConfigRefusal>
+        ensures { Gives result (placed self.now.place key.now (if_there value)) }
+    {
+        match value {
+            None => Ok(None),
+            Some(Ok(value)) => Ok(Some(value)),
+            Some(Err(kind)) => Err(refusal(self.alloc, self.place, kind, key)),
+        }
     }
 
     // What is given for a key, or its default, or why there is none.

@@ -3,10 +3,11 @@ ghost use Rattle.std.specs.Prelude.{◌≡◌, ◌≤◌, true, IfOk, option_map
 ghost use Rattle.std.specs.Option.{option_copied};
 ghost use Rattle.toml.specs.Data.{get_member};
 ghost use Rattle.toml.specs.View.{view, table_view};
-ghost use Rattle.mx_config.specs.Values.{number, text, fits, address_value, host_value, status_value, result_copied};
+ghost use Rattle.mx_config.specs.Values.{number, text, fits, address_value, host_value, status_value, switch_value, digest_value, result_copied};
 
 use crate::address::{read_address, read_ipv4};
 use crate::fault::Kind;
+use hex::FromHex;
 use hostgroups::ServerStatus;
 use mx_base::Address;
 use toml::{Table, Value};
@@ -18,6 +19,8 @@ pub(crate) enum TextForm {
     NotEmpty,
     /// At most 255 bytes.
     Short,
+    /// At most 1,024 bytes.
+    Message,
 }
 
 /// The value of a key.
@@ -70,6 +73,7 @@ fn has_form(text: &str, form: TextForm) -> bool
         TextForm::Any => true,
         TextForm::NotEmpty => !text.is_empty(),
         TextForm::Short => text.len() <= 255,
+        TextForm::Message => text.len() <= 1024,
     }
 }
 
@@ -113,5 +117,30 @@ pub(crate) fn read_status_value(value: &Value) -> Result<ServerStatus, Kind>
                 Err(Kind::OutOfRange)
             }
         }
+    }
+}
+
+/// A number that is 1 or 0 for yes or no.
+#[tactic(auto, unfolding(crate::specs::Values::switch_value))]
+pub(crate) fn read_switch_value(value: &Value) -> Result<bool, Kind>
+    ensures { result ≡ switch_value (view value.now) }
+{
+    match read_number(value, 0, 1) {
+        Ok(n) => Ok(n == 1),
+        Err(kind) => Err(kind),
+    }
+}
+
+/// The hash of a digest, in 16 hexadecimal digits.
+#[tactic(auto, unfolding(crate::specs::Values::digest_value))]
+pub(crate) fn read_digest_value(value: &Value) -> Result<u64, Kind>
+    ensures { result ≡ digest_value (view value.now) }
+{
+    match value.as_str() {
+        None => Err(Kind::WrongType),
+        Some(text) => match <[u8; 8] as FromHex>::from_hex(text) {
+            Ok(bytes) => Ok(u64::from_be_bytes(bytes)),
+            Err(_) => Err(Kind::OutOfRange),
+        },
     }
 }
