@@ -1,0 +1,89 @@
+// A connection that is read and written without waiting.
+ghost use Rattle.std.specs.Prelude.{◌<◌, length};
+ghost use Rattle.mx_wire.specs.Answers.{ReadsAtMost, TakesAtMost};
+
+use mio::event::Event;
+use mio::net::TcpStream;
+use mx_wire::{Got, Took};
+use std::io::{ErrorKind, Read, Write};
+
+/// A connection, and what the poll has said of it. Where a call would find nothing, none is made.
+#[derive(Drop)]
+pub struct Socket {
+    stream: TcpStream,
+    /// Something may be there to read.
+    readable: bool,
+    /// There may be room to write.
+    writable: bool,
+    /// The peer sends no more, or the connection failed: behind the bytes that are left a read tells of it.
+    ended: bool,
+}
+
+impl Socket {
+    /// A connection that is there, with room to write, or one that is being made: the poll names it once it is there, or has failed.
+    pub fn new(stream: TcpStream, is_there: bool) -> Self {
+        Socket {
+            stream,
+            readable: false,
+            writable: is_there,
+            ended: false,
+        }
+    }
+
+    /// The poll has named it. Of one that failed the next call tells.
+    pub fn named(&mut self, event: &Event) {
+        if event.is_read_closed() || event.is_error() {
+            self.ended = true;
+        }
+        if event.is_readable() || self.ended {
+            self.readable = true;
+        }
+        if event.is_writable() || event.is_write_closed() {
+            self.writable = true;
+        }
+    }
+
+    /// Reads to the front of `into`. epoll(7): a read that comes back short has emptied a socket, and what comes later is named; but
+    /// the end of one that is over is read behind its last bytes.
+    pub fn read(&mut self, into: &mut [u8]) -> Got
+        requires { 0 < length into.old }
+        ensures { ReadsAtMost (length into.old) result }
+    {
+        if !self.readable {
+            return Got::NotReady;
+        }
+        match self.stream.read(into) {
+            Ok(0) => Got::End,
+            Ok(n) => {
+                self.readable = self.ended || n == into.len();
+                Got::Got { n }
+            }
+            Err(error) if error.kind() == ErrorKind::WouldBlock => {
+                self.readable = false;
+                Got::NotReady
+            }
+            Err(_) => Got::Failed,
+        }
+    }
+
+    /// Writes a front of the piece. A write that comes back short has filled the socket, and room that comes later is named.
+    pub fn write(&mut self, piece: &[u8]) -> Took
+        ensures { TakesAtMost (length piece.now) result }
+    {
+        if !self.writable {
+            return Took::NotReady;
+        }
+        match self.stream.write(piece) {
+            Ok(0) => Took::Failed,
+            Ok(n) => {
+                self.writable = n == piece.len();
+                Took::Took { n }
+            }
+            Err(error) if error.kind() == ErrorKind::WouldBlock => {
+                self.writable = false;
+                Took::NotReady
+            }
+            Err(_) => Took::Failed,
+        }
+    }
+}

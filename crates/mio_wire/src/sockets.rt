@@ -1,0 +1,183 @@
+// The ports, and the links with those that the last wake named.
+use crate::door::{Came, Door};
+use crate::socket::Socket;
+use mio::event::Event;
+use mio::net::TcpStream;
+use mio::{Events, Interest, Poll, Token};
+use mx_base::{Address, LinkId, OutOfMemory, Port};
+use std::alloc::{AllocError, Global};
+use std::collections::{HashMap, VecDeque};
+use std::io::{self, ErrorKind};
+use std::net::{Ipv4Addr, Net, SocketAddr};
+use std::time::Duration;
+
+/// The tokens of the ports. Those of links are their numbers, which begin behind these.
+const TRAFFIC: usize = 0;
+
+const ADMIN: usize = 1;
+
+/// How many ports and links one wake names at most. The next wake names the others.
+pub const NAMED_AT_ONCE: usize = 1_024;
+
+/// One poll, the open ports, the links by their numbers, and a queue of those that the last wake named.
+#[derive(Drop)]
+pub struct Sockets {
+    poll: Poll,
+    traffic: Option<Door>,
+    admin: Option<Door>,
+    links: HashMap<u64, Socket>,
+    ready: VecDeque<LinkId>,
+    /// The number of the newest link, or of the last port.
+    newest: u64,
+}
+
+impl Sockets {
+    /// No ports and no links.
+    pub fn new<R: Net>(rt: &R, alloc: Global) -> io::Result<Self> {
+        Ok(Sockets {
+            poll: Poll::new(rt)?,
+            traffic: None,
+            admin: None,
+            links: HashMap::new(alloc),
+            ready: VecDeque::with_capacity(alloc, NAMED_AT_ONCE)?,
+            newest: ADMIN as u64,
+        })
+    }
+
+    /// Makes room for so many links more.
+    pub fn reserve(&mut self, links: u32) -> Result<(), OutOfMemory> {
+        self.links.reserve(links as usize)?;
+        Ok(())
+    }
+
+    /// Listens at the address. What listened there before is closed.
+    pub fn listen<R: Net>(&mut self, rt: &R, port: Port, address: Address) -> io::Result<()> {
+        let registry = self.poll.registry();
+        match port {
+            Port::Traffic => {
+                let door = Door::open(rt, registry, Token(TRAFFIC), socket_addr(address))?;
+                self.traffic = Some(door);
+            }
+            Port::Admin => {
+                let door = Door::open(rt, registry, Token(ADMIN), socket_addr(address))?;
+                self.admin = Some(door);
+            }
+        }
+        Ok(())
+    }
+
+    /// Whether a client may wait for which there was no room.
+    pub fn are_owed(&self) -> bool {
+        is_owed(&self.traffic) || is_owed(&self.admin)
+    }
+
+    /// Waits for so long at most, and notes what is ready.
+    pub fn wait(&mut self, events: &mut Events, most: Duration) -> io::Result<()> {
+        self.ready.clear();
+        self.poll.poll(events, Some(most))?;
+        for event in &*events {
+            self.name(event)?;
+        }
+        Ok(())
+    }
+
+    // A port or a link is ready. A link that closed since isn't known.
+    fn name(&mut self, event: &Event) -> Result<(), AllocError> {
+        match event.token().0 {
+            TRAFFIC => name_door(&mut self.traffic),
+            ADMIN => name_door(&mut self.admin),
+            number => {
+                if let Some(socket) = self.links.get_mut(&(number as u64)) {
+                    socket.named(event);
+                    self.ready.push_back(LinkId(number as u64))?;
+                }
+            }
+        }
+        Ok(())
+    }
+
+    /// The next link that the last wake named. One that closed since isn't given.
+    pub fn next_ready(&mut self) -> Option<LinkId> {
+        while let Some(link) = self.ready.pop_front() {
+            if self.links.contains_key(&link.0) {
+                return Some(link);
+            }
+        }
+        None
+    }
+
+    /// The next client that waits at the port, if one does. One with which nothing can be done is passed over.
+    pub fn accept(&mut self, port: Port) -> io::Result<Option<LinkId>> {
+        for _ in 0..u64::MAX {
+            match self.knock(port)? {
+                Came::Nobody => return Ok(None),
+                Came::Gone => {}
+                Came::Client(stream) => {
+                    if let Ok(link) = self.keep(stream, true) {
+                        return Ok(Some(link));
+                    }
+                }
+            }
+        }
+        Ok(None)
+    }
+
+    fn knock(&mut self, port: Port) -> io::Result<Came> {
+        let door = match port {
+            Port::Traffic => &mut self.traffic,
+            Port::Admin => &mut self.admin,
+        };
+        match door {
+            Some(door) => door.accept(),
+            None => Err(io::Error::from(ErrorKind::NotConnected)),
+        }
+    }
+
+    /// Begins to connect to the address.
+    pub fn open<R: Net>(&mut self, rt: &R, address: Address) -> io::Result<LinkId> {
+        let stream = TcpStream::connect(rt, socket_addr(address))?;
+        self.keep(stream, false)
+    }
+
+    // Keeps a connection under a number of its own. One that is there already has room to write.
+    fn keep(&mut self, mut stream: TcpStream, is_there: bool) -> io::Result<LinkId> {
+        let Some(number) = self.newest.checked_add(1) else {
+            return Err(io::Error::from(ErrorKind::QuotaExceeded));
+        };
+        let both_ways = Interest::READABLE | Interest::WRITABLE;
+        stream.set_nodelay(true)?;
+        self.poll
+            .registry()
+            .register(&mut stream, Token(number as usize), both_ways)?;
+        self.links.insert(number, Socket::new(stream, is_there))?;
+        self.newest = number;
+        Ok(LinkId(number))
+    }
+
+    /// The link's connection, while it is open.
+    pub fn link(&mut self, link: LinkId) -> Option<&mut Socket> {
+        self.links.get_mut(&link.0)
+    }
+
+    /// Closes the link's connection.
+    pub fn close(&mut self, link: LinkId) {
+        let _ = self.links.remove(&link.0);
+    }
+}
+
+fn socket_addr(address: Address) -> SocketAddr {
+    SocketAddr::from((Ipv4Addr::from(address.ip), address.port))
+}
+
+fn is_owed(door: &Option<Door>) -> bool {
+    match door {
+        Some(door) => door.is_owed(),
+        None => false,
+    }
+}
+
+fn name_door(door: &mut Option<Door>) {
+    if let Some(door) = door {
+        door.named();
+    }
+}

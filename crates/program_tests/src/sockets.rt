@@ -1,0 +1,98 @@
+// Real sockets, on the loopback interface.
+use mio_wire::MioWire;
+use mx_base::{Address, LinkId, Port, Tag};
+use mx_wire::{Accepted, Wire};
+use std::io::{self, ErrorKind, Read, Write};
+use std::net::{Ipv4Addr, SocketAddr, TcpListener, TcpStream};
+use std::test::Fail;
+
+fn on_loopback(port: u16) -> SocketAddr {
+    SocketAddr::from((Ipv4Addr::LOCALHOST, port))
+}
+
+fn address(port: u16) -> Address {
+    Address {
+        ip: [127, 0, 0, 1],
+        port,
+    }
+}
+
+// A port at which nobody listens.
+fn free_port(rt: &HostRuntime) -> io::Result<u16> {
+    Ok(TcpListener::bind(rt, on_loopback(0))?.local_addr()?.port())
+}
+
+fn new_wire(rt: &HostRuntime) -> io::Result<MioWire<'_, HostRuntime>> {
+    match MioWire::new(rt, rt.alloc()) {
+        Ok(wire) => Ok(wire),
+        Err(_) => Err(io::Error::from(ErrorKind::OutOfMemory)),
+    }
+}
+
+// The link of the client that waits at the port, and whether each byte of its salt may stand there.
+fn come(wire: &mut MioWire<'_, HostRuntime>) -> io::Result<(LinkId, bool)> {
+    match wire.accept(Port::Traffic) {
+        Accepted::Link { id, salt } => Ok((id, salt.iter().all(|byte| (1..=127).contains(byte)))),
+        _ => Err(io::Error::from(ErrorKind::NotConnected)),
+    }
+}
+
+// What the calls of a link answer, as its client says abc, is told hi and goes.
+fn talk(
+    rt: &HostRuntime,
+    wire: &mut MioWire<'_, HostRuntime>,
+    link: LinkId,
+    mut client: TcpStream,
+) -> io::Result<String> {
+    let mut buffer = [0u8; 8];
+    let silent = wire.read(link, &mut buffer);
+    let took = wire.write(link, Tag::Reply, b"hi");
+    let mut heard = [0u8; 2];
+    client.read_exact(&mut heard)?;
+    client.write_all(b"abc")?;
+    let _ = wire.wait(u64::MAX);
+    let named = wire.next_ready() == Some(link);
+    let got = wire.read(link, &mut buffer);
+    let dry = wire.read(link, &mut buffer);
+    drop(client);
+    let _ = wire.wait(u64::MAX);
+    let named_again = wire.next_ready() == Some(link);
+    let end = wire.read(link, &mut buffer);
+    wire.close(link);
+    Ok(format!(in rt.alloc();
+        "{silent:?} {took:?} {heard:?}; {named} {got:?} {buffer:?} {dry:?}; {named_again} {end:?}"
+    )?)
+}
+
+#[test]
+fn a_client_comes_and_goes(rt: HostRuntime) -> Result<(), Fail> {
+    let mut wire = new_wire(&rt)?;
+    let port = free_port(&rt)?;
+    let listened = wire.listen(Port::Traffic, address(port));
+    let nobody = wire.accept(Port::Traffic);
+    let client = TcpStream::connect(&rt, on_loopback(port))?;
+    let _ = wire.wait(u64::MAX);
+    let (link, salted) = come(&mut wire)?;
+    let only_one = wire.accept(Port::Traffic);
+    let said = talk(&rt, &mut wire, link, client)?;
+    let ports = format!(in rt.alloc(); "{listened:?} {nobody:?}; {salted} {only_one:?}")?;
+    assert_eq!(rt; ports.as_str(), "Done NotReady; true NotReady");
+    assert_eq!(rt;
+        said.as_str(),
+        "NotReady Took { n: 2 } [104, 105]; true Got { n: 3 } [97, 98, 99, 0, 0, 0, 0, 0] NotReady; true End"
+    );
+    Ok(())
+}
+
+#[test]
+fn a_port_that_is_taken_fails(rt: HostRuntime) -> Result<(), Fail> {
+    let mut wire = new_wire(&rt)?;
+    let other = TcpListener::bind(&rt, on_loopback(0))?;
+    let taken = wire.listen(Port::Traffic, address(other.local_addr()?.port()));
+    let admin = wire.listen(Port::Admin, address(free_port(&rt)?));
+    let closed = wire.accept(Port::Traffic);
+    let nobody = wire.accept(Port::Admin);
+    let said = format!(in rt.alloc(); "{taken:?} {admin:?} {closed:?} {nobody:?}")?;
+    assert_eq!(rt; said.as_str(), "Failed Done Failed NotReady");
+    Ok(())
+}

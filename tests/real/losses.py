@@ -1,0 +1,70 @@
+#!/usr/bin/python3
+"""Servers that are killed under load, and clients that go without a word."""
+
+import socket
+import threading
+import time
+
+from world import PORT, World, check, code_of, connect, end
+
+CLIENTS = 50
+codes = []
+started = threading.Barrier(CLIENTS + 1)
+
+
+def client():
+    """Sends statements until one fails, and notes how."""
+    cursor = connect().cursor()
+    cursor.execute("DO 1")
+    started.wait(60)
+    for _ in range(1_000_000):
+        code = code_of(cursor.execute, "DO SLEEP(0.001)")
+        if code:
+            codes.append(code)
+            return
+
+
+def threads_of(world):
+    return int(world.directly("SELECT COUNT(*) FROM information_schema.processlist WHERE user = 'u'"))
+
+
+with World() as world:
+    threads = [threading.Thread(target=client) for _ in range(CLIENTS)]
+    for thread in threads:
+        thread.start()
+    started.wait(60)
+    time.sleep(1)
+    world.kill_server()
+    for thread in threads:
+        thread.join(30)
+    check("each client of a killed server is told", (len(codes), set(codes) <= {9101, 9103}), (CLIENTS, True))
+    waiting = connect(autocommit=None).cursor()
+    begun = time.monotonic()
+    check("a statement while no server is there", code_of(waiting.execute, "DO 1"), 9103)
+    check("which is told at once", time.monotonic() - begun < 5, True)
+    world.start_server()
+    check("the same client, once it is there again", code_of(waiting.execute, "DO 1"), 0)
+
+    before = threads_of(world)
+    gone = []
+    for _ in range(CLIENTS):
+        link = connect()
+        link.cursor().execute("DO 1")
+        link._execute_command(3, "DO SLEEP(2)")
+        gone.append(link._sock)
+    for link in gone:
+        link.close()
+    check("clients that go while their statement runs", code_of(connect().cursor().execute, "DO 1"), 0)
+    for _ in range(100):
+        if threads_of(world) <= before + 1:
+            break
+        time.sleep(0.1)
+    check("their links to the server are closed", threads_of(world) <= before + 1, True)
+
+    for k in range(200):
+        link = socket.create_connection(("127.0.0.1", PORT))
+        link.send(bytes([k % 256]) * (k % 50))
+        link.close()
+    check("clients that say no login", code_of(connect().cursor().execute, "DO 1"), 0)
+    check("the router is still the same", world.proxy.poll(), None)
+end()
