@@ -1,0 +1,114 @@
+-- What the next thing that a client says makes of its session.
+use Rattle.std.specs.Prelude.{ℕ, List, ◌++◌, Option, Some, None}
+use Rattle.packet_frame.specs.Packets.{Framed, spelling}
+use Rattle.handshake.specs.declared.response.Response.{Response}
+use Rattle.server_side.specs.Account.{Account}
+use Rattle.client_side.specs.declared.stage.Stage.TheVariants as stage
+use Rattle.client_side.specs.declared.step.ClientFault.{ClientFault}
+use Rattle.client_side.specs.declared.step.ClientStep.{ClientStep}
+use Rattle.client_side.specs.declared.step.ClientStep.TheVariants as says
+use Rattle.client_side.specs.Client.{counted, past_message, login_of}
+use Rattle.client_side.specs.Steps.{Next, next_of}
+use Rattle.client_session.specs.Setups.{Setup, has_server}
+use Rattle.client_session.specs.Accounts.{account_of}
+use Rattle.client_session.specs.Answers.{fault_error}
+use Rattle.client_session.specs.Errors.{own_ok, access_denied}
+use Rattle.client_session.specs.Refusals.{payload_of}
+use Rattle.client_talk.specs.declared.asked.Asked.{Asked}
+use Rattle.client_talk.specs.declared.asked.Asked.TheVariants.{Query, Ping, Quit, Refused}
+use Rattle.client_talk.specs.declared.session.Phase.{Phase}
+use Rattle.client_talk.specs.declared.session.Phase.TheVariants as phase
+use Rattle.client_talk.specs.declared.session.Session.{Session}
+use Rattle.client_talk.specs.declared.step.Turn.{Turn}
+use Rattle.client_talk.specs.declared.step.Turn.TheVariants.{More, Work, Rests}
+use Rattle.client_talk.specs.Asked.{asked_of}
+
+-- the session that is left, and whether the client's next message may be taken: it may, or a query is in work, or nothing is left
+pub record Step : Type 0 where
+  pub session : Session
+  pub turn : Turn
+
+abbrev pub goes : Session → Step
+goes session = record { session = session; turn = More }
+
+abbrev pub stops : Session → Step
+stops session = record { session = session; turn = Rests }
+
+-- these bytes are to be written to the client
+abbrev pub told : (packets : List ℕ) → Session → Session
+told packets session = record session { client = record session.client { outgoing = session.client.outgoing ++ packets } }
+
+-- no more is read of it
+abbrev pub ended : Session → Session
+ended session = record session { phase = phase.Ending }
+
+-- The login.
+
+abbrev pub admitted : Account → (first : ℕ) → Session → Session
+admitted account first session =
+    record { client = record (told (spelling first own_ok) session).client { stage = stage.Commands }; phase = phase.Idle account }
+
+abbrev pub denied : Response → (first : ℕ) → Session → Session
+denied response first session = ended (told (spelling first (access_denied response.user)) session)
+
+abbrev pub logs_in_as : Option Account → Response → (first : ℕ) → Session → Step
+logs_in_as (Some account) response first session = goes (admitted account first session)
+logs_in_as None response first session = stops (denied response first session)
+
+abbrev pub logs_in : Setup → Option Response → (first : ℕ) → Session → Step
+logs_in setup None first session = stops session
+logs_in setup (Some response) first session = logs_in_as (account_of setup.users session.client.salt response) response first session
+
+-- A message.
+
+-- the session behind the message that was found
+abbrev pub past : Framed → Session → Session
+past message session = record session {
+  client = record session.client { framer = past_message message session.client.framer; arrived = counted session.client.arrived };
+}
+
+-- the router itself answers it
+abbrev pub answers : Framed → (first : ℕ) → (payload : List ℕ) → Session → Session
+answers message first payload session = past message (told (spelling first payload) session)
+
+-- it is a query, which is in work from now on
+abbrev pub at_work : Phase → Phase
+at_work (phase.Idle account) = phase.Working account
+at_work other = other
+
+abbrev pub started : Framed → Session → Session
+started message session = record (past message session) { phase = at_work session.phase }
+
+abbrev pub works : Framed → (ordinal first : ℕ) → Session → Step
+works message ordinal first session = record {
+  session = started message session;
+  turn = Work (record { ordinal = ordinal; first = first; packets = spelling 0 message.payload });
+}
+
+abbrev pub arrives_as : Asked → Framed → (ordinal first : ℕ) → Session → Step
+arrives_as Query message ordinal first session = works message ordinal first session
+arrives_as Ping message ordinal first session = goes (answers message first own_ok session)
+arrives_as Quit message ordinal first session = stops (ended session)
+arrives_as (Refused refusal) message ordinal first session = goes (answers message first (payload_of refusal) session)
+
+abbrev pub arrives : Setup → Option Framed → (ordinal first : ℕ) → Session → Step
+arrives setup None ordinal first session = stops session
+arrives setup (Some message) ordinal first session = arrives_as (asked_of (has_server setup) message.payload) message ordinal first session
+
+-- What the client says next.
+
+-- what came is nothing that may: the error is the last that the client is told
+abbrev pub refused : (limit : ℕ) → ClientFault → (first : ℕ) → Session → Session
+refused limit fault first session = ended (told (spelling first (fault_error limit fault)) session)
+
+abbrev pub step_by : Setup → ClientStep → Session → Step
+step_by setup says.Nothing session = stops session
+step_by setup (says.Login first) session = logs_in setup (login_of session.client.stage) first session
+step_by setup (says.Message ordinal first) session = arrives setup session.client.framer.found ordinal first session
+step_by setup (says.Refused first fault) session = stops (refused setup.limit fault first session)
+
+abbrev pub stepped : Setup → Next → Phase → Step
+stepped setup next at = step_by setup next.step (record { client = next.client; phase = at })
+
+abbrev pub step : Setup → Session → Step
+step setup session = stepped setup (next_of session.client.stage session.client) session.phase

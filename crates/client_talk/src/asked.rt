@@ -1,0 +1,38 @@
+// What a client's message asks for.
+ghost use Rattle.std.specs.Prelude.{◌≡◌};
+ghost use Rattle.client_talk.specs.Asked.{asked_of};
+
+use client_session::Refusal;
+use command_parse::{Command, parse};
+
+/// What a client's message asks for (client/server protocol, "Command Phase").
+#[derive(Clone, Copy)]
+pub enum Asked {
+    /// An answer of a server.
+    Query,
+    /// A sign of life.
+    Ping,
+    /// The end of the session.
+    Quit,
+    /// Nothing that the router does, and this error answers it.
+    Refused(Refusal),
+}
+
+/// What a message with this payload asks for, where there is a server or where there is none.
+pub fn asked_of(payload: &[u8], has_server: bool) -> Asked
+    ensures { result ≡ asked_of has_server payload.now }
+{
+    match parse(payload, None) {
+        Ok(Command::Query { .. }) => {
+            if has_server {
+                Asked::Query
+            } else {
+                Asked::Refused(Refusal::NoServer)
+            }
+        }
+        Ok(Command::Ping) => Asked::Ping,
+        Ok(Command::Quit) => Asked::Quit,
+        Ok(_) => Asked::Refused(Refusal::UnknownCommand),
+        Err(_) => Asked::Refused(Refusal::MalformedCommand),
+    }
+}
