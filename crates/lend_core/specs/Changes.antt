@@ -1,0 +1,59 @@
+-- What changes, one table at a time.
+use Rattle.std.specs.Prelude.{ℕ, not, nat_eq, filter, [], ◌∷◌, ◌++◌, Some, None}
+use Rattle.std.specs.Option.{option_map}
+use Rattle.mx_base.specs.declared.names.ClientNo.{ClientNo}
+use Rattle.mx_base.specs.declared.names.LinkId.{LinkId}
+use Rattle.server_side.specs.Backend.{taken}
+use Rattle.lend_core.specs.declared.ask.Ask.{Ask}
+use Rattle.lend_core.specs.declared.lent.Lent.{Lent}
+use Rattle.lend_core.specs.Lends.{Lends, set, others}
+
+-- Links.
+
+abbrev pub with_link : LinkId → Lent → Lends → Lends
+with_link link lent lends = record lends { links = set lends.links link.0 (Some lent) }
+
+abbrev pub without_link : LinkId → Lends → Lends
+without_link link lends = record lends { links = set lends.links link.0 None }
+
+-- so many bytes of a link were written
+abbrev pub took : ℕ → Lent → Lent
+took n lent = record lent { backend = taken n lent.backend }
+
+abbrev pub taken_on : LinkId → ℕ → Lends → Lends
+taken_on link n lends = record lends { links = set lends.links link.0 (option_map (took n) (lends.links link.0)) }
+
+-- Whose they are.
+
+abbrev pub owns : ClientNo → LinkId → Lends → Lends
+owns client link lends = record lends { owned = set lends.owned client.0 (Some link) }
+
+abbrev pub owns_none : ClientNo → Lends → Lends
+owns_none client lends = record lends { owned = set lends.owned client.0 None }
+
+-- Commands that aren't on a link yet.
+
+abbrev pub with_ask : ClientNo → Ask → Lends → Lends
+with_ask client ask lends = record lends { asks = set lends.asks client.0 (Some ask) }
+
+abbrev pub without_ask : ClientNo → Lends → Lends
+without_ask client lends = record lends { asks = set lends.asks client.0 None }
+
+-- Clients that wait for a link.
+
+abbrev pub waits : ClientNo → Lends → Lends
+waits client lends = record lends { waiting = lends.waiting ++ client ∷ [] }
+
+abbrev pub waits_no_more : ClientNo → Lends → Lends
+waits_no_more client lends = record lends { waiting = filter (λ other. not (nat_eq other.0 client.0)) lends.waiting }
+
+abbrev pub without_first : Lends → Lends
+without_first lends = record lends { waiting = others lends.waiting }
+
+-- Links that are to be closed.
+
+abbrev pub to_close : LinkId → Lends → Lends
+to_close link lends = record lends { closing = lends.closing ++ link ∷ [] }
+
+abbrev pub without_close : Lends → Lends
+without_close lends = record lends { closing = others lends.closing }

@@ -1,0 +1,94 @@
+-- What each event makes of the links and of the commands.
+use Rattle.std.specs.Prelude.{ℕ, Bool, true, false, List, [], ◌∷◌, Option, Some, None}
+use Rattle.mx_base.specs.declared.names.ClientNo.{ClientNo}
+use Rattle.mx_base.specs.declared.names.LinkId.{LinkId}
+use Rattle.server_side.specs.Backend.{new_backend, is_begun, Left, left}
+use Rattle.server_side.specs.Hearing.{got_of}
+use Rattle.client_session.specs.declared.refusal.Refusal.TheVariants.{ConnectionLost}
+use Rattle.lend_core.specs.declared.ask.Ask.{Ask}
+use Rattle.lend_core.specs.declared.lent.Lent.{Lent}
+use Rattle.lend_core.specs.Lends.{Lends, Told, oldest}
+use Rattle.lend_core.specs.Changes.{with_link, without_link, owns, owns_none, without_ask, waits_no_more, without_first, to_close}
+use Rattle.lend_core.specs.Decisions.{quietly, refused_owner, offered, queued, failed, told_by}
+
+-- A command comes up.
+
+abbrev pub asked_on : ClientNo → Ask → LinkId → Option Lent → Lends → Lends
+asked_on client ask link None lends = queued client ask lends
+asked_on client ask link (Some lent) lends = offered client ask link lent lends
+
+abbrev pub asked_by : ClientNo → Ask → Option LinkId → Lends → Lends
+asked_by client ask None lends = queued client ask lends
+asked_by client ask (Some link) lends = asked_on client ask link (lends.links link.0) (without_link link lends)
+
+-- the client's link takes it, or it is kept until the login there is done; without a link it waits for one
+abbrev pub asked : ClientNo → Ask → Lends → Lends
+asked client ask lends = asked_by client ask (lends.owned client.0) lends
+
+-- A link is opened.
+
+abbrev pub opened_with : LinkId → ClientNo → Option Ask → Lends → Lends
+opened_with link client None lends = to_close link lends
+opened_with link client (Some ask) lends = owns client link (with_link link (record { owner = Some client; backend = new_backend ask.account }) lends)
+
+abbrev pub opened_for : LinkId → Option ClientNo → Lends → Lends
+opened_for link None lends = to_close link lends
+opened_for link (Some client) lends = opened_with link client (lends.asks client.0) lends
+
+-- it is the first's that waits, whose account logs in there
+abbrev pub opened : LinkId → Lends → Lends
+opened link lends = opened_for link (oldest lends.waiting) (without_first lends)
+
+-- the first that waits is answered by 9103
+abbrev pub open_failed : Lends → Told
+open_failed lends = refused_owner (oldest lends.waiting) (without_first lends)
+
+-- Bytes come on a link, or it is lost. Its row is taken out, and put back where the link stays.
+
+abbrev pub heard_on : LinkId → (piece : List ℕ) → Option Lent → Lends → Told
+heard_on link piece None lends = quietly lends
+heard_on link piece (Some lent) lends = told_by link lent (got_of piece lent.backend) lends
+
+abbrev pub heard : LinkId → (piece : List ℕ) → Lends → Told
+heard link piece lends = heard_on link piece (lends.links link.0) (without_link link lends)
+
+abbrev pub lost_on : LinkId → Option Lent → Lends → Told
+lost_on link None lends = quietly lends
+lost_on link (Some lent) lends = failed link lent ConnectionLost lends
+
+-- a command that is begun there is answered by 9101
+abbrev pub lost : LinkId → Lends → Told
+lost link lends = lost_on link (lends.links link.0) (without_link link lends)
+
+-- A client has gone.
+
+abbrev pub left_at : (begun : Bool) → LinkId → Lent → Lends → Lends
+left_at true link lent lends = with_link link (record lent { owner = None }) lends
+left_at false link lent lends = to_close link lends
+
+abbrev pub left_on : LinkId → Option Lent → Lends → Lends
+left_on link None lends = lends
+left_on link (Some lent) lends = left_at (is_begun lent.backend.command) link lent lends
+
+abbrev pub left_by : Option LinkId → Lends → Lends
+left_by None lends = lends
+left_by (Some link) lends = left_on link (lends.links link.0) (without_link link lends)
+
+abbrev pub left_own : ClientNo → Lends → Lends
+left_own client lends = left_by (lends.owned client.0) (owns_none client lends)
+
+-- its command is dropped, and its link is closed, unless a reply is due there, which is read first
+abbrev pub gone : ClientNo → Lends → Lends
+gone client lends = left_own client (waits_no_more client (without_ask client lends))
+
+-- What the router does.
+
+-- what is to be written on a link
+abbrev pub left_in : Option Lent → Option Left
+left_in None = None
+left_in (Some lent) = left lent.backend
+
+-- a link has to be opened
+abbrev pub is_waiting : List ClientNo → Bool
+is_waiting [] = false
+is_waiting (client ∷ waiting) = true

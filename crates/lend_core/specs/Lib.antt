@@ -1,0 +1,5 @@
+pub mod Lends
+pub mod Changes
+pub mod Decisions
+pub mod Events
+pub mod Telling
