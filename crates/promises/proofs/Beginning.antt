@@ -21,11 +21,11 @@ use Rattle.promises.specs.Sends.{Continues, Begins, GoesOn, MaySend}
 use Rattle.promises.proofs.InWork.{some-same}
 use Rattle.promises.proofs.Causes.{or-cases, or-inl, or-inr}
 
-abbrev is_of : (n i : ℕ) → Command → Bool
+abbrev pub is_of : (n i : ℕ) → Command → Bool
 is_of n i c = is_command n i c.tag
 
 -- a command that stands on a link came in pieces, and these in entries
-piece-of : (n i : ℕ) (commands : List Command) (next : Command) → list_any (is_of n i) (with_piece commands next) ≡ true → (list_any (is_of n i) commands ≡ true) ⊎ (is_of n i next ≡ true)
+pub piece-of : (n i : ℕ) (commands : List Command) (next : Command) → list_any (is_of n i) (with_piece commands next) ≡ true → (list_any (is_of n i) commands ≡ true) ⊎ (is_of n i next ≡ true)
 piece-of n i [] next is = by (or-cases (is_of n i next) false is) where
   by : (is_of n i next ≡ true) ⊎ (false ≡ true) → (false ≡ true) ⊎ (is_of n i next ≡ true)
   by (inl here) = inr here
@@ -50,7 +50,7 @@ piece-of n i (c ∷ d ∷ commands) next is = by (or-cases (is_of n i c) (list_a
     more (inl was) = inl (or-inr (is_of n i c) (list_any (is_of n i) (d ∷ commands)) was)
     more (inr now) = inr now
 
-pieces-of : (n i : ℕ) (commands pieces : List Command) → list_any (is_of n i) (fold with_piece commands pieces) ≡ true → (list_any (is_of n i) commands ≡ true) ⊎ (list_any (is_of n i) pieces ≡ true)
+pub pieces-of : (n i : ℕ) (commands pieces : List Command) → list_any (is_of n i) (fold with_piece commands pieces) ≡ true → (list_any (is_of n i) commands ≡ true) ⊎ (list_any (is_of n i) pieces ≡ true)
 pieces-of n i commands [] is = inl is
 pieces-of n i commands (p ∷ pieces) is = by (pieces-of n i (with_piece commands p) pieces is) where
   first : (list_any (is_of n i) commands ≡ true) ⊎ (is_of n i p ≡ true) → (list_any (is_of n i) commands ≡ true) ⊎ ((is_of n i p || list_any (is_of n i) pieces) ≡ true)
@@ -61,7 +61,7 @@ pieces-of n i commands (p ∷ pieces) is = by (pieces-of n i (with_piece command
   by (inl was) = first (piece-of n i commands p was)
   by (inr later) = inr (or-inr (is_of n i p) (list_any (is_of n i) pieces) later)
 
-behind-of : (n i k : ℕ) (pieces : List Command) → list_any (is_of n i) (behind k pieces) ≡ true → list_any (is_of n i) pieces ≡ true
+pub behind-of : (n i k : ℕ) (pieces : List Command) → list_any (is_of n i) (behind k pieces) ≡ true → list_any (is_of n i) pieces ≡ true
 behind-of n i k [] is = is
 behind-of n i zero (p ∷ pieces) is = is
 behind-of n i (suc k) (p ∷ pieces) is = by (nat_le (length p.bytes) (suc k)) is (behind-of n i (suc k - length p.bytes) pieces) where
@@ -71,18 +71,18 @@ behind-of n i (suc k) (p ∷ pieces) is = by (nat_le (length p.bytes) (suc k)) i
   by false is later = is
 
 -- an entry that carries nothing of it has no such piece
-silent : (n i : ℕ) (e : Entry) (pieces : List Command) → carries n i e ≡ None → list_any (is_of n i) (cons_option (piece e) pieces) ≡ true → list_any (is_of n i) pieces ≡ true
+pub silent : (n i : ℕ) (e : Entry) (pieces : List Command) → carries n i e ≡ None → list_any (is_of n i) (cons_option (piece e) pieces) ≡ true → list_any (is_of n i) pieces ≡ true
 silent n i (Wrote link tag bytes) pieces none is = by (is_command n i tag) none is where
   by : (b : Bool) → cond b (Some link) None ≡ None → (b || list_any (is_of n i) pieces) ≡ true → list_any (is_of n i) pieces ≡ true
   by true none is = absurd (let no : Some link ≡ None = none in cc)
   by false none is = is
 silent n i _ pieces none is = is
 
-first-none : (o later : Option LinkId) → first_some o later ≡ None → (o ≡ None) × (later ≡ None)
+pub first-none : (o later : Option LinkId) → first_some o later ≡ None → (o ≡ None) × (later ≡ None)
 first-none None later is = (refl, is)
 first-none (Some link) later is = absurd (let no : Some link ≡ None = is in cc)
 
-uncarried : (n i : ℕ) (link : LinkId) (log : Log) → carrier_of n i log ≡ None → list_any (is_of n i) (pieces_of link log) ≡ true → ⊥
+pub uncarried : (n i : ℕ) (link : LinkId) (log : Log) → carrier_of n i log ≡ None → list_any (is_of n i) (pieces_of link log) ≡ true → ⊥
 uncarried n i link [] none is = (let no : false ≡ true = is in cc)
 uncarried n i link (e ∷ log) none is = by (is_link link (link_of e)) (is_loss e) is (first-none (carries n i e) (carrier_of n i log) none) (uncarried n i link log) where
   by : (here lost : Bool) → list_any (is_of n i) (filter_map piece (until_loss (cond here (e ∷ of_link link log) (of_link link log)))) ≡ true → (carries n i e ≡ None) × (carrier_of n i log ≡ None)
@@ -93,7 +93,7 @@ uncarried n i link (e ∷ log) none is = by (is_link link (link_of e)) (is_loss 
     at true is = (let no : false ≡ true = is in cc)
     at false is = later parts.1 (silent n i e (pieces_of link log) parts.0 is)
 
-no-commands : (n i : ℕ) (o : Opening) (pieces : List Command) → list_any (is_of n i) (commands_behind o pieces) ≡ true → list_any (is_of n i) pieces ≡ true
+pub no-commands : (n i : ℕ) (o : Opening) (pieces : List Command) → list_any (is_of n i) (commands_behind o pieces) ≡ true → list_any (is_of n i) pieces ≡ true
 no-commands n i (Goes said) pieces is = absurd (let no : false ≡ true = is in cc)
 no-commands n i (Fails said fault) pieces is = absurd (let no : false ≡ true = is in cc)
 no-commands n i (LogsIn said rest) pieces is = by (pieces-of n i [] (behind (length said) pieces) is) where
@@ -101,7 +101,7 @@ no-commands n i (LogsIn said rest) pieces is = by (pieces-of n i [] (behind (len
   by (inl none) = absurd (let no : false ≡ true = none in cc)
   by (inr some) = behind-of n i (length said) pieces some
 
-last-of-any : (n i : ℕ) (others : List Command) (sent : List ℕ) → list_any (is_of n i) (others ++ record { tag = For (record { 0 = n }) i; bytes = sent } ∷ []) ≡ true
+pub last-of-any : (n i : ℕ) (others : List Command) (sent : List ℕ) → list_any (is_of n i) (others ++ record { tag = For (record { 0 = n }) i; bytes = sent } ∷ []) ≡ true
 last-of-any n i others sent = list_any-append (is_of n i) others (record { tag = For (record { 0 = n }) i; bytes = sent } ∷ []) ∙ or-inr (list_any (is_of n i) others) (is_of n i (record { tag = For (record { 0 = n }) i; bytes = sent }) || false) (or-inl (is_of n i (record { tag = For (record { 0 = n }) i; bytes = sent })) false here) where
   here : is_command n i (For (record { 0 = n }) i) ≡ true
   here = ap (λ b. b && nat_eq i i) (same_number n) ∙ same_number i

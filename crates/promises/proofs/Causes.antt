@@ -26,7 +26,7 @@ use Rattle.promises.specs.Due.{route, server_of, query_answer, answer_by, messag
 use Rattle.promises.specs.Follows.{BreaksOff, Cause, NotOpened, NotLoggedIn}
 use Rattle.promises.proofs.InWork.{refused-more, query-answer}
 
-and-true : (a b : Bool) → (a && b) ≡ true → (a ≡ true) × (b ≡ true)
+pub and-true : (a b : Bool) → (a && b) ≡ true → (a ≡ true) × (b ≡ true)
 and-true true b is = (refl, is)
 and-true false b is = absurd (let no : false ≡ true = is in cc)
 
@@ -40,11 +40,11 @@ pub then-of : {A B : Type 0} (o : Option A) (f : A → Option B) (y : B) → opt
 then-of None f y is = absurd (let no : None ≡ Some y = is in cc)
 then-of (Some x) f y is = record { x = x; from = refl; gives = is }
 
-if-failed : (turn other : Turn) (failed : Bool) → if_failed turn failed ≡ Some other → (failed ≡ true) × (turn ≡ other)
+pub if-failed : (turn other : Turn) (failed : Bool) → if_failed turn failed ≡ Some other → (failed ≡ true) × (turn ≡ other)
 if-failed turn other true is = (refl, cc)
 if-failed turn other false is = absurd (let no : None ≡ Some other = is in cc)
 
-by-login : (service : Service) (log : Log) (e : Entry) (turn : Turn) → option_and_then (refused_on service log e) (link_of e) ≡ Some turn → BreaksOff service log e turn
+pub by-login : (service : Service) (log : Log) (e : Entry) (turn : Turn) → option_and_then (refused_on service log e) (link_of e) ≡ Some turn → BreaksOff service log e turn
 by-login service log e turn is = (let one = then-of (link_of e) (refused_on service log e) turn is in
     let two = then-of (turn_of service one.x log) (refused_for service log e one.x) turn one.gives in
     let three = then-of (user_of service two.x.client log) (λ user. if_failed two.x (is_unsent two.x log && login_fails user one.x log e)) turn two.gives in
@@ -57,7 +57,7 @@ refusal-cause service log (OpenFailed server address) turn is = NotOpened server
 refusal-cause service log e turn is = NotLoggedIn e (by-login service log e turn is)
 
 -- A login that fails on a link refuses the command that the link was opened for.
-login-by : (service : Service) (log : Log) (e : Entry) (link : LinkId) (turn : Turn) (user : Account) → link_of e ≡ Some link → turn_of service link log ≡ Some turn → user_of service turn.client log ≡ Some user → is_unsent turn log ≡ true → login_fails user link log e ≡ true
+pub login-by : (service : Service) (log : Log) (e : Entry) (link : LinkId) (turn : Turn) (user : Account) → link_of e ≡ Some link → turn_of service link log ≡ Some turn → user_of service turn.client log ≡ Some user → is_unsent turn log ≡ true → login_fails user link log e ≡ true
     → option_and_then (refused_on service log e) (link_of e) ≡ Some turn
 login-by service log e link turn user names owned is_user unsent fails =
     ap (option_and_then (refused_on service log e)) names
@@ -99,7 +99,7 @@ pub or-inl : (a b : Bool) → a ≡ true → (a || b) ≡ true
 or-inl true b is = refl
 or-inl false b is = absurd (let no : false ≡ true = is in cc)
 
-try-as : (link : LinkId) (e : Entry) (tries : List (Option LinkId)) (log : Log) → (list_any (is_link link) tries ≡ true → list_any (opened_as link) log ≡ true) → list_any (is_link link) (cons_option (open_try e) tries) ≡ true → list_any (opened_as link) (e ∷ log) ≡ true
+pub try-as : (link : LinkId) (e : Entry) (tries : List (Option LinkId)) (log : Log) → (list_any (is_link link) tries ≡ true → list_any (opened_as link) log ≡ true) → list_any (is_link link) (cons_option (open_try e) tries) ≡ true → list_any (opened_as link) (e ∷ log) ≡ true
 try-as link (Opened server address other) tries log later is = by (nat_eq link.0 other.0) is where
   by : (b : Bool) → (b || list_any (is_link link) tries) ≡ true → (b || list_any (opened_as link) log) ≡ true
   by true same = refl
@@ -107,11 +107,11 @@ try-as link (Opened server address other) tries log later is = by (nat_eq link.0
 try-as link (OpenFailed server address) tries log later is = later is
 try-as link _ tries log later is = later is
 
-tries-as : (link : LinkId) (log : Log) → list_any (is_link link) (open_tries log) ≡ true → list_any (opened_as link) log ≡ true
+pub tries-as : (link : LinkId) (log : Log) → list_any (is_link link) (open_tries log) ≡ true → list_any (opened_as link) log ≡ true
 tries-as link [] is = is
 tries-as link (e ∷ log) is = try-as link e (open_tries log) log (tries-as link log) is
 
-turn-tried : (link : LinkId) (tries : List (Option LinkId)) (turns : List Turn) (turn : Turn) → turn_by link tries turns ≡ Some turn → list_any (is_link link) tries ≡ true
+pub turn-tried : (link : LinkId) (tries : List (Option LinkId)) (turns : List Turn) (turn : Turn) → turn_by link tries turns ≡ Some turn → list_any (is_link link) tries ≡ true
 turn-tried link [] turns turn is = absurd (let no : None ≡ Some turn = is in cc)
 turn-tried link (t ∷ tries) [] turn is = absurd (let no : None ≡ Some turn = is in cc)
 turn-tried link (t ∷ tries) (first ∷ turns) turn is = by (is_link link t) (turn-tried link tries turns turn) is where
@@ -122,14 +122,14 @@ turn-tried link (t ∷ tries) (first ∷ turns) turn is = by (is_link link t) (t
 pub turn-opened : (service : Service) (link : LinkId) (log : Log) (turn : Turn) → turn_of service link log ≡ Some turn → list_any (opened_as link) log ≡ true
 turn-opened service link log turn is = tries-as link log (turn-tried link (open_tries log) service.opens turn is)
 
-abbrev option_link : LinkId → Option Arrival → LinkId
+abbrev pub option_link : LinkId → Option Arrival → LinkId
 option_link link None = link
 option_link link (Some came) = came.link
 
-same-came : (before : Log) (port : Port) (link : LinkId) (salt : List ℕ) (came : Arrival) → Some (record { port = port; link = link; salt = salt; others = length (connected before) }) ≡ Some came → link ≡ came.link
+pub same-came : (before : Log) (port : Port) (link : LinkId) (salt : List ℕ) (came : Arrival) → Some (record { port = port; link = link; salt = salt; others = length (connected before) }) ≡ Some came → link ≡ came.link
 same-came before port link salt came is = ap (option_link link) is
 
-arrival-as : (before log : Log) (k : ℕ) (came : Arrival) → slice_get (arrivals_behind before log) k ≡ Some came → list_any (came_as came.link) log ≡ true
+pub arrival-as : (before log : Log) (k : ℕ) (came : Arrival) → slice_get (arrivals_behind before log) k ≡ Some came → list_any (came_as came.link) log ≡ true
 arrival-as before [] k came is = absurd (let no : None ≡ Some came = is in cc)
 arrival-as before (e ∷ log) k came is = by e k (arrival-as (before ++ e ∷ []) log) is where
   by : (e : Entry) (k : ℕ) → ((k : ℕ) (came : Arrival) → slice_get (arrivals_behind (before ++ e ∷ []) log) k ≡ Some came → list_any (came_as came.link) log ≡ true)
@@ -160,7 +160,7 @@ came-names link (Accepted port other salt) is = is
 came-names link _ is = absurd (let no : false ≡ true = is in cc)
 
 -- in a told log no link is both
-abbrev NotBoth : LinkId → Log → Type 0
+abbrev pub NotBoth : LinkId → Log → Type 0
 NotBoth link log = list_any (came_as link) log ≡ true → list_any (opened_as link) log ≡ true → ⊥
 
 pub or-cases : (a b : Bool) → (a || b) ≡ true → (a ≡ true) ⊎ (b ≡ true)
@@ -180,7 +180,7 @@ last-of p log e is = by (or-cases (list_any p log) (p e || false) (sym (list_any
 pub same-link : (one other : LinkId) → nat_eq one.0 other.0 ≡ true → one ≡ other
 same-link one other is = ap (λ k. record { 0 = k }) (nat_eq-true one.0 other.0 is)
 
-not-both-step : (link : LinkId) (log : Log) (e : Entry) → Fits log e → NotBoth link log → NotBoth link (log ++ e ∷ [])
+pub not-both-step : (link : LinkId) (log : Log) (e : Entry) → Fits log e → NotBoth link log → NotBoth link (log ++ e ∷ [])
 not-both-step link log e fits before came opened = by (last-of (came_as link) log e came) (last-of (opened_as link) log e opened) where
   fresh : (e : Entry) → Fits log e → opened_as link e ≡ true → IsNew link log
   fresh (Opened server address other) fits is = subst (λ (l : LinkId). IsNew l log) (sym (same-link link other is)) fits
@@ -200,7 +200,7 @@ not-both-step link log e fits before came opened = by (last-of (came_as link) lo
   by (inr one) (inl two) = named-none link (opened_as link) log (opened-names link) (fresh-too e fits one) two
   by (inr one) (inr two) = apart e one two
 
-not-both : (link : LinkId) (log : Log) → AllLawful Fits log → NotBoth link log
+pub not-both : (link : LinkId) (log : Log) → AllLawful Fits log → NotBoth link log
 not-both link log told = lawful-each Fits (NotBoth link) log (not-both-step link) (λ one two. (let no : false ≡ true = one in cc)) told
 
 pub none-if : {A : Type 0} (o : Option A) → ((x : A) → o ≡ Some x → ⊥) → o ≡ None

@@ -30,7 +30,7 @@ use Rattle.std.specs.Prelude.{◌||◌, nat_eq}
 use Rattle.exchange.specs.Commands.{same_tag, is_command, place_in}
 
 -- A whole reply stays as more bytes come.
-lone-stays : (found : Found) (reply : Answer) (rest more : List ℕ) (later : Found) → ((message : Rattle.packet_frame.specs.Packets.Framed) (behind : List ℕ) → found ≡ Whole message behind → later ≡ Whole message (behind ++ more)) → lone_in found ≡ Wholly reply rest → lone_in later ≡ Wholly reply (rest ++ more)
+pub lone-stays : (found : Found) (reply : Answer) (rest more : List ℕ) (later : Found) → ((message : Rattle.packet_frame.specs.Packets.Framed) (behind : List ℕ) → found ≡ Whole message behind → later ≡ Whole message (behind ++ more)) → lone_in found ≡ Wholly reply rest → lone_in later ≡ Wholly reply (rest ++ more)
 lone-stays Nothing reply rest more later grows is = absurd (let no : Partly ≡ Wholly reply rest = is in cc)
 lone-stays (Faulty fault) reply rest more later grows is = absurd (let no : Never 0 ≡ Wholly reply rest = is in cc)
 lone-stays (Whole message left) reply rest more later grows is = ap lone_in (grows message left refl) ∙ by (is_lone message.payload) is where
@@ -39,7 +39,7 @@ lone-stays (Whole message left) reply rest more later grows is = ap lone_in (gro
   by false same = absurd (let no : Never 0 ≡ Wholly reply rest = same in cc)
 
 -- Bad bytes stay bad.
-lone-never : (found : Found) (place : ℕ) (more : List ℕ) (later : Found) → ((message : Framed) (rest : List ℕ) → found ≡ Whole message rest → later ≡ Whole message (rest ++ more)) → ((fault : FrameFault) → found ≡ Faulty fault → later ≡ Faulty fault)
+pub lone-never : (found : Found) (place : ℕ) (more : List ℕ) (later : Found) → ((message : Framed) (rest : List ℕ) → found ≡ Whole message rest → later ≡ Whole message (rest ++ more)) → ((fault : FrameFault) → found ≡ Faulty fault → later ≡ Faulty fault)
     → lone_in found ≡ Never place → lone_in later ≡ Never place
 lone-never Nothing place more later whole faulty is = absurd (let no : Partly ≡ Never place = is in cc)
 lone-never (Faulty fault) place more later whole faulty is = ap lone_in (faulty fault refl) ∙ is
@@ -48,7 +48,7 @@ lone-never (Whole message rest) place more later whole faulty is = ap lone_in (w
   by true same = absurd (let no : Wholly (message.payload ∷ []) rest ≡ Never place = same in cc)
   by false same = same
 
-never-more : (c : Command) (bytes more : List ℕ) (place : ℕ) → one_payload c bytes ≡ Never place → one_payload c (bytes ++ more) ≡ Never place
+pub never-more : (c : Command) (bytes more : List ℕ) (place : ℕ) → one_payload c bytes ≡ Never place → one_payload c (bytes ++ more) ≡ Never place
 never-more c bytes more place is = lone-never (first_message most_payload 1 bytes) place more (first_message most_payload 1 (bytes ++ more))
     (λ message rest at. first_message-whole-more most_payload 1 bytes more message rest at) (λ fault at. first_message-faulty-more most_payload 1 bytes more fault at) is
 
@@ -85,32 +85,32 @@ replies-behind grammar grows (c ∷ commands) later bytes more sound none all = 
       ∙ ap (with_reply reply) (others rest sound none (let count : suc (length (replies_by grammar commands rest).whole) ≡ suc (length commands) = all in omega arith))
 
 -- What it says that a link is clean.
-record IsClean (user : Account) (link : LinkId) (log : Log) : Type 0 where
-  unlost : was_lost link log ≡ false
-  said : List ℕ
-  rest : List ℕ
-  within : login_on user link log ≡ LogsIn said rest
-  sound : (replies_on user link log).bad ≡ None
-  none : (replies_on user link log).rest ≡ []
-  all : length (replies_on user link log).whole ≡ length (commands_on user link log)
-  wholes : list_all is_whole (commands_on user link log) ≡ true
+pub record IsClean (user : Account) (link : LinkId) (log : Log) : Type 0 where
+  pub unlost : was_lost link log ≡ false
+  pub said : List ℕ
+  pub rest : List ℕ
+  pub within : login_on user link log ≡ LogsIn said rest
+  pub sound : (replies_on user link log).bad ≡ None
+  pub none : (replies_on user link log).rest ≡ []
+  pub all : length (replies_on user link log).whole ≡ length (commands_on user link log)
+  pub wholes : list_all is_whole (commands_on user link log) ≡ true
 
-by-loss : (lost : Bool) (s : Standing) → cond lost Spoilt s ≡ Clean → (lost ≡ false) × (s ≡ Clean)
+pub by-loss : (lost : Bool) (s : Standing) → cond lost Spoilt s ≡ Clean → (lost ≡ false) × (s ≡ Clean)
 by-loss true s is = absurd (let no : Spoilt ≡ Clean = is in cc)
 by-loss false s is = (refl, is)
 
-record InBy (o : Opening) (commands : List Command) (replies : Replies) : Type 0 where
-  said : List ℕ
-  rest : List ℕ
-  is : o ≡ LogsIn said rest
-  so : stands commands replies ≡ Clean
+pub record InBy (o : Opening) (commands : List Command) (replies : Replies) : Type 0 where
+  pub said : List ℕ
+  pub rest : List ℕ
+  pub is : o ≡ LogsIn said rest
+  pub so : stands commands replies ≡ Clean
 
-by-login : (o : Opening) (commands : List Command) (replies : Replies) → standing_in o commands replies ≡ Clean → InBy o commands replies
+pub by-login : (o : Opening) (commands : List Command) (replies : Replies) → standing_in o commands replies ≡ Clean → InBy o commands replies
 by-login (Goes said) commands replies is = absurd (let no : Enters ≡ Clean = is in cc)
 by-login (Fails said fault) commands replies is = absurd (let no : Spoilt ≡ Clean = is in cc)
 by-login (LogsIn said rest) commands replies is = record { said = said; rest = rest; is = refl; so = is }
 
-by-stands : (bad : Option ℕ) (clean : Bool) (unanswered : List Command) → stands_by bad clean unanswered ≡ Clean → (bad ≡ None) × (clean ≡ true) × (unanswered ≡ [])
+pub by-stands : (bad : Option ℕ) (clean : Bool) (unanswered : List Command) → stands_by bad clean unanswered ≡ Clean → (bad ≡ None) × (clean ≡ true) × (unanswered ≡ [])
 by-stands (Some place) clean unanswered is = absurd (let no : Spoilt ≡ Clean = is in cc)
 by-stands None true [] is = (refl, refl, refl)
 by-stands None false [] is = absurd (let no : Spoilt ≡ Clean = is in cc)
@@ -120,18 +120,18 @@ by-stands None clean (c ∷ []) is = absurd (by (is_whole c) is) where
   by false same = (let no : Sends ≡ Clean = same in cc)
 by-stands None clean (c ∷ d ∷ unanswered) is = absurd (let no : Spoilt ≡ Clean = is in cc)
 
-both-true : (a b : Bool) → (a && b) ≡ true → (a ≡ true) × (b ≡ true)
+pub both-true : (a b : Bool) → (a && b) ≡ true → (a ≡ true) × (b ≡ true)
 both-true true b is = (refl, is)
 both-true false b is = absurd (let no : false ≡ true = is in cc)
 
-empty-is : (xs : List ℕ) → is_empty xs ≡ true → xs ≡ []
+pub empty-is : (xs : List ℕ) → is_empty xs ≡ true → xs ≡ []
 empty-is [] is = refl
 empty-is (x ∷ xs) is = absurd (let no : false ≡ true = is in cc)
 
-none-left : {A : Type 0} (n : ℕ) (xs : List A) → drop n xs ≡ [] → length xs ≤ n
+pub none-left : {A : Type 0} (n : ℕ) (xs : List A) → drop n xs ≡ [] → length xs ≤ n
 none-left n xs is = (let count : length (drop n xs) ≡ length xs - n = length-drop n xs in let zero_left : length (drop n xs) ≡ 0 = ap length is in omega arith)
 
-clean-means : (user : Account) (link : LinkId) (log : Log) → standing_on user link log ≡ Clean → IsClean user link log
+pub clean-means : (user : Account) (link : LinkId) (log : Log) → standing_on user link log ≡ Clean → IsClean user link log
 clean-means user link log is = (let one = by-loss (was_lost link log) (standing_in (login_on user link log) (commands_on user link log) (replies_on user link log)) is in
     let two = by-login (login_on user link log) (commands_on user link log) (replies_on user link log) one.1 in
     let three = by-stands (replies_on user link log).bad (is_empty (replies_on user link log).rest && list_all is_whole (commands_on user link log)) (drop (length (replies_on user link log).whole) (commands_on user link log)) two.so in
@@ -165,19 +165,19 @@ pieces-more link log more unlost = (let parts = before-loss (of_link link log) (
 abbrev pub piece_bytes : Command → List ℕ
 piece_bytes p = p.bytes
 
-abbrev bytes_in : Option Command → List ℕ
+abbrev pub bytes_in : Option Command → List ℕ
 bytes_in None = []
 bytes_in (Some p) = p.bytes
 
-piece-bytes : (e : Entry) → wrote_bytes e ≡ bytes_in (piece e)
+pub piece-bytes : (e : Entry) → wrote_bytes e ≡ bytes_in (piece e)
 piece-bytes (Wrote link tag bytes) = refl
 piece-bytes _ = refl
 
-cons-bytes : (o : Option Command) (pieces : List Command) → flat_map piece_bytes (cons_option o pieces) ≡ bytes_in o ++ flat_map piece_bytes pieces
+pub cons-bytes : (o : Option Command) (pieces : List Command) → flat_map piece_bytes (cons_option o pieces) ≡ bytes_in o ++ flat_map piece_bytes pieces
 cons-bytes None pieces = refl
 cons-bytes (Some p) pieces = refl
 
-pieces-bytes : (log : Log) → flat_map wrote_bytes log ≡ flat_map piece_bytes (filter_map piece log)
+pub pieces-bytes : (log : Log) → flat_map wrote_bytes log ≡ flat_map piece_bytes (filter_map piece log)
 pieces-bytes [] = refl
 pieces-bytes (e ∷ log) = ap (λ xs. xs ++ flat_map wrote_bytes log) (piece-bytes e) ∙ ap (λ xs. bytes_in (piece e) ++ xs) (pieces-bytes log) ∙ sym (cons-bytes (piece e) (filter_map piece log))
 
@@ -195,19 +195,19 @@ behind-append (suc n) (p ∷ pieces) more fits = by (nat_le (length p.bytes) (su
   by false later = refl
 
 -- A piece behind whole commands begins one.
-whole-alone : (c next : Command) → is_whole c ≡ true → joins c next ≡ false
+pub whole-alone : (c next : Command) → is_whole c ≡ true → joins c next ≡ false
 whole-alone c next is = (let whole : not (is_whole c) ≡ false = ap not is in ap (λ b. same_tag c.tag next.tag && b) whole ∙ and-false (same_tag c.tag next.tag)) where
   and-false : (b : Bool) → (b && false) ≡ false
   and-false true = refl
   and-false false = refl
 
-with-piece-behind : (commands others : List Command) (next : Command) → list_all is_whole commands ≡ true → with_piece (commands ++ others) next ≡ commands ++ with_piece others next
+pub with-piece-behind : (commands others : List Command) (next : Command) → list_all is_whole commands ≡ true → with_piece (commands ++ others) next ≡ commands ++ with_piece others next
 with-piece-behind [] others next all = refl
 with-piece-behind (c ∷ []) [] next all = ap (λ b. cond b (record c { bytes = c.bytes ++ next.bytes } ∷ []) (c ∷ next ∷ [])) (whole-alone c next (both-true (is_whole c) true all).0)
 with-piece-behind (c ∷ []) (d ∷ others) next all = refl
 with-piece-behind (c ∷ d ∷ commands) others next all = ap (λ l. c ∷ l) (with-piece-behind (d ∷ commands) others next (both-true (is_whole c) (list_all is_whole (d ∷ commands)) all).1)
 
-commands-behind : (pieces commands others : List Command) → list_all is_whole commands ≡ true → fold with_piece (commands ++ others) pieces ≡ commands ++ fold with_piece others pieces
+pub commands-behind : (pieces commands others : List Command) → list_all is_whole commands ≡ true → fold with_piece (commands ++ others) pieces ≡ commands ++ fold with_piece others pieces
 commands-behind [] commands others all = refl
 commands-behind (p ∷ pieces) commands others all = ap (λ l. fold with_piece l pieces) (with-piece-behind commands others p all) ∙ commands-behind pieces commands (with_piece others p) all
 
@@ -245,12 +245,12 @@ since-clean user link log more is inside = by (clean-means user link log is) whe
         ∙ ap (λ (o : Opening). replies_by one_payload (commands_on user link log ++ commands_in (pieces_of link more)) (rest_of o ++ heard_of link more)) (sym clean.within)
         ∙ replies-behind one_payload one-payload-grammar (commands_on user link log) (commands_in (pieces_of link more)) (behind_login user link log) (heard_of link more) clean.sound clean.none clean.all
 
-same-command : (n i m j : ℕ) (tag : Tag) → is_command n i tag ≡ true → is_command m j tag ≡ true → (n ≡ m) × (i ≡ j)
+pub same-command : (n i m j : ℕ) (tag : Tag) → is_command n i tag ≡ true → is_command m j tag ≡ true → (n ≡ m) × (i ≡ j)
 same-command n i m j (For client ordinal) one two = (let a = both-true (nat_eq n client.0) (nat_eq i ordinal) one in let b = both-true (nat_eq m client.0) (nat_eq j ordinal) two in
     (nat_eq-true n client.0 a.0 ∙ sym (nat_eq-true m client.0 b.0), nat_eq-true i ordinal a.1 ∙ sym (nat_eq-true j ordinal b.1)))
 same-command n i m j _ one two = absurd (let no : false ≡ true = one in cc)
 
-place-from : (n i from : ℕ) (commands : List Command) (place : ℕ) → place_in n i from commands ≡ Some place → from ≤ place
+pub place-from : (n i from : ℕ) (commands : List Command) (place : ℕ) → place_in n i from commands ≡ Some place → from ≤ place
 place-from n i from [] place is = absurd (let no : None ≡ Some place = is in cc)
 place-from n i from (c ∷ commands) place is = by (is_command n i c.tag) (place-from n i (suc from) commands place) is where
   by : (b : Bool) → (place_in n i (suc from) commands ≡ Some place → suc from ≤ place) → cond b (Some from) (place_in n i (suc from) commands) ≡ Some place → from ≤ place

@@ -20,7 +20,7 @@ use Rattle.promises.specs.Due.{Work, route, server_of, reply_to, query_answer, a
 use Rattle.promises.specs.Follows.{Refuses}
 use Rattle.promises.specs.Sends.{Asks, MayOpen, MaySend}
 
-none-of : {A : Type 0} (o : Option A) → is_some o ≡ false → o ≡ None
+pub none-of : {A : Type 0} (o : Option A) → is_some o ≡ false → o ≡ None
 none-of None is = refl
 none-of (Some x) is = absurd (let no : true ≡ false = is in cc)
 
@@ -28,13 +28,13 @@ pub some-same : {A : Type 0} (x y : A) → Some x ≡ Some y → x ≡ y
 some-same x y same = cc
 
 -- the first message without an answer: it is one of the messages, and has none
-record IsFirst (reply : ℕ → Option Answer) (j : ℕ) (messages : List Framed) (work : Work) : Type 0 where
-  place : ℕ
-  counts : work.ordinal ≡ suc (j + place)
-  there : slice_get messages place ≡ Some work.message
-  open_still : reply work.ordinal ≡ None
+pub record IsFirst (reply : ℕ → Option Answer) (j : ℕ) (messages : List Framed) (work : Work) : Type 0 where
+  pub place : ℕ
+  pub counts : work.ordinal ≡ suc (j + place)
+  pub there : slice_get messages place ≡ Some work.message
+  pub open_still : reply work.ordinal ≡ None
 
-first-is : (reply : ℕ → Option Answer) (j : ℕ) (messages : List Framed) (work : Work) → first_without reply (suc j) messages ≡ Some work → IsFirst reply j messages work
+pub first-is : (reply : ℕ → Option Answer) (j : ℕ) (messages : List Framed) (work : Work) → first_without reply (suc j) messages ≡ Some work → IsFirst reply j messages work
 first-is reply j [] work is = absurd (let no : None ≡ Some work = is in cc)
 first-is reply j (m ∷ messages) work is = by (is_some (reply (suc j))) refl (first-is reply (suc j) messages work) is where
   here : Work
@@ -45,7 +45,7 @@ first-is reply j (m ∷ messages) work is = by (is_some (reply (suc j))) refl (f
       record { place = suc later.place; counts = (let count : work.ordinal ≡ suc (suc j + later.place) = later.counts in omega arith); there = later.there; open_still = later.open_still })
   by false at others is = subst (IsFirst reply j (m ∷ messages)) (some-same here work is) (record { place = 0; counts = omega arith; there = refl; open_still = none-of (reply (suc j)) at })
 
-work-first : (service : Service) (n : ℕ) (log : Log) (talk : Option Talk) (work : Work) → talk_of service n log ≡ talk → work_in service n log talk ≡ Some work → (message_of service n work.ordinal log ≡ Some work.message) × (answer service n work.ordinal log ≡ None)
+pub work-first : (service : Service) (n : ℕ) (log : Log) (talk : Option Talk) (work : Work) → talk_of service n log ≡ talk → work_in service n log talk ≡ Some work → (message_of service n work.ordinal log ≡ Some work.message) × (answer service n work.ordinal log ≡ None)
 work-first service n log None work at is = absurd (let no : None ≡ Some work = is in cc)
 work-first service n log (Some talk) work at is = (let first = first-is (λ i. answer service n i log) 0 (messages_of talk).messages work is in
     let counted : work.ordinal ≡ suc first.place = (let count : work.ordinal ≡ suc (0 + first.place) = first.counts in omega arith) in
@@ -68,17 +68,17 @@ asks-open service n i message due log asks = (let parts = in-work service n log 
     ∙ parts.1)
 
 -- what a query that has no answer tells
-record IsOpenStill (has was : Bool) (reply : Option Answer) : Type 0 where
-  server : has ≡ true
-  unrefused : was ≡ false
-  unreplied : reply ≡ None
+pub record IsOpenStill (has was : Bool) (reply : Option Answer) : Type 0 where
+  pub server : has ≡ true
+  pub unrefused : was ≡ false
+  pub unreplied : reply ≡ None
 
-open-still : (server refused : Bool) (reply : Option Answer) (refusal missing : Answer) → cond server (cond refused (Some refusal) reply) (Some missing) ≡ None → IsOpenStill server refused reply
+pub open-still : (server refused : Bool) (reply : Option Answer) (refusal missing : Answer) → cond server (cond refused (Some refusal) reply) (Some missing) ≡ None → IsOpenStill server refused reply
 open-still true true reply refusal missing is = absurd (let no : Some refusal ≡ None = is in cc)
 open-still true false reply refusal missing is = record { server = refl; unrefused = refl; unreplied = is }
 open-still false refused reply refusal missing is = absurd (let no : Some missing ≡ None = is in cc)
 
-asks-still : (service : Service) (n i : ℕ) (message : Framed) (due log : Log) → Asks service n i message due log → IsOpenStill (is_some (server_of service.setup (route service.setup message due) due)) (is_refused service n i log) (reply_to service n i log)
+pub asks-still : (service : Service) (n i : ℕ) (message : Framed) (due log : Log) → Asks service n i message due log → IsOpenStill (is_some (server_of service.setup (route service.setup message due) due)) (is_refused service n i log) (reply_to service n i log)
 asks-still service n i message due log asks = open-still _ _ _ _ _ (asks-open service n i message due log asks)
 
 -- a query in work wasn't refused, and no reply to it was read
@@ -97,7 +97,7 @@ pub one-in-work : (service : Service) (n i j : ℕ) (link other : LinkId) (bytes
 one-in-work service n i j link other bytes more log one two = ap (λ (w : Work). w.ordinal) (some-same (record { ordinal = i; message = one.message }) (record { ordinal = j; message = two.message }) (sym one.asks.work ∙ two.asks.work))
 
 -- What was refused stays so.
-refused-behind-more : (service : Service) (before log more : Log) → refused_behind service before (log ++ more) ≡ refused_behind service before log ++ refused_behind service (before ++ log) more
+pub refused-behind-more : (service : Service) (before log more : Log) → refused_behind service before (log ++ more) ≡ refused_behind service before log ++ refused_behind service (before ++ log) more
 refused-behind-more service before [] more = ap (λ l. refused_behind service l more) (sym (append-nil before))
 refused-behind-more service before (e ∷ log) more =
     by (refused_by service before e) (refused-behind-more service (before ++ e ∷ []) log more ∙ ap (λ l. refused_behind service (before ++ e ∷ []) log ++ refused_behind service l more) (append_assoc before (e ∷ []) log)) where
@@ -109,7 +109,7 @@ refused-behind-more service before (e ∷ log) more =
 pub refused-more : (service : Service) (log more : Log) → refused service (log ++ more) ≡ refused service log ++ refused_behind service log more
 refused-more service log more = refused-behind-more service [] log more
 
-or-true : (a b : Bool) → a ≡ true → (a || b) ≡ true
+pub or-true : (a b : Bool) → a ≡ true → (a || b) ≡ true
 or-true true b is = refl
 or-true false b is = absurd (let no : false ≡ true = is in cc)
 

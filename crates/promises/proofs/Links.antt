@@ -34,7 +34,7 @@ use Rattle.promises.specs.Follows.{RefusedOrSent, BreaksOff, Cause, NotOpened, N
 use Rattle.promises.proofs.InWork.{some-same, asks-unrefused, refused-more}
 use Rattle.promises.proofs.Causes.{refusal-cause, opened_as, came_as, named-none, opened-names, last-of, same-link, turn-opened, clients-unowned}
 
-and-true : (a b : Bool) → (a && b) ≡ true → (a ≡ true) × (b ≡ true)
+pub and-true : (a b : Bool) → (a && b) ≡ true → (a ≡ true) × (b ≡ true)
 and-true true b is = (refl, is)
 and-true false b is = absurd (let no : false ≡ true = is in cc)
 
@@ -55,11 +55,11 @@ enters-kept service owner user link log enters here (Gone gone other) = (let no 
 enters-kept service owner user link log enters here (Unneeded is idle) = (let no : Clean ≡ Enters = sym is ∙ enters in cc)
 
 -- No command goes on a link on which a reply runs, nor on one that can't be used again.
-sends-on : {tag : Tag} {bytes whole : List ℕ} {here : Bool} {commands : List Command} (standing : Standing) → Continues tag bytes whole here commands standing → (standing ≡ Clean) ⊎ (standing ≡ Sends)
+pub sends-on : {tag : Tag} {bytes whole : List ℕ} {here : Bool} {commands : List Command} (standing : Standing) → Continues tag bytes whole here commands standing → (standing ≡ Clean) ⊎ (standing ≡ Sends)
 sends-on standing (Begins here is front) = inl is
 sends-on standing (GoesOn others sent is last front) = inr is
 
-may-on : (service : Service) (n i : ℕ) (link : LinkId) (bytes : List ℕ) (user : Account) (log : Log) → user_of service n log ≡ Some user → MaySend service n i link bytes log → (standing_on user link log ≡ Clean) ⊎ (standing_on user link log ≡ Sends)
+pub may-on : (service : Service) (n i : ℕ) (link : LinkId) (bytes : List ℕ) (user : Account) (log : Log) → user_of service n log ≡ Some user → MaySend service n i link bytes log → (standing_on user link log ≡ Clean) ⊎ (standing_on user link log ≡ Sends)
 may-on service n i link bytes user log is may = subst (λ (u : Account). (standing_on u link log ≡ Clean) ⊎ (standing_on u link log ≡ Sends)) (some-same may.user user (sym may.is_user ∙ is)) (sends-on (standing_on may.user link log) may.follows)
 
 pub running-takes-none : (service : Service) (n i : ℕ) (link : LinkId) (bytes : List ℕ) (user : Account) (log : Log) → user_of service n log ≡ Some user → standing_on user link log ≡ Runs → MaySend service n i link bytes log → ⊥
@@ -96,10 +96,10 @@ servers-read service link turn log told rest opened owned = by (rest.read link o
   by (inr ending) = absurd (let no : None ≡ Some turn = sym (clients-unowned service ending.client ending.came log told ending.is_came) ∙ ap (λ l. turn_of service l log) ending.on ∙ owned in cc)
 
 -- The opens of a longer log.
-tries-more : (log : Log) (e : Entry) → open_tries (log ++ e ∷ []) ≡ open_tries log ++ cons_option (open_try e) []
+pub tries-more : (log : Log) (e : Entry) → open_tries (log ++ e ∷ []) ≡ open_tries log ++ cons_option (open_try e) []
 tries-more log e = filter_map-append open_try log (e ∷ [])
 
-turn-before : (link : LinkId) (tries : List (Option LinkId)) (t : Option LinkId) (turns : List Turn) (turn : Turn) → is_link link t ≡ false → turn_by link (tries ++ t ∷ []) turns ≡ Some turn → turn_by link tries turns ≡ Some turn
+pub turn-before : (link : LinkId) (tries : List (Option LinkId)) (t : Option LinkId) (turns : List Turn) (turn : Turn) → is_link link t ≡ false → turn_by link (tries ++ t ∷ []) turns ≡ Some turn → turn_by link tries turns ≡ Some turn
 turn-before link [] t [] turn other is = is
 turn-before link [] t (first ∷ turns) turn other is = ap (λ b. cond b (Some first) None) (sym other) ∙ is
 turn-before link (u ∷ tries) t [] turn other is = is
@@ -108,7 +108,7 @@ turn-before link (u ∷ tries) t (first ∷ turns) turn other is = by (is_link l
   by true later same = same
   by false later same = later same
 
-turn-last : (link : LinkId) (tries : List (Option LinkId)) (turns : List Turn) (turn other : Turn) → list_any (is_link link) tries ≡ false → slice_get turns (length tries) ≡ Some turn → turn_by link (tries ++ Some link ∷ []) turns ≡ Some other → turn ≡ other
+pub turn-last : (link : LinkId) (tries : List (Option LinkId)) (turns : List Turn) (turn other : Turn) → list_any (is_link link) tries ≡ false → slice_get turns (length tries) ≡ Some turn → turn_by link (tries ++ Some link ∷ []) turns ≡ Some other → turn ≡ other
 turn-last link [] [] turn other new at is = absurd (let no : None ≡ Some other = is in cc)
 turn-last link [] (first ∷ turns) turn other new at is = some-same turn other (sym at ∙ ap (λ b. cond b (Some first) None) (sym (same_number link.0)) ∙ is)
 turn-last link (t ∷ tries) [] turn other new at is = absurd (let no : None ≡ Some other = is in cc)
@@ -119,7 +119,7 @@ turn-last link (t ∷ tries) (first ∷ turns) turn other new at is = by (is_lin
   by false none same later = later none same
 
 -- a link that is new was in no open
-tried-as : (link : LinkId) (log : Log) → list_any (opened_as link) log ≡ false → list_any (is_link link) (open_tries log) ≡ false
+pub tried-as : (link : LinkId) (log : Log) → list_any (opened_as link) log ≡ false → list_any (is_link link) (open_tries log) ≡ false
 tried-as link [] none = refl
 tried-as link (e ∷ log) none = by e none (tried-as link log) where
   by : (e : Entry) → (opened_as link e || list_any (opened_as link) log) ≡ false → (list_any (opened_as link) log ≡ false → list_any (is_link link) (open_tries log) ≡ false) → list_any (is_link link) (cons_option (open_try e) (open_tries log)) ≡ false
@@ -130,25 +130,25 @@ tried-as link (e ∷ log) none = by e none (tried-as link log) where
   by (OpenFailed server address) none later = later none
   by _ none later = later none
 
-new-untried : (link : LinkId) (log : Log) → IsNew link log → list_any (is_link link) (open_tries log) ≡ false
+pub new-untried : (link : LinkId) (log : Log) → IsNew link log → list_any (is_link link) (open_tries log) ≡ false
 new-untried link log new = by (bool_cases (list_any (opened_as link) log)) where
   by : (list_any (opened_as link) log ≡ true) ⊎ (list_any (opened_as link) log ≡ false) → list_any (is_link link) (open_tries log) ≡ false
   by (inl was) = absurd (named-none link (opened_as link) log (opened-names link) new was)
   by (inr none) = tried-as link log none
 
 -- An owner of a longer log was one before, unless the link was opened just now.
-owner-turn : (o : Option Turn) (owner : Owner) → option_map (λ (turn : Turn). record { client = turn.client; hostgroup = turn.hostgroup }) o ≡ Some owner → (turn : Turn) × (o ≡ Some turn) × (record { client = turn.client; hostgroup = turn.hostgroup } ≡ owner)
+pub owner-turn : (o : Option Turn) (owner : Owner) → option_map (λ (turn : Turn). record { client = turn.client; hostgroup = turn.hostgroup }) o ≡ Some owner → (turn : Turn) × (o ≡ Some turn) × (record { client = turn.client; hostgroup = turn.hostgroup } ≡ owner)
 owner-turn None owner is = absurd (let no : None ≡ Some owner = is in cc)
 owner-turn (Some turn) owner is = (turn, refl, some-same (record { client = turn.client; hostgroup = turn.hostgroup }) owner is)
 
-turn-was : (service : Service) (link : LinkId) (log : Log) (e : Entry) (turn : Turn) → opened_as link e ≡ false → turn_of service link (log ++ e ∷ []) ≡ Some turn → turn_of service link log ≡ Some turn
+pub turn-was : (service : Service) (link : LinkId) (log : Log) (e : Entry) (turn : Turn) → opened_as link e ≡ false → turn_of service link (log ++ e ∷ []) ≡ Some turn → turn_of service link log ≡ Some turn
 turn-was service link log e turn other is = by e other (ap (λ l. turn_by link l service.opens) (sym (tries-more log e)) ∙ is) where
   by : (e : Entry) → opened_as link e ≡ false → turn_by link (open_tries log ++ cons_option (open_try e) []) service.opens ≡ Some turn → turn_of service link log ≡ Some turn
   by (Opened server address new) other is = turn-before link (open_tries log) (Some new) service.opens turn other is
   by (OpenFailed server address) other is = turn-before link (open_tries log) None service.opens turn refl is
   by _ other is = ap (λ l. turn_by link l service.opens) (sym (append-nil (open_tries log))) ∙ is
 
-owner-was : (service : Service) (link : LinkId) (log : Log) (e : Entry) (owner : Owner) → opened_as link e ≡ false → owner_of service link (log ++ e ∷ []) ≡ Some owner → owner_of service link log ≡ Some owner
+pub owner-was : (service : Service) (link : LinkId) (log : Log) (e : Entry) (owner : Owner) → opened_as link e ≡ false → owner_of service link (log ++ e ∷ []) ≡ Some owner → owner_of service link log ≡ Some owner
 owner-was service link log e owner other is = (let parts = owner-turn (turn_of service link (log ++ e ∷ [])) owner is in
     ap (option_map (λ (turn : Turn). record { client = turn.client; hostgroup = turn.hostgroup })) (turn-was service link log e parts.0 other parts.1) ∙ ap Some parts.2)
 
@@ -165,26 +165,26 @@ open-was link log e is = by (bool_cases (is_link link (link_of e))) where
   by (inl here) = at e here (sym (step-same open_step false link log e here) ∙ is)
   by (inr other) = inl (sym (step-other open_step false link log e other) ∙ is)
 
-came-new : (link : LinkId) (log : Log) (e : Entry) → Fits log e → came_as link e ≡ true → IsNew link log
+pub came-new : (link : LinkId) (log : Log) (e : Entry) → Fits log e → came_as link e ≡ true → IsNew link log
 came-new link log (Accepted port other salt) fits is = subst (λ (l : LinkId). IsNew l log) (sym (same-link link other is)) fits.fresh
 came-new link log _ fits is = absurd (let no : false ≡ true = is in cc)
 
-came-unopened : (link : LinkId) (e : Entry) → came_as link e ≡ true → opened_as link e ≡ false
+pub came-unopened : (link : LinkId) (e : Entry) → came_as link e ≡ true → opened_as link e ≡ false
 came-unopened link (Accepted port other salt) is = refl
 came-unopened link _ is = absurd (let no : false ≡ true = is in cc)
 
-new-unowned : (service : Service) (link : LinkId) (log : Log) (owner : Owner) → IsNew link log → owner_of service link log ≡ Some owner → ⊥
+pub new-unowned : (service : Service) (link : LinkId) (log : Log) (owner : Owner) → IsNew link log → owner_of service link log ≡ Some owner → ⊥
 new-unowned service link log owner new is = (let parts = owner-turn (turn_of service link log) owner is in named-none link (opened_as link) log (opened-names link) new (turn-opened service link log parts.0 parts.1))
 
 -- a link that was opened just now, and its owner; or one that was open before
-record IsOpened (service : Service) (link : LinkId) (log : Log) (owner : Owner) : Type 0 where
-  apart : (other : LinkId) → is_open other log ≡ true → owner_of service other log ≡ Some owner → ⊥
+pub record IsOpened (service : Service) (link : LinkId) (log : Log) (owner : Owner) : Type 0 where
+  pub apart : (other : LinkId) → is_open other log ≡ true → owner_of service other log ≡ Some owner → ⊥
 
-data Was (service : Service) (link : LinkId) (log : Log) (e : Entry) (owner : Owner) : Type 0 where
+pub data Was (service : Service) (link : LinkId) (log : Log) (e : Entry) (owner : Owner) : Type 0 where
   Before : opened_as link e ≡ false → is_open link log ≡ true → owner_of service link log ≡ Some owner → Was service link log e owner
   Now : opened_as link e ≡ true → IsOpened service link log owner → Was service link log e owner
 
-opened-now : (service : Service) (link : LinkId) (log : Log) (e : Entry) (owner : Owner) → Fits log e → IsLawful service log e → opened_as link e ≡ true → owner_of service link (log ++ e ∷ []) ≡ Some owner → IsOpened service link log owner
+pub opened-now : (service : Service) (link : LinkId) (log : Log) (e : Entry) (owner : Owner) → Fits log e → IsLawful service log e → opened_as link e ≡ true → owner_of service link (log ++ e ∷ []) ≡ Some owner → IsOpened service link log owner
 opened-now service link log (Opened server address new) owner fits may is owned = record { apart = λ other opened of. by other opened of } where
   same : link ≡ new
   same = same-link link new is
@@ -203,7 +203,7 @@ opened-now service link log (Opened server address new) owner fits may is owned 
   by other opened of = (let no : true ≡ false = sym opened ∙ may.none other (of ∙ ap Some (sym owner-is)) in cc)
 opened-now service link log _ owner fits may is owned = absurd (let no : false ≡ true = is in cc)
 
-was-of : (service : Service) (link : LinkId) (log : Log) (e : Entry) (owner : Owner) → Fits log e → IsLawful service log e → is_open link (log ++ e ∷ []) ≡ true → owner_of service link (log ++ e ∷ []) ≡ Some owner → Was service link log e owner
+pub was-of : (service : Service) (link : LinkId) (log : Log) (e : Entry) (owner : Owner) → Fits log e → IsLawful service log e → is_open link (log ++ e ∷ []) ≡ true → owner_of service link (log ++ e ∷ []) ≡ Some owner → Was service link log e owner
 was-of service link log e owner fits may opened owned = by (bool_cases (opened_as link e)) (open-was link log e opened) where
   by : (opened_as link e ≡ true) ⊎ (opened_as link e ≡ false) → (is_open link log ≡ true) ⊎ ((came_as link e ≡ true) ⊎ (opened_as link e ≡ true)) → Was service link log e owner
   by (inl now) was = Now now (opened-now service link log e owner fits may now owned)
@@ -211,11 +211,11 @@ was-of service link log e owner fits may opened owned = by (bool_cases (opened_a
   by (inr other) (inr (inl came)) = absurd (new-unowned service link log owner (came-new link log e fits came) (owner-was service link log e owner other owned))
   by (inr other) (inr (inr now)) = absurd (let no : true ≡ false = sym now ∙ other in cc)
 
-both-opened : (one other : LinkId) (e : Entry) → opened_as one e ≡ true → opened_as other e ≡ true → one ≡ other
+pub both-opened : (one other : LinkId) (e : Entry) → opened_as one e ≡ true → opened_as other e ≡ true → one ≡ other
 both-opened one other (Opened server address link) a b = same-link one link a ∙ sym (same-link other link b)
 both-opened one other _ a b = absurd (let no : false ≡ true = a in cc)
 
-one-each-step : (service : Service) (log : Log) (e : Entry) → Fits log e × IsLawful service log e → OneEach service log → OneEach service (log ++ e ∷ [])
+pub one-each-step : (service : Service) (log : Log) (e : Entry) → Fits log e × IsLawful service log e → OneEach service log → OneEach service (log ++ e ∷ [])
 one-each-step service log e rules before one other owner one-open other-open one-owned other-owned =
     by (was-of service one log e owner rules.0 rules.1 one-open one-owned) (was-of service other log e owner rules.0 rules.1 other-open other-owned) where
       by : Was service one log e owner → Was service other log e owner → one ≡ other
@@ -224,7 +224,7 @@ one-each-step service log e rules before one other owner one-open other-open one
       by (Now a new) (Before b opened owned) = absurd (new.apart other opened owned)
       by (Now a new) (Now b new2) = both-opened one other e a b
 
-both-after : (R S : Log → Entry → Type 0) (before log : Log) → LawfulAfter R before log → LawfulAfter S before log → LawfulAfter (λ l e. R l e × S l e) before log
+pub both-after : (R S : Log → Entry → Type 0) (before log : Log) → LawfulAfter R before log → LawfulAfter S before log → LawfulAfter (λ l e. R l e × S l e) before log
 both-after R S before [] one two = tt
 both-after R S before (e ∷ log) one two = ((one.0, two.0), both-after R S (before ++ e ∷ []) log one.1 two.1)
 
@@ -232,7 +232,7 @@ pub one-each : (service : Service) (log : Log) → AllLawful Fits log → AllLaw
 one-each service log told lawful = lawful-each (λ l e. Fits l e × IsLawful service l e) (OneEach service) log (one-each-step service) (λ one other owner opened. absurd (let no : false ≡ true = opened in cc)) (both-after Fits (IsLawful service) [] log told lawful)
 
 -- All bytes of a command stand on one link.
-carrier-more : (n i : ℕ) (log : Log) (e : Entry) → carrier_of n i (log ++ e ∷ []) ≡ first_some (carrier_of n i log) (carries n i e)
+pub carrier-more : (n i : ℕ) (log : Log) (e : Entry) → carrier_of n i (log ++ e ∷ []) ≡ first_some (carrier_of n i log) (carries n i e)
 carrier-more n i [] e = by (carries n i e) where
   by : (o : Option LinkId) → first_some o None ≡ o
   by None = refl
@@ -242,7 +242,7 @@ carrier-more n i (d ∷ log) e = by (carries n i d) (carrier-more n i log e) whe
   by None later = later
   by (Some link) later = refl
 
-write-lawful : (service : Service) (n i : ℕ) (link : LinkId) (log : Log) (e : Entry) → IsLawful service log e → writes n i link e ≡ true → ((other : LinkId) → carrier_of n i log ≡ Some other → other ≡ link) × (carries n i e ≡ Some link)
+pub write-lawful : (service : Service) (n i : ℕ) (link : LinkId) (log : Log) (e : Entry) → IsLawful service log e → writes n i link e ≡ true → ((other : LinkId) → carrier_of n i log ≡ Some other → other ≡ link) × (carries n i e ≡ Some link)
 write-lawful service n i link log (Wrote other (For client ordinal) bytes) may is = by (and-true (nat_eq n client.0 && nat_eq i ordinal) (nat_eq link.0 other.0) is) where
   by : ((nat_eq n client.0 && nat_eq i ordinal) ≡ true) × (nat_eq link.0 other.0 ≡ true) → ((old : LinkId) → carrier_of n i log ≡ Some old → old ≡ link) × (carries n i (Wrote other (For client ordinal) bytes) ≡ Some link)
   by parts = (let ids = and-true (nat_eq n client.0) (nat_eq i ordinal) parts.0 in (
@@ -252,7 +252,7 @@ write-lawful service n i link log (Wrote other (For client ordinal) bytes) may i
 write-lawful service n i link log (Wrote other _ bytes) may is = absurd (let no : false ≡ true = is in cc)
 write-lawful service n i link log _ may is = absurd (let no : false ≡ true = is in cc)
 
-on-one-step : (service : Service) (log : Log) (e : Entry) → IsLawful service log e → OnOne log → OnOne (log ++ e ∷ [])
+pub on-one-step : (service : Service) (log : Log) (e : Entry) → IsLawful service log e → OnOne log → OnOne (log ++ e ∷ [])
 on-one-step service log e may before n i link is = carrier-more n i log e ∙ by (last-of (writes n i link) log e is) where
   at : (o : Option LinkId) → carrier_of n i log ≡ o → ((other : LinkId) → carrier_of n i log ≡ Some other → other ≡ link) → first_some o (Some link) ≡ Some link
   at None is same = refl
@@ -266,7 +266,7 @@ pub on-one : (service : Service) (log : Log) → AllLawful (IsLawful service) lo
 on-one service log lawful = lawful-each (IsLawful service) OnOne log (on-one-step service) (λ n i link is. absurd (let no : false ≡ true = is in cc)) lawful
 
 -- No command that was refused was sent, and none that was sent was refused.
-none-unsent : (n i : ℕ) (turn : Turn) (log : Log) → is_turn n i turn ≡ true → is_unsent turn log ≡ true → carrier_of n i log ≡ None
+pub none-unsent : (n i : ℕ) (turn : Turn) (log : Log) → is_turn n i turn ≡ true → is_unsent turn log ≡ true → carrier_of n i log ≡ None
 none-unsent n i turn log is unsent = (let ids = and-true (nat_eq n turn.client) (nat_eq i turn.ordinal) is in
     ap (λ k. carrier_of k i log) (nat_eq-true n turn.client ids.0) ∙ ap (λ k. carrier_of turn.client k log) (nat_eq-true i turn.ordinal ids.1) ∙ by (carrier_of turn.client turn.ordinal log) unsent) where
       by : (o : Option LinkId) → not (is_some o) ≡ true → o ≡ None
@@ -274,27 +274,27 @@ none-unsent n i turn log is unsent = (let ids = and-true (nat_eq n turn.client) 
       by (Some link) is = absurd (let no : false ≡ true = is in cc)
 
 -- the entry of a refusal writes nothing, and its command was unsent
-cause-unsent : (service : Service) (n i : ℕ) (log : Log) (turn : Turn) (e : Entry) → Cause service log turn e → IsLawful service log e → is_turn n i turn ≡ true → carrier_of n i log ≡ None
+pub cause-unsent : (service : Service) (n i : ℕ) (log : Log) (turn : Turn) (e : Entry) → Cause service log turn e → IsLawful service log e → is_turn n i turn ≡ true → carrier_of n i log ≡ None
 cause-unsent service n i log turn _ (NotOpened server address next) may at = none-unsent n i may.turn log (ap (is_turn n i) (some-same may.turn turn (sym may.is_next ∙ next)) ∙ at) may.unsent
 cause-unsent service n i log turn _ (NotLoggedIn e breaks) may at = none-unsent n i turn log at breaks.unsent
 
-lost-none : (b c : Bool) → cond b false (cond c false false) ≡ true → ⊥
+pub lost-none : (b c : Bool) → cond b false (cond c false false) ≡ true → ⊥
 lost-none true c is = (let no : false ≡ true = is in cc)
 lost-none false true is = (let no : false ≡ true = is in cc)
 lost-none false false is = (let no : false ≡ true = is in cc)
 
-breaks-silent : (service : Service) (n i : ℕ) (log : Log) (turn : Turn) (e : Entry) → BreaksOff service log e turn → carries n i e ≡ None
+pub breaks-silent : (service : Service) (n i : ℕ) (log : Log) (turn : Turn) (e : Entry) → BreaksOff service log e turn → carries n i e ≡ None
 breaks-silent service n i log turn (Wrote link tag bytes) breaks = absurd (lost-none (was_lost breaks.link log) (goes_on (login_on breaks.user breaks.link log)) breaks.fails)
 breaks-silent service n i log turn _ breaks = refl
 
-cause-silent : (service : Service) (n i : ℕ) (log : Log) (turn : Turn) (e : Entry) → Cause service log turn e → carries n i e ≡ None
+pub cause-silent : (service : Service) (n i : ℕ) (log : Log) (turn : Turn) (e : Entry) → Cause service log turn e → carries n i e ≡ None
 cause-silent service n i log turn _ (NotOpened server address next) = refl
 cause-silent service n i log turn _ (NotLoggedIn e breaks) = breaks-silent service n i log turn e breaks
 
-refuses-unsent : (service : Service) (n i : ℕ) (log : Log) (e : Entry) (turn : Turn) → IsLawful service log e → refused_by service log e ≡ Some turn → is_turn n i turn ≡ true → (carrier_of n i log ≡ None) × (carries n i e ≡ None)
+pub refuses-unsent : (service : Service) (n i : ℕ) (log : Log) (e : Entry) (turn : Turn) → IsLawful service log e → refused_by service log e ≡ Some turn → is_turn n i turn ≡ true → (carrier_of n i log ≡ None) × (carries n i e ≡ None)
 refuses-unsent service n i log e turn may is at = (let cause = refusal-cause service log e turn is in (cause-unsent service n i log turn e cause may at, cause-silent service n i log turn e cause))
 
-written-unrefused : (service : Service) (n i : ℕ) (log : Log) (e : Entry) (link : LinkId) → IsLawful service log e → carries n i e ≡ Some link → is_refused service n i log ≡ false
+pub written-unrefused : (service : Service) (n i : ℕ) (log : Log) (e : Entry) (link : LinkId) → IsLawful service log e → carries n i e ≡ Some link → is_refused service n i log ≡ false
 written-unrefused service n i log (Wrote link (For client ordinal) bytes) other may is = by (nat_eq n client.0 && nat_eq i ordinal) refl is where
   by : (b : Bool) → (nat_eq n client.0 && nat_eq i ordinal) ≡ b → cond b (Some link) None ≡ Some other → is_refused service n i log ≡ false
   by true at same = (let ids = and-true (nat_eq n client.0) (nat_eq i ordinal) at in
@@ -303,7 +303,7 @@ written-unrefused service n i log (Wrote link (For client ordinal) bytes) other 
 written-unrefused service n i log (Wrote link _ bytes) other may is = absurd (let no : None ≡ Some other = is in cc)
 written-unrefused service n i log _ other may is = absurd (let no : None ≡ Some other = is in cc)
 
-refused-step : (service : Service) (log : Log) (e : Entry) → IsLawful service log e → RefusedOrSent service log → RefusedOrSent service (log ++ e ∷ [])
+pub refused-step : (service : Service) (log : Log) (e : Entry) → IsLawful service log e → RefusedOrSent service log → RefusedOrSent service (log ++ e ∷ [])
 refused-step service log e may before n i is = carrier-more n i log e ∙ by (bool_cases (is_refused service n i log)) where
   both-none : (o p : Option LinkId) → o ≡ None → p ≡ None → first_some o p ≡ None
   both-none o p one two = ap (λ x. first_some x p) one ∙ two
@@ -328,7 +328,7 @@ pub refused-or-sent : (service : Service) (log : Log) → AllLawful (IsLawful se
 refused-or-sent service log lawful = lawful-each (IsLawful service) (RefusedOrSent service) log (refused-step service) (λ n i is. refl) lawful
 
 -- A moment looks at the first opens alone: those that come behind change nothing of the links that it knows.
-turn-covered : (link : LinkId) (tries : List (Option LinkId)) (turns more : List Turn) → length tries ≤ length turns → turn_by link tries (turns ++ more) ≡ turn_by link tries turns
+pub turn-covered : (link : LinkId) (tries : List (Option LinkId)) (turns more : List Turn) → length tries ≤ length turns → turn_by link tries (turns ++ more) ≡ turn_by link tries turns
 turn-covered link [] turns more covered = refl
 turn-covered link (t ∷ tries) [] more covered = absurd (let no : suc (length tries) ≤ 0 = covered in omega arith)
 turn-covered link (t ∷ tries) (turn ∷ turns) more covered = ap (cond (is_link link t) (Some turn)) (turn-covered link tries turns more (let count : suc (length tries) ≤ suc (length turns) = covered in omega arith))

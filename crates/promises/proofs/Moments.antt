@@ -12,7 +12,7 @@ use Rattle.promises.specs.Follows.{IsDue}
 use Rattle.promises.proofs.InWork.{in-work, some-same}
 
 -- The first moment of which something holds is a moment, of which it holds, and stays the first.
-first-is : (holds : Log → Bool) (before log due : Log) → first_behind holds before log ≡ Some due → IsDue holds due (before ++ log)
+pub first-is : (holds : Log → Bool) (before log due : Log) → first_behind holds before log ≡ Some due → IsDue holds due (before ++ log)
 first-is holds before [] due is = by (holds before) refl is where
   by : (b : Bool) → holds before ≡ b → cond b (Some before) None ≡ Some due → IsDue holds due (before ++ [])
   by true at is = subst (λ (l : Log). IsDue holds l (before ++ [])) (some-same before due is) (record { later = []; moment = refl; holds = at })
@@ -22,7 +22,7 @@ first-is holds before (e ∷ log) due is = by (holds before) refl (first-is hold
   by true at later is = subst (λ (l : Log). IsDue holds l (before ++ e ∷ log)) (some-same before due is) (record { later = e ∷ log; moment = refl; holds = at })
   by false at later is = subst (IsDue holds due) (append_assoc before (e ∷ []) log) (later is)
 
-first-stays : (holds : Log → Bool) (before log more due : Log) → first_behind holds before log ≡ Some due → first_behind holds before (log ++ more) ≡ Some due
+pub first-stays : (holds : Log → Bool) (before log more due : Log) → first_behind holds before log ≡ Some due → first_behind holds before (log ++ more) ≡ Some due
 first-stays holds before [] more due is = by (holds before) refl more is where
   by : (b : Bool) → holds before ≡ b → (more : Log) → cond b (Some before) None ≡ Some due → first_behind holds before more ≡ Some due
   by true at [] is = ap (λ b. cond b (Some before) None) at ∙ is
@@ -35,14 +35,14 @@ first-stays holds before (e ∷ log) more due is = by (holds before) (first-stay
   by false later is = later is
 
 -- what holds of the whole log has a first moment
-first-some : (holds : Log → Bool) (before log : Log) → holds (before ++ log) ≡ true → (due : Log) × (first_behind holds before log ≡ Some due)
+pub first-some : (holds : Log → Bool) (before log : Log) → holds (before ++ log) ≡ true → (due : Log) × (first_behind holds before log ≡ Some due)
 first-some holds before [] now = (before, ap (λ b. cond b (Some before) None) (ap holds (sym (append-nil before)) ∙ now))
 first-some holds before (e ∷ log) now = by (holds before) (first-some holds (before ++ e ∷ []) log (ap holds (append_assoc before (e ∷ []) log) ∙ now)) where
   by : (b : Bool) → (due : Log) × (first_behind holds (before ++ e ∷ []) log ≡ Some due) → (due : Log) × (cond b (Some before) (first_behind holds (before ++ e ∷ []) log) ≡ Some due)
   by true later = (before, refl)
   by false later = later
 
-abbrev becomes : Service → (n i : ℕ) → Log → Bool
+abbrev pub becomes : Service → (n i : ℕ) → Log → Bool
 becomes service n i moment = is_some (message_of service n (suc i) moment) && is_answered service n i (due_at service n i moment) moment
 
 -- A message becomes due once: at a moment, which stays.
@@ -55,19 +55,19 @@ due-moment service n zero log due is = absurd (let no : None ≡ Some due = is i
 due-moment service n (suc i) log due is = (let first = first-is (becomes service n i) [] log due is in (first.later, first.moment))
 
 -- What is in work became due.
-record Before (reply : ℕ → Option Answer) (j ordinal : ℕ) : Type 0 where
-  before : ℕ
-  counts : ordinal ≡ suc before
-  answered : (k : ℕ) → before ≡ suc k → (before ≡ j → is_some (reply before) ≡ true) → is_some (reply before) ≡ true
+pub record Before (reply : ℕ → Option Answer) (j ordinal : ℕ) : Type 0 where
+  pub before : ℕ
+  pub counts : ordinal ≡ suc before
+  pub answered : (k : ℕ) → before ≡ suc k → (before ≡ j → is_some (reply before) ≡ true) → is_some (reply before) ≡ true
 
-work-before : (reply : ℕ → Option Answer) (j : ℕ) (messages : List Framed) (work : Work) → first_without reply (suc j) messages ≡ Some work → Before reply j work.ordinal
+pub work-before : (reply : ℕ → Option Answer) (j : ℕ) (messages : List Framed) (work : Work) → first_without reply (suc j) messages ≡ Some work → Before reply j work.ordinal
 work-before reply j [] work is = absurd (let no : None ≡ Some work = is in cc)
 work-before reply j (m ∷ messages) work is = by (is_some (reply (suc j))) refl (work-before reply (suc j) messages work) is where
   by : (b : Bool) → is_some (reply (suc j)) ≡ b → (first_without reply (suc (suc j)) messages ≡ Some work → Before reply (suc j) work.ordinal) → cond b (first_without reply (suc (suc j)) messages) (Some (record { ordinal = suc j; message = m })) ≡ Some work → Before reply j work.ordinal
   by true at later is = (let b = later is in record { before = b.before; counts = b.counts; answered = λ k count here. b.answered k count (λ same. ap (λ p. is_some (reply p)) same ∙ at) })
   by false at later is = record { before = j; counts = ap (λ (w : Work). w.ordinal) (sym (some-same (record { ordinal = suc j; message = m }) work is)); answered = λ k count here. here refl }
 
-work-talk : (service : Service) (n : ℕ) (log : Log) (talk : Option Talk) (work : Work) → work_in service n log talk ≡ Some work → Before (λ i. answer service n i log) 0 work.ordinal
+pub work-talk : (service : Service) (n : ℕ) (log : Log) (talk : Option Talk) (work : Work) → work_in service n log talk ≡ Some work → Before (λ i. answer service n i log) 0 work.ordinal
 work-talk service n log None work is = absurd (let no : None ≡ Some work = is in cc)
 work-talk service n log (Some talk) work is = work-before (λ i. answer service n i log) 0 (messages_of talk).messages work is
 

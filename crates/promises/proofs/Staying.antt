@@ -67,14 +67,14 @@ reply-longer grammar grows place (c ∷ commands) (d ∷ others) bytes more now 
         none (suc place) is = (let no : None ≡ Some reply = is in cc)
 
 -- Commands are extended as pieces come.
-longer-self : (c : Command) → IsLonger c c
+pub longer-self : (c : Command) → IsLonger c c
 longer-self c = record { same = refl; more = []; bytes = sym (append-nil c.bytes) }
 
-extends-self : (commands : List Command) → Extends commands commands
+pub extends-self : (commands : List Command) → Extends commands commands
 extends-self [] = tt
 extends-self (c ∷ commands) = (longer-self c, extends-self commands)
 
-extends-piece : (commands : List Command) (next : Command) → Extends commands (with_piece commands next)
+pub extends-piece : (commands : List Command) (next : Command) → Extends commands (with_piece commands next)
 extends-piece [] next = tt
 extends-piece (c ∷ []) next = by (joins c next) where
   by : (b : Bool) → Extends (c ∷ []) (cond b (record c { bytes = c.bytes ++ next.bytes } ∷ []) (c ∷ next ∷ []))
@@ -82,21 +82,21 @@ extends-piece (c ∷ []) next = by (joins c next) where
   by false = (longer-self c, tt)
 extends-piece (c ∷ d ∷ commands) next = (longer-self c, extends-piece (d ∷ commands) next)
 
-longer-trans : (c d e : Command) → IsLonger c d → IsLonger d e → IsLonger c e
+pub longer-trans : (c d e : Command) → IsLonger c d → IsLonger d e → IsLonger c e
 longer-trans c d e one two = record { same = two.same ∙ one.same; more = one.more ++ two.more; bytes = two.bytes ∙ ap (λ l. l ++ two.more) one.bytes ∙ append_assoc c.bytes one.more two.more }
 
-extends-trans : (one two three : List Command) → Extends one two → Extends two three → Extends one three
+pub extends-trans : (one two three : List Command) → Extends one two → Extends two three → Extends one three
 extends-trans [] two three a b = tt
 extends-trans (c ∷ one) [] three a b = absurd a
 extends-trans (c ∷ one) (d ∷ two) [] a b = absurd b
 extends-trans (c ∷ one) (d ∷ two) (e ∷ three) a b = (longer-trans c d e a.0 b.0, extends-trans one two three a.1 b.1)
 
-extends-pieces : (commands pieces : List Command) → Extends commands (fold with_piece commands pieces)
+pub extends-pieces : (commands pieces : List Command) → Extends commands (fold with_piece commands pieces)
 extends-pieces commands [] = extends-self commands
 extends-pieces commands (p ∷ pieces) = extends-trans commands (with_piece commands p) (fold with_piece (with_piece commands p) pieces) (extends-piece commands p) (extends-pieces (with_piece commands p) pieces)
 
 -- The place of a command stays.
-place-piece : (n i from : ℕ) (commands : List Command) (next : Command) (place : ℕ) → place_in n i from commands ≡ Some place → place_in n i from (with_piece commands next) ≡ Some place
+pub place-piece : (n i from : ℕ) (commands : List Command) (next : Command) (place : ℕ) → place_in n i from commands ≡ Some place → place_in n i from (with_piece commands next) ≡ Some place
 place-piece n i from [] next place is = absurd (let no : None ≡ Some place = is in cc)
 place-piece n i from (c ∷ []) next place is = by (joins c next) where
   at : (b : Bool) (later : Option ℕ) → cond b (Some from) None ≡ Some place → cond b (Some from) later ≡ Some place
@@ -112,29 +112,29 @@ place-piece n i from (c ∷ d ∷ commands) next place is = by (is_command n i c
   by true same later = same
   by false same later = later same
 
-record Longer (n i place : ℕ) (commands others : List Command) : Type 0 where
-  at : place_in n i 0 others ≡ Some place
-  extends : Extends commands others
+pub record Longer (n i place : ℕ) (commands others : List Command) : Type 0 where
+  pub at : place_in n i 0 others ≡ Some place
+  pub extends : Extends commands others
 
-place-fold : (n i : ℕ) (commands pieces : List Command) (place : ℕ) → place_in n i 0 commands ≡ Some place → place_in n i 0 (fold with_piece commands pieces) ≡ Some place
+pub place-fold : (n i : ℕ) (commands pieces : List Command) (place : ℕ) → place_in n i 0 commands ≡ Some place → place_in n i 0 (fold with_piece commands pieces) ≡ Some place
 place-fold n i commands [] place is = is
 place-fold n i commands (p ∷ pieces) place is = place-fold n i (with_piece commands p) pieces place (place-piece n i 0 commands p place is)
 
-place-pieces : (n i : ℕ) (commands pieces : List Command) (place : ℕ) → place_in n i 0 commands ≡ Some place → Longer n i place commands (fold with_piece commands pieces)
+pub place-pieces : (n i : ℕ) (commands pieces : List Command) (place : ℕ) → place_in n i 0 commands ≡ Some place → Longer n i place commands (fold with_piece commands pieces)
 place-pieces n i commands pieces place is = record { at = place-fold n i commands pieces place is; extends = extends-pieces commands pieces }
 
-place-within : (n i from : ℕ) (commands : List Command) (place : ℕ) → place_in n i from commands ≡ Some place → place < from + length commands
+pub place-within : (n i from : ℕ) (commands : List Command) (place : ℕ) → place_in n i from commands ≡ Some place → place < from + length commands
 place-within n i from [] place is = absurd (let no : None ≡ Some place = is in cc)
 place-within n i from (c ∷ commands) place is = by (is_command n i c.tag) is (place-within n i (suc from) commands place) where
   by : (b : Bool) → cond b (Some from) (place_in n i (suc from) commands) ≡ Some place → (place_in n i (suc from) commands ≡ Some place → place < suc from + length commands) → place < from + length (c ∷ commands)
   by true same later = (let here : from ≡ place = some-same from place same in omega arith)
   by false same later = (let there : place < suc from + length commands = later same in omega arith)
 
-not-le : (a b : ℕ) → nat_le a b ≡ false → b < a
+pub not-le : (a b : ℕ) → nat_le a b ≡ false → b < a
 not-le a b is = search arith
 
 -- where commands stand behind so many bytes, so many were written
-behind-fits : (n : ℕ) (pieces : List Command) (c : Command) (others : List Command) → behind n pieces ≡ c ∷ others → n ≤ length (flat_map piece_bytes pieces)
+pub behind-fits : (n : ℕ) (pieces : List Command) (c : Command) (others : List Command) → behind n pieces ≡ c ∷ others → n ≤ length (flat_map piece_bytes pieces)
 behind-fits n [] c others is = absurd (let no : [] ≡ c ∷ others = is in cc)
 behind-fits zero (p ∷ pieces) c others is = omega arith
 behind-fits (suc n) (p ∷ pieces) c others is = by (nat_le (length p.bytes) (suc n)) refl is (behind-fits (suc n - length p.bytes) pieces c others) where
@@ -147,14 +147,14 @@ behind-fits (suc n) (p ∷ pieces) c others is = by (nat_le (length p.bytes) (su
   by false at same later = (let sum : length (p.bytes ++ flat_map piece_bytes pieces) ≡ length p.bytes + length (flat_map piece_bytes pieces) = total in let long : suc n < length p.bytes = not-le (length p.bytes) (suc n) at in omega arith)
 
 -- Of a longer log.
-carrier-stays : (n i : ℕ) (log more : Log) (link : LinkId) → carrier_of n i log ≡ Some link → carrier_of n i (log ++ more) ≡ Some link
+pub carrier-stays : (n i : ℕ) (log more : Log) (link : LinkId) → carrier_of n i log ≡ Some link → carrier_of n i (log ++ more) ≡ Some link
 carrier-stays n i [] more link is = absurd (let no : None ≡ Some link = is in cc)
 carrier-stays n i (e ∷ log) more link is = by (carries n i e) is (carrier-stays n i log more link) where
   by : (o : Option LinkId) → first_some o (carrier_of n i log) ≡ Some link → (carrier_of n i log ≡ Some link → carrier_of n i (log ++ more) ≡ Some link) → first_some o (carrier_of n i (log ++ more)) ≡ Some link
   by None same later = later same
   by (Some other) same later = same
 
-turn-found : (link : LinkId) (tries others : List (Option LinkId)) (turns : List Turn) (turn : Turn) → turn_by link tries turns ≡ Some turn → turn_by link (tries ++ others) turns ≡ Some turn
+pub turn-found : (link : LinkId) (tries others : List (Option LinkId)) (turns : List Turn) (turn : Turn) → turn_by link tries turns ≡ Some turn → turn_by link (tries ++ others) turns ≡ Some turn
 turn-found link [] others turns turn is = absurd (let no : None ≡ Some turn = is in cc)
 turn-found link (t ∷ tries) others [] turn is = is
 turn-found link (t ∷ tries) others (first ∷ turns) turn is = by (is_link link t) is (turn-found link tries others turns turn) where
@@ -162,10 +162,10 @@ turn-found link (t ∷ tries) others (first ∷ turns) turn is = by (is_link lin
   by true same later = same
   by false same later = later same
 
-turn-stays : (service : Service) (link : LinkId) (log more : Log) (turn : Turn) → turn_of service link log ≡ Some turn → turn_of service link (log ++ more) ≡ Some turn
+pub turn-stays : (service : Service) (link : LinkId) (log more : Log) (turn : Turn) → turn_of service link log ≡ Some turn → turn_of service link (log ++ more) ≡ Some turn
 turn-stays service link log more turn is = ap (λ l. turn_by link l service.opens) (filter_map-append open_try log more) ∙ turn-found link (open_tries log) (open_tries more) service.opens turn is
 
-slice-front : {X : Type 0} (xs ys : List X) (k : ℕ) (x : X) → slice_get xs k ≡ Some x → slice_get (xs ++ ys) k ≡ Some x
+pub slice-front : {X : Type 0} (xs ys : List X) (k : ℕ) (x : X) → slice_get xs k ≡ Some x → slice_get (xs ++ ys) k ≡ Some x
 slice-front [] ys k x is = absurd (none k is) where
   none : (k : ℕ) → slice_get [] k ≡ Some x → ⊥
   none zero is = (let no : None ≡ Some x = is in cc)
@@ -173,7 +173,7 @@ slice-front [] ys k x is = absurd (none k is) where
 slice-front (z ∷ xs) ys zero x is = is
 slice-front (z ∷ xs) ys (suc k) x is = slice-front xs ys k x is
 
-arrivals-more : (before log more : Log) → arrivals_behind before (log ++ more) ≡ arrivals_behind before log ++ arrivals_behind (before ++ log) more
+pub arrivals-more : (before log more : Log) → arrivals_behind before (log ++ more) ≡ arrivals_behind before log ++ arrivals_behind (before ++ log) more
 arrivals-more before [] more = ap (λ l. arrivals_behind l more) (sym (append-nil before))
 arrivals-more before (e ∷ log) more = by (arrival_in before e) (arrivals-more (before ++ e ∷ []) log more ∙ ap (λ l. arrivals_behind (before ++ e ∷ []) log ++ arrivals_behind l more) (append_assoc before (e ∷ []) log)) where
   by : (o : Option Arrival) → arrivals_behind (before ++ e ∷ []) (log ++ more) ≡ arrivals_behind (before ++ e ∷ []) log ++ arrivals_behind (before ++ e ∷ log) more
@@ -185,14 +185,14 @@ pub arrival-stays : (n : ℕ) (log more : Log) (came : Arrival) → arrival_of n
 arrival-stays zero log more came is = absurd (let no : None ≡ Some came = is in cc)
 arrival-stays (suc n) log more came is = ap (λ l. slice_get l n) (arrivals-more [] log more) ∙ slice-front (arrivals log) (arrivals_behind log more) n came is
 
-read-more : (link : LinkId) (log more : Log) → read_of link (log ++ more) ≡ read_of link log ++ read_of link more
+pub read-more : (link : LinkId) (log more : Log) → read_of link (log ++ more) ≡ read_of link log ++ read_of link more
 read-more link log more = ap (flat_map got_bytes) (of-link-more link log more) ∙ flat_map-append got_bytes (of_link link log) (of_link link more)
 
 pub talk-more : (service : Service) (n : ℕ) (came : Arrival) (log more : Log) → talk_with service n came (log ++ more) ≡ heard_more (talk_with service n came log) (read_of came.link more)
 talk-more service n came log more = ap (λ bytes. record { setup = service.setup; number = n; salt = came.salt; read = bytes }) (read-more came.link log more)
 
 -- What a client said stays.
-account-more : (talk : Talk) (more : List ℕ) (user : Account) → account talk ≡ Some user → account (heard_more talk more) ≡ Some user
+pub account-more : (talk : Talk) (more : List ℕ) (user : Account) → account talk ≡ Some user → account (heard_more talk more) ≡ Some user
 account-more talk more user is = by (opening_of talk) refl is where
   by : (o : ClientOpening) → opening_of talk ≡ o → account_in talk o ≡ Some user → account (heard_more talk more) ≡ Some user
   by (Waits switched) at is = absurd (let no : None ≡ Some user = is in cc)
@@ -205,11 +205,11 @@ pub record Grown (was now : Split) : Type 0 where
   pub messages : now.messages ≡ was.messages ++ later
   pub ended : (fault : FrameFault) → was.fault ≡ Some fault → (later ≡ []) × (now.fault ≡ Some fault)
 
-grown-by : (limit : ℕ) (messages : List Framed) (rest : List ℕ) (fault : Option FrameFault) (more : List ℕ) → Grown (record { messages = messages; rest = rest; fault = fault }) (grown limit 0 messages rest fault more)
+pub grown-by : (limit : ℕ) (messages : List Framed) (rest : List ℕ) (fault : Option FrameFault) (more : List ℕ) → Grown (record { messages = messages; rest = rest; fault = fault }) (grown limit 0 messages rest fault more)
 grown-by limit messages rest None more = record { later = (split limit 0 (rest ++ more)).messages; messages = refl; ended = λ fault is. absurd (let no : None ≡ Some fault = is in cc) }
 grown-by limit messages rest (Some fault) more = record { later = []; messages = sym (append-nil messages); ended = λ other is. (refl, is) }
 
-split-grows : (limit : ℕ) (bytes more : List ℕ) → Grown (split limit 0 bytes) (split limit 0 (bytes ++ more))
+pub split-grows : (limit : ℕ) (bytes more : List ℕ) → Grown (split limit 0 bytes) (split limit 0 (bytes ++ more))
 split-grows limit bytes more = subst (λ (s : Split). Grown (split limit 0 bytes) s) (sym (split-grown limit 0 bytes more)) (grown-by limit (split limit 0 bytes).messages (split limit 0 bytes).rest (split limit 0 bytes).fault more)
 
 pub from-nothing : (limit : ℕ) (now : Split) → Grown (split limit 0 []) now
@@ -228,7 +228,7 @@ messages-grow talk more = by (opening_of talk) refl where
       (subst (λ (p : ClientOpening). Grown (client_messages talk.setup.limit (if_known (account_of talk.setup.users talk.salt response) rest)) (client_messages talk.setup.limit (commands_in_talk (heard_more talk more) p)))
       (sym (opening-says-more talk.setup.limit talk.read more switched response id rest at)) (known (account_of talk.setup.users talk.salt response) rest))
 
-message-stays : (service : Service) (n i : ℕ) (log more : Log) (message : Framed) → message_of service n i log ≡ Some message → message_of service n i (log ++ more) ≡ Some message
+pub message-stays : (service : Service) (n i : ℕ) (log more : Log) (message : Framed) → message_of service n i log ≡ Some message → message_of service n i (log ++ more) ≡ Some message
 message-stays service n zero log more message is = absurd (let no : None ≡ Some message = is in cc)
 message-stays service n (suc i) log more message is = by (arrival_of n log) refl is where
   by : (o : Option Arrival) → arrival_of n log ≡ o → option_and_then (λ (t : Talk). slice_get (messages_of t).messages i) (option_map (λ (came : Arrival). talk_with service n came log) o) ≡ Some message → message_of service n (suc i) (log ++ more) ≡ Some message
@@ -239,32 +239,32 @@ message-stays service n (suc i) log more message is = by (arrival_of n log) refl
       ∙ ap (λ l. slice_get l i) grows.messages
       ∙ slice-front (messages_of (talk_with service n came log)).messages grows.later i message is)
 
-user-stays : (service : Service) (n : ℕ) (log more : Log) (user : Account) → user_of service n log ≡ Some user → user_of service n (log ++ more) ≡ Some user
+pub user-stays : (service : Service) (n : ℕ) (log more : Log) (user : Account) → user_of service n log ≡ Some user → user_of service n (log ++ more) ≡ Some user
 user-stays service n log more user is = by (arrival_of n log) refl is where
   by : (o : Option Arrival) → arrival_of n log ≡ o → option_and_then account (option_map (λ (came : Arrival). talk_with service n came log) o) ≡ Some user → user_of service n (log ++ more) ≡ Some user
   by None at is = absurd (let no : None ≡ Some user = is in cc)
   by (Some came) at is = ap (λ (o : Option Arrival). option_and_then account (option_map (λ (came : Arrival). talk_with service n came (log ++ more)) o)) (arrival-stays n log more came at)
       ∙ ap account (talk-more service n came log more) ∙ account-more (talk_with service n came log) (read_of came.link more) user is
 
-user-on-stays : (service : Service) (link : LinkId) (log more : Log) (user : Account) → user_on service link log ≡ Some user → user_on service link (log ++ more) ≡ Some user
+pub user-on-stays : (service : Service) (link : LinkId) (log more : Log) (user : Account) → user_on service link log ≡ Some user → user_on service link (log ++ more) ≡ Some user
 user-on-stays service link log more user is = (let parts = then-of (turn_of service link log) (λ (turn : Turn). user_of service turn.client log) user is in
     ap (option_and_then (λ (turn : Turn). user_of service turn.client (log ++ more))) (turn-stays service link log more parts.x parts.from) ∙ user-stays service parts.x.client log more user parts.gives)
 
 -- The reply on a link stays.
-after-loss : (xs ys : Log) → list_any is_loss xs ≡ true → until_loss (xs ++ ys) ≡ until_loss xs
+pub after-loss : (xs ys : Log) → list_any is_loss xs ≡ true → until_loss (xs ++ ys) ≡ until_loss xs
 after-loss [] ys is = absurd (let no : false ≡ true = is in cc)
 after-loss (e ∷ xs) ys is = by (is_loss e) is (after-loss xs ys) where
   by : (b : Bool) → (b || list_any is_loss xs) ≡ true → (list_any is_loss xs ≡ true → until_loss (xs ++ ys) ≡ until_loss xs) → cond b [] (e ∷ until_loss (xs ++ ys)) ≡ cond b [] (e ∷ until_loss xs)
   by true same later = refl
   by false same later = ap (λ (l : Log). e ∷ l) (later same)
 
-sound-lost : (link : LinkId) (log more : Log) → was_lost link log ≡ true → sound_of link (log ++ more) ≡ sound_of link log
+pub sound-lost : (link : LinkId) (log more : Log) → was_lost link log ≡ true → sound_of link (log ++ more) ≡ sound_of link log
 sound-lost link log more lost = ap until_loss (of-link-more link log more) ∙ after-loss (of_link link log) (of_link link more) lost
 
-lost-stays : (link : LinkId) (log more : Log) → was_lost link log ≡ true → was_lost link (log ++ more) ≡ true
+pub lost-stays : (link : LinkId) (log more : Log) → was_lost link log ≡ true → was_lost link (log ++ more) ≡ true
 lost-stays link log more lost = ap (list_any is_loss) (of-link-more link log more) ∙ list_any-append is_loss (of_link link log) (of_link link more) ∙ or-inl (list_any is_loss (of_link link log)) (list_any is_loss (of_link link more)) lost
 
-longer-behind : (n i bytes : ℕ) (pieces more : List Command) (place : ℕ) → place_in n i 0 (commands_in (behind bytes pieces)) ≡ Some place → Longer n i place (commands_in (behind bytes pieces)) (commands_in (behind bytes (pieces ++ more)))
+pub longer-behind : (n i bytes : ℕ) (pieces more : List Command) (place : ℕ) → place_in n i 0 (commands_in (behind bytes pieces)) ≡ Some place → Longer n i place (commands_in (behind bytes pieces)) (commands_in (behind bytes (pieces ++ more)))
 longer-behind n i bytes pieces more place is = by (behind bytes pieces) refl where
   by : (l : List Command) → behind bytes pieces ≡ l → Longer n i place (commands_in (behind bytes pieces)) (commands_in (behind bytes (pieces ++ more)))
   by [] none = absurd (let no : None ≡ Some place = sym (ap (λ l. place_in n i 0 (commands_in l)) none) ∙ is in cc)
@@ -273,11 +273,11 @@ longer-behind n i bytes pieces more place is = by (behind bytes pieces) refl whe
       (place-pieces n i (commands_in (behind bytes pieces)) more place is)
 
 -- what is said of a link by its entries before it was lost
-abbrev reply_by_sound : (n i : ℕ) → Account → Log → Bool → Option Answer
+abbrev pub reply_by_sound : (n i : ℕ) → Account → Log → Bool → Option Answer
 reply_by_sound n i user sound lost = option_and_then (λ place. reply_at place (replies_by one_payload (commands_behind (opening user (flat_map got_bytes sound)) (filter_map piece sound)) (rest_of (opening user (flat_map got_bytes sound)))) lost)
     (place_in n i 0 (commands_behind (opening user (flat_map got_bytes sound)) (filter_map piece sound)))
 
-on-stays : (n i : ℕ) (link : LinkId) (log more : Log) (user : Account) (reply : Answer) → reply_on n i link log user ≡ Some reply → reply_on n i link (log ++ more) user ≡ Some reply
+pub on-stays : (n i : ℕ) (link : LinkId) (log more : Log) (user : Account) (reply : Answer) → reply_on n i link log user ≡ Some reply → reply_on n i link (log ++ more) user ≡ Some reply
 on-stays n i link log more user reply is = by (bool_cases (was_lost link log)) where
   heard-in : (o : Opening) → login_on user link log ≡ o → (place : ℕ) → was_lost link log ≡ false → place_in n i 0 (commands_on user link log) ≡ Some place → reply_at place (replies_on user link log) (was_lost link log) ≡ Some reply → reply_on n i link (log ++ more) user ≡ Some reply
   heard-in (LogsIn said rest) login place unlost at is = (let further : login_on user link (log ++ more) ≡ LogsIn said (rest ++ heard_of link more) = ap (opening user) (heard-more link log more unlost) ∙ opening-logged_in user (heard_of link log) (heard_of link more) said rest login in
@@ -307,11 +307,11 @@ reply-stays service n i log more reply is = (let one = then-of (carrier_of n i l
     ∙ on-stays n i one.x log more two.x reply two.gives)
 
 -- So does the answer to a message.
-by-stays : (old new : Option Answer) (meaning : Result Meaning CommandFault) (reply : Answer) → (old ≡ Some reply → new ≡ Some reply) → answer_by old meaning ≡ Some reply → answer_by new meaning ≡ Some reply
+pub by-stays : (old new : Option Answer) (meaning : Result Meaning CommandFault) (reply : Answer) → (old ≡ Some reply → new ≡ Some reply) → answer_by old meaning ≡ Some reply → answer_by new meaning ≡ Some reply
 by-stays old new (Ok (Query text)) reply stays is = stays is
 by-stays old new _ reply stays is = is
 
-query-stays : (service : Service) (n i : ℕ) (message : Framed) (due log more : Log) (reply : Answer) → RefusedOrSent service (log ++ more) → query_answer service n i message due log ≡ Some reply → query_answer service n i message due (log ++ more) ≡ Some reply
+pub query-stays : (service : Service) (n i : ℕ) (message : Framed) (due log more : Log) (reply : Answer) → RefusedOrSent service (log ++ more) → query_answer service n i message due log ≡ Some reply → query_answer service n i message due (log ++ more) ≡ Some reply
 query-stays service n i message due log more reply never is = by (is_some (server_of service.setup (route service.setup message due) due)) is where
   replied : (b : Bool) → is_refused service n i (log ++ more) ≡ b → reply_to service n i log ≡ Some reply → cond b (Some (connection_refused ∷ [])) (reply_to service n i (log ++ more)) ≡ Some reply
   replied false at is = reply-stays service n i log more reply is
@@ -327,7 +327,7 @@ query-stays service n i message due log more reply never is = by (is_some (serve
   by true is = refused-now (is_refused service n i log) refl is
   by false is = is
 
-answer-kept : (service : Service) (n i : ℕ) (log more : Log) (reply : Answer) → RefusedOrSent service (log ++ more) → answer service n i log ≡ Some reply → answer service n i (log ++ more) ≡ Some reply
+pub answer-kept : (service : Service) (n i : ℕ) (log more : Log) (reply : Answer) → RefusedOrSent service (log ++ more) → answer service n i log ≡ Some reply → answer service n i (log ++ more) ≡ Some reply
 answer-kept service n i log more reply never is = by (due_at service n i log) refl is where
   by : (d : Option Log) → due_at service n i log ≡ d → answer_when service n i d log ≡ Some reply → answer service n i (log ++ more) ≡ Some reply
   by None at is = absurd (let no : None ≡ Some reply = is in cc)

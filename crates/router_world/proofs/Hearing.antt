@@ -1,0 +1,121 @@
+-- Bytes of a client come, and its session goes on.
+use Rattle.std.specs.Prelude.{◌≡◌, ◌≢◌, ◌<◌, ◌≤◌, ℕ, true, is_some, List, [], ◌++◌, length, Option, Some, None, refl}
+use Rattle.std.proofs.Common.{sym, ◌∙◌, ap, subst, arith, append-nil, inl}
+use Rattle.mx_wire.specs.Log.{Log}
+use Rattle.packet_frame.specs.Packets.{Framed, Split, split}
+use Rattle.server_side.specs.Account.{Account}
+use Rattle.client_session.specs.Arrivals.{Arrival, arrival_of, is_served}
+use Rattle.client_session.specs.Answers.{Talk, heard_more, account_in, account, messages_of}
+use Rattle.client_talk.specs.declared.session.Phase.{Phase}
+use Rattle.client_talk.specs.declared.session.Phase.TheVariants as phase
+use Rattle.client_talk.specs.declared.session.Session.{Session}
+use Rattle.client_talk.specs.Queries.{Query}
+use Rattle.client_talk.specs.Going.{Turned, turned}
+use Rattle.client_talk.specs.Events.{kept_with, said_in}
+use Rattle.lend_core.specs.Lends.{Lends}
+use Rattle.exchange.specs.Commands.{carrier_of}
+use Rattle.exchange.specs.Replies.{Answer}
+use Rattle.promises.specs.Service.{Service}
+use Rattle.promises.specs.Owners.{talk_with}
+use Rattle.router_world.specs.Replied.{replied, first_open}
+use Rattle.router_world.specs.Seats.{SeatAt, PhaseAt, IsIdle, Asks, Unanswered, work_said}
+use Rattle.router_world.proofs.SeatsAnswers.{open-from}
+use Rattle.router_world.proofs.SeatsTalks.{account-more, commands-more, taken-nothing}
+use Rattle.router_world.proofs.SeatsGoing.{SeatTurned}
+use Rattle.router_world.proofs.Seats.{said-seat}
+use Rattle.router_world.proofs.Sound.{LendsSound, Free, Gone, Serves}
+use Rattle.router_world.proofs.Turning.{Next, Works, Ends}
+use Rattle.router_world.proofs.Working.{later-work, ending-more}
+use Rattle.router_world.proofs.Counting.{turned-more}
+use Rattle.router_world.proofs.Clients.{free-gone, ends-so, next-turned}
+
+-- A session that says more, seen with what came of its queries by then.
+pub record Says (service : Service) (log : Log) (n : ℕ) (came : Arrival) (written : List ℕ) (session : Session) (lends : Lends) (turned : Turned) : Type 0 where
+  pub seat : SeatAt (talk_with service n came log) (λ i. replied service n i log) written turned.session
+  pub grows : session.client.arrived ≤ turned.session.client.arrived
+  pub next : Next service log n lends turned.session.phase turned.session.client.arrived turned.query
+
+-- what is known as the bytes come
+pub record Coming (service : Service) (log : Log) (n : ℕ) (came : Arrival) (talk : Talk) (bytes : List ℕ) (lends : Lends) : Type 0 where
+  pub now : talk_with service n came log ≡ heard_more talk bytes
+  pub is : arrival_of n log ≡ Some came
+  pub served : is_served service.setup came ≡ true
+  pub few : length (talk.read ++ bytes) < 18446744073709551616
+  pub sound : LendsSound service log lends
+  pub unclosed : lends.closing ≡ []
+  pub idle : is_some service.setup.target ≡ true → lends.waiting ≡ []
+
+says-turned : (service : Service) (log : Log) (n : ℕ) (came : Arrival) (talk : Talk) (bytes written : List ℕ) (session old : Session) (lends : Lends) (next : Turned) → Coming service log n came talk bytes lends → Free lends n → (next.session.phase ≡ phase.LoggingIn → Gone lends n)
+    → ((user : Account) → old.phase ≢ phase.Working user) → session.client.arrived ≤ next.session.client.arrived → (next.query ≢ None → session.client.arrived < next.session.client.arrived)
+    → ((i : ℕ) → session.client.arrived < i → carrier_of n i log ≡ None) → SeatTurned (heard_more talk bytes) (λ i. replied service n i log) written old next → Says service log n came written session lends next
+says-turned service log n came talk bytes written session old lends next coming free entering unworking grows later unsent at = record {
+  seat = now.seat;
+  grows = grows;
+  next = next-turned service log n came written old next lends coming.sound (inl coming.unclosed) coming.idle coming.is coming.served free entering unworking (λ some. unsent next.session.client.arrived (later some)) now;
+} where
+  now : SeatTurned (talk_with service n came log) (λ i. replied service n i log) written old next
+  now = subst (λ (t : Talk). SeatTurned t (λ i. replied service n i log) written old next) (sym coming.now) at
+
+-- the query that came up is the message in work
+record InWork (talk : Talk) (reply : ℕ → Option Answer) (ordinal : ℕ) : Type 0 where
+  message : Framed
+  work : work_said reply talk ≡ Some (record { ordinal = ordinal; message = message })
+
+work-of-query : (talk : Talk) (reply : ℕ → Option Answer) (written : List ℕ) (old : Session) (next : Turned) → SeatTurned talk reply written old next → next.query ≢ None → InWork talk reply next.session.client.arrived
+work-of-query talk reply written old next at some = by next.query refl at.asks where
+  by : (q : Option Query) → next.query ≡ q → Asks q talk reply old next.session → InWork talk reply next.session.client.arrived
+  by None same asks = absurd (some same)
+  by (Some query) same asks = record { message = asks.1.message; work = asks.1.work }
+
+first-query : (talk : Talk) (reply : ℕ → Option Answer) (written : List ℕ) (session old : Session) (next : Turned) (now : Talk) (bytes : List ℕ) → session.phase ≡ phase.LoggingIn → SeatAt talk reply bytes session → SeatTurned now reply written old next → next.query ≢ None → session.client.arrived < next.session.client.arrived
+first-query talk reply written session old next now bytes is seat at some = (let work = work-of-query now reply written old next at some in
+    let none : session.client.arrived ≡ 0 = (subst (λ (p : Phase). PhaseAt p talk reply (bytes ++ session.client.outgoing) session.client) is seat.at).arrived in
+    let from : 1 ≤ next.session.client.arrived = open-from now.setup reply 1 (messages_of now).messages (record { ordinal = next.session.client.arrived; message = work.message }) work.work in omega arith)
+
+later-query : (talk : Talk) (reply : ℕ → Option Answer) (written bytes : List ℕ) (session old : Session) (user : Account) (next : Turned) → IsIdle talk reply user session.client → SeatTurned (heard_more talk bytes) reply written old next → next.query ≢ None → session.client.arrived < next.session.client.arrived
+later-query talk reply written bytes session old user next idle at some = (let work = work-of-query (heard_more talk bytes) reply written old next at some in
+    let messages : (messages_of (heard_more talk bytes)).messages ≡ idle.taken.past ++ (split talk.setup.limit 0 (session.client.framer.kept ++ bytes)).messages =
+    ap (λ c. (split talk.setup.limit 0 c).messages) (commands-more talk bytes user idle.account) ∙ ap (λ (s : Split). s.messages) (idle.taken.whatever bytes) in
+    let all : first_open talk.setup reply 1 idle.taken.past ≡ None = ap (first_open talk.setup reply 1) (sym (append-nil idle.taken.past)) ∙ sym (ap (λ (s : Split). first_open talk.setup reply 1 s.messages) (taken-nothing talk session.client idle.taken idle.none)) ∙ idle.all in
+    let more : length idle.taken.past < next.session.client.arrived = later-work (heard_more talk bytes) reply idle.taken.past (split talk.setup.limit 0 (session.client.framer.kept ++ bytes)).messages (record { ordinal = next.session.client.arrived; message = work.message }) messages all work.work in
+    let count : session.client.arrived ≡ length idle.taken.past = idle.taken.arrived in omega arith)
+
+never-entering : (talk : Talk) (reply : ℕ → Option Answer) (written more : List ℕ) (session : Session) (user : Account) → account talk ≡ Some user → SeatAt (heard_more talk more) reply written session → session.phase ≡ phase.LoggingIn → ⊥
+never-entering talk reply written more session user known seat is = (let enters = subst (λ (p : Phase). PhaseAt p (heard_more talk more) reply (written ++ session.client.outgoing) session.client) is seat.at in
+    let none : None ≡ Some user = sym (ap (account_in (heard_more talk more)) enters.waits) ∙ account-more talk more user known in cc)
+
+pub said-by : (service : Service) (log : Log) (n : ℕ) (came : Arrival) (talk : Talk) (bytes written : List ℕ) (session : Session) (lends : Lends) → Coming service log n came talk bytes lends → SeatAt talk (λ i. replied service n i log) written session
+    → Unanswered (λ i. replied service n i log) session → ((i : ℕ) → session.client.arrived < i → carrier_of n i log ≡ None) → (at : Phase) → session.phase ≡ at → Serves at lends n session.client.arrived → talk.setup ≡ service.setup
+    → Says service log n came written session lends (said_in at talk.setup bytes session)
+said-by service log n came talk bytes written session lends coming seat unanswered unsent phase.LoggingIn is serves same =
+    says-turned service log n came talk bytes written session session lends (turned talk.setup (kept_with bytes session)) coming (free-gone lends n serves) (λ entering. serves) (λ user working. (let no' : phase.LoggingIn ≡ phase.Working user = sym is ∙ working in cc))
+    (turned-more talk.setup (kept_with bytes session)) (first-query talk reply written session session (turned talk.setup (kept_with bytes session)) (heard_more talk bytes) written is seat at) unsent at where
+      reply : ℕ → Option Answer
+      reply i = replied service n i log
+
+      at : SeatTurned (heard_more talk bytes) reply written session (turned talk.setup (kept_with bytes session))
+      at = subst (λ (p : Phase). SeatTurned (heard_more talk bytes) reply written session (said_in p talk.setup bytes session)) is (said-seat talk reply written bytes session seat unanswered (λ ends. (let no' : phase.LoggingIn ≡ phase.Ending = sym is ∙ ends in cc)) coming.few)
+said-by service log n came talk bytes written session lends coming seat unanswered unsent (phase.Idle user) is serves same =
+    says-turned service log n came talk bytes written session session lends (turned talk.setup (kept_with bytes session)) coming serves
+    (λ entering. absurd (never-entering talk reply written bytes (turned talk.setup (kept_with bytes session)).session user idle.account at.seat entering)) (λ other working. (let no' : phase.Idle user ≡ phase.Working other = sym is ∙ working in cc))
+    (turned-more talk.setup (kept_with bytes session)) (later-query talk reply written bytes session session user (turned talk.setup (kept_with bytes session)) idle at) unsent at where
+      reply : ℕ → Option Answer
+      reply i = replied service n i log
+
+      idle : IsIdle talk reply user session.client
+      idle = subst (λ (p : Phase). PhaseAt p talk reply (written ++ session.client.outgoing) session.client) is seat.at
+
+      at : SeatTurned (heard_more talk bytes) reply written session (turned talk.setup (kept_with bytes session))
+      at = subst (λ (p : Phase). SeatTurned (heard_more talk bytes) reply written session (said_in p talk.setup bytes session)) is (said-seat talk reply written bytes session seat unanswered (λ ends. (let no' : phase.Idle user ≡ phase.Ending = sym is ∙ ends in cc)) coming.few)
+said-by service log n came talk bytes written session lends coming seat unanswered unsent (phase.Working user) is serves same = record {
+  seat = subst (λ (t : Talk). SeatAt t (λ i. replied service n i log) written (kept_with bytes session)) (sym coming.now)
+      (subst (λ (p : Phase). SeatTurned (heard_more talk bytes) (λ i. replied service n i log) written session (said_in p talk.setup bytes session)) is (said-seat talk (λ i. replied service n i log) written bytes session seat unanswered (λ ends. (let no' : phase.Working user ≡ phase.Ending = sym is ∙ ends in cc)) coming.few)).seat;
+  grows = omega arith;
+  next = subst (λ (p : Phase). Next service log n lends p session.client.arrived None) (sym is) (Works user serves);
+}
+said-by service log n came talk bytes written session lends coming seat unanswered unsent phase.Ending is serves same = record {
+  seat = subst (λ (t : Talk). SeatAt t (λ i. replied service n i log) written session) (sym coming.now) (ending-more talk (λ i. replied service n i log) written bytes session is seat);
+  grows = omega arith;
+  next = subst (λ (p : Phase). Next service log n lends p session.client.arrived None) (sym is)
+      (Ends None (ends-so service log n came written session lends coming.sound (inl coming.unclosed) coming.is (free-gone lends n serves) is (subst (λ (t : Talk). SeatAt t (λ i. replied service n i log) written session) (sym coming.now) (ending-more talk (λ i. replied service n i log) written bytes session is seat))));
+}

@@ -1,0 +1,6 @@
+pub mod Replied
+pub mod Rows
+pub mod Seats
+pub mod Tables
+pub mod World
+pub mod Acts

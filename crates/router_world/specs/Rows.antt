@@ -1,0 +1,90 @@
+-- How a link to a server stands for what was read and written there.
+use Rattle.std.specs.Prelude.{◌≡◌, ◌⊎◌, ◌≤◌, ℕ, zero, suc, Bool, true, false, List, [], ◌∷◌, ◌++◌, length, take, Option, Some, None}
+use Rattle.std.specs.List.{flat_map, list_all, list_any}
+use Rattle.std.specs.Option.{option_and_then}
+use Rattle.packet_frame.specs.Packets.{Nothing, first_message, spelling}
+use Rattle.server_side.specs.Account.{Account}
+use Rattle.server_side.specs.Login.{Goes, LogsIn, opening, most_payload}
+use Rattle.server_side.specs.Backend.{BackendState}
+use Rattle.server_side.specs.Reading.{IsReading, IsLoggingIn}
+use Rattle.server_side.specs.declared.command.Command.{Command as Handed}
+use Rattle.server_side.specs.declared.stage.Stage.TheVariants.{In}
+use Rattle.exchange.specs.Logins.{IsPrefix}
+use Rattle.exchange.specs.Commands.{Command, most_command, is_whole, is_command, place_in, behind, commands_in, commands_behind}
+use Rattle.exchange.specs.Replies.{Answer, Replies, Standing, one_payload, replies_by, rest_of, reply_at, standing_in}
+
+-- What was heard of a server, and the pieces that were written to it, say: the commands, the replies to them, and how the link stands.
+
+abbrev pub commands_said : Account → (heard : List ℕ) → (pieces : List Command) → List Command
+commands_said user heard pieces = commands_behind (opening user heard) pieces
+
+abbrev pub replies_said : Account → (heard : List ℕ) → (pieces : List Command) → Replies
+replies_said user heard pieces = replies_by one_payload (commands_said user heard pieces) (rest_of (opening user heard))
+
+abbrev pub standing_said : Account → (heard : List ℕ) → (pieces : List Command) → Standing
+standing_said user heard pieces = standing_in (opening user heard) (commands_said user heard pieces) (replies_said user heard pieces)
+
+-- the reply to the i-th command of client n, or the error in its place
+abbrev pub reply_said : (n i : ℕ) → Account → (heard : List ℕ) → (pieces : List Command) → (lost : Bool) → Option Answer
+reply_said n i user heard pieces lost = option_and_then (λ place. reply_at place (replies_said user heard pieces) lost) (place_in n i 0 (commands_said user heard pieces))
+
+abbrev pub piece_bytes : Command → List ℕ
+piece_bytes piece = piece.bytes
+
+abbrev pub bytes_in : List Command → List ℕ
+bytes_in pieces = flat_map piece_bytes pieces
+
+abbrev pub is_of : (n i : ℕ) → Command → Bool
+is_of n i command = is_command n i command.tag
+
+-- What the link holds of them.
+
+-- what was written of the command that has no reply yet
+abbrev pub begun_by : (sent : ℕ) → Handed → List Command
+begun_by zero command = []
+begun_by (suc sent) command = record { tag = command.tag; bytes = take (suc sent) command.bytes } ∷ []
+
+abbrev pub begun : Option Handed → List Command
+begun None = []
+begun (Some command) = begun_by command.sent command
+
+-- a command is one message, of which so much was written
+pub record IsMessage (command : Handed) : Type 0 where
+  pub payload : List ℕ
+  pub spelt : command.bytes ≡ spelling 0 payload
+  pub short : length payload ≤ most_command
+  pub sent : command.sent ≤ length command.bytes
+
+abbrev pub IsHanded : Option Handed → Type 0
+IsHanded None = Unit {0}
+IsHanded (Some command) = IsMessage command
+
+-- the login goes on
+pub record IsEntering (user : Account) (heard : List ℕ) (pieces : List Command) (backend : BackendState) : Type 0 where
+  pub account : backend.account ≡ user
+  pub login : IsLoggingIn backend heard (bytes_in pieces ++ backend.own)
+  pub goes : opening user heard ≡ Goes (bytes_in pieces ++ backend.own)
+
+-- the router is logged in: the other commands are whole and answered, and what is kept is a part of the reply to the one that is begun
+pub record IsInside (user : Account) (heard : List ℕ) (pieces : List Command) (backend : BackendState) : Type 0 where
+  pub account : backend.account ≡ user
+  pub stage : backend.stage ≡ In
+  pub framer : IsReading backend.framer
+  pub said : List ℕ
+  pub past : List ℕ
+  pub is : opening user heard ≡ LogsIn said (past ++ backend.framer.kept)
+  pub written : (bytes_in pieces ++ backend.own ≡ said) ⊎ ((backend.own ≡ []) × IsPrefix said (bytes_in pieces))
+  pub others : List Command
+  pub wholes : list_all is_whole others ≡ true
+  pub commands : commands_in (behind (length said) pieces) ≡ others ++ begun backend.command
+  pub command : IsHanded backend.command
+  pub new : (n i : ℕ) → list_any (is_of n i) (begun backend.command) ≡ true → list_any (is_of n i) others ≡ false
+  pub whole : List Answer
+  pub replies : replies_by one_payload others past ≡ record { whole = whole; rest = []; bad = None }
+  pub all : length whole ≡ length others
+  pub unasked : begun backend.command ≡ [] → backend.framer.kept ≡ []
+  pub partly : first_message most_payload 1 backend.framer.kept ≡ Nothing
+
+pub data LinkAt (user : Account) (heard : List ℕ) (pieces : List Command) (backend : BackendState) : Type 0 where
+  Entering : IsEntering user heard pieces backend → LinkAt user heard pieces backend
+  Inside : IsInside user heard pieces backend → LinkAt user heard pieces backend

@@ -1,0 +1,38 @@
+-- What the router knows, and what changes of it, one table at a time.
+use Rattle.std.specs.Prelude.{ℕ, List, [], ◌∷◌, ◌++◌, Option, Some, None}
+use Rattle.mx_base.specs.declared.names.ClientNo.{ClientNo}
+use Rattle.mx_base.specs.declared.names.LinkId.{LinkId}
+use Rattle.lend_core.specs.Lends.{Lends, nothing_lent, set}
+use Rattle.router_world.specs.declared.seat.Parting.{Parting}
+use Rattle.router_world.specs.declared.seat.Seat.{Seat}
+
+-- How many clients came, and how many are connected; of each client that is served its seat, by its number; of each client's link its number; the links
+-- to servers with the commands that go there; and the clients' links that are to be closed, the oldest first.
+pub record Tables : Type 0 where
+  pub came : ℕ
+  pub here : ℕ
+  pub seats : ℕ → Option Seat
+  pub numbers : ℕ → Option ClientNo
+  pub lends : Lends
+  pub parting : List Parting
+
+abbrev pub no_tables : Tables
+no_tables = record { came = 0; here = 0; seats = λ client. None; numbers = λ link. None; lends = nothing_lent; parting = [] }
+
+abbrev pub with_seat : ClientNo → Seat → Tables → Tables
+with_seat client seat tables = record tables { seats = set tables.seats client.0 (Some seat) }
+
+abbrev pub without_seat : ClientNo → Tables → Tables
+without_seat client tables = record tables { seats = set tables.seats client.0 None }
+
+abbrev pub with_number : LinkId → ClientNo → Tables → Tables
+with_number link client tables = record tables { numbers = set tables.numbers link.0 (Some client) }
+
+abbrev pub without_number : LinkId → Tables → Tables
+without_number link tables = record tables { numbers = set tables.numbers link.0 None }
+
+abbrev pub with_lends : Lends → Tables → Tables
+with_lends lends tables = record tables { lends = lends }
+
+abbrev pub to_part : Parting → Tables → Tables
+to_part parting tables = record tables { parting = tables.parting ++ parting ∷ [] }
