@@ -1,22 +1,11 @@
-//! One client of the router: its login, its messages and their answers, and the link to a server that its queries go to.
+//! What a client's session goes by: its setup, who may log in and the errors that the router itself answers; and, as definitions, who a
+//! client is by what it says, its messages and their answers.
 #![tactic(auto)]
 
 mod account;
-mod asked;
-mod events;
-mod parting;
-mod phase;
-mod pump;
 mod refusal;
-mod session;
 mod setup;
-mod writing;
 
-pub use events::{
-    client_says, fail_upstream, lose_client, lose_server, open_upstream, server_says,
-};
-pub use parting::{SessionAct, is_over, next_act};
-pub use phase::{LinkState, Phase, Server, Upstream};
-pub use session::{Session, new_session};
+pub use account::account_of;
+pub use refusal::{Refusal, write_denied, write_own_ok, write_refusal};
 pub use setup::{ServerAt, Setup, User};
-pub use writing::{client_taken, is_read, reply_left, server_left, server_taken};

@@ -1,1 +1,10 @@
-mod Stepped
+pub mod Alike
+pub mod Rows
+pub mod Changing
+pub mod Written
+pub mod Telling
+pub mod Coming
+pub mod Naming
+pub mod Taking
+pub mod Closing
+pub mod Shrinking

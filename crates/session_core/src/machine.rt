@@ -1,5 +1,5 @@
 // The core as a machine that the loop tells of events.
-ghost use Rattle.std.specs.Prelude.{◌≡◌, length, ℕ, false, OnOk};
+ghost use Rattle.std.specs.Prelude.{◌≡◌, ◌+◌, length, ℕ, false, OnOk};
 ghost use Rattle.mx_base.specs.declared.names.Port.{Port};
 ghost use Rattle.mx_base.specs.declared.names.Address.{Address};
 ghost use Rattle.mx_wire.specs.declared.entry.Entry.{Entry};
@@ -7,16 +7,12 @@ ghost use Rattle.ready_loop.specs.Changes.{ChangesOnly};
 ghost use Rattle.ready_loop.specs.Machine.{CarriesOver, IsHeard, HasActed, IsToldOf};
 ghost use Rattle.client_session.specs.Setups.{Setup};
 ghost use Rattle.session_core.specs.Stands.{Stands, due_in};
-ghost use Rattle.session_core.specs.Quiet.{quiet};
-ghost use Rattle.session_core.specs.Cores.{changed};
-ghost use Rattle.session_core.specs.Acting.{reads, sends, asks, awaited};
+ghost use Rattle.session_core.specs.Says.{reads, sends, asks, awaits};
+ghost use Rattle.session_core.specs.Acting.{changed};
 ghost use Rattle.session_core.specs.Addresses.{address_of, most_of};
+ghost use Rattle.session_core.specs.Quiet.{quiet};
 
-use crate::coming::{client_comes, link_opens, open_fails};
-use crate::leaving::turn_act;
 use crate::router::Core;
-use crate::taking::{lose, take_bytes};
-use crate::writing::{is_wanted, left, took};
 use mx_base::{Address, LinkId, OutOfMemory, Port};
 use ready_loop::{Act, Event, Machine, Piece};
 
@@ -24,37 +20,37 @@ use ready_loop::{Act, Event, Machine, Piece};
 /// being refused.
 const OTHER_LINKS: u32 = 10_018;
 
-// The event changes the core. What is told of it is carried over its entry.
+// The event changes what is known. What is told of it is carried over its entry.
 fn handle(core: &mut Core, event: Event, bytes: &mut [u8]) -> Result<(), OutOfMemory>
-    requires heard { IsHeard (awaited core.old) event }
+    requires heard { IsHeard (awaits core.old) event }
     requires acted { HasActed (asks core.old) event }
-    ensures carries { OnOk result ((e : Entry) → IsToldOf 18446744073709551615 (awaited core.old) event bytes.old e → CarriesOver Stands due_in core.old core.new e) }
+    ensures carries { OnOk result ((e : Entry) → IsToldOf 18446744073709551615 (awaits core.old) event bytes.old e → CarriesOver Stands due_in core.old core.new e) }
     ensures changes { OnOk result (ChangesOnly changed reads sends core.old core.new) }
     ensures setup { core.new.setup ≡ core.old.setup }
 {
     match event {
         Event::Accepted { port, link, salt } => {
-            client_comes(core, port, link, salt)?;
+            core.known.come(port, link, salt, &core.setup)?;
             Ok(())
         }
         Event::Opened { link, .. } => {
-            link_opens(core, link)?;
+            core.known.open(link)?;
             Ok(())
         }
         Event::OpenFailed { .. } => {
-            open_fails(core)?;
+            core.known.fail_open(&core.setup)?;
             Ok(())
         }
         Event::Got { link } => {
-            take_bytes(core, link, bytes)?;
+            core.known.hear(link, bytes, &core.setup)?;
             Ok(())
         }
         Event::Ended { link } => {
-            lose(core, link)?;
+            core.known.end(link, &core.setup)?;
             Ok(())
         }
         Event::Failed { link } => {
-            lose(core, link)?;
+            core.known.fail(link, &core.setup)?;
             Ok(())
         }
         Event::Woke { .. } => Ok(()),
@@ -70,13 +66,13 @@ impl Machine for Core {
 
     ghost until = { λ core. 18446744073709551615 };
 
-    ghost awaits = { awaited };
+    ghost awaits = { awaits };
 
     ghost is_stopped = { λ core. false };
 
     ghost changed = { changed };
 
-    ghost unnamed = { λ core. length core.changed.items };
+    ghost unnamed = { λ core. length core.known.changed.items };
 
     ghost asks = { asks };
 
@@ -96,26 +92,23 @@ impl Machine for Core {
     }
 
     fn next_act(&mut self) -> Option<Act> {
-        if let Some(link) = self.refused.pop() {
-            return Some(Act::Close { link });
-        }
-        turn_act(self)
+        self.act()
     }
 
     fn next_changed(&mut self) -> Option<LinkId> {
-        self.changed.pop()
+        self.known.changed.pop()
     }
 
     fn outgoing(&self, link: LinkId) -> Option<Piece<'_>> {
-        left(self, link)
+        self.known.sends(link)
     }
 
     fn taken(&mut self, link: LinkId, n: usize) {
-        took(self, link, n)
+        self.known.wrote(link, n)
     }
 
     fn wants_read(&self, link: LinkId) -> bool {
-        is_wanted(self, link)
+        self.known.reads(link)
     }
 
     fn until_ms(&self) -> u64 {

@@ -1,43 +1,29 @@
 // The core.
-ghost use Rattle.std.specs.Prelude.{◌≡◌, ◌≤◌, [], None, length, IfOk};
+ghost use Rattle.std.specs.Prelude.{◌≡◌, ◌≤◌, ◌<◌, [], None, length, IfOk};
+ghost use Rattle.packet_frame.specs.Packets.{longest};
 ghost use Rattle.handshake.specs.Spelling.{IsText};
 ghost use Rattle.mx_config.specs.Lawful.{IsLawful};
-ghost use Rattle.client_session.specs.Setups.{Setup};
-ghost use Rattle.session_core.specs.Cores.{place_of, server_of, users_of, setup_of, AreTexts, IsEmpty};
+ghost use Rattle.session_core.specs.Cores.{server_of, users_of, setup_of, AreTexts};
 ghost use Rattle.session_core.specs.Stands.{Stands};
 
-use crate::place::Place;
-use client_session::{ServerAt, Session, Setup, User};
-use mx_base::{Address, Bytes, LinkId, OutOfMemory, ServerId};
+use crate::known::Known;
+use client_session::{ServerAt, Setup, User};
+use mx_base::{Address, Bytes, OutOfMemory, ServerId};
 use mx_config::{Config, UserRow};
-use slab::Slab;
 use std::alloc::Global;
-use std::collections::HashMap;
 
 /// The longest payload that is one packet, in bytes.
 const MOST_PAYLOAD: u64 = 16_777_214;
 
-/// The router's core: the sessions of the clients, and whose each link is.
+/// The router's core: what it serves by, and what it knows.
 #[derive(Drop)]
 pub struct Core {
-    pub alloc: Global,
     /// Where clients and administrators connect.
     pub listen: Address,
     pub admin_listen: Address,
     /// What the sessions go by.
     pub setup: Setup,
-    /// How many clients were accepted.
-    pub accepted: u64,
-    /// How many clients are connected.
-    pub clients: u64,
-    pub sessions: Slab<Session>,
-    pub places: HashMap<u64, Place>,
-    /// Links of administrators, which are to be closed.
-    pub refused: Vec<LinkId>,
-    /// The session that may ask for something.
-    pub turn: Option<usize>,
-    /// Links that may have something new to be written, or to be read again.
-    pub changed: Vec<LinkId>,
+    pub known: Known,
 }
 
 impl Core {
@@ -45,43 +31,19 @@ impl Core {
     /// the configuration.
     pub fn new(alloc: Global, config: &Config) -> Result<Self, OutOfMemory>
         requires { IsLawful config.now }
-        ensures empty { IfOk result IsEmpty }
         ensures stands { IfOk result (λ core. Stands core []) }
         ensures listen { IfOk result (λ core. core.listen ≡ config.now.proxy.listen) }
         ensures admin_listen { IfOk result (λ core. core.admin_listen ≡ config.now.proxy.admin_listen) }
         ensures setup { IfOk result (λ core. core.setup ≡ setup_of config.now) }
     {
         let setup = setup_of(alloc, config)?;
-        Ok(empty(alloc, config, setup))
-    }
-
-    /// Whose the link is.
-    pub fn place_of(&self, link: LinkId) -> Option<Place>
-        ensures { result ≡ place_of self.now link }
-    {
-        self.places.get(&link.0).copied()
-    }
-}
-
-// Before any client.
-fn empty(alloc: Global, config: &Config, setup: Setup) -> Core
-    ensures empty { IsEmpty result }
-    ensures listen { result.listen ≡ config.now.proxy.listen }
-    ensures admin_listen { result.admin_listen ≡ config.now.proxy.admin_listen }
-    ensures setup { result.setup ≡ setup }
-{
-    Core {
-        alloc,
-        listen: config.proxy.listen,
-        admin_listen: config.proxy.admin_listen,
-        setup,
-        accepted: 0,
-        clients: 0,
-        sessions: Slab::new(alloc),
-        places: HashMap::new(alloc),
-        refused: Vec::new(alloc),
-        turn: None,
-        changed: Vec::new(alloc),
+        let known = Known::new(alloc);
+        Ok(Core {
+            listen: config.proxy.listen,
+            admin_listen: config.proxy.admin_listen,
+            setup,
+            known,
+        })
     }
 }
 

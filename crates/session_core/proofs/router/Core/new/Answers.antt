@@ -1,4 +1,3 @@
-use Rattle.session_core.specs.Beginning.{stands-empty}
 use Rattle.session_core.specs.Settings.{lawful-version, lawful-short, lawful-names}
 use Rattle.session_core.proofs.router.Core.new.Goals as goal
 
@@ -10,6 +9,3 @@ setup_of-requires-clause-short c = lawful-short _ c.requires
 
 pub setup_of-requires-clause-names : goal.setup_of-requires-clause-names
 setup_of-requires-clause-names c = lawful-names _ c.requires
-
-pub returns-clause-stands : goal.returns-clause-stands
-returns-clause-stands c = stands-empty _ c.empty.ensures.empty
