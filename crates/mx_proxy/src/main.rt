@@ -1,11 +1,11 @@
-//! A MySQL router that replays a recording of what its clients and servers send, and prints what it wrote.
+//! A MySQL router on real sockets, which can also replay a recording of what its clients and servers send and print what it wrote.
 #![tactic(auto)]
 
 mod disk_files;
 mod standard_out;
 
 use disk_files::DiskFiles;
-use mem_wire::Tape;
+use mio_wire::MioWire;
 use proxy_run::run;
 use standard_out::StandardOut;
 use std::env;
@@ -21,7 +21,9 @@ fn main(rt: HostRuntime) -> ExitCode {
         Err(_) => Vec::new(alloc),
     };
     let mut files = DiskFiles::new(&rt);
-    let mut wire = Tape::new(alloc, Vec::new(alloc));
+    let Ok(mut wire) = MioWire::new(&rt, alloc) else {
+        return ExitCode::from(5);
+    };
     let mut out = StandardOut::new(&rt);
     let status = run(&rt, alloc, &words, &mut files, &mut wire, &mut out);
     ExitCode::from(status.0)

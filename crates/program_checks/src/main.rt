@@ -4,6 +4,7 @@
 mod configs;
 mod names;
 mod runs;
+mod taken;
 
 use check_lines::{Case, CaseFault};
 use std::alloc::Global;
@@ -17,7 +18,9 @@ fn answer<R: Threads + Sync>(
 ) -> Result<String, CaseFault> {
     match case.reader {
         "replay" => runs::replay(rt, alloc, case),
+        "serve" => runs::serve(rt, alloc, case),
         "run" => runs::words(rt, alloc, case),
+        "taken" => runs::taken(rt, alloc, case),
         _ => Err(CaseFault::Bad),
     }
 }

@@ -27,8 +27,8 @@ use Rattle.mem_wire.specs.CameLaws.{wakes-more, accepted-more, named-more}
 use Rattle.mem_wire.specs.Play.{named_step, named_since, is_ready, is_to_name, next_named, IsAnswerOf, IsPlay}
 use Rattle.mem_wire.specs.Plays.{HasTaken, play-taken, released-all, with-link, known-before}
 use Rattle.ready_loop.specs.Drained.{accept_step, name_step, read_step, all_accepted, all_named, read_dry}
-use Rattle.client_session.specs.Setups.{Setup}
-use Rattle.client_session.specs.Rest.{IsAtRest, RestsAt}
+use Rattle.promises.specs.Service.{Service}
+use Rattle.promises.specs.Rest.{IsAtRest, RestsAt}
 use Rattle.proxy_run.specs.Replay.{IsPlayedOut}
 
 -- the link wasn't named since the last wake, and not all ready links were
@@ -262,10 +262,10 @@ all-read recording log link k taken all found nothing =
     ∙ ap (λ (l : LinkId). drop (length (read_of l log)) (bytes_for k.name (released (wakes log) recording))) (sym here) ∙ nothing in
     sym (append-nil (read_of link log)) ∙ ap (λ xs. read_of link log ++ xs) (sym later) ∙ front.is ∙ ap (bytes_for k.name) all
 
-pub played-out : (setup : Setup) (recording : List RecordEntry) (log before : Log) → IsPlayable recording → IsPlay recording log → AllLawful (RestsAt setup) log → log ≡ before ++ entry.Over ∷ [] → IsPlayedOut recording before
-played-out setup recording log before playable play rests over =
+pub played-out : (service : Service) (recording : List RecordEntry) (log before : Log) → IsPlayable recording → IsPlay recording log → AllLawful (RestsAt service) log → log ≡ before ++ entry.Over ∷ [] → IsPlayedOut service recording before
+played-out service recording log before playable play rests over =
     let last = lawful-last (IsAnswerOf recording) before entry.Over (subst (IsPlay recording) over play) in
-    let rest : IsAtRest setup before = (lawful-last (RestsAt setup) before entry.Over (subst (AllLawful (RestsAt setup)) over rests)).1 in
+    let rest : IsAtRest service before = (lawful-last (RestsAt service) before entry.Over (subst (AllLawful (RestsAt service)) over rests)).1 in
     let taken = play-taken recording before last.0 in
     let settled = play-settled recording before playable last.0 in
     let most : length (moments recording) ≤ wakes before = last.1.answer in
@@ -278,6 +278,6 @@ played-out setup recording log before playable play rests over =
           | inl nothing ↦ nothing
           | inr unnamed ↦ (let no : true ≡ false = sym rest.named ∙ unnamed.naming in absurd (cc))
         ]))
-        | inr blocked ↦ inr blocked
+        | inr ending ↦ inr ending
       ];
     }

@@ -1,2 +1,3 @@
 mod Turns
 mod Ending
+pub mod Keeping

@@ -1,3 +1,4 @@
 pub mod Replay
 pub mod Run
+pub mod Serve
 pub mod Words

@@ -1,28 +1,26 @@
 -- What a replay puts, and why it stops short.
-use Rattle.std.specs.Prelude.{◌≡◌, ◌⊎◌, ℕ, ◌<◌, ◌≤◌, true, List, [], ◌∷◌, ◌++◌, length, Option, Some, None, Ok, Err}
-use Rattle.mx_base.specs.declared.names.LinkId.{LinkId}
+use Rattle.std.specs.Prelude.{◌≡◌, ℕ, ◌<◌, ◌≤◌, Bool, List, [], ◌∷◌, ◌++◌, length, Option, Some, None, Ok, Err}
 use Rattle.mx_base.specs.declared.names.Port.{Port}
-use Rattle.mx_wire.specs.Log.{Log, read_of}
-use Rattle.mx_wire.specs.Tells.{IsOpen}
-use Rattle.mx_wire.specs.Moments.{AtEachMoment, AllLawful}
+use Rattle.mx_wire.specs.Log.{Log}
 use Rattle.mx_wire.specs.Outside.{HasUnder, Takes, TakesFront}
 use Rattle.mx_wire.specs.declared.entry.Entry.TheVariants.{Over}
 use Rattle.recording.specs.declared.entry.RecordEntry.{RecordEntry}
 use Rattle.recording.specs.declared.fault.RecordFault.{RecordFault}
 use Rattle.recording.specs.Recording.{recording_of}
 use Rattle.recording.specs.Transcript.{transcript_of}
-use Rattle.mem_wire.specs.Lines.{moments, clients_at, bytes_for}
-use Rattle.mem_wire.specs.Came.{wakes, accepted_at, Known, known, with_link}
+use Rattle.mem_wire.specs.Lines.{moments, clients_at}
+use Rattle.mem_wire.specs.Came.{wakes, accepted_at}
 use Rattle.mem_wire.specs.Play.{IsPlay}
 use Rattle.mem_wire.specs.Told.{Played}
-use Rattle.ready_loop.specs.Drained.{write_dry}
 use Rattle.ready_loop.specs.Round.{calls_since_wake}
 use Rattle.client_session.specs.Setups.{Setup}
-use Rattle.client_session.specs.Headline.{IsServed, IsLawful}
-use Rattle.client_session.specs.Rest.{RestsAt}
+use Rattle.promises.specs.Service.{Service}
+use Rattle.promises.specs.Headline.{Serves}
+use Rattle.promises.specs.Sizes.{IsReadOut}
 use Rattle.session_core.specs.Cores.{setup_of}
 use Rattle.mx_config.specs.declared.config.Config.{Config}
 use Rattle.mx_config.specs.declared.fault.ConfigFault.{ConfigFault}
+use Rattle.mx_config.specs.Values.{Agrees}
 use Rattle.mx_config.specs.Reading.{reading_of}
 use Rattle.proxy_run.specs.declared.stop.Stop.{Stop}
 use Rattle.proxy_run.specs.declared.stop.Stop.TheVariants as stop
@@ -32,11 +30,11 @@ use Rattle.proxy_run.specs.Words.{Named, replay_words}
 abbrev pub Held : Type 0
 Held = Option (List (List ℕ × List ℕ))
 
--- the bytes under the name say this configuration
+-- the bytes under the name say this configuration, by each test of texts that knows a pattern of the rules as the reader of patterns does
 pub record Configures (name : List ℕ) (held : Held) (config : Config) : Type 0 where
   pub bytes : List ℕ
   pub under : HasUnder name bytes held
-  pub said : reading_of bytes ≡ Ok config
+  pub said : (is_pattern : List ℕ → Bool) → Agrees is_pattern → reading_of is_pattern bytes ≡ Ok config
 
 -- they say a configuration
 pub record IsConfigured (name : List ℕ) (held : Held) : Type 0 where
@@ -47,7 +45,7 @@ pub record IsConfigured (name : List ℕ) (held : Held) : Type 0 where
 pub record IsMisconfigured (name : List ℕ) (held : Held) (fault : ConfigFault) : Type 0 where
   pub bytes : List ℕ
   pub under : HasUnder name bytes held
-  pub said : reading_of bytes ≡ Err fault
+  pub said : (is_pattern : List ℕ → Bool) → Agrees is_pattern → reading_of is_pattern bytes ≡ Err fault
 
 -- the bytes under the name say these entries
 pub record IsUnder (name : List ℕ) (held : Held) (entries : List RecordEntry) : Type 0 where
@@ -61,28 +59,25 @@ pub record IsFaulty (name : List ℕ) (held : Held) (fault : RecordFault) : Type
   pub under : HasUnder name bytes held
   pub said : recording_of bytes ≡ Err fault
 
--- At each moment of the log what was written to each client is a beginning of what it is due: the greeting, the answer to its login
--- and the answers to its messages, or the error that there is no room for it. Each byte was written as it may be, and the links of
--- clients closed as they may. Each wait came at rest, and so did the last, after which the wire has nothing more.
+-- The router serves, by one service: at each moment what was written to each client is a beginning of what it is due, each entry is lawful, and each
+-- wait comes at rest. So did the last, after which the wire has nothing more.
 pub record ServesToEnd (setup : Setup) (log : Log) : Type 0 where
-  pub served : AtEachMoment (IsServed setup) log
-  pub lawful : AllLawful (IsLawful setup) log
-  pub rests : AllLawful (RestsAt setup) log
+  pub serves : Serves setup log
   pub before : Log
   pub over : log ≡ before ++ Over ∷ []
 
--- Each moment of the recording came, each of its clients was accepted, and of each link that is open all its bytes were read, or its
--- last write found no room.
-pub record IsPlayedOut (entries : List RecordEntry) (log : Log) : Type 0 where
+-- Each moment of the recording came, each of its clients was accepted, and each link that is open was read to its end, but that of a client at its
+-- end which takes no more.
+pub record IsPlayedOut (service : Service) (entries : List RecordEntry) (log : Log) : Type 0 where
   pub woke : wakes log ≡ length (moments entries)
   pub accepted : (port : Port) → accepted_at port log ≡ length (clients_at port entries)
-  pub read : (link : LinkId) (k : Known) → with_link link (known entries log) ≡ Some k → IsOpen link log → (read_of link log ≡ bytes_for k.name entries) ⊎ (write_dry link log ≡ true)
+  pub read : IsReadOut service entries log
 
 -- the wire answered as the recording says, until it was played out
 pub record ReplaysTo (setup : Setup) (entries : List RecordEntry) (log : Log) : Type 0 where
   pub play : IsPlay entries log
   pub serves : ServesToEnd setup log
-  pub ends : IsPlayedOut entries serves.before
+  pub ends : IsPlayedOut (record { setup = setup; opens = serves.serves.opens }) entries serves.before
 
 -- what a tape tells that has played these entries
 pub record HasPlayed (setup : Setup) (entries : List RecordEntry) (tape : Played) : Type 0 where
@@ -92,9 +87,7 @@ pub record HasPlayed (setup : Setup) (entries : List RecordEntry) (tape : Played
 -- a play of which the same holds, in which one wake took as many calls as it may
 pub record IsSpent (setup : Setup) (entries : List RecordEntry) (log : Log) : Type 0 where
   pub play : IsPlay entries log
-  pub served : AtEachMoment (IsServed setup) log
-  pub lawful : AllLawful (IsLawful setup) log
-  pub rests : AllLawful (RestsAt setup) log
+  pub serves : Serves setup log
   pub spent : 4294967296 ≤ calls_since_wake log
 
 abbrev pub ConfigStops : Stop → List ℕ → Held → (before now : ℕ) → Type 0
@@ -194,4 +187,5 @@ Stops stop.SinkFault words held read_before read_now old before new now = Replay
 Stops stop.OutOfMemory words held read_before read_now old before new now = ((names : Named) × (replay_words words ≡ Some names)) × PutsNothing old before new now
 Stops (stop.BadConfig fault) words held read_before read_now old before new now = IsUnconfigured words held fault × PutsNothing old before new now
 Stops (stop.BadRecording fault) words held read_before read_now old before new now = IsRefused words held fault × PutsNothing old before new now
+Stops stop.ListenFault words held read_before read_now old before new now = ⊥
 Stops stop.TurnsSpent words held read_before read_now old before new now = RanOut words held × PutsNothing old before new now

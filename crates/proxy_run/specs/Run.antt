@@ -1,13 +1,16 @@
 -- How a run ends, with its statuses and their causes.
 use Rattle.std.specs.Prelude.{◌≡◌, ◌⊎◌, ℕ, ◌<◌, ◌==◌, if◌then◌else◌, List, ◌++◌, codes, Option, Some, None}
 use Rattle.std.specs.Fmt.{decimal}
+use Rattle.mx_wire.specs.Log.{Log}
 use Rattle.mx_wire.specs.Outside.{Takes, TakesFront}
 use Rattle.recording.specs.declared.fault.RecordFault.{RecordFault}
 use Rattle.mx_config.specs.declared.fault.ConfigFault.{ConfigFault}
 use Rattle.proxy_run.specs.declared.stop.Stop.{Stop}
 use Rattle.proxy_run.specs.declared.stop.Stop.TheVariants as stop
-use Rattle.proxy_run.specs.Words.{Named, replay_words}
-use Rattle.proxy_run.specs.Replay.{Held, Replayed, ReplayedInPart, IsUnconfigured, IsRefused, RanOut, IsUnread}
+use Rattle.ready_loop.specs.Serving.{EndsWith, IsOver, IsPortFault}
+use Rattle.proxy_run.specs.Words.{Named, replay_words, serve_words}
+use Rattle.proxy_run.specs.Replay.{Held, IsMisconfigured, Replayed, ReplayedInPart, IsUnconfigured, IsRefused, RanOut, IsUnread}
+use Rattle.proxy_run.specs.Serve.{Served, IsWornOut}
 
 -- a front of the line was put, and the sink failed
 pub record FailsAt (line : List ℕ) (old : Option (List ℕ)) (before : ℕ) (new : Option (List ℕ)) (now : ℕ) : Type 0 where
@@ -52,15 +55,33 @@ Told stop.SinkFault old before new now status = (status ≡ 4) × Silent old bef
 Told stop.OutOfMemory old before new now status = SaysWith 5 (codes "out of memory\n") old before new now status
 Told (stop.BadConfig fault) old before new now status = (SaysWith 1 (config_line fault) old before new now status) ⊎ (SaysWith 5 (codes "out of memory\n") old before new now status)
 Told (stop.BadRecording fault) old before new now status = (SaysWith 7 (fault_line fault) old before new now status) ⊎ (SaysWith 5 (codes "out of memory\n") old before new now status)
+Told stop.ListenFault old before new now status = SaysWith 6 (codes "listen fault\n") old before new now status
 Told stop.TurnsSpent old before new now status = SaysWith 8 (codes "turns spent\n") old before new now status
 
--- The status, its cause and what is printed.
-pub data Outcome (words : List (List ℕ)) (held : Held) (read_before read_now : ℕ) (old : Option (List ℕ)) (before : ℕ) (new : Option (List ℕ)) (now : ℕ) : ℕ → Type 0 where
-  Done : Replayed words held old new → Outcome words held read_before read_now old before new now 0
-  Unconfigured : (fault : ConfigFault) → IsUnconfigured words held fault → Says (config_line fault) old before new now → Outcome words held read_before read_now old before new now 1
-  NoCommand : replay_words words ≡ None → Says usage_line old before new now → Outcome words held read_before read_now old before new now 2
-  Unread : IsUnread words read_before read_now → Says (codes "read fault\n") old before new now → Outcome words held read_before read_now old before new now 3
-  Unput : ReplayedInPart words held old before new now → Outcome words held read_before read_now old before new now 4
-  NoMemory : (names : Named) → replay_words words ≡ Some names → Says (codes "out of memory\n") old before new now → Outcome words held read_before read_now old before new now 5
-  Refused : (fault : RecordFault) → IsRefused words held fault → Says (fault_line fault) old before new now → Outcome words held read_before read_now old before new now 7
-  Spent : RanOut words held → Says (codes "turns spent\n") old before new now → Outcome words held read_before read_now old before new now 8
+-- The status of a replay, its cause and what is printed.
+pub data ReplayOutcome (words : List (List ℕ)) (held : Held) (read_before read_now : ℕ) (old : Option (List ℕ)) (before : ℕ) (new : Option (List ℕ)) (now : ℕ) : ℕ → Type 0 where
+  Done : Replayed words held old new → ReplayOutcome words held read_before read_now old before new now 0
+  Unconfigured : (fault : ConfigFault) → IsUnconfigured words held fault → Says (config_line fault) old before new now → ReplayOutcome words held read_before read_now old before new now 1
+  NoCommand : replay_words words ≡ None → Says usage_line old before new now → ReplayOutcome words held read_before read_now old before new now 2
+  Unread : IsUnread words read_before read_now → Says (codes "read fault\n") old before new now → ReplayOutcome words held read_before read_now old before new now 3
+  Unput : ReplayedInPart words held old before new now → ReplayOutcome words held read_before read_now old before new now 4
+  NoMemory : (names : Named) → replay_words words ≡ Some names → Says (codes "out of memory\n") old before new now → ReplayOutcome words held read_before read_now old before new now 5
+  Refused : (fault : RecordFault) → IsRefused words held fault → Says (fault_line fault) old before new now → ReplayOutcome words held read_before read_now old before new now 7
+  Spent : RanOut words held → Says (codes "turns spent\n") old before new now → ReplayOutcome words held read_before read_now old before new now 8
+
+-- The same of `serve`, on a wire that tells this log in the end.
+pub data ServeOutcome (name : List ℕ) (held : Held) (read_before read_now : ℕ) (told : Option Log) (ports_before ports_now : ℕ) (old : Option (List ℕ)) (before : ℕ) (new : Option (List ℕ)) (now : ℕ) : ℕ → Type 0 where
+  ServedOut : Served name held (EndsWith IsOver) told → Silent old before new now → ServeOutcome name held read_before read_now told ports_before ports_now old before new now 0
+  Misconfigured : (fault : ConfigFault) → IsMisconfigured name held fault → Says (config_line fault) old before new now → ServeOutcome name held read_before read_now told ports_before ports_now old before new now 1
+  NotRead : read_before < read_now → Says (codes "read fault\n") old before new now → ServeOutcome name held read_before read_now told ports_before ports_now old before new now 3
+  RefusedMemory : Says (codes "out of memory\n") old before new now → ServeOutcome name held read_before read_now told ports_before ports_now old before new now 5
+  PortFailed : Served name held (EndsWith IsPortFault) told → ports_before < ports_now → Says (codes "listen fault\n") old before new now → ServeOutcome name held read_before read_now told ports_before ports_now old before new now 6
+  WornOut : Served name held IsWornOut told → Says (codes "turns spent\n") old before new now → ServeOutcome name held read_before read_now told ports_before ports_now old before new now 8
+
+-- The status, its cause and what is printed. Words that don't ask for serving are those of a replay, or no command.
+abbrev pub OutcomeOf : Option (List ℕ) → List (List ℕ) → Held → (read_before read_now : ℕ) → Option Log → (ports_before ports_now : ℕ) → Option (List ℕ) → ℕ → Option (List ℕ) → ℕ → ℕ → Type 0
+OutcomeOf (Some name) words held read_before read_now told ports_before ports_now old before new now status = ServeOutcome name held read_before read_now told ports_before ports_now old before new now status
+OutcomeOf None words held read_before read_now told ports_before ports_now old before new now status = ReplayOutcome words held read_before read_now old before new now status
+
+abbrev pub Outcome : List (List ℕ) → Held → (read_before read_now : ℕ) → Option Log → (ports_before ports_now : ℕ) → Option (List ℕ) → ℕ → Option (List ℕ) → ℕ → ℕ → Type 0
+Outcome words held read_before read_now told ports_before ports_now old before new now status = OutcomeOf (serve_words words) words held read_before read_now told ports_before ports_now old before new now status

@@ -16,8 +16,8 @@ use recording::{RecordEntry, RecordRefusal, read_recording, transcript};
 use session_core::Core;
 use std::alloc::Global;
 
-// The configuration under the name.
-fn configure<F: Files>(alloc: Global, name: &str, files: &mut F) -> Result<Config, Stop>
+/// The configuration under the name.
+pub fn configure<F: Files>(alloc: Global, name: &str, files: &mut F) -> Result<Config, Stop>
     ensures ok { IfOk result (λ config. Configures name.now (F.held files.old) config) }
     ensures lawful { IfOk result IsLawful }
     ensures err { IfErr result (λ stop. ConfigStops stop name.now (F.held files.old) (F.faults files.old) (F.faults files.new)) }

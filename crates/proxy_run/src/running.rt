@@ -1,10 +1,13 @@
 // The call that `main` makes.
-ghost use Rattle.std.specs.Prelude.{◌≡◌, ◌↔◌, None, IfOk};
-ghost use Rattle.proxy_run.specs.Words.{texts, replay_words};
-ghost use Rattle.proxy_run.specs.Run.{Says, Told, Outcome, table_name, config_line};
+ghost use Rattle.std.specs.Prelude.{◌≡◌, ◌≢◌, ◌↔◌, [], Some, None, IfOk};
+ghost use Rattle.mx_wire.specs.Log.{Log};
+ghost use Rattle.proxy_run.specs.Words.{texts, replay_words, IsNoCommand};
+ghost use Rattle.proxy_run.specs.Run.{Says, Told, ServeOutcome, ReplayOutcome, Outcome, table_name, config_line};
 
 use crate::replay::replay;
+use crate::serving::serve_by;
 use crate::stop::Stop;
+use crate::words::serve_words;
 use mx_base::OutOfMemory;
 use mx_config::ConfigFault;
 use mx_wire::{Files, Sink, Wire};
@@ -89,36 +92,74 @@ fn tell<O: Sink>(alloc: Global, out: &mut O, stop: Stop) -> Status
         Stop::OutOfMemory => say(out, b"out of memory\n", 5),
         Stop::BadConfig(fault) => say_config(alloc, out, fault),
         Stop::BadRecording(fault) => say_fault(alloc, out, fault),
+        Stop::ListenFault => say(out, b"listen fault\n", 6),
         Stop::TurnsSpent => say(out, b"turns spent\n", 8),
     }
 }
 
-/// Does what the words after the program's name ask for, and puts what that prints. `replay <config> <recording>` judges
-/// a configuration, then replays a recording, and puts the transcript of its log.
-///
-/// | Status | Comes | Line |
-/// |---|---|---|
-/// | 0 | the recording was played to its end and its transcript put | none |
-/// | 1 | only where the configuration is refused | `config: <kind> <table name> <row> <key>` |
-/// | 2 | exactly where the words are no command | the usage |
-/// | 3 | only where a read failed | `read fault` |
-/// | 4 | only where the sink failed | none |
-/// | 5 | memory was refused | `out of memory` |
-/// | 7 | only where the recording is refused | `recording: line <line> kind <kind>` |
-/// | 8 | only where one wake made 4,294,967,296 calls of the wire | `turns spent` |
-pub fn run<R: Threads + Sync, W: Wire, F: Files, O: Sink>(
-    _rt: &R,
+// Serves by the configuration under the name.
+fn run_serve<W: Wire, F: Files, O: Sink>(
+    alloc: Global,
+    name: &str,
+    files: &mut F,
+    wire: &mut W,
+    out: &mut O,
+) -> Status
+    requires fresh { (log : Log) → W.told wire.old ≡ Some log → log ≡ [] }
+    ensures outcome { ServeOutcome name.now (F.held files.old) (F.faults files.old) (F.faults files.new) (W.told wire.new) (W.port_faults wire.old) (W.port_faults wire.new) (O.taken out.old) (O.faults out.old) (O.taken out.new) (O.faults out.new) result.0 }
+    ensures usage { result.0 ≢ 2 }
+{
+    match serve_by(alloc, name, files, wire) {
+        Ok(_) => Status(0),
+        Err(stop) => tell(alloc, out, stop),
+    }
+}
+
+// Replays what the words name.
+fn run_replay<F: Files, O: Sink>(
     alloc: Global,
     words: &[String],
     files: &mut F,
-    _wire: &mut W,
     out: &mut O,
 ) -> Status
-    ensures outcome { Outcome (texts words.now) (F.held files.old) (F.faults files.old) (F.faults files.new) (O.taken out.old) (O.faults out.old) (O.taken out.new) (O.faults out.new) result.0 }
+    ensures outcome { ReplayOutcome (texts words.now) (F.held files.old) (F.faults files.old) (F.faults files.new) (O.taken out.old) (O.faults out.old) (O.taken out.new) (O.faults out.new) result.0 }
     ensures usage { (result.0 ≡ 2) ↔ (replay_words (texts words.now) ≡ None) }
 {
     match replay(alloc, words, files, out) {
         Ok(()) => Status(0),
         Err(stop) => tell(alloc, out, stop),
+    }
+}
+
+/// Does what the words after the program's name ask for, and puts what that prints. `serve <config>` judges a configuration and
+/// serves by it over the wire, until that has nothing more. `replay <config> <recording>` judges a configuration, then replays a
+/// recording over a wire of its own, and puts the transcript of its log.
+///
+/// | Status | Comes | Line |
+/// |---|---|---|
+/// | 0 | the wire had nothing more; of a replay the transcript was put | none |
+/// | 1 | only where the configuration is refused | `config: <kind> <table name> <row> <key>` |
+/// | 2 | exactly where the words are no command | the usage |
+/// | 3 | only where a read failed | `read fault` |
+/// | 4 | only where the sink failed, in a replay | none |
+/// | 5 | memory was refused | `out of memory` |
+/// | 6 | only where a port or a wait failed, in `serve` | `listen fault` |
+/// | 7 | only where the recording is refused | `recording: line <line> kind <kind>` |
+/// | 8 | only where one wake made 4,294,967,296 calls of the wire, or `serve` woke 4,611,686,018,427,387,904 times | `turns spent` |
+pub fn run<R: Threads + Sync, W: Wire, F: Files, O: Sink>(
+    _rt: &R,
+    alloc: Global,
+    words: &[String],
+    files: &mut F,
+    wire: &mut W,
+    out: &mut O,
+) -> Status
+    requires fresh { (log : Log) → W.told wire.old ≡ Some log → log ≡ [] }
+    ensures outcome { Outcome (texts words.now) (F.held files.old) (F.faults files.old) (F.faults files.new) (W.told wire.new) (W.port_faults wire.old) (W.port_faults wire.new) (O.taken out.old) (O.faults out.old) (O.taken out.new) (O.faults out.new) result.0 }
+    ensures usage { (result.0 ≡ 2) ↔ IsNoCommand (texts words.now) }
+{
+    match serve_words(words) {
+        Some(name) => run_serve(alloc, name, files, wire, out),
+        None => run_replay(alloc, words, files, out),
     }
 }

@@ -18,7 +18,9 @@ pub enum Stop {
     BadConfig(ConfigFault),
     /// The recording isn't right.
     BadRecording(RecordFault),
-    /// One wake took too many calls.
+    /// A port or a wait failed.
+    ListenFault,
+    /// One wake took too many calls, or there were too many wakes.
     TurnsSpent,
 }
 

@@ -7,10 +7,9 @@ use Rattle.ready_loop.specs.declared.ends.ServeEnd.TheVariants as ended
 use Rattle.mem_wire.specs.Play.{IsPlay}
 use Rattle.ready_loop.specs.Round.{calls_since_wake, wakes_of}
 use Rattle.ready_loop.specs.Serving.{IsOver, IsOut, IsBusy}
-use Rattle.mx_wire.specs.Moments.{AtEachMoment, AllLawful}
 use Rattle.client_session.specs.Setups.{Setup}
-use Rattle.client_session.specs.Headline.{IsServed, IsLawful}
-use Rattle.client_session.specs.Rest.{RestsAt}
+use Rattle.promises.specs.Headline.{Serves}
+use Rattle.proxy_run.proofs.Keeping.{serves-so}
 use Rattle.proxy_run.proofs.Turns.{spent-busy}
 use Rattle.proxy_run.proofs.replay.play.Goals as goal
 
@@ -32,9 +31,7 @@ returns-in-Over-clause-ok c = record {
   serves = λ log is.
       let stands = (c.serve.ensures.stands (λ ran_out. let h : ended.Over ≡ ended.OutOfMemory = sym c.in-Over.is ∙ ran_out in cc)).holds log is in
       record {
-        served = by-setup (λ setup. AtEachMoment (IsServed setup) log) _ _ _ c.serve.ensures.serves_by c.in_ok-core.ensures.setup stands.upholds.always;
-        lawful = by-setup (λ setup. AllLawful (IsLawful setup) log) _ _ _ c.serve.ensures.serves_by c.in_ok-core.ensures.setup stands.upholds.lawful;
-        rests = by-setup (λ setup. AllLawful (RestsAt setup) log) _ _ _ c.serve.ensures.serves_by c.in_ok-core.ensures.setup stands.upholds.rests;
+        serves = by-setup (λ setup. Serves setup log) _ _ _ c.serve.ensures.serves_by c.in_ok-core.ensures.setup (serves-so _ log stands);
         before = (ends log ((c.serve.ensures.over c.in-Over.is).last log is)).0;
         over = (ends log ((c.serve.ensures.over c.in-Over.is).last log is)).1;
       };
@@ -50,9 +47,7 @@ returns-in-Some-clause-err c =
       log,
       record {
         play = play;
-        served = by-setup (λ setup. AtEachMoment (IsServed setup) log) _ _ _ c.serve.ensures.serves_by c.in_ok-core.ensures.setup stands.upholds.always;
-        lawful = by-setup (λ setup. AllLawful (IsLawful setup) log) _ _ _ c.serve.ensures.serves_by c.in_ok-core.ensures.setup stands.upholds.lawful;
-        rests = by-setup (λ setup. AllLawful (RestsAt setup) log) _ _ _ c.serve.ensures.serves_by c.in_ok-core.ensures.setup stands.upholds.rests;
+        serves = by-setup (λ setup. Serves setup log) _ _ _ c.serve.ensures.serves_by c.in_ok-core.ensures.setup (serves-so _ log stands);
         spent = spent-busy c.args.entries.items log play (subst (λ n. (wakes_of log ≡ 2 * n + 16) ⊎ (4294967296 ≤ calls_since_wake log)) (c.len.ensures ∙ c.args.entries.ok.0) spent);
       },
     )

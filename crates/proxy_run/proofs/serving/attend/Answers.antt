@@ -1,0 +1,58 @@
+use Rattle.std.specs.Prelude.{◌≡◌, ◌⊎◌, ℕ, Option}
+use Rattle.std.proofs.Common.{inl, inr, subst, sym, ◌∙◌}
+use Rattle.mx_base.specs.declared.names.Address.{Address}
+use Rattle.mx_wire.specs.Log.{Log}
+use Rattle.mx_config.specs.declared.config.Config.{Config}
+use Rattle.ready_loop.specs.declared.ends.ServeEnd.TheVariants as ended
+use Rattle.ready_loop.specs.Machine.{StandsFor}
+use Rattle.ready_loop.specs.Round.{wakes_of}
+use Rattle.ready_loop.specs.Serving.{IsOut, IsBusy, ListensFirst}
+use Rattle.client_session.specs.Setups.{Setup}
+use Rattle.promises.specs.Headline.{Serves}
+use Rattle.session_core.specs.declared.router.Core.{Core}
+use Rattle.session_core.specs.Cores.{setup_of}
+use Rattle.session_core.specs.Stands.{Stands}
+use Rattle.proxy_run.specs.Serve.{ServesAt}
+use Rattle.proxy_run.proofs.Keeping.{serves-so}
+use Rattle.proxy_run.proofs.serving.attend.Goals as goal
+
+-- what a core keeps that ends with the setup of the configuration
+serves : (config : Config) (core : Core) (told : Option Log) → core.setup ≡ setup_of config → StandsFor Stands core told → ListensFirst config.proxy.listen config.proxy.admin_listen told → ServesAt config told
+serves config core told by standing listens = record {
+  listens = listens;
+  serves = λ log is. subst (λ (setup : Setup). Serves setup log) by (serves-so core log (standing.holds log is));
+}
+
+listens-at : (told : Option Log) (traffic admin at_traffic at_admin : Address) → traffic ≡ at_traffic → admin ≡ at_admin → ListensFirst traffic admin told → ListensFirst at_traffic at_admin told
+listens-at told traffic admin at_traffic at_admin same_traffic same_admin listens = rw (same_traffic, same_admin) at listens
+
+worn : (turns : ℕ) (reads : _) (sends : _) (log : Log) → IsOut turns reads sends log ⊎ IsBusy log → (wakes_of log ≡ turns) ⊎ IsBusy log
+worn turns reads sends log (inl out) = inl out.woke
+worn turns reads sends log (inr busy) = inr busy
+
+pub returns-in-Over-clause-ok : goal.returns-in-Over-clause-ok
+returns-in-Over-clause-ok g c = record {
+  serves = serves _ _ _ (c.serve.ensures.serves_by ∙ c.in_ok-core.ensures.setup)
+      (c.serve.ensures.stands (λ ran_out. let h : ended.Over ≡ ended.OutOfMemory = sym c.in-Over.is ∙ ran_out in cc))
+      (listens-at _ _ _ _ _ c.in_ok-core.ensures.listen c.in_ok-core.ensures.admin_listen c.serve.ensures.listens);
+  ends = c.serve.ensures.over c.in-Over.is;
+}
+
+pub returns-in-ListenFault-clause-err : goal.returns-in-ListenFault-clause-err
+returns-in-ListenFault-clause-err g c = (
+  record {
+    serves = serves _ _ _ (c.serve.ensures.serves_by ∙ c.in_ok-core.ensures.setup)
+        (c.serve.ensures.stands (λ ran_out. let h : ended.ListenFault ≡ ended.OutOfMemory = sym c.in-ListenFault.is ∙ ran_out in cc))
+        (listens-at _ _ _ _ _ c.in_ok-core.ensures.listen c.in_ok-core.ensures.admin_listen c.serve.ensures.listens);
+    ends = c.serve.ensures.failed c.in-ListenFault.is;
+  },
+  c.serve.ensures.rose c.in-ListenFault.is,
+)
+
+pub returns-in-TurnsSpent-clause-err : goal.returns-in-TurnsSpent-clause-err
+returns-in-TurnsSpent-clause-err g c = record {
+  serves = serves _ _ _ (c.serve.ensures.serves_by ∙ c.in_ok-core.ensures.setup)
+      (c.serve.ensures.stands (λ ran_out. let h : ended.TurnsSpent ≡ ended.OutOfMemory = sym c.in-TurnsSpent.is ∙ ran_out in cc))
+      (listens-at _ _ _ _ _ c.in_ok-core.ensures.listen c.in_ok-core.ensures.admin_listen c.serve.ensures.listens);
+  ends = record { worn = λ log is. worn _ _ _ log ((c.serve.ensures.spent c.in-TurnsSpent.is).holds log is) };
+}
