@@ -9,6 +9,7 @@ mod read;
 mod row;
 mod rules;
 mod servers;
+mod table;
 mod users;
 mod value;
 

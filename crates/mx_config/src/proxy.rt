@@ -48,7 +48,7 @@ const KEYS: [&str; 11] = [
 ];
 
 /// The one row of the table `proxy`.
-#[tactic(auto, unfolding(crate::specs::Tables::proxy_row))]
+#[tactic(auto, using(crate::proofs::Steps::steps), unfolding(crate::specs::Tables::proxy_row, crate::specs::Rows::known_only))]
 pub(crate) fn read_proxy_row(alloc: Global, members: &Table) -> Result<ProxyRow, ConfigRefusal>
     ensures said { Gives result (proxy_row (table_view members.now)) }
     ensures lawful { IfOk result IsLawfulProxy }
@@ -81,7 +81,7 @@ pub(crate) fn read_proxy_row(alloc: Global, members: &Table) -> Result<ProxyRow,
     })
 }
 
-#[tactic(auto, unfolding(crate::specs::Tables::listening))]
+#[tactic(auto, using(crate::proofs::Steps::steps), unfolding(crate::specs::Tables::listening))]
 fn read_listening(row: &Row) -> Result<(Address, Address), ConfigRefusal>
     ensures { Gives result (listening row.now.place (table_view row.now.members.now)) }
 {
@@ -90,7 +90,7 @@ fn read_listening(row: &Row) -> Result<(Address, Address), ConfigRefusal>
     Ok((listen, admin_listen))
 }
 
-#[tactic(auto, unfolding(crate::specs::Tables::proxy_texts))]
+#[tactic(auto, using(crate::proofs::Steps::steps), unfolding(crate::specs::Tables::proxy_texts, crate::specs::Rows::key_of))]
 fn read_texts(row: &Row) -> Result<ProxyTexts, ConfigRefusal>
     ensures said { Gives result (proxy_texts row.now.place (table_view row.now.members.now)) }
     ensures lawful { IfOk result AreLawfulTexts }
@@ -107,7 +107,7 @@ fn read_texts(row: &Row) -> Result<ProxyTexts, ConfigRefusal>
     })
 }
 
-#[tactic(auto, unfolding(crate::specs::Tables::proxy_limits))]
+#[tactic(auto, using(crate::proofs::Steps::steps), unfolding(crate::specs::Tables::proxy_limits, crate::specs::Rows::key_of))]
 fn read_limits(row: &Row) -> Result<ProxyLimits, ConfigRefusal>
     ensures said { Gives result (proxy_limits row.now.place (table_view row.now.members.now)) }
     ensures lawful { IfOk result AreLawfulLimits }

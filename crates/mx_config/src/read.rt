@@ -103,13 +103,12 @@ fn read_users(alloc: Global, file: &Table) -> Result<Items<UserRow>, ConfigRefus
     ensures said { Gives result (users_of (get_member (codes "users") (table_view file.now))) }
     ensures lawful { IfOk result AreLawfulUsers }
 {
-    match member(file, "users") {
-        Some(value) => {
-            let items = table_rows(alloc, whole(TableName::Users), 1, MAX_ROWS, value)?;
-            read_user_rows(alloc, items)
-        }
-        None => Err(refusal(alloc, whole(TableName::Users), Kind::MissingKey, "users")),
-    }
+    let place = whole(TableName::Users);
+    let Some(value) = member(file, "users") else {
+        return Err(refusal(alloc, place, Kind::MissingKey, "users"));
+    };
+    let items = table_rows(alloc, place, 1, MAX_ROWS, value)?;
+    read_user_rows(alloc, items)
 }
 
 fn read_servers(alloc: Global, file: &Table) -> Result<Items<ServerRow>, ConfigRefusal>
@@ -121,7 +120,7 @@ fn read_servers(alloc: Global, file: &Table) -> Result<Items<ServerRow>, ConfigR
             let items = table_rows(alloc, whole(TableName::Servers), 0, MAX_ROWS, value)?;
             read_server_rows(alloc, items)
         }
-        None => Ok(Items::from_vec(Vec::new(alloc))),
+        None => Ok(Items::new(alloc)),
     }
 }
 
@@ -135,7 +134,7 @@ fn read_rules(alloc: Global, file: &Table) -> Result<Items<RuleRow>, ConfigRefus
             let items = table_rows(alloc, whole(TableName::Rules), 0, MAX_RULES, value)?;
             read_rule_rows(alloc, items)
         }
-        None => Ok(Items::from_vec(Vec::new(alloc))),
+        None => Ok(Items::new(alloc)),
     }
 }
 

@@ -1,11 +1,11 @@
 // The keys of a row.
-ghost use Rattle.std.specs.Prelude.{◌≡◌, ◌≤◌, ℕ, Bool, List, true, IfOk, OnOk, Some, Ok, map, not, string_bytes};
+ghost use Rattle.std.specs.Prelude.{◌≡◌, ◌≤◌, ◌<◌, ◌+◌, ℕ, Bool, List, true, IfOk, OnOk, Some, Ok, map, not, string_bytes};
 ghost use Rattle.std.specs.BTreeMap.{keys, IsOrdered};
 ghost use Rattle.std.specs.List.{find};
 ghost use Rattle.std.specs.Option.{option_copied, ForSome};
 ghost use Rattle.std.specs.String.{string_cmp};
 ghost use Rattle.toml.specs.View.{view, table_view};
-ghost use Rattle.mx_config.specs.Faults.{Gives};
+ghost use Rattle.mx_config.specs.Faults.{Gives, at_row};
 ghost use Rattle.mx_config.specs.Lent.{GivesTable, GivesRow};
 ghost use Rattle.mx_config.specs.Rows.{key_of, optional_key, placed, if_there, or_default, known_only, least_unknown, is_known, table_at};
 ghost use Rattle.mx_config.specs.Tables.{row_at};
@@ -14,7 +14,7 @@ ghost use Rattle.mx_config.specs.declared.value.TextForm.TheVariants.{Any};
 ghost use Rattle.query_rules.specs.Patterns.{IsPattern};
 
 use crate::ConfigRefusal;
-use crate::fault::{Kind, Place, refusal};
+use crate::fault::{Kind, Place, TableName, refusal};
 use crate::value::{
     TextForm, member, read_address_value, read_digest_value, read_host_value, read_number,
     read_status_value, read_switch_value, read_text,
@@ -284,16 +284,23 @@ fn is_listed(known: &[&str], key: &str) -> bool
     known.contains(&key)
 }
 
-/// The row at a place, which has no other keys than these.
+/// The row of a table that stands behind so many rows, and has no other keys than these.
 #[tactic(auto, unfolding(crate::specs::Tables::row_at))]
-pub(crate) fn row_of<'a>(
+pub(crate) fn row_behind<'a>(
     alloc: Global,
-    place: Place,
+    table: TableName,
+    before: usize,
     value: &'a Value,
     known: &[&str],
 ) -> Result<Row<'a>, ConfigRefusal>
-    ensures { GivesRow result place (row_at place (map (λ k. k.now) known.now) (view value.now)) }
+    requires { before < 10000 }
+    ensures { GivesRow result (at_row table (before + 1))
+        (row_at (at_row table (before + 1)) (map (λ k. k.now) known.now) (view value.now)) }
 {
+    let place = Place {
+        table,
+        row: before as u32 + 1,
+    };
     let members = row_table(alloc, place, value)?;
     let row = Row {
         alloc,

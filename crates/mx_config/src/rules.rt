@@ -11,13 +11,12 @@ ghost use Rattle.mx_config.specs.declared.value.TextForm.TheVariants.{Any, Messa
 
 use crate::ConfigRefusal;
 use crate::fault::{Kind, Place, TableName, refusal};
-use crate::row::{Row, row_of};
+use crate::row::{Row, row_behind};
+use crate::table::{Keyed, KeyedRows};
 use crate::value::TextForm;
 use mx_base::{Bytes, Hostgroup, Items, OutOfMemory};
 use query_rules::RuleRow;
 use std::alloc::Global;
-use std::collections::HashSet;
-use std::marker::Model;
 use toml::Value;
 
 /// The keys of a row, in order.
@@ -86,62 +85,16 @@ pub(crate) struct RuleAnswers {
     pub OK_msg: Option<Bytes>,
 }
 
-/// The rows of rules so far, which contracts see as a list. An id is found in the time of a look-up in a set.
-#[derive(Drop)]
-pub(crate) struct RuleTable {
-    rows: Vec<RuleRow>,
-    ids: HashSet<u32>,
-}
+// The rules so far.
+type RuleTable = KeyedRows<RuleRow>;
 
-impl Model for RuleTable {
-    ghost use Rattle.std.specs.Prelude.{List};
-    ghost use Rattle.query_rules.specs.declared.row.RuleRow.{RuleRow};
+impl Keyed for RuleRow {
+    type Key = u32;
 
-    ghost Value = { List RuleRow };
+    ghost key_of = { λ row. row.rule_id };
 
-    ghost view = { λ t. t.rows.items };
-
-    ghost use Rattle.mx_config.specs.Names.{AreIds};
-
-    ghost invariant = { λ t. AreIds t.rows.items t.ids };
-}
-
-impl RuleTable {
-    fn new(alloc: Global) -> Self
-        ensures { result ≡ [] }
-    {
-        RuleTable {
-            rows: Vec::new(alloc),
-            ids: HashSet::new(alloc),
-        }
-    }
-
-    fn len(&self) -> usize
-        ensures { result ≡ length self.now }
-    {
-        self.rows.len()
-    }
-
-    fn has(&self, id: u32) -> bool
-        ensures { result ≡ has_rule self.now id }
-    {
-        let _rows = &self.rows;
-        self.ids.contains(&id)
-    }
-
-    fn push(&mut self, row: RuleRow) -> Result<(), OutOfMemory>
-        ensures { OnOk result (self.new ≡ self.old ++ row ∷ []) }
-    {
-        self.rows.reserve(1)?;
-        self.ids.insert(row.rule_id)?;
-        self.rows.push(row)?;
-        Ok(())
-    }
-
-    fn into_rows(self) -> Items<RuleRow>
-        ensures { result ≡ self }
-    {
-        Items::from_vec(self.rows)
+    fn key(&self, _: Global) -> Result<u32, OutOfMemory> {
+        Ok(self.rule_id)
     }
 }
 
@@ -158,7 +111,7 @@ pub(crate) fn read_rule_rows(
     let mut rules = RuleTable::new(alloc);
     for value in items {
         let row = read_rule_row(alloc, &rules, value)?;
-        rules.push(row)?;
+        rules.push(alloc, row)?;
     }
     Ok(rules.into_rows())
 }
@@ -170,18 +123,14 @@ fn read_rule_row(alloc: Global, before: &RuleTable, value: &Value) -> Result<Rul
     ensures said { (is_pattern : List ℕ → Bool) → Agrees is_pattern → Gives result (rule_row is_pattern before.now (view value.now)) }
     ensures lawful { IfOk result (IsLawfulRule before.now) }
 {
-    let place = Place {
-        table: TableName::Rules,
-        row: before.len() as u32 + 1,
-    };
-    let row = row_of(alloc, place, value, &KEYS)?;
+    let row = row_behind(alloc, TableName::Rules, before.len(), value, &KEYS)?;
     let rule = read_rule(&row)?;
     judge(alloc, row.place, before, &rule)?;
     Ok(rule)
 }
 
 // The rule that the keys of a row say.
-#[tactic(auto, unfolding(crate::specs::RuleRows::rule_of))]
+#[tactic(auto, using(crate::proofs::Steps::steps), unfolding(crate::specs::RuleRows::rule_of))]
 fn read_rule(row: &Row) -> Result<RuleRow, ConfigRefusal>
     ensures said { (is_pattern : List ℕ → Bool) → Agrees is_pattern
         → Gives result (rule_of is_pattern row.now.place (table_view row.now.members.now)) }
@@ -196,7 +145,7 @@ fn read_rule(row: &Row) -> Result<RuleRow, ConfigRefusal>
 }
 
 // Refuses a rule that can't stand behind the rows so far.
-#[tactic(auto, unfolding(crate::specs::RuleRows::judged_rule))]
+#[tactic(auto, using(crate::proofs::Steps::steps), unfolding(crate::specs::RuleRows::judged_rule))]
 fn judge(
     alloc: Global,
     place: Place,
@@ -211,7 +160,7 @@ fn judge(
     new_id(alloc, place, before, rule.rule_id)
 }
 
-#[tactic(auto, unfolding(crate::specs::RuleRows::start_of))]
+#[tactic(auto, using(crate::proofs::Steps::steps), unfolding(crate::specs::RuleRows::start_of))]
 fn read_start(row: &Row) -> Result<RuleStart, ConfigRefusal>
     ensures said { Gives result (start_of row.now.place (table_view row.now.members.now)) }
     ensures id { IfOk result (λ start. IsBetween 1 4294967295 start.rule_id) }
@@ -228,7 +177,7 @@ fn read_start(row: &Row) -> Result<RuleStart, ConfigRefusal>
     })
 }
 
-#[tactic(auto, unfolding(crate::specs::RuleRows::client_of))]
+#[tactic(auto, using(crate::proofs::Steps::steps), unfolding(crate::specs::RuleRows::client_of))]
 fn read_client(row: &Row) -> Result<RuleClient, ConfigRefusal>
     ensures said { Gives result (client_of row.now.place (table_view row.now.members.now)) }
     ensures lawful { IfOk result (λ client. AllFit Any client.username × AllFit Any client.schemaname) }
@@ -243,7 +192,7 @@ fn read_client(row: &Row) -> Result<RuleClient, ConfigRefusal>
     })
 }
 
-#[tactic(auto, unfolding(crate::specs::RuleRows::patterns_of))]
+#[tactic(auto, using(crate::proofs::Steps::steps), unfolding(crate::specs::RuleRows::patterns_of, crate::specs::Rows::optional_key))]
 fn read_patterns(row: &Row) -> Result<RulePatterns, ConfigRefusal>
     ensures said { (is_pattern : List ℕ → Bool) → Agrees is_pattern
         → Gives result (patterns_of is_pattern row.now.place (table_view row.now.members.now)) }
@@ -259,7 +208,7 @@ fn read_patterns(row: &Row) -> Result<RulePatterns, ConfigRefusal>
     })
 }
 
-#[tactic(auto, unfolding(crate::specs::RuleRows::effects_of))]
+#[tactic(auto, using(crate::proofs::Steps::steps), unfolding(crate::specs::RuleRows::effects_of))]
 fn read_effects(row: &Row) -> Result<RuleEffects, ConfigRefusal>
     ensures said { Gives result (effects_of row.now.place (table_view row.now.members.now)) }
     ensures lawful { IfOk result (λ effects. AllFit Any effects.replace_pattern) }
@@ -278,7 +227,7 @@ fn read_effects(row: &Row) -> Result<RuleEffects, ConfigRefusal>
     })
 }
 
-#[tactic(auto, unfolding(crate::specs::RuleRows::answers_of))]
+#[tactic(auto, using(crate::proofs::Steps::steps), unfolding(crate::specs::RuleRows::answers_of))]
 fn read_answers(row: &Row) -> Result<RuleAnswers, ConfigRefusal>
     ensures said { Gives result (answers_of row.now.place (table_view row.now.members.now)) }
     ensures lawful { IfOk result (λ answers. AllFit Message answers.error_msg × AllFit Message answers.OK_msg) }
@@ -346,7 +295,7 @@ fn new_id(alloc: Global, place: Place, before: &RuleTable, id: u32) -> Result<()
     ensures said { Gives result (new_rule place before.now id) }
     ensures new { OnOk result (has_rule before.now id ≡ false) }
 {
-    if before.has(id) {
+    if before.has(&id) {
         return Err(refusal(alloc, place, Kind::DuplicateRule, "rule_id"));
     }
     Ok(())

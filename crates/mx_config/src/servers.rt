@@ -8,7 +8,7 @@ ghost use Rattle.mx_config.specs.Tables.{named_server, duty_of, server_row, rows
 
 use crate::ConfigRefusal;
 use crate::fault::{Kind, Place, TableName, refusal};
-use crate::row::{Row, row_of};
+use crate::row::{Row, row_behind};
 use hostgroups::{ServerName, ServerNumbers, ServerRow, ServerStatus};
 use mx_base::{Address, Hostgroup, Items, OutOfMemory};
 use std::alloc::Global;
@@ -126,7 +126,7 @@ pub(crate) fn read_server_rows(
 }
 
 // The row of servers behind the rows so far.
-#[tactic(auto, unfolding(crate::specs::Tables::server_row))]
+#[tactic(auto, using(crate::proofs::Steps::steps), unfolding(crate::specs::Tables::server_row))]
 fn read_server_row(
     alloc: Global,
     before: &ServerTable,
@@ -136,11 +136,7 @@ fn read_server_row(
     ensures said { Gives result (server_row before.now (view value.now)) }
     ensures lawful { IfOk result (IsLawfulServer before.now) }
 {
-    let place = Place {
-        table: TableName::Servers,
-        row: before.len() as u32 + 1,
-    };
-    let row = row_of(alloc, place, value, &KEYS)?;
+    let row = row_behind(alloc, TableName::Servers, before.len(), value, &KEYS)?;
     let name = read_name(&row)?;
     let duty = read_duty(before, &row)?;
     new_server(alloc, row.place, before, name)?;
@@ -153,7 +149,7 @@ fn read_server_row(
     })
 }
 
-#[tactic(auto, unfolding(crate::specs::Tables::named_server))]
+#[tactic(auto, using(crate::proofs::Steps::steps), unfolding(crate::specs::Tables::named_server))]
 fn read_name(row: &Row) -> Result<ServerName, ConfigRefusal>
     ensures { Gives result (named_server row.now.place (table_view row.now.members.now)) }
 {
@@ -169,7 +165,7 @@ fn read_name(row: &Row) -> Result<ServerName, ConfigRefusal>
     })
 }
 
-#[tactic(auto, unfolding(crate::specs::Tables::duty_of))]
+#[tactic(auto, using(crate::proofs::Steps::steps), unfolding(crate::specs::Tables::duty_of))]
 fn read_duty(before: &ServerTable, row: &Row) -> Result<Duty, ConfigRefusal>
     ensures said { Gives result (duty_of row.now.place before.now (table_view row.now.members.now)) }
     ensures weight { IfOk result (λ d. IsBetween 1 1000 d.weight) }

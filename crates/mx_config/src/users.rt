@@ -8,74 +8,27 @@ ghost use Rattle.mx_config.specs.Values.{fits};
 ghost use Rattle.mx_config.specs.declared.value.TextForm.TheVariants.{Any, NotEmpty};
 
 use crate::fault::{Kind, Place, TableName, refusal};
-use crate::row::{Row, row_of};
+use crate::row::{Row, row_behind};
+use crate::table::{Keyed, KeyedRows};
 use crate::value::TextForm;
 use crate::{ConfigRefusal, UserRow};
 use mx_base::{Bytes, Hostgroup, Items, OutOfMemory};
 use std::alloc::Global;
-use std::collections::HashSet;
-use std::marker::Model;
 use toml::Value;
 
 /// The keys of a row, in order.
 const KEYS: [&str; 3] = ["name", "password", "default_hostgroup"];
 
-/// The rows of users so far, which contracts see as a list. A name is found in the time of a look-up in a set.
-#[derive(Drop)]
-pub(crate) struct UserTable {
-    rows: Vec<UserRow>,
-    names: HashSet<Bytes>,
-}
+// The users so far.
+type UserTable = KeyedRows<UserRow>;
 
-impl Model for UserTable {
-    ghost use Rattle.std.specs.Prelude.{List};
-    ghost use Rattle.mx_config.specs.declared.config.UserRow.{UserRow};
+impl Keyed for UserRow {
+    type Key = Bytes;
 
-    ghost Value = { List UserRow };
+    ghost key_of = { λ row. row.name };
 
-    ghost view = { λ t. t.rows.items };
-
-    ghost use Rattle.mx_config.specs.Names.{AreNames};
-
-    ghost invariant = { λ t. AreNames t.rows.items t.names };
-}
-
-impl UserTable {
-    fn new(alloc: Global) -> Self
-        ensures { result ≡ [] }
-    {
-        UserTable {
-            rows: Vec::new(alloc),
-            names: HashSet::new(alloc),
-        }
-    }
-
-    fn len(&self) -> usize
-        ensures { result ≡ length self.now }
-    {
-        self.rows.len()
-    }
-
-    fn has(&self, name: &Bytes) -> bool
-        ensures { result ≡ has_user self.now name.now }
-    {
-        self.names.contains(name)
-    }
-
-    fn push(&mut self, alloc: Global, row: UserRow) -> Result<(), OutOfMemory>
-        ensures { OnOk result (self.new ≡ self.old ++ row ∷ []) }
-    {
-        let name = Bytes::from_slice(alloc, row.name.as_slice())?;
-        self.rows.reserve(1)?;
-        self.names.insert(name)?;
-        self.rows.push(row)?;
-        Ok(())
-    }
-
-    fn into_rows(self) -> Items<UserRow>
-        ensures { result ≡ self }
-    {
-        Items::from_vec(self.rows)
+    fn key(&self, alloc: Global) -> Result<Bytes, OutOfMemory> {
+        Ok(Bytes::from_slice(alloc, self.name.as_slice())?)
     }
 }
 
@@ -103,17 +56,13 @@ fn read_user_row(alloc: Global, before: &UserTable, value: &Value) -> Result<Use
     ensures said { Gives result (user_row before.now (view value.now)) }
     ensures lawful { IfOk result (IsLawfulUser before.now) }
 {
-    let place = Place {
-        table: TableName::Users,
-        row: before.len() as u32 + 1,
-    };
-    let row = row_of(alloc, place, value, &KEYS)?;
+    let row = row_behind(alloc, TableName::Users, before.len(), value, &KEYS)?;
     let user = read_user(&row)?;
     new_user(alloc, row.place, before, &user.name)?;
     Ok(user)
 }
 
-#[tactic(auto, unfolding(crate::specs::Tables::user_of))]
+#[tactic(auto, using(crate::proofs::Steps::steps), unfolding(crate::specs::Tables::user_of))]
 fn read_user(row: &Row) -> Result<UserRow, ConfigRefusal>
     ensures said { Gives result (user_of row.now.place (table_view row.now.members.now)) }
     ensures name { IfOk result (λ user. fits NotEmpty user.name ≡ true) }
