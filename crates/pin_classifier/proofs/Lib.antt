@@ -1,5 +1,6 @@
 pub mod Anywhere
 pub mod Backticks
+pub mod Blanks
 pub mod Firsts
 pub mod Sets
 pub mod Sightings

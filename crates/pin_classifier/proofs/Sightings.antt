@@ -1,7 +1,7 @@
 -- What a pass over a statement has seen at its end.
 use Rattle.std.proofs.Common.{◌≡◌, ℕ, Bool, false, ◌||◌, List, [], Option, None, codes, refl}
 use Rattle.sql_tokens.specs.declared.token.Token.{Token}
-use Rattle.sql_tokens.specs.Words.{is_word, says}
+use Rattle.sql_tokens.specs.Words.{is_word, says, word_of}
 use Rattle.pin_classifier.specs.Passing.{callee, is_quoted_call, is_release, seen_of, seen_behind, with_next}
 use Rattle.pin_classifier.specs.Diagnostics.{is_executed}
 use Rattle.pin_classifier.specs.Functions.{calls_any, has_call_of, names_session_function, names_thread_function}
@@ -51,7 +51,7 @@ seen_is text tokens =
         pseudo_thread_id = variable (λ seen. seen.variables.pseudo_thread_id) (codes "pseudo_thread_id") (λ _ _ _. refl) refl i;
       };
       temporary = word_seen text (λ seen. seen.temporary) (codes "TEMPORARY") (λ _ _ _. refl) refl tokens i;
-      release = seen_pair text (λ seen. seen.release) (is_release text) (releases text) nothing (λ _ _ _. refl) refl (λ _. refl) (λ _ _. refl) tokens i;
+      release = seen_pair text (λ seen. seen.release) (λ before token. is_release text before (word_of text token)) (releases text) nothing (λ _ _ _. refl) refl (λ _. refl) (λ _ _. refl) tokens i;
       calc_rows = word_seen text (λ seen. seen.calc_rows) (codes "SQL_CALC_FOUND_ROWS") (λ _ _ _. refl) refl tokens i;
       returning = word_seen text (λ seen. seen.returning) (codes "RETURNING") (λ _ _ _. refl) refl tokens i;
       value = word_seen text (λ seen. seen.value) (codes "VALUE") (λ _ _ _. refl) refl tokens i;

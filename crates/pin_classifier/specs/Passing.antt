@@ -1,11 +1,11 @@
 -- What one pass over a statement sees: its first tokens, and what stands anywhere in it.
-use Rattle.std.specs.Prelude.{ℕ, Bool, false, ◌||◌, is_none, List, [], ◌∷◌, slice_get, codes, Option, Some, None, if◌then◌else◌}
+use Rattle.std.specs.Prelude.{ℕ, Bool, false, not, ◌||◌, ◌&&◌, is_none, List, [], ◌∷◌, slice_get, codes, Option, Some, None, if◌then◌else◌}
 use Rattle.sql_tokens.specs.Words.{word_of, is_word, says, is_symbol}
 use Rattle.sql_tokens.specs.declared.token.Token.{Token}
 use Rattle.std.specs.List.{list_any}
 use Rattle.pin_classifier.specs.Diagnostics.{is_executed}
 use Rattle.pin_classifier.specs.Functions.{has_call_of, names_session_function, names_thread_function}
-use Rattle.pin_classifier.specs.Statement.{calls_quoted, has_quoted_call, has_word, has_call, has_release, has_variable, has_hidden, is_hidden, is_part, releases, variable_of}
+use Rattle.pin_classifier.specs.Statement.{calls_quoted, has_quoted_call, has_word, has_call, has_release, has_variable, has_hidden, is_hidden, is_part, variable_of}
 use Rattle.pin_classifier.specs.declared.calls.Calls.{Calls}
 use Rattle.pin_classifier.specs.declared.opening.Opening.{Opening}
 use Rattle.pin_classifier.specs.declared.seen.Seen.{Seen}
@@ -32,9 +32,9 @@ callee text None token = None
 callee text (Some before) token = if is_symbol text token 40 then word_of text before else None
 
 -- a RELEASE behind a token that isn't NO
-abbrev pub is_release : (text : List ℕ) → (before : Option Token) → Token → Bool
-is_release text None token = false
-is_release text (Some before) token = releases text (before, token)
+abbrev pub is_release : (text : List ℕ) → (before : Option Token) → (word : Option (List ℕ)) → Bool
+is_release text None word = false
+is_release text (Some before) word = is_word word (codes "RELEASE") && not (says text before (codes "NO"))
 
 -- a `(` behind a quoted text in `"`
 abbrev pub is_quoted_call : (text : List ℕ) → (before : Option Token) → Token → Bool
@@ -61,7 +61,7 @@ seen_of text tokens = record { opening = opening_of tokens; hidden = has_hidden 
 
 -- what is seen once a token more went by, behind the one before it
 abbrev pub with_next : (text : List ℕ) → Seen → (before : Option Token) → Token → Seen
-with_next text seen before token = record { opening = with_token seen.opening token; hidden = seen.hidden || is_hidden text token; calls = with_call seen.calls (callee text before token); variables = with_variable seen.variables (variable_of text token); temporary = seen.temporary || says text token (codes "TEMPORARY"); release = seen.release || is_release text before token; calc_rows = seen.calc_rows || says text token (codes "SQL_CALC_FOUND_ROWS"); returning = seen.returning || says text token (codes "RETURNING"); value = seen.value || says text token (codes "VALUE"); executed = seen.executed || is_executed token; quoted_call = seen.quoted_call || is_quoted_call text before token }
+with_next text seen before token = record { opening = with_token seen.opening token; hidden = seen.hidden || is_hidden text token; calls = with_call seen.calls (callee text before token); variables = with_variable seen.variables (variable_of text token); temporary = seen.temporary || says text token (codes "TEMPORARY"); release = seen.release || is_release text before (word_of text token); calc_rows = seen.calc_rows || says text token (codes "SQL_CALC_FOUND_ROWS"); returning = seen.returning || says text token (codes "RETURNING"); value = seen.value || says text token (codes "VALUE"); executed = seen.executed || is_executed token; quoted_call = seen.quoted_call || is_quoted_call text before token }
 
 abbrev pub seen_behind : (text : List ℕ) → Seen → (before : Option Token) → List Token → Seen
 seen_behind text seen before [] = seen

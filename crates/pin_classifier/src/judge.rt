@@ -1,6 +1,6 @@
-// The class of a statement.
+// The class of a statement, whose first word is called its verb.
 ghost use Rattle.std.specs.Prelude.{◌≡◌, IfOk, option_copied};
-ghost use Rattle.pin_classifier.specs.Classes.{begins_other, class_of, gives_id, is_connection_id, is_deep, is_deep_inside, is_deep_start, is_global, is_next_transaction, is_other, is_use, locking_of, names_connection, reads_diagnostics, reads_id, refusal_of, sets_id};
+ghost use Rattle.pin_classifier.specs.Classes.{begins_other, class_of, first, gives_id, is_connection_id, is_deep, is_deep_inside, is_deep_start, is_global, is_next_transaction, is_other, is_use, locking_of, names_connection, reads_diagnostics, reads_id, refusal_of, sets_id};
 ghost use Rattle.pin_classifier.specs.Passing.{seen_of};
 ghost use Rattle.pin_classifier.specs.Shapes.{set_in, shape_of};
 ghost use Rattle.pin_classifier.specs.Statement.{statement};
@@ -75,8 +75,9 @@ fn gives_id(text: &[u8], seen: &Seen) -> bool
 
 // Whether something in it lives in a session, or can't be read as a server does.
 #[tactic(auto, unfolding(crate::specs::Classes::is_deep_inside))]
-fn is_deep_inside(text: &[u8], seen: &Seen) -> bool
-    requires { seen.now ≡ seen_of text.now (statement text.now) }
+fn is_deep_inside(text: &[u8], seen: &Seen, verb: Option<&[u8]>) -> bool
+    requires verb { option_copied verb ≡ first text.now }
+    requires seen { seen.now ≡ seen_of text.now (statement text.now) }
     ensures { result ≡ is_deep_inside text.now }
 {
     seen.hidden
@@ -84,51 +85,53 @@ fn is_deep_inside(text: &[u8], seen: &Seen) -> bool
         || seen.quoted_call
         || (seen.value && stands(text, Mark::SequenceValue))
         || (has_blank_byte(text) && stands(text, Mark::BlankInWord))
-        || (gives_id(text, seen) && !gives_rows(first_word(text, seen.opening.first)))
+        || (gives_id(text, seen) && !gives_rows(verb))
 }
 
 // BEGIN but for BEGIN, BEGIN WORK and a `;`.
 #[tactic(auto, unfolding(crate::specs::Classes::begins_other))]
-fn begins_other(text: &[u8], seen: &Seen) -> bool
-    requires { seen.now ≡ seen_of text.now (statement text.now) }
+fn begins_other(text: &[u8], seen: &Seen, verb: Option<&[u8]>) -> bool
+    requires verb { option_copied verb ≡ first text.now }
+    requires seen { seen.now ≡ seen_of text.now (statement text.now) }
     ensures { result ≡ begins_other text.now }
 {
-    is_word(first_word(text, seen.opening.first), b"BEGIN")
+    is_word(verb, b"BEGIN")
         && !is_word(next_word(text, seen.opening.second), b"WORK")
         && !is_end(text, seen.opening.second, seen.opening.third)
 }
 
 // Whether a statement that begins so may change its session in a way that isn't tracked.
 #[tactic(auto, unfolding(crate::specs::Classes::is_deep_start, crate::specs::Classes::makes_temporary, crate::specs::Classes::ends_session))]
-fn is_deep_start(text: &[u8], seen: &Seen) -> bool
-    requires { seen.now ≡ seen_of text.now (statement text.now) }
+fn is_deep_start(text: &[u8], seen: &Seen, verb: Option<&[u8]>) -> bool
+    requires verb { option_copied verb ≡ first text.now }
+    requires seen { seen.now ≡ seen_of text.now (statement text.now) }
     ensures { result ≡ is_deep_start text.now }
 {
-    let first = first_word(text, seen.opening.first);
     let second = next_word(text, seen.opening.second);
     let third = next_word(text, seen.opening.third);
     let fourth = next_word(text, seen.opening.fourth);
-    (is_word(first, b"CREATE") && seen.temporary)
-        || changes_schema(first, second, third, fourth)
-        || (ends_transaction(first) && seen.release)
-        || starts_other(first, second)
-        || begins_other(text, seen)
-        || analyzes_other(first, second, third)
-        || locks_other(first, second)
+    (is_word(verb, b"CREATE") && seen.temporary)
+        || changes_schema(verb, second, third, fourth)
+        || (ends_transaction(verb) && seen.release)
+        || starts_other(verb, second)
+        || begins_other(text, seen, verb)
+        || analyzes_other(verb, second, third)
+        || locks_other(verb, second)
         || begins_unknown(text, seen.opening.first)
 }
 
 // Whether a statement may change its session in a way that isn't tracked.
 #[tactic(auto, using(crate::proofs::Sets::shape_of_set), unfolding(crate::specs::Classes::is_deep, crate::specs::Classes::uses_other))]
-fn is_deep(text: &[u8], seen: &Seen, shape: &Shape) -> bool
+fn is_deep(text: &[u8], seen: &Seen, shape: &Shape, verb: Option<&[u8]>) -> bool
+    requires verb { option_copied verb ≡ first text.now }
     requires seen { seen.now ≡ seen_of text.now (statement text.now) }
     requires shape { shape.now ≡ shape_of text.now }
     ensures { result ≡ is_deep text.now }
 {
-    is_deep_inside(text, seen)
-        || is_deep_start(text, seen)
+    is_deep_inside(text, seen, verb)
+        || is_deep_start(text, seen, verb)
         || is_other(shape)
-        || (is_word(first_word(text, seen.opening.first), b"USE") && !is_use(shape))
+        || (is_word(verb, b"USE") && !is_use(shape))
 }
 
 // Whether a statement reads the insert id.
@@ -142,25 +145,25 @@ fn reads_id(text: &[u8], seen: &Seen) -> bool
 
 // Whether a statement sets the insert id where its reply doesn't show it.
 #[tactic(auto, unfolding(crate::specs::Classes::sets_id))]
-fn sets_id(text: &[u8], seen: &Seen) -> bool
-    requires { seen.now ≡ seen_of text.now (statement text.now) }
+fn sets_id(text: &[u8], seen: &Seen, verb: Option<&[u8]>) -> bool
+    requires verb { option_copied verb ≡ first text.now }
+    requires seen { seen.now ≡ seen_of text.now (statement text.now) }
     ensures { result ≡ sets_id text.now }
 {
-    let first = first_word(text, seen.opening.first);
-    (gives_id(text, seen) && gives_rows(first)) || (returns_rows(first) && seen.returning)
+    (gives_id(text, seen) && gives_rows(verb)) || (returns_rows(verb) && seen.returning)
 }
 
 // Whether a statement reads what the statement before it left.
 #[tactic(auto, unfolding(crate::specs::Classes::reads_diagnostics))]
-fn reads_diagnostics(text: &[u8], seen: &Seen) -> bool
-    requires { seen.now ≡ seen_of text.now (statement text.now) }
+fn reads_diagnostics(text: &[u8], seen: &Seen, verb: Option<&[u8]>) -> bool
+    requires verb { option_copied verb ≡ first text.now }
+    requires seen { seen.now ≡ seen_of text.now (statement text.now) }
     ensures { result ≡ reads_diagnostics text.now }
 {
-    let first = first_word(text, seen.opening.first);
     let second = next_word(text, seen.opening.second);
     seen.calls.row_count
         || seen.calls.found_rows
-        || shows_diagnostics(first, second)
+        || shows_diagnostics(verb, second)
         || seen.variables.warning_count
         || seen.variables.error_count
         || (seen.executed && stands(text, Mark::Diagnostic))
@@ -168,29 +171,30 @@ fn reads_diagnostics(text: &[u8], seen: &Seen) -> bool
 
 // Whether a statement names a connection.
 #[tactic(auto, unfolding(crate::specs::Classes::names_connection))]
-fn names_connection(text: &[u8], seen: &Seen, shape: &Shape) -> bool
+fn names_connection(text: &[u8], seen: &Seen, shape: &Shape, verb: Option<&[u8]>) -> bool
+    requires verb { option_copied verb ≡ first text.now }
     requires seen { seen.now ≡ seen_of text.now (statement text.now) }
     requires shape { shape.now ≡ shape_of text.now }
     ensures { result ≡ names_connection text.now }
 {
-    let first = first_word(text, seen.opening.first);
-    is_word(first, b"KILL")
+    is_word(verb, b"KILL")
         || (seen.calls.connection_id && !is_connection_id(shape))
         || seen.calls.thread_function
         || seen.variables.pseudo_thread_id
-        || (explains(first) && stands(text, Mark::ForConnection))
+        || (explains(verb) && stands(text, Mark::ForConnection))
 }
 
 // Why a statement is refused.
 #[tactic(auto, using(crate::proofs::Sets::shape_of_set), unfolding(crate::specs::Classes::refusal_of))]
-fn refusal_of(text: &[u8], seen: &Seen, shape: &Shape) -> Option<Refusal>
+fn refusal_of(text: &[u8], seen: &Seen, shape: &Shape, verb: Option<&[u8]>) -> Option<Refusal>
+    requires verb { option_copied verb ≡ first text.now }
     requires seen { seen.now ≡ seen_of text.now (statement text.now) }
     requires shape { shape.now ≡ shape_of text.now }
     ensures { result ≡ refusal_of text.now }
 {
     if is_global(shape) {
         Some(Refusal::SetsServer)
-    } else if names_connection(text, seen, shape) {
+    } else if names_connection(text, seen, shape, verb) {
         Some(Refusal::NamesConnection)
     } else {
         None
@@ -204,23 +208,23 @@ fn class_by(text: &[u8], seen: &Seen, shape: Shape) -> Class
     requires shape { shape ≡ shape_of text.now }
     ensures { result ≡ class_of text.now }
 {
-    let first = first_word(text, seen.opening.first);
+    let verb = first_word(text, seen.opening.first);
     let second = next_word(text, seen.opening.second);
     let third = next_word(text, seen.opening.third);
-    let deep = is_deep(text, seen, &shape);
+    let deep = is_deep(text, seen, &shape, verb);
     let reads_id = reads_id(text, seen);
     Class {
         deep,
-        locks: locking_of(first, second),
+        locks: locking_of(verb, second),
         next_tx: is_next_transaction(&shape),
-        savepoint: is_savepoint(first),
-        outlasts_reset: outlasts_reset(first, second, third),
-        marks_id: reads_id | deep | makes_id(first),
-        sets_id: sets_id(text, seen),
+        savepoint: is_savepoint(verb),
+        outlasts_reset: outlasts_reset(verb, second, third),
+        marks_id: reads_id | deep | makes_id(verb),
+        sets_id: sets_id(text, seen, verb),
         reads_id,
-        reads_diag: reads_diagnostics(text, seen),
+        reads_diag: reads_diagnostics(text, seen, verb),
         calc_rows: seen.calc_rows,
-        refusal: refusal_of(text, seen, &shape),
+        refusal: refusal_of(text, seen, &shape, verb),
         shape,
     }
 }

@@ -22,10 +22,11 @@ pub(crate) enum Mark {
     Diagnostic,
 }
 
+#[tactic(auto, using(crate::proofs::Blanks::no_blank))]
 pub(crate) fn has_blank_byte(text: &[u8]) -> bool
     ensures { result ≡ list_any (λ b. nat_eq b 160) text.now }
 {
-    text.iter().any(|byte| *byte == 0xA0)
+    !text.is_ascii() && text.iter().any(|byte| *byte == 0xA0)
 }
 
 fn has_blank(kind: TokenKind, bytes: &[u8]) -> bool

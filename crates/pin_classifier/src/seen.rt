@@ -8,7 +8,7 @@ use crate::diagnostics::is_executed;
 use crate::opening::Opening;
 use crate::variables::Variables;
 use crate::words::{callee, is_hidden, is_quoted_call, is_release, variable_of};
-use sql_tokens::{Token, TokenKind, Tokens, says};
+use sql_tokens::{Token, TokenKind, Tokens, is_word, word_of};
 
 // The first tokens of a statement, and what stands anywhere in it.
 #[derive(Clone, Copy)]
@@ -52,15 +52,16 @@ impl Seen {
     fn take(&mut self, text: &[u8], before: Option<Token>, token: Token)
         ensures { self.new ≡ with_next text.now self.old before token }
     {
+        let word = word_of(text, &token);
         self.opening.take(token);
         self.hidden |= is_hidden(text, &token);
         self.calls.take(callee(text, before, &token));
         self.variables.take(variable_of(text, &token));
-        self.temporary |= says(text, &token, b"TEMPORARY");
-        self.release |= is_release(text, before, &token);
-        self.calc_rows |= says(text, &token, b"SQL_CALC_FOUND_ROWS");
-        self.returning |= says(text, &token, b"RETURNING");
-        self.value |= says(text, &token, b"VALUE");
+        self.temporary |= is_word(word, b"TEMPORARY");
+        self.release |= is_release(text, before, word);
+        self.calc_rows |= is_word(word, b"SQL_CALC_FOUND_ROWS");
+        self.returning |= is_word(word, b"RETURNING");
+        self.value |= is_word(word, b"VALUE");
         self.executed |= is_executed(&token);
         self.quoted_call |= is_quoted_call(text, before, &token);
     }

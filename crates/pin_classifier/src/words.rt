@@ -7,7 +7,7 @@ ghost use Rattle.pin_classifier.specs.Shapes.{is_there, is_byte};
 ghost use Rattle.pin_classifier.specs.Statement.{first_word, next_word, opening_word, has_part, is_part, is_double_quoted, is_half, is_hidden, is_hidden_kind, releases, variable_of};
 
 use sql_tokens::{
-    Token, TokenKind, behind, bytes_of, is_one_of, is_symbol, same_text, says, word_of,
+    Token, TokenKind, behind, bytes_of, is_one_of, is_symbol, is_word, same_text, says, word_of,
 };
 
 // Whether a token that is there says this word.
@@ -88,12 +88,12 @@ pub(crate) fn is_quoted_call(text: &[u8], before: Option<Token>, token: &Token) 
     }
 }
 
-// Whether this token is the word RELEASE behind a token that isn't NO.
-pub(crate) fn is_release(text: &[u8], before: Option<Token>, token: &Token) -> bool
-    ensures { result ≡ is_release text.now before token.now }
+// Whether this word is RELEASE behind a token that isn't NO.
+pub(crate) fn is_release(text: &[u8], before: Option<Token>, word: Option<&[u8]>) -> bool
+    ensures { result ≡ is_release text.now before (option_copied word.entry) }
 {
     match before {
-        Some(before) => says(text, token, b"RELEASE") && !says(text, &before, b"NO"),
+        Some(before) => is_word(word, b"RELEASE") && !says(text, &before, b"NO"),
         None => false,
     }
 }

@@ -1,5 +1,5 @@
 -- Which token a word, a number, a quoted text and a symbol are, where a piece ends behind them.
-use Rattle.std.proofs.Common.{◌≡◌, ◌≤◌, ◌<◌, ℕ, suc, ◌+◌, ◌-◌, Bool, true, false, ◌&&◌, ◌||◌, not, cond, nat_eq, nat_lt, nat_le, List, [], ◌∷◌, ◌++◌, length, get_or, take, drop, Some, refl, sym, subst, ◌∙◌, ap, inl, inr, arith, append_assoc, length-append, eq-eqb}
+use Rattle.std.proofs.Common.{◌≡◌, ◌≤◌, ◌<◌, ℕ, suc, ◌+◌, ◌-◌, Bool, true, false, ◌&&◌, ◌||◌, not, cond, nat_eq, nat_lt, nat_le, List, [], ◌∷◌, ◌++◌, length, get_or, take, Some, refl, sym, subst, ◌∙◌, ap, inl, inr, arith, append_assoc, length-append, eq-eqb}
 use Rattle.std.specs.Char.{is_ascii_digit, is_ascii_hexdigit}
 use Rattle.std.specs.List.{prefix_len, list_all}
 use Rattle.std.proofs.lemmas.Bool.{cond-true, cond-false, cases_lt, cases_Bool, both_ways, and_parts, and_from, and_left, and_right, or_cases, or_left, or_from, eqb-true, leb-true, ne_eqb, lt-ltb, not_from_false, agree_below, agree_below_at}
@@ -8,7 +8,7 @@ use Rattle.std.proofs.Math.Seq.{take-append-add, take-length}
 use Rattle.sql_tokens.specs.Bytes.{has_byte, is_white, is_word_byte, later}
 use Rattle.sql_tokens.specs.Comments.{begins_line_comment, begins_block}
 use Rattle.sql_tokens.specs.Marks.{IsPlain, IsInside}
-use Rattle.sql_tokens.specs.Numbers.{digits_length, hexadecimal_length, fraction_length, decimal_length, number_length}
+use Rattle.sql_tokens.specs.Numbers.{number_length}
 use Rattle.sql_tokens.specs.Numerals.{IsFraction, AreSigned, IsExponent, IsNumeral}
 use Rattle.sql_tokens.specs.Quotes.{begins_quoted, begins_name, quoted_length, to_closing}
 use Rattle.sql_tokens.specs.Tokens.{closed, plain_token_at, token_at}
@@ -18,6 +18,7 @@ use Rattle.sql_tokens.specs.declared.token.TokenKind.TheVariants.{Word, Quoted, 
 use Rattle.sql_tokens.proofs.Insides.{closes_closing}
 use Rattle.sql_tokens.proofs.Lengths.{number_length-le}
 use Rattle.sql_tokens.proofs.LongestNumbers.{number_found, longest_number}
+use Rattle.sql_tokens.proofs.WordStarts.{other, not_first, no_number, word_first}
 use Rattle.session_vars.specs.Values.{is_plain_byte}
 use Rattle.session_vars.proofs.Pieces.{Stops, IsPiece, run_stops}
 
@@ -31,11 +32,7 @@ pub record IsOrdinary (b : ℕ) : Type 0 where
   pub no_backtick : nat_eq b 96 ≡ false
   pub no_at : nat_eq b 64 ≡ false
 
--- a byte that passes a test isn't one that doesn't
-other : (p : ℕ → Bool) (b c : ℕ) → p b ≡ true → p c ≡ false → nat_eq b c ≡ false
-other p b c is isn't = ne_eqb b c (λ same. both_ways (p b) (ap p same ∙ isn't) is)
-
--- so a byte that passes a test which none of those passes is ordinary
+-- a byte that passes a test which none of those passes is ordinary
 ordinary_by : (p : ℕ → Bool) (b : ℕ) → p b ≡ true → p 35 ≡ false → p 45 ≡ false → p 47 ≡ false → p 39 ≡ false → p 34 ≡ false → p 96 ≡ false → p 64 ≡ false → IsOrdinary b
 ordinary_by p b is hash dash slash single double backtick at = record {
   no_hash = other p b 35 is hash;
@@ -61,9 +58,6 @@ dark_by p b is apart =
       | inl white ↦ absurd (both_ways (is_white b && p b) (agree_below_at (λ n. is_white n && p n) (λ n. false) 33 b apart (white_small b white)) (and_from (is_white b) (p b) white is))
       | inr dark ↦ dark
     ]
-
-not_first : (b c : ℕ) (bytes : List ℕ) → nat_eq b c ≡ false → has_byte (b ∷ bytes) 0 c ≡ false
-not_first b c bytes h = and_right (nat_lt 0 (length (b ∷ bytes))) (nat_eq b c) h
 
 is_first : (b : ℕ) (bytes : List ℕ) → has_byte (b ∷ bytes) 0 b ≡ true
 is_first b bytes = and_from (nat_lt 0 (length (b ∷ bytes))) (nat_eq b b) (lt-ltb 0 (length (b ∷ bytes)) (omega arith)) (eq-eqb b b refl)
@@ -91,19 +85,6 @@ ordinary_rule b bytes is =
     ∙ cond-false (begins_name (b ∷ bytes)) _ _ (not_first b 96 bytes is.no_backtick)
     ∙ no_variable b bytes is.no_at
 
--- what begins with neither a digit nor a point begins with no number
-no_number : (b : ℕ) (bytes : List ℕ) → is_ascii_digit b ≡ false → nat_eq b 46 ≡ false → number_length (b ∷ bytes) ≡ 0
-unfolding number_length decimal_length hexadecimal_length fraction_length
-no_number b bytes no_digit no_point =
-    let all = b ∷ bytes in
-    let no_zero : nat_eq b 48 ≡ false = ne_eqb b 48 (λ same. both_ways (is_ascii_digit b) no_digit (ap is_ascii_digit same)) in
-    let hexadecimal : hexadecimal_length all ≡ 0 = cond-false (has_byte all 0 48 && has_byte all 1 120) _ 0 (and_left _ _ (not_first b 48 bytes no_zero)) in
-    let digits : digits_length all ≡ 0 = cond-false (is_ascii_digit b) (1 + digits_length bytes) 0 no_digit in
-    let fraction : fraction_length all ≡ 0 = cond-false (has_byte all 0 46) _ 0 (not_first b 46 bytes no_point) in
-    let mantissa : digits_length all + fraction_length (drop (digits_length all) all) ≡ 0 = ap (λ n. n + fraction_length (drop n all)) digits ∙ ap (λ n. 0 + n) fraction in
-    let decimal : decimal_length all ≡ 0 = cond-true (nat_eq (digits_length all + fraction_length (drop (digits_length all) all)) 0) 0 _ (eq-eqb _ 0 mantissa) in
-    cond-true (nat_eq (hexadecimal_length all) 0) (decimal_length all) (hexadecimal_length all) (eq-eqb _ 0 hexadecimal) ∙ decimal
-
 -- a word: word bytes, the first of which is no digit
 abbrev pub IsWordText : List ℕ → Type 0
 IsWordText [] = ⊥
@@ -126,13 +107,11 @@ word_piece [] rest is stops = absurd is
 word_piece (b ∷ bytes) rest is stops =
     let part = b ∷ bytes in
     let word : is_word_byte b ≡ true = (and_parts (is_word_byte b) (list_all is_word_byte bytes) is.1).0 in
-    let ordinary = ordinary_by is_word_byte b word refl refl refl refl refl refl refl in
     let run : prefix_len is_word_byte (part ++ rest) ≡ length part = run_stops is_word_byte part rest is.1 refl refl stops in
-    let some : not (nat_eq (prefix_len is_word_byte (part ++ rest)) 0) ≡ true = not_from_false _ (ne_eqb _ 0 (λ none. omega arith)) in
     record {
       some = omega arith;
       dark = dark_by is_word_byte b word refl;
-      rule = no_number_first b (bytes ++ rest) ordinary is.0 (other is_word_byte b 46 word refl) ∙ cond-true _ _ _ some ∙ ap (λ (n : ℕ). (Word, n)) run;
+      rule = word_first b (bytes ++ rest) word is.0 ∙ ap (λ (n : ℕ). (Word, n)) run;
     }
 
 -- `=` and `,`

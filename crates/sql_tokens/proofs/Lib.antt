@@ -6,4 +6,6 @@ pub mod OneList
 pub mod Runs
 pub mod Scan
 pub mod Sizes
+pub mod WordBytes
+pub mod WordStarts
 pub mod Worked

@@ -1,6 +1,6 @@
 -- Bytes of a statement: their classes, and what stands at the front of some bytes.
-use Rattle.std.specs.Prelude.{ℕ, ◌+◌, Bool, ◌||◌, ◌&&◌, nat_lt, nat_le, nat_eq, List, length, slice_index_or, Option, Some, None, if◌then◌else◌}
-use Rattle.std.specs.Char.{is_ascii_alphanumeric, is_ascii_control}
+use Rattle.std.specs.Prelude.{ℕ, ◌+◌, Bool, not, ◌||◌, ◌&&◌, nat_lt, nat_le, nat_eq, List, length, slice_index_or, Option, Some, None, if◌then◌else◌}
+use Rattle.std.specs.Char.{is_ascii_alphanumeric, is_ascii_control, is_ascii_digit}
 
 -- white space: tab to carriage return, and the space
 abbrev pub is_white : ℕ → Bool
@@ -13,6 +13,10 @@ is_white_or_control b = is_ascii_control b || nat_eq b 32
 -- the bytes of words: ASCII letters, digits, `_`, `$`, and bytes from 0x80
 abbrev pub is_word_byte : ℕ → Bool
 is_word_byte b = is_ascii_alphanumeric b || nat_eq b 95 || nat_eq b 36 || nat_le 128 b
+
+-- a word begins: a byte of words that is no digit
+abbrev pub begins_word : List ℕ → Bool
+begins_word bytes = is_word_byte (slice_index_or bytes 0 0) && not (is_ascii_digit (slice_index_or bytes 0 0))
 
 -- the bytes of a variable's name: those of words, and `.`
 abbrev pub is_name_byte : ℕ → Bool

@@ -2,7 +2,7 @@
 ghost use Rattle.std.specs.Prelude.{◌≡◌, ◌+◌, ◌<◌, ◌^◌, length, take, drop};
 ghost use Rattle.std.specs.List.{prefix_len};
 ghost use Rattle.std.specs.Char.{is_ascii_digit, is_ascii_hexdigit};
-ghost use Rattle.sql_tokens.specs.Bytes.{has_byte, followed_by, is_white, is_word_byte, is_name_byte};
+ghost use Rattle.sql_tokens.specs.Bytes.{has_byte, followed_by, is_white, is_word_byte, begins_word, is_name_byte};
 
 // Whether this byte stands at this place.
 pub(crate) fn has_byte(bytes: &[u8], place: usize, byte: u8) -> bool
@@ -41,10 +41,38 @@ fn is_white(byte: u8) -> bool
     (9 <= byte && byte <= 13) || byte == b' '
 }
 
+// Which bytes words have: ASCII letters, digits, `_`, `$`, and bytes from 0x80. Most bytes of a statement are looked up here.
+const WORD_BYTES: [bool; 256] = [
+    false, false, false, false, false, false, false, false, false, false, false, false, false,
+    false, false, false, false, false, false, false, false, false, false, false, false, false,
+    false, false, false, false, false, false, false, false, false, false, true, false, false,
+    false, false, false, false, false, false, false, false, false, true, true, true, true, true,
+    true, true, true, true, true, false, false, false, false, false, false, false, true, true,
+    true, true, true, true, true, true, true, true, true, true, true, true, true, true, true, true,
+    true, true, true, true, true, true, true, true, false, false, false, false, true, false, true,
+    true, true, true, true, true, true, true, true, true, true, true, true, true, true, true, true,
+    true, true, true, true, true, true, true, true, true, false, false, false, false, false, true,
+    true, true, true, true, true, true, true, true, true, true, true, true, true, true, true, true,
+    true, true, true, true, true, true, true, true, true, true, true, true, true, true, true, true,
+    true, true, true, true, true, true, true, true, true, true, true, true, true, true, true, true,
+    true, true, true, true, true, true, true, true, true, true, true, true, true, true, true, true,
+    true, true, true, true, true, true, true, true, true, true, true, true, true, true, true, true,
+    true, true, true, true, true, true, true, true, true, true, true, true, true, true, true, true,
+    true, true, true, true, true, true, true, true, true, true, true, true, true, true, true, true,
+    true, true, true, true, true, true, true, true, true, true, true, true, true, true, true,
+];
+
 fn is_word_byte(byte: u8) -> bool
     ensures { result ≡ is_word_byte byte }
 {
-    byte.is_ascii_alphanumeric() || byte == b'_' || byte == b'$' || byte >= 0x80
+    WORD_BYTES[byte as usize]
+}
+
+// Whether a word begins here, as most tokens are: with a byte of words that is no digit.
+pub(crate) fn begins_word(bytes: &[u8]) -> bool
+    ensures { result ≡ begins_word bytes.now }
+{
+    !bytes.is_empty() && is_word_byte(bytes[0]) && !bytes[0].is_ascii_digit()
 }
 
 fn is_name_byte(byte: u8) -> bool

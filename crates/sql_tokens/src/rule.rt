@@ -3,7 +3,7 @@ ghost use Rattle.std.specs.Prelude.{◌≡◌, ◌<◌, length};
 ghost use Rattle.sql_tokens.specs.Tokens.{closed, plain_token_at, token_at};
 
 use crate::TokenKind;
-use crate::bytes::{behind, has_byte, word_run};
+use crate::bytes::{begins_word, behind, has_byte, word_run};
 use crate::comment::{begins_block, begins_line_comment, block_length, executes, line_length};
 use crate::number::number_length;
 use crate::quote::{begins_name, begins_quoted, quoted_length};
@@ -46,11 +46,13 @@ fn plain_token_at(bytes: &[u8]) -> (TokenKind, usize)
 }
 
 // The token at the front of these bytes: its kind and how many bytes it takes.
-#[tactic(auto, unfolding(crate::specs::Tokens::token_at))]
+#[tactic(auto, using(crate::proofs::WordStarts::word_token), unfolding(crate::specs::Tokens::token_at))]
 pub(crate) fn token_at(bytes: &[u8]) -> (TokenKind, usize)
     ensures { result ≡ token_at bytes.now }
 {
-    if begins_line_comment(bytes) {
+    if begins_word(bytes) {
+        (TokenKind::Word, word_run(bytes))
+    } else if begins_line_comment(bytes) {
         (TokenKind::Comment, line_length(bytes))
     } else if begins_block(bytes) {
         let kind = if executes(bytes) {
