@@ -1,6 +1,7 @@
 -- What is done for one client among the links to servers leaves the others as they are.
-use Rattle.std.specs.Prelude.{◌≡◌, ◌⊎◌, ℕ, false, nat_eq, [], ◌∷◌, Some, None}
+use Rattle.std.specs.Prelude.{◌≡◌, ◌≢◌, ◌⊎◌, ℕ, false, nat_eq, [], ◌∷◌, Option, Some, None}
 use Rattle.std.proofs.Common.{sym, ◌∙◌}
+use Rattle.mx_base.specs.declared.names.ClientNo.{ClientNo}
 use Rattle.mx_base.specs.declared.names.LinkId.{LinkId}
 use Rattle.mx_wire.specs.Log.{Log}
 use Rattle.server_side.specs.declared.stage.Stage.TheVariants.{In}
@@ -9,7 +10,7 @@ use Rattle.client_talk.specs.declared.session.Phase.TheVariants as phase
 use Rattle.lend_core.specs.declared.lent.Lent.{Lent}
 use Rattle.lend_core.specs.Lends.{Lends}
 use Rattle.promises.specs.Service.{Service}
-use Rattle.router_world.proofs.Sound.{Owned, Own, Left, RowStands, Free, Gone, Busy, Waits, Logs, On, Serves}
+use Rattle.router_world.proofs.Sound.{Enters, Owned, Own, Left, RowStands, Free, Gone, Busy, Waits, Logs, On, Serves}
 
 pub record Apart (n : ℕ) (lends other : Lends) : Type 0 where
   pub asks : (k : ℕ) → nat_eq k n ≡ false → other.asks k ≡ lends.asks k
@@ -37,9 +38,10 @@ serves-apart (phase.Idle user) n k i lends other apart differs serves = free-apa
 serves-apart (phase.Working user) n k i lends other apart differs serves = busy-apart n k i lends other apart differs serves
 serves-apart phase.Ending n k i lends other apart differs serves = gone-apart n k lends other apart differs serves
 
--- a link of another client, or of one that has gone
-pub row-apart : (service : Service) (log : Log) (n : ℕ) (lends other : Lends) (link : LinkId) (lent : Lent) → Apart n lends other → (stands : RowStands service log lends link lent) → nat_eq stands.turn.client n ≡ false → RowStands service log other link lent
-row-apart service log n lends other link lent apart stands differs = record {
+-- what stands of a link stands of it among other links and with another owner, where the ask of its login and its owner are there
+pub row-among : (service : Service) (log : Log) (lends other : Lends) (link : LinkId) (lent : Lent) (owner : Option ClientNo) (stands : RowStands service log lends link lent) → (lent.backend.stage ≢ In → Enters other stands.turn)
+    → Owned service log other link stands.turn.client (record lent { owner = owner }) → RowStands service log other link (record lent { owner = owner })
+row-among service log lends other link lent owner stands enters owned = record {
   opened = stands.opened;
   unlost = stands.unlost;
   turn = stands.turn;
@@ -49,28 +51,21 @@ row-apart service log n lends other link lent apart stands differs = record {
   some = stands.some;
   at = stands.at;
   command = stands.command;
-  enters = λ stage. (let enters = stands.enters stage in record { ask = enters.ask; is = apart.asks stands.turn.client differs ∙ enters.is; same = enters.same });
-  owned = by stands.owned;
-} where
-  by : Owned service log lends link stands.turn.client lent → Owned service log other link stands.turn.client lent
-  by (Own is owns) = Own is (apart.owned stands.turn.client differs ∙ owns)
-  by (Left none gone begun) = Left none gone begun
+  enters = enters;
+  owned = owned;
+}
+
+-- a link of another client, or of one that has gone
+pub row-apart : (service : Service) (log : Log) (n : ℕ) (lends other : Lends) (link : LinkId) (lent : Lent) → Apart n lends other → (stands : RowStands service log lends link lent) → nat_eq stands.turn.client n ≡ false → RowStands service log other link lent
+row-apart service log n lends other link lent apart stands differs = row-among service log lends other link lent lent.owner stands
+    (λ stage. (let enters = stands.enters stage in record { ask = enters.ask; is = apart.asks stands.turn.client differs ∙ enters.is; same = enters.same })) (by stands.owned) where
+      by : Owned service log lends link stands.turn.client lent → Owned service log other link stands.turn.client lent
+      by (Own is owns) = Own is (apart.owned stands.turn.client differs ∙ owns)
+      by (Left none gone begun) = Left none gone begun
 
 -- a link of this client that isn't its own any more
 pub row-left : (service : Service) (log : Log) (lends other : Lends) (link : LinkId) (lent : Lent) → RowStands service log lends link lent → lent.owner ≡ None → lent.backend.stage ≡ In → RowStands service log other link lent
-row-left service log lends other link lent stands unowned inside = record {
-  opened = stands.opened;
-  unlost = stands.unlost;
-  turn = stands.turn;
-  is_turn = stands.is_turn;
-  hostgroup = stands.hostgroup;
-  user = stands.user;
-  some = stands.some;
-  at = stands.at;
-  command = stands.command;
-  enters = λ stage. absurd (stage inside);
-  owned = by stands.owned;
-} where
+row-left service log lends other link lent stands unowned inside = row-among service log lends other link lent lent.owner stands (λ stage. absurd (stage inside)) (by stands.owned) where
   by : Owned service log lends link stands.turn.client lent → Owned service log other link stands.turn.client lent
   by (Own is owns) = absurd (let no : None ≡ Some _ = sym unowned ∙ is in cc)
   by (Left none gone begun) = Left none gone begun

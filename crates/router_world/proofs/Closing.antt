@@ -25,6 +25,7 @@ use Rattle.promises.proofs.Staying.{arrival-stays}
 use Rattle.router_world.specs.declared.seat.Parting.{Parting}
 use Rattle.router_world.specs.Tables.{Tables, with_lends}
 use Rattle.router_world.specs.World.{fewer, closed_by}
+use Rattle.router_world.proofs.Apart.{row-among}
 use Rattle.router_world.proofs.LinkLists.{is_among}
 use Rattle.router_world.proofs.Connecting.{counts-all, closed-fewer, closed-same, traffic_as, traffic-came}
 use Rattle.router_world.proofs.Calm.{Leaves, leaves-other}
@@ -131,19 +132,7 @@ serves-closed (phase.Working user) lends n i (On unasked link lent command owns 
 serves-closed phase.Ending lends n i gone = record { unasked = gone.unasked; unowned = gone.unowned }
 
 row-closed : (service : Service) (log : Log) (lends : Lends) (link : LinkId) (lent : Lent) → RowStands service log lends link lent → RowStands service log (without_close lends) link lent
-row-closed service log lends link lent stands = record {
-  opened = stands.opened;
-  unlost = stands.unlost;
-  turn = stands.turn;
-  is_turn = stands.is_turn;
-  hostgroup = stands.hostgroup;
-  user = stands.user;
-  some = stands.some;
-  at = stands.at;
-  command = stands.command;
-  enters = λ stage. (let enters = stands.enters stage in record { ask = enters.ask; is = enters.is; same = enters.same });
-  owned = by stands.owned;
-} where
+row-closed service log lends link lent stands = row-among service log lends (without_close lends) link lent lent.owner stands (λ stage. (let enters = stands.enters stage in record { ask = enters.ask; is = enters.is; same = enters.same })) (by stands.owned) where
   by : Owned service log lends link stands.turn.client lent → Owned service log (without_close lends) link stands.turn.client lent
   by (Own is owns) = Own is owns
   by (Left none gone begun) = Left none gone begun

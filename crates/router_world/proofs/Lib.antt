@@ -32,7 +32,6 @@ pub mod LinksRow
 pub mod LinksAt
 pub mod LinksFailed
 pub mod LinksKept
-pub mod LinksReplied
 pub mod LinksHeard
 pub mod LinksEvents
 pub mod LinksWritten

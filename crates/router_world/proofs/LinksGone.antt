@@ -26,7 +26,7 @@ use Rattle.router_world.proofs.RowsStanding.{inside-at, standing-entering, stand
 use Rattle.router_world.proofs.Sets.{set-same, set-other}
 use Rattle.router_world.proofs.Sitting.{owner-turn}
 use Rattle.router_world.proofs.Sound.{Left, RowStands, CloseStands, AtMostOne, Nobody, One, LendsSound, Gone}
-use Rattle.router_world.proofs.Apart.{Apart, Traces}
+use Rattle.router_world.proofs.Apart.{Apart, Traces, row-among}
 use Rattle.router_world.proofs.Mending.{RowNow, Now, Mended, mended}
 use Rattle.router_world.proofs.Moves.{MayGo, Away, Idle, Went}
 use Rattle.router_world.proofs.LinksApart.{none-one, one-same, but-one, put-other, begun-inside, kept-row, NoRow, apart-none, traces-none, Stays, Closes, OneRow, owner-mine, apart-one, traces-one, close-kept, close-other}
@@ -100,19 +100,8 @@ begun-away service log n lends link lent (Idle free idle) owns there begins = ab
 
 -- the row of a link whose client has gone
 left-row : (service : Service) (log : Log) (n : ℕ) (lends other : Lends) (link : LinkId) (lent : Lent) (row : RowStands service log lends link lent) → row.turn.client ≡ n → is_here n log ≡ false → is_begun lent.backend.command ≡ true → RowStands service log other link (record lent { owner = None })
-left-row service log n lends other link lent row mine away begins = record {
-  opened = row.opened;
-  unlost = row.unlost;
-  turn = row.turn;
-  is_turn = row.is_turn;
-  hostgroup = row.hostgroup;
-  user = row.user;
-  some = row.some;
-  at = row.at;
-  command = row.command;
-  enters = λ outside. absurd (outside (begun-inside lent.backend.account _ _ lent.backend row.at begins));
-  owned = Left refl (ap (λ k. is_here k log) mine ∙ away) begins;
-}
+left-row service log n lends other link lent row mine away begins = row-among service log lends other link lent None row (λ outside. absurd (outside (begun-inside lent.backend.account _ _ lent.backend row.at begins)))
+    (Left refl (ap (λ k. is_here k log) mine ∙ away) begins)
 
 pub gone-sound : (service : Service) (log : Log) (n : ℕ) (lends : Lends) → LendsSound service log lends → (lends.closing ≡ []) ⊎ (lends.owned n ≡ None) → MayGo service log n lends → Went service log n lends (gone (record { 0 = n }) lends)
 gone-sound service log n lends sound closable may = by (lends.owned n) refl where

@@ -1,6 +1,6 @@
 -- Bytes come on a link to a server.
-use Rattle.std.specs.Prelude.{◌≡◌, ◌≢◌, ℕ, true, false, not, is_some, cond, List, [], ◌∷◌, ◌++◌, Option, Some, None, refl}
-use Rattle.std.proofs.Common.{sym, ◌∙◌, ap, subst, append-nil}
+use Rattle.std.specs.Prelude.{◌≡◌, ◌≢◌, ℕ, true, false, not, is_some, cond, List, [], ◌∷◌, ◌++◌, Option, Some, None, refl, Bool, ◌&&◌, nat_eq, length}
+use Rattle.std.proofs.Common.{sym, ◌∙◌, ap, subst, append-nil, inl}
 use Rattle.mx_base.specs.declared.names.ClientNo.{ClientNo}
 use Rattle.mx_base.specs.declared.names.LinkId.{LinkId}
 use Rattle.mx_base.specs.declared.tag.Tag.TheVariants.{For}
@@ -25,18 +25,18 @@ use Rattle.lend_core.specs.declared.ask.Ask.{Ask}
 use Rattle.lend_core.specs.declared.lent.Lent.{Lent}
 use Rattle.lend_core.specs.Lends.{Lends, set}
 use Rattle.lend_core.specs.Changes.{with_link, without_link, without_ask}
-use Rattle.lend_core.specs.Decisions.{takes_at, takes_command, commanded, due_on, offered_at, logged_in, logged_in_with, replied as answers, place_of, told_by}
+use Rattle.lend_core.specs.Decisions.{takes_at, takes_command, commanded, due_on, offered_at, logged_in, logged_in_with, replied as answers, place_of, told_by, kept_or_closed}
 use Rattle.lend_core.specs.Events.{heard}
 use Rattle.exchange.specs.Logins.{was_lost, heard_of, goes_on, has_failed, login_on, breaks_off, login_fails}
-use Rattle.exchange.specs.Commands.{Command, pieces_of}
-use Rattle.exchange.specs.Replies.{Spoilt}
+use Rattle.exchange.specs.Commands.{Command, pieces_of, carrier_of}
+use Rattle.exchange.specs.Replies.{Spoilt, Clean, Runs}
 use Rattle.promises.specs.Service.{Service}
 use Rattle.promises.proofs.InWork.{some-same}
 use Rattle.promises.proofs.Links.{refused-or-sent}
 use Rattle.promises.proofs.Staying.{carrier-stays}
 use Rattle.router_world.specs.Replied.{replied}
-use Rattle.router_world.specs.Rows.{bytes_in, standing_said, reply_said, LinkAt, Entering, Inside, IsInside, IsEntering}
-use Rattle.router_world.proofs.RowsHeard.{TellsEntering, TellsInside, heard-entering, heard-inside, heard-quiet, heard-logged-in, heard-failure, heard-part, heard-bad}
+use Rattle.router_world.specs.Rows.{bytes_in, standing_said, reply_said, LinkAt, Entering, Inside, IsInside, IsEntering, begun}
+use Rattle.router_world.proofs.RowsHeard.{TellsEntering, TellsInside, heard-entering, heard-inside, heard-quiet, heard-logged-in, heard-failure, heard-part, heard-bad, IsReplied, heard-whole}
 use Rattle.router_world.proofs.Sets.{set-same, set-other}
 use Rattle.router_world.proofs.Calm.{carrier-same}
 use Rattle.router_world.proofs.Frames.{Calm, asked-stays, ask-calm, gone-stays}
@@ -48,8 +48,14 @@ use Rattle.router_world.proofs.LinksCalm.{RowNews}
 use Rattle.router_world.proofs.LinksRow.{opened-on, lost-on, replied-said, command-is, command-unreplied, BusyHere, LogsHere, OnHere}
 use Rattle.router_world.proofs.LinksAt.{AtRow, at-busy, came-of, row-later, user-later, calm-own, inside-stays, login-stays, IsEnteringHere, entering-here, ask-unreplied, handed-unrefused}
 use Rattle.router_world.proofs.LinksKept.{Keeps, kept-news, put-keeps, free-kept, gone-kept, said-got, got-at, got-standing, GotAt}
-use Rattle.router_world.proofs.LinksReplied.{replied-came}
-use Rattle.router_world.proofs.LinksFailed.{Fails, failed-came}
+use Rattle.router_world.proofs.LinksFailed.{Fails, failed-came, due-begun, begun-alone, carried, answered-shut, forgotten-shut, answers-one}
+use Rattle.server_side.specs.Handing.{without_reply}
+use Rattle.lend_core.specs.declared.lent.Due.{Due}
+use Rattle.lend_core.specs.declared.lent.Due.TheVariants.{Reply}
+use Rattle.promises.specs.Owners.{Owner, is_here}
+use Rattle.promises.specs.Closes.{MayDrop, IsSpoilt, Gone as HasGone}
+use Rattle.router_world.proofs.RowsStanding.{standing-clean}
+use Rattle.router_world.proofs.RowsWritten.{reply-moved}
 
 -- a login that is there has nothing behind it
 logged-in-alone : (user : Account) (heard piece : List ℕ) (pieces : List Command) (backend left : BackendState) → IsEntering user heard pieces backend → got_of piece backend ≡ Hears LoggedIn left → has_failed (opening user (heard ++ piece)) ≡ false
@@ -60,30 +66,37 @@ logged-in-alone user heard piece pieces backend left at is = by (subst (λ (got 
 pub outside-at : (user : Account) (heard : List ℕ) (pieces : List Command) (backend : BackendState) → IsEntering user heard pieces backend → backend.stage ≢ stage.In
 outside-at user heard pieces backend at inside = subst (λ s. IsOpening s backend heard (bytes_in pieces ++ backend.own)) inside at.login.is
 
-pub heard-came : (service : Service) (log : Log) (bytes : List ℕ) (lends : Lends) (link : LinkId) (lent : Lent) (got : GotAt service log bytes lends link lent) → Came service (log ++ Got link bytes ∷ []) got.at.row.turn.client lends (told_by link lent (got_of bytes lent.backend) (without_link link lends))
-heard-came service log bytes lends link lent got = by at.row.at (got_of bytes lent.backend) refl where
-  at : AtRow service log (Got link bytes) lends link lent
+and-some : (a : Bool) → (a && true) ≡ a
+and-some true = refl
+and-some false = refl
+
+and-none : (a : Bool) → (a && false) ≡ false
+and-none true = refl
+and-none false = refl
+
+module _ (service : Service) (log : Log) (bytes : List ℕ) (lends : Lends) (link : LinkId) (lent : Lent) (got : GotAt service log bytes lends link lent) where
+  abbrev at : AtRow service log (Got link bytes) lends link lent
   at = got.at
 
-  e : Entry
+  abbrev e : Entry
   e = Got link bytes
 
-  new : Log
+  abbrev new : Log
   new = log ++ e ∷ []
 
-  n : ℕ
+  abbrev n : ℕ
   n = at.row.turn.client
 
-  client : ClientNo
+  abbrev client : ClientNo
   client = record { 0 = n }
 
-  user : Account
+  abbrev user : Account
   user = lent.backend.account
 
-  heard_here : List ℕ
+  abbrev heard_here : List ℕ
   heard_here = heard_of link log
 
-  pieces : List Command
+  abbrev pieces : List Command
   pieces = pieces_of link log
 
   unlost : was_lost link new ≡ false
@@ -92,203 +105,271 @@ heard-came service log bytes lends link lent got = by at.row.at (got_of bytes le
   opened : IsOpen link new
   opened = opened-on link log e refl (λ was. refl) at.row.opened
 
-  calm-at : login_fails user link log e ≡ false → Calm service log e n
-  calm-at stays = calm-own service log e lends link lent n refl at.row stays (λ i. refl)
-
-  calm-entering : has_failed (opening user (heard_here ++ bytes)) ≡ false → Calm service log e n
-  calm-entering stays = calm-at (login-stays user link log e stays)
-
-  asks-stay : Calm service log e n → (ask : Ask) → lends.asks n ≡ Some ask → AskStands service new n ask
-  asks-stay calm ask is = ask-calm service log e n ask at.lawful (at.sound.asks n ask is) calm
-
-  busy-at : (i : ℕ) → Busy lends n i → BusyHere lends n i link lent
-  busy-at i busy = at-busy service log e lends link lent at i busy
-
-  -- the login goes on
-  quiet : (left : BackendState) → IsEntering user heard_here pieces lent.backend → got_of bytes lent.backend ≡ Hears GoesOn left → Came service new n lends (record { lends = with_link link (record lent { backend = left }) (without_link link lends); answer = None })
-  quiet left enters is = came-of service log e lends link lent at other None (kept-news service log e lends link lent at now other keeps refl row (asks-stay calm))
-      (Quiet (λ i busy. goes i (busy-at i busy)) (λ free. absurd (let no' : None ≡ Some mine.ask = sym free.unasked ∙ mine.is in cc)) (λ gone. absurd (let no' : None ≡ Some mine.ask = sym gone.unasked ∙ mine.is in cc)) (λ i busy. silent i (busy-at i busy))) where
-        now : Lent
-        now = record lent { backend = left }
-
-        other : Lends
-        other = with_link link now (without_link link lends)
-
-        keeps : Keeps link now lends other
-        keeps = put-keeps link now lends
-
-        goes_in : IsEntering user (heard_here ++ bytes) pieces left
-        goes_in = heard-quiet user heard_here bytes pieces lent.backend left enters is
-
-        calm : Calm service log e n
-        calm = calm-entering (ap has_failed goes_in.goes)
-
-        outside : lent.backend.stage ≢ stage.In
-        outside = outside-at user heard_here pieces lent.backend enters
-
-        mine : IsEnteringHere service log lends link n lent
-        mine = entering-here service log lends link lent at.row outside
-
-        row : RowStands service new other link now
-        row = row-later service log e lends other link lent now at.row at.fits opened unlost goes_in.account (got-at user link log bytes left at.row.unlost (Entering goes_in))
-            (λ c has. absurd (let no' : None ≡ Some c = sym goes_in.login.idle ∙ has in cc)) (λ still. (let it = at.row.enters outside in record { ask = it.ask; is = it.is; same = it.same })) (Own mine.owner mine.owns)
-
-        goes : (i : ℕ) → BusyHere lends n i link lent → Busy other n i
-        goes i (LogsHere owns ask asks same out) = Logs ask asks same link now owns keeps.here (outside-at user (heard_here ++ bytes) pieces left goes_in)
-        goes i (OnHere owns unasked c staged has tag) = absurd (outside staged)
-
-        silent : (i : ℕ) → BusyHere lends n i link lent → replied service n i new ≡ None
-        silent i (LogsHere owns ask asks same out) = ap (λ k. replied service n k new) (sym same) ∙ ask-unreplied service log e n ask at.lawful (at.sound.asks n ask asks) calm
-        silent i (OnHere owns unasked c staged has tag) = absurd (outside staged)
-
-  -- it is done, and the client's command goes there
-  logs_in : (left : BackendState) → IsEntering user heard_here pieces lent.backend → got_of bytes lent.backend ≡ Hears LoggedIn left → Came service new n lends (record { lends = logged_in link (record lent { backend = left }) lent.owner (without_link link lends); answer = None })
-  logs_in left enters is = subst (λ (o : Option ClientNo). Came service new n lends (record { lends = logged_in link now o (without_link link lends); answer = None })) (sym mine.owner)
-      (subst (λ (o : Option Ask). Came service new n lends (record { lends = logged_in_with link now client o (without_ask client (without_link link lends)); answer = None })) (sym mine.is)
-      (subst (λ b. Came service new n lends (record { lends = offered_at b client mine.ask link now (without_ask client (without_link link lends)); answer = None })) (sym takes) came)) where
-        now : Lent
-        now = record lent { backend = left }
-
-        outside : lent.backend.stage ≢ stage.In
-        outside = outside-at user heard_here pieces lent.backend enters
-
-        mine : IsEnteringHere service log lends link n lent
-        mine = entering-here service log lends link lent at.row outside
-
-        inside : IsInside user (heard_here ++ bytes) pieces left × (left.command ≡ None)
-        inside = heard-logged-in user heard_here bytes pieces lent.backend left enters at.row.some is
-
-        takes : takes_command left ≡ true
-        takes = ap (λ s. takes_at s left.command) inside.0.stage ∙ ap (λ c. not (is_some c)) inside.1
-
-        calm : Calm service log e n
-        calm = calm-entering (logged-in-alone user heard_here bytes pieces lent.backend left enters is)
-
-        carrying : Lent
-        carrying = commanded client mine.ask now
-
-        other : Lends
-        other = with_link link carrying (without_ask client (without_link link lends))
-
-        here : other.links link.0 ≡ Some carrying
-        here = set-same (set lends.links link.0 None) link.0 (Some carrying)
-
-        unasked : other.asks n ≡ None
-        unasked = set-same lends.asks n None
-
-        stands : AskStands service new n mine.ask
-        stands = asks-stay calm mine.ask mine.is
-
-        idle : RowStands service new other link now
-        idle = row-later service log e lends other link lent now at.row at.fits opened unlost inside.0.account (got-at user link log bytes left at.row.unlost (Inside inside.0))
-            (λ c has. absurd (let no' : None ≡ Some c = sym inside.1 ∙ has in cc)) (λ out. absurd (out inside.0.stage)) (Own mine.owner mine.owns)
-
-        news : RowNews service new n link lends other
-        news = record {
-          one = record { links = λ k differs. put-other lends.links link.0 k (Some carrying) differs; asks = λ k differs. set-other lends.asks n k None differs; owned = λ k differs. refl; waiting = λ k differs is. is; goes = Stays carrying here refl };
-          row = λ x is. subst (RowStands service new other link) (some-same carrying x (sym here ∙ is)) (handed-row service new n mine.ask other other link now stands inside.0.stage inside.1 mine.owner mine.owns idle);
-          ask = λ a is. absurd (let no' : None ≡ Some a = sym unasked ∙ is in cc);
-          owns = λ l is. subst (Owns other n) (some-same link l (sym mine.owns ∙ is)) (record { lent = carrying; there = here; owner = mine.owner });
-          one_waits = at.sound.one_waits;
-          waits = λ someone is. absurd (none-one lends.waiting at.idle is);
-          one_closes = at.sound.one_closes;
-          closes = λ l is. absurd (none-one lends.closing at.unclosed is);
-        }
-
-        ordinal : (i : ℕ) (ask : Ask) → lends.asks n ≡ Some ask → ask.ordinal ≡ i → mine.ask.ordinal ≡ i
-        ordinal i ask asks same = ap (λ (a : Ask). a.ordinal) (some-same mine.ask ask (sym mine.is ∙ asks)) ∙ same
-
-        goes : (i : ℕ) → BusyHere lends n i link lent → Busy other n i
-        goes i (LogsHere owns ask asks same out) = On unasked link carrying (record { tag = For client mine.ask.ordinal; bytes = mine.ask.packets; sent = 0; first = mine.ask.first }) mine.owns here inside.0.stage refl (ap (For client) (ordinal i ask asks same))
-        goes i (OnHere owns unasked c staged has tag) = absurd (outside staged)
-
-        silent : (i : ℕ) → BusyHere lends n i link lent → replied service n i new ≡ None
-        silent i (LogsHere owns ask asks same out) = ap (λ k. replied service n k new) (sym same) ∙ ask-unreplied service log e n ask at.lawful (at.sound.asks n ask asks) calm
-        silent i (OnHere owns unasked c staged has tag) = absurd (outside staged)
-
-        came : Came service new n lends (record { lends = other; answer = None })
-        came = came-of service log e lends link lent at other None news
-            (Quiet (λ i busy. goes i (busy-at i busy)) (λ free. absurd (let no' : None ≡ Some mine.ask = sym free.unasked ∙ mine.is in cc)) (λ gone. absurd (let no' : None ≡ Some mine.ask = sym gone.unasked ∙ mine.is in cc)) (λ i busy. silent i (busy-at i busy)))
-
-  calm-inside : IsInside user heard_here pieces lent.backend → Calm service log e n
-  calm-inside inside = calm-at (inside-stays user link log e (ap goes_on inside.is))
-
-  -- a reply goes on
-  part : (left : BackendState) (used : ℕ) → IsInside user heard_here pieces lent.backend → got_of bytes lent.backend ≡ Hears (Part used) left → Came service new n lends (record { lends = with_link link (record lent { backend = left }) (without_link link lends); answer = None })
-  part left used inside is = came-of service log e lends link lent at other None (kept-news service log e lends link lent at now other keeps refl row (asks-stay calm))
-      (Quiet (λ i busy. goes i (busy-at i busy)) (free-kept service log e lends link lent at now other keeps (λ idle. (goes_in.0.stage, goes_in.1 ∙ idle.1))) (gone-kept n link now lends other keeps) (λ i busy. silent i (busy-at i busy))) where
-        now : Lent
-        now = record lent { backend = left }
-
-        other : Lends
-        other = with_link link now (without_link link lends)
-
-        keeps : Keeps link now lends other
-        keeps = put-keeps link now lends
-
-        goes_in : IsInside user (heard_here ++ bytes) pieces left × (left.command ≡ lent.backend.command)
-        goes_in = heard-part user heard_here bytes pieces lent.backend left used inside got.some is
-
-        calm : Calm service log e n
-        calm = calm-inside inside
-
-        now_at : LinkAt user (heard_of link new) (pieces_of link new) left
-        now_at = got-at user link log bytes left at.row.unlost (Inside goes_in.0)
-
-        unreplied : (c : Handed) (has : lent.backend.command ≡ Some c) → replied service n (at.row.command c has).ordinal new ≡ None
-        unreplied c has = (let stands = at.row.command c has in
-            command-unreplied service n stands.ordinal link user new left c (refused-or-sent service new at.lawful) now_at (goes_in.1 ∙ has) stands.tag (carrier-same n stands.ordinal log e refl ∙ stands.carrier) (user-later service log e lends link lent at.row) unlost
-            (λ none. handed-unrefused service log e n stands.ordinal c.bytes c.first stands.asked calm))
-
-        handed : (c : Handed) → lent.backend.command ≡ Some c → HandedStands service new n link c
-        handed c has = (let stands = at.row.command c has in record {
-          ordinal = stands.ordinal;
-          tag = stands.tag;
-          asked = asked-stays service log e n stands.ordinal c.bytes c.first at.lawful stands.asked (unreplied c has);
-          carrier = carrier-same n stands.ordinal log e refl ∙ stands.carrier;
-        })
-
-        row : RowStands service new other link now
-        row = row-later service log e lends other link lent now at.row at.fits opened unlost goes_in.0.account now_at (λ c has. handed c (sym goes_in.1 ∙ has)) (λ out. absurd (out goes_in.0.stage)) (owned at.row.owned) where
-          owned : Owned service log lends link n lent → Owned service new other link n now
-          owned (Own own owns) = Own own owns
-          owned (Left none gone begins) = Left none (gone-stays service n user log e (lawful-last Fits log e at.fits).1 at.row.user gone) (ap is_begun goes_in.1 ∙ begins)
-
-        goes : (i : ℕ) → BusyHere lends n i link lent → Busy other n i
-        goes i (LogsHere owns ask asks same out) = absurd (out inside.stage)
-        goes i (OnHere owns unasked c staged has tag) = On unasked link now c owns keeps.here goes_in.0.stage (goes_in.1 ∙ has) tag
-
-        silent : (i : ℕ) → BusyHere lends n i link lent → replied service n i new ≡ None
-        silent i (LogsHere owns ask asks same out) = absurd (out inside.stage)
-        silent i (OnHere owns unasked c staged has tag) = (let stands = at.row.command c has in
-            let same : stands.ordinal ≡ i = (let both : For client stands.ordinal ≡ For client i = sym stands.tag ∙ tag in cc) in ap (λ k. replied service n k new) (sym same) ∙ unreplied c has)
-
   -- a reply is whole
-  whole : (left : BackendState) (used : ℕ) → IsInside user heard_here pieces lent.backend → got_of bytes lent.backend ≡ Hears (Whole used) left → Came service new n lends (answers link (due_on lent.backend) lent.owner left (without_link link lends))
-  whole left used inside is = replied-came service log bytes lends link lent got left used inside is (asks-stay (calm-inside inside))
+  replied-came : (left : BackendState) (used : ℕ) → IsInside user heard_here pieces lent.backend → got_of bytes lent.backend ≡ Hears (Whole used) left → ((ask : Ask) → lends.asks n ≡ Some ask → AskStands service new n ask)
+      → Came service new n lends (answers link (due_on lent.backend) lent.owner left (without_link link lends))
+  replied-came left used inside is asks_stay = subst (λ (due : Due). Came service new n lends (answers link due lent.owner left (without_link link lends))) (sym due) (by at.row.owned) where
+    rep : IsReplied user (heard_here ++ bytes) pieces lent.backend left
+    rep = heard-whole user heard_here bytes pieces lent.backend left used inside got.some is
 
-  -- no reply goes on so
-  broken : (fault : BackendFault) → got_of bytes lent.backend ≡ GotFault fault → standing_said user (heard_here ++ bytes) pieces ≡ Spoilt → Fails service log e link lent n (BadServerBytes (place_of fault))
-  broken fault is spoilt = record {
-    opened = opened;
-    spoilt = got-standing user link log bytes Spoilt at.row.unlost spoilt;
-    silent = λ i. refl;
-    fails = λ enters. ap (λ b. cond b false (cond (goes_on (login_on user link log)) (breaks_off user link log e) false)) at.row.unlost ∙ ap (λ b. cond b (breaks_off user link log e) false) (ap goes_on enters.goes) ∙ (heard-failure user heard_here bytes pieces lent.backend fault enters at.row.some is).0;
-    told = λ c i inside has some tag carrier. (let bad = heard-bad user heard_here bytes pieces lent.backend fault inside got.some is in
-        replied-said service n i link user new (refused-or-sent service new at.lawful) (carrier-stays n i log (e ∷ []) link carrier) (user-later service log e lends link lent at.row)
+    c : Handed
+    c = rep.command
+
+    sent : Bool
+    sent = nat_eq c.sent (length c.bytes)
+
+    clean : Bool
+    clean = nat_eq c.sent (length c.bytes) && nat_eq (length left.framer.kept) 0
+
+    due : due_on lent.backend ≡ Reply (nat_eq c.sent (length c.bytes)) c.first
+    due = due-begun lent.backend c inside.stage rep.is rep.sent
+
+    told : (i : ℕ) → c.tag ≡ For client i → carrier_of n i log ≡ Some link → replied service n i new ≡ Some (rep.payload ∷ [])
+    told i tag carrier = replied-said service n i link user new (refused-or-sent service new at.lawful) (carrier-stays n i log (e ∷ []) link carrier) (user-later service log e lends link lent at.row)
         ∙ said-got (λ h p. reply_said n i user h p (was_lost link new)) link log bytes at.row.unlost
-        ∙ bad.told c n i (was_lost link new) has some (command-is n i c.tag tag)
-        ∙ ap (λ f. Some (bad_server_bytes (place_of f) ∷ [])) (sym bad.bad_bytes));
-  }
+        ∙ rep.told n i (was_lost link new) (command-is n i c.tag tag)
 
-  by : LinkAt user heard_here pieces lent.backend → (gets : Gets) → got_of bytes lent.backend ≡ gets → Came service new n lends (told_by link lent gets (without_link link lends))
-  by (Entering enters) (Hears GoesOn left) is = quiet left enters is
-  by (Entering enters) (Hears LoggedIn left) is = logs_in left enters is
-  by (Entering enters) (Hears (Part used) left) is = absurd (subst (TellsEntering user (heard_here ++ bytes) pieces) is (heard-entering user heard_here bytes pieces lent.backend enters at.row.some))
-  by (Entering enters) (Hears (Whole used) left) is = absurd (subst (TellsEntering user (heard_here ++ bytes) pieces) is (heard-entering user heard_here bytes pieces lent.backend enters at.row.some))
-  by (Entering enters) (GotFault fault) is = failed-came service log e lends link lent (BadServerBytes (place_of fault)) at (broken fault is (heard-failure user heard_here bytes pieces lent.backend fault enters at.row.some is).1)
-  by (Inside inside) (Hears GoesOn left) is = absurd (subst (TellsInside user (heard_here ++ bytes) pieces lent.backend) is (heard-inside user heard_here bytes pieces lent.backend inside got.some))
-  by (Inside inside) (Hears LoggedIn left) is = absurd (subst (TellsInside user (heard_here ++ bytes) pieces lent.backend) is (heard-inside user heard_here bytes pieces lent.backend inside got.some))
-  by (Inside inside) (Hears (Part used) left) is = part left used inside is
-  by (Inside inside) (Hears (Whole used) left) is = whole left used inside is
-  by (Inside inside) (GotFault fault) is = failed-came service log e lends link lent (BadServerBytes (place_of fault)) at (broken fault is (heard-bad user heard_here bytes pieces lent.backend fault inside got.some is).spoilt)
+    spoilt : (owner : Owner) → clean ≡ false → MayDrop service owner user link new
+    spoilt owner unclean = IsSpoilt (got-standing user link log bytes Spoilt at.row.unlost (rep.spoilt unclean))
+
+    -- the link serves on
+    kept : lent.owner ≡ Some client → lends.owned n ≡ Some link → clean ≡ true
+        → Came service new n lends (record { lends = with_link link (record { owner = Some client; backend = without_reply left }) (without_link link lends); answer = Some (record { client = client; packets = left.reply }) })
+    kept own owns is_clean = came-of service log e lends link lent at other (Some (record { client = client; packets = left.reply })) (kept-news service log e lends link lent at now other keeps (sym own) row asks_stay)
+        (answers-one service new n stands.ordinal lends other rep.payload left.reply c.bytes c.first log rep.reply (On unasked link lent c owns at.there inside.stage rep.is stands.tag) stands.asked
+        (told stands.ordinal stands.tag (carried service log n link c stands rep.sent)) (record { unasked = unasked; idle = λ l x owned here. idle l x owned here }) at.idle (inl at.unclosed)) where
+          now : Lent
+          now = record { owner = Some client; backend = without_reply left }
+
+          other : Lends
+          other = with_link link now (without_link link lends)
+
+          keeps : Keeps link now lends other
+          keeps = put-keeps link now lends
+
+          stands : HandedStands service log n link c
+          stands = at.row.command c rep.is
+
+          unasked : lends.asks n ≡ None
+          unasked = begun-alone service log lends n link c at.sound stands rep.sent
+
+          in_left : IsInside user (heard_here ++ bytes) pieces left
+          in_left = rep.inside is_clean
+
+          row : RowStands service new other link now
+          row = row-later service log e lends other link lent now at.row at.fits opened unlost in_left.account
+              (got-at user link log bytes (without_reply left) at.row.unlost (Inside (reply-moved user (heard_here ++ bytes) pieces left [] in_left)))
+              (λ d has. absurd (let no' : None ≡ Some d = sym rep.idle ∙ has in cc)) (λ out. absurd (out in_left.stage)) (Own refl owns)
+
+          idle : (l : LinkId) (x : Lent) → lends.owned n ≡ Some l → other.links l.0 ≡ Some x → (x.backend.stage ≡ stage.In) × (x.backend.command ≡ None)
+          idle l x owned there = (let here : link ≡ l = some-same link l (sym owns ∙ owned) in
+              subst (λ (y : Lent). (y.backend.stage ≡ stage.In) × (y.backend.command ≡ None)) (some-same now x (sym keeps.here ∙ ap (λ (k : LinkId). other.links k.0) here ∙ there)) (in_left.stage, rep.idle))
+
+    finish : lent.owner ≡ Some client → lends.owned n ≡ Some link → (b : Bool) → clean ≡ b
+        → Came service new n lends (record { lends = kept_or_closed b link (record { owner = Some client; backend = without_reply left }) (without_link link lends); answer = Some (record { client = client; packets = left.reply }) })
+    finish own owns true is_clean = kept own owns is_clean
+    finish own owns false unclean = answered-shut service log e lends link lent at c rep.payload left.reply opened (spoilt _ unclean) asks_stay inside.stage rep.is rep.sent owns rep.reply told
+
+    -- its client has gone
+    drops : is_here n log ≡ false → (b : Bool) → clean ≡ b → MayDrop service (record { client = n; hostgroup = at.row.turn.hostgroup }) user link new
+    drops gone false unclean = spoilt _ unclean
+    drops gone true is_clean = HasGone (gone-stays service n user log e (lawful-last Fits log e at.fits).1 at.row.user gone)
+        (λ runs. (let no' : Clean ≡ Runs = sym (got-standing user link log bytes Clean at.row.unlost (standing-clean user (heard_here ++ bytes) pieces left (rep.inside is_clean) (ap begun rep.idle))) ∙ runs in cc))
+
+    by : Owned service log lends link n lent → Came service new n lends (answers link (Reply (nat_eq c.sent (length c.bytes)) c.first) lent.owner left (without_link link lends))
+    by (Own own owns) = subst (λ (o : Option ClientNo). Came service new n lends (answers link (Reply (nat_eq c.sent (length c.bytes)) c.first) o left (without_link link lends))) (sym own)
+        (subst (λ b. Came service new n lends (record { lends = kept_or_closed b link (record { owner = Some client; backend = without_reply left }) (without_link link lends); answer = Some (record { client = client; packets = left.reply }) })) (sym (and-some clean)) (finish own owns clean refl))
+    by (Left none gone begins) = subst (λ (o : Option ClientNo). Came service new n lends (answers link (Reply (nat_eq c.sent (length c.bytes)) c.first) o left (without_link link lends))) (sym none)
+        (subst (λ b. Came service new n lends (record { lends = kept_or_closed b link (record { owner = None; backend = without_reply left }) (without_link link lends); answer = None })) (sym (and-none clean))
+        (forgotten-shut service log e lends link lent at none opened (drops gone clean refl) asks_stay))
+
+  pub heard-came : Came service new n lends (told_by link lent (got_of bytes lent.backend) (without_link link lends))
+  heard-came = by at.row.at (got_of bytes lent.backend) refl where
+    calm-at : login_fails user link log e ≡ false → Calm service log e n
+    calm-at stays = calm-own service log e lends link lent n refl at.row stays (λ i. refl)
+
+    calm-entering : has_failed (opening user (heard_here ++ bytes)) ≡ false → Calm service log e n
+    calm-entering stays = calm-at (login-stays user link log e stays)
+
+    asks-stay : Calm service log e n → (ask : Ask) → lends.asks n ≡ Some ask → AskStands service new n ask
+    asks-stay calm ask is = ask-calm service log e n ask at.lawful (at.sound.asks n ask is) calm
+
+    busy-at : (i : ℕ) → Busy lends n i → BusyHere lends n i link lent
+    busy-at i busy = at-busy service log e lends link lent at i busy
+
+    -- the row with what is left on its link, and the links to servers with it
+    row_with : BackendState → Lent
+    row_with left = record lent { backend = left }
+
+    lends_with : BackendState → Lends
+    lends_with left = with_link link (row_with left) (without_link link lends)
+
+    kept_with : (left : BackendState) → Keeps link (row_with left) lends (lends_with left)
+    kept_with left = put-keeps link (row_with left) lends
+
+    -- while the link logs in, its client is told nothing
+    silent-entering : lent.backend.stage ≢ stage.In → Calm service log e n → (i : ℕ) → BusyHere lends n i link lent → replied service n i new ≡ None
+    silent-entering outside calm i (LogsHere owns ask asks same out) = ap (λ k. replied service n k new) (sym same) ∙ ask-unreplied service log e n ask at.lawful (at.sound.asks n ask asks) calm
+    silent-entering outside calm i (OnHere owns unasked c staged has tag) = absurd (outside staged)
+
+    -- the login goes on
+    quiet : (left : BackendState) → IsEntering user heard_here pieces lent.backend → got_of bytes lent.backend ≡ Hears GoesOn left → Came service new n lends (record { lends = with_link link (record lent { backend = left }) (without_link link lends); answer = None })
+    quiet left enters is = came-of service log e lends link lent at (lends_with left) None (kept-news service log e lends link lent at (row_with left) (lends_with left) (kept_with left) refl row (asks-stay calm))
+        (Quiet (λ i busy. goes i (busy-at i busy)) (λ free. absurd (let no' : None ≡ Some mine.ask = sym free.unasked ∙ mine.is in cc)) (λ gone. absurd (let no' : None ≡ Some mine.ask = sym gone.unasked ∙ mine.is in cc)) (λ i busy. silent-entering outside calm i (busy-at i busy))) where
+          goes_in : IsEntering user (heard_here ++ bytes) pieces left
+          goes_in = heard-quiet user heard_here bytes pieces lent.backend left enters is
+
+          calm : Calm service log e n
+          calm = calm-entering (ap has_failed goes_in.goes)
+
+          outside : lent.backend.stage ≢ stage.In
+          outside = outside-at user heard_here pieces lent.backend enters
+
+          mine : IsEnteringHere service log lends link n lent
+          mine = entering-here service log lends link lent at.row outside
+
+          row : RowStands service new (lends_with left) link (row_with left)
+          row = row-later service log e lends (lends_with left) link lent (row_with left) at.row at.fits opened unlost goes_in.account (got-at user link log bytes left at.row.unlost (Entering goes_in))
+              (λ c has. absurd (let no' : None ≡ Some c = sym goes_in.login.idle ∙ has in cc)) (λ still. (let it = at.row.enters outside in record { ask = it.ask; is = it.is; same = it.same })) (Own mine.owner mine.owns)
+
+          goes : (i : ℕ) → BusyHere lends n i link lent → Busy (lends_with left) n i
+          goes i (LogsHere owns ask asks same out) = Logs ask asks same link (row_with left) owns (kept_with left).here (outside-at user (heard_here ++ bytes) pieces left goes_in)
+          goes i (OnHere owns unasked c staged has tag) = absurd (outside staged)
+
+    -- it is done, and the client's command goes there
+    logs_in : (left : BackendState) → IsEntering user heard_here pieces lent.backend → got_of bytes lent.backend ≡ Hears LoggedIn left → Came service new n lends (record { lends = logged_in link (record lent { backend = left }) lent.owner (without_link link lends); answer = None })
+    logs_in left enters is = subst (λ (o : Option ClientNo). Came service new n lends (record { lends = logged_in link now o (without_link link lends); answer = None })) (sym mine.owner)
+        (subst (λ (o : Option Ask). Came service new n lends (record { lends = logged_in_with link now client o (without_ask client (without_link link lends)); answer = None })) (sym mine.is)
+        (subst (λ b. Came service new n lends (record { lends = offered_at b client mine.ask link now (without_ask client (without_link link lends)); answer = None })) (sym takes) came)) where
+          now : Lent
+          now = record lent { backend = left }
+
+          outside : lent.backend.stage ≢ stage.In
+          outside = outside-at user heard_here pieces lent.backend enters
+
+          mine : IsEnteringHere service log lends link n lent
+          mine = entering-here service log lends link lent at.row outside
+
+          inside : IsInside user (heard_here ++ bytes) pieces left × (left.command ≡ None)
+          inside = heard-logged-in user heard_here bytes pieces lent.backend left enters at.row.some is
+
+          takes : takes_command left ≡ true
+          takes = ap (λ s. takes_at s left.command) inside.0.stage ∙ ap (λ c. not (is_some c)) inside.1
+
+          calm : Calm service log e n
+          calm = calm-entering (logged-in-alone user heard_here bytes pieces lent.backend left enters is)
+
+          carrying : Lent
+          carrying = commanded client mine.ask now
+
+          other : Lends
+          other = with_link link carrying (without_ask client (without_link link lends))
+
+          here : other.links link.0 ≡ Some carrying
+          here = set-same (set lends.links link.0 None) link.0 (Some carrying)
+
+          unasked : other.asks n ≡ None
+          unasked = set-same lends.asks n None
+
+          stands : AskStands service new n mine.ask
+          stands = asks-stay calm mine.ask mine.is
+
+          idle : RowStands service new other link now
+          idle = row-later service log e lends other link lent now at.row at.fits opened unlost inside.0.account (got-at user link log bytes left at.row.unlost (Inside inside.0))
+              (λ c has. absurd (let no' : None ≡ Some c = sym inside.1 ∙ has in cc)) (λ out. absurd (out inside.0.stage)) (Own mine.owner mine.owns)
+
+          news : RowNews service new n link lends other
+          news = record {
+            one = record { links = λ k differs. put-other lends.links link.0 k (Some carrying) differs; asks = λ k differs. set-other lends.asks n k None differs; owned = λ k differs. refl; waiting = λ k differs is. is; goes = Stays carrying here refl };
+            row = λ x is. subst (RowStands service new other link) (some-same carrying x (sym here ∙ is)) (handed-row service new n mine.ask other other link now stands inside.0.stage inside.1 mine.owner mine.owns idle);
+            ask = λ a is. absurd (let no' : None ≡ Some a = sym unasked ∙ is in cc);
+            owns = λ l is. subst (Owns other n) (some-same link l (sym mine.owns ∙ is)) (record { lent = carrying; there = here; owner = mine.owner });
+            one_waits = at.sound.one_waits;
+            waits = λ someone is. absurd (none-one lends.waiting at.idle is);
+            one_closes = at.sound.one_closes;
+            closes = λ l is. absurd (none-one lends.closing at.unclosed is);
+          }
+
+          ordinal : (i : ℕ) (ask : Ask) → lends.asks n ≡ Some ask → ask.ordinal ≡ i → mine.ask.ordinal ≡ i
+          ordinal i ask asks same = ap (λ (a : Ask). a.ordinal) (some-same mine.ask ask (sym mine.is ∙ asks)) ∙ same
+
+          goes : (i : ℕ) → BusyHere lends n i link lent → Busy other n i
+          goes i (LogsHere owns ask asks same out) = On unasked link carrying (record { tag = For client mine.ask.ordinal; bytes = mine.ask.packets; sent = 0; first = mine.ask.first }) mine.owns here inside.0.stage refl (ap (For client) (ordinal i ask asks same))
+          goes i (OnHere owns unasked c staged has tag) = absurd (outside staged)
+
+          came : Came service new n lends (record { lends = other; answer = None })
+          came = came-of service log e lends link lent at other None news
+              (Quiet (λ i busy. goes i (busy-at i busy)) (λ free. absurd (let no' : None ≡ Some mine.ask = sym free.unasked ∙ mine.is in cc)) (λ gone. absurd (let no' : None ≡ Some mine.ask = sym gone.unasked ∙ mine.is in cc)) (λ i busy. silent-entering outside calm i (busy-at i busy)))
+
+    calm-inside : IsInside user heard_here pieces lent.backend → Calm service log e n
+    calm-inside inside = calm-at (inside-stays user link log e (ap goes_on inside.is))
+
+    -- a reply goes on
+    part : (left : BackendState) (used : ℕ) → IsInside user heard_here pieces lent.backend → got_of bytes lent.backend ≡ Hears (Part used) left → Came service new n lends (record { lends = with_link link (record lent { backend = left }) (without_link link lends); answer = None })
+    part left used inside is = came-of service log e lends link lent at (lends_with left) None (kept-news service log e lends link lent at (row_with left) (lends_with left) (kept_with left) refl row (asks-stay calm))
+        (Quiet (λ i busy. goes i (busy-at i busy)) (free-kept service log e lends link lent at (row_with left) (lends_with left) (kept_with left) (λ idle. (goes_in.0.stage, goes_in.1 ∙ idle.1))) (gone-kept n link (row_with left) lends (lends_with left) (kept_with left)) (λ i busy. silent i (busy-at i busy))) where
+          goes_in : IsInside user (heard_here ++ bytes) pieces left × (left.command ≡ lent.backend.command)
+          goes_in = heard-part user heard_here bytes pieces lent.backend left used inside got.some is
+
+          calm : Calm service log e n
+          calm = calm-inside inside
+
+          now_at : LinkAt user (heard_of link new) (pieces_of link new) left
+          now_at = got-at user link log bytes left at.row.unlost (Inside goes_in.0)
+
+          unreplied : (c : Handed) (has : lent.backend.command ≡ Some c) → replied service n (at.row.command c has).ordinal new ≡ None
+          unreplied c has = (let stands = at.row.command c has in
+              command-unreplied service n stands.ordinal link user new left c (refused-or-sent service new at.lawful) now_at (goes_in.1 ∙ has) stands.tag (carrier-same n stands.ordinal log e refl ∙ stands.carrier) (user-later service log e lends link lent at.row) unlost
+              (λ none. handed-unrefused service log e n stands.ordinal c.bytes c.first stands.asked calm))
+
+          handed : (c : Handed) → lent.backend.command ≡ Some c → HandedStands service new n link c
+          handed c has = (let stands = at.row.command c has in record {
+            ordinal = stands.ordinal;
+            tag = stands.tag;
+            asked = asked-stays service log e n stands.ordinal c.bytes c.first at.lawful stands.asked (unreplied c has);
+            carrier = carrier-same n stands.ordinal log e refl ∙ stands.carrier;
+          })
+
+          row : RowStands service new (lends_with left) link (row_with left)
+          row = row-later service log e lends (lends_with left) link lent (row_with left) at.row at.fits opened unlost goes_in.0.account now_at (λ c has. handed c (sym goes_in.1 ∙ has)) (λ out. absurd (out goes_in.0.stage)) (owned at.row.owned) where
+            owned : Owned service log lends link n lent → Owned service new (lends_with left) link n (row_with left)
+            owned (Own own owns) = Own own owns
+            owned (Left none gone begins) = Left none (gone-stays service n user log e (lawful-last Fits log e at.fits).1 at.row.user gone) (ap is_begun goes_in.1 ∙ begins)
+
+          goes : (i : ℕ) → BusyHere lends n i link lent → Busy (lends_with left) n i
+          goes i (LogsHere owns ask asks same out) = absurd (out inside.stage)
+          goes i (OnHere owns unasked c staged has tag) = On unasked link (row_with left) c owns (kept_with left).here goes_in.0.stage (goes_in.1 ∙ has) tag
+
+          silent : (i : ℕ) → BusyHere lends n i link lent → replied service n i new ≡ None
+          silent i (LogsHere owns ask asks same out) = absurd (out inside.stage)
+          silent i (OnHere owns unasked c staged has tag) = (let stands = at.row.command c has in
+              let same : stands.ordinal ≡ i = (let both : For client stands.ordinal ≡ For client i = sym stands.tag ∙ tag in cc) in ap (λ k. replied service n k new) (sym same) ∙ unreplied c has)
+
+    whole : (left : BackendState) (used : ℕ) → IsInside user heard_here pieces lent.backend → got_of bytes lent.backend ≡ Hears (Whole used) left → Came service new n lends (answers link (due_on lent.backend) lent.owner left (without_link link lends))
+    whole left used inside is = replied-came left used inside is (asks-stay (calm-inside inside))
+
+    -- no reply goes on so
+    broken : (fault : BackendFault) → got_of bytes lent.backend ≡ GotFault fault → standing_said user (heard_here ++ bytes) pieces ≡ Spoilt → Fails service log e link lent n (BadServerBytes (place_of fault))
+    broken fault is spoilt = record {
+      opened = opened;
+      spoilt = got-standing user link log bytes Spoilt at.row.unlost spoilt;
+      silent = λ i. refl;
+      fails = λ enters. ap (λ b. cond b false (cond (goes_on (login_on user link log)) (breaks_off user link log e) false)) at.row.unlost ∙ ap (λ b. cond b (breaks_off user link log e) false) (ap goes_on enters.goes) ∙ (heard-failure user heard_here bytes pieces lent.backend fault enters at.row.some is).0;
+      told = λ c i inside has some tag carrier. (let bad = heard-bad user heard_here bytes pieces lent.backend fault inside got.some is in
+          replied-said service n i link user new (refused-or-sent service new at.lawful) (carrier-stays n i log (e ∷ []) link carrier) (user-later service log e lends link lent at.row)
+          ∙ said-got (λ h p. reply_said n i user h p (was_lost link new)) link log bytes at.row.unlost
+          ∙ bad.told c n i (was_lost link new) has some (command-is n i c.tag tag)
+          ∙ ap (λ f. Some (bad_server_bytes (place_of f) ∷ [])) (sym bad.bad_bytes));
+    }
+
+    by : LinkAt user heard_here pieces lent.backend → (gets : Gets) → got_of bytes lent.backend ≡ gets → Came service new n lends (told_by link lent gets (without_link link lends))
+    by (Entering enters) (Hears GoesOn left) is = quiet left enters is
+    by (Entering enters) (Hears LoggedIn left) is = logs_in left enters is
+    by (Entering enters) (Hears (Part used) left) is = absurd (subst (TellsEntering user (heard_here ++ bytes) pieces) is (heard-entering user heard_here bytes pieces lent.backend enters at.row.some))
+    by (Entering enters) (Hears (Whole used) left) is = absurd (subst (TellsEntering user (heard_here ++ bytes) pieces) is (heard-entering user heard_here bytes pieces lent.backend enters at.row.some))
+    by (Entering enters) (GotFault fault) is = failed-came service log e lends link lent (BadServerBytes (place_of fault)) at (broken fault is (heard-failure user heard_here bytes pieces lent.backend fault enters at.row.some is).1)
+    by (Inside inside) (Hears GoesOn left) is = absurd (subst (TellsInside user (heard_here ++ bytes) pieces lent.backend) is (heard-inside user heard_here bytes pieces lent.backend inside got.some))
+    by (Inside inside) (Hears LoggedIn left) is = absurd (subst (TellsInside user (heard_here ++ bytes) pieces lent.backend) is (heard-inside user heard_here bytes pieces lent.backend inside got.some))
+    by (Inside inside) (Hears (Part used) left) is = part left used inside is
+    by (Inside inside) (Hears (Whole used) left) is = whole left used inside is
+    by (Inside inside) (GotFault fault) is = failed-came service log e lends link lent (BadServerBytes (place_of fault)) at (broken fault is (heard-bad user heard_here bytes pieces lent.backend fault inside got.some is).spoilt)

@@ -30,28 +30,35 @@ pub first-at : (user : Account) → LinkAt user [] [] (new_backend user)
 unfolding opening
 first-at user = Entering (record { account = refl; login = opening-new user; goes = ap (greeting_by user) (first_message-empty most_payload 0) })
 
--- The packets of a message are handed to a link that has no command.
-pub packets-handed : (user : Account) (heard : List ℕ) (pieces : List Command) (backend : BackendState) (tag : Tag) (packets payload : List ℕ) (first : ℕ) → IsInside user heard pieces backend → backend.command ≡ None → packets ≡ spelling 0 payload → length payload ≤ most_command
-    → IsInside user heard pieces (record backend { command = Some (record { tag = tag; bytes = packets; sent = 0; first = first }) })
-packets-handed user heard pieces backend tag packets payload first at none spelt short = record {
+-- A link on which a session runs, after what was handed to it, written of it or moved out.
+inside-after : (user : Account) (heard : List ℕ) (pieces now : List Command) (backend : BackendState) (own reply : List ℕ) (handed : Option Handed) (at : IsInside user heard pieces backend)
+    → (bytes_in now ++ own ≡ at.said) ⊎ ((own ≡ []) × IsPrefix at.said (bytes_in now)) → commands_in (behind (length at.said) now) ≡ at.others ++ begun handed → IsHanded handed
+    → ((n i : ℕ) → list_any (is_of n i) (begun handed) ≡ true → list_any (is_of n i) at.others ≡ false) → (begun handed ≡ [] → backend.framer.kept ≡ []) → IsInside user heard now (record backend { own = own; command = handed; reply = reply })
+inside-after user heard pieces now backend own reply handed at written commands command new unasked = record {
   account = at.account;
   stage = at.stage;
   framer = at.framer;
   said = at.said;
   past = at.past;
   is = at.is;
-  written = at.written;
+  written = written;
   others = at.others;
   wholes = at.wholes;
-  commands = at.commands ∙ ap (λ o. at.others ++ begun o) none;
-  command = record { payload = payload; spelt = spelt; short = short; sent = omega arith };
-  new = λ n i is. absurd (let no : false ≡ true = is in cc);
+  commands = commands;
+  command = command;
+  new = new;
   whole = at.whole;
   replies = at.replies;
   all = at.all;
-  unasked = λ is. at.unasked (ap begun none);
+  unasked = unasked;
   partly = at.partly;
 }
+
+-- The packets of a message are handed to a link that has no command.
+pub packets-handed : (user : Account) (heard : List ℕ) (pieces : List Command) (backend : BackendState) (tag : Tag) (packets payload : List ℕ) (first : ℕ) → IsInside user heard pieces backend → backend.command ≡ None → packets ≡ spelling 0 payload → length payload ≤ most_command
+    → IsInside user heard pieces (record backend { command = Some (record { tag = tag; bytes = packets; sent = 0; first = first }) })
+packets-handed user heard pieces backend tag packets payload first at none spelt short = inside-after user heard pieces pieces backend backend.own backend.reply (Some (record { tag = tag; bytes = packets; sent = 0; first = first })) at at.written
+    (at.commands ∙ ap (λ o. at.others ++ begun o) none) (record { payload = payload; spelt = spelt; short = short; sent = omega arith }) (λ n i is. absurd (let no : false ≡ true = is in cc)) (λ is. at.unasked (ap begun none))
 
 pub handed-at : (user : Account) (heard : List ℕ) (pieces : List Command) (backend : BackendState) (tag : Tag) (payload : List ℕ) (first : ℕ) → IsInside user heard pieces backend → backend.command ≡ None → length payload ≤ most_command
     → IsInside user heard pieces (commanded tag payload first backend)
@@ -59,25 +66,7 @@ handed-at user heard pieces backend tag payload first at none short = packets-ha
 
 -- The last reply is moved out.
 pub reply-moved : (user : Account) (heard : List ℕ) (pieces : List Command) (backend : BackendState) (reply : List ℕ) → IsInside user heard pieces backend → IsInside user heard pieces (record backend { reply = reply })
-reply-moved user heard pieces backend reply at = record {
-  account = at.account;
-  stage = at.stage;
-  framer = at.framer;
-  said = at.said;
-  past = at.past;
-  is = at.is;
-  written = at.written;
-  others = at.others;
-  wholes = at.wholes;
-  commands = at.commands;
-  command = at.command;
-  new = at.new;
-  whole = at.whole;
-  replies = at.replies;
-  all = at.all;
-  unasked = at.unasked;
-  partly = at.partly;
-}
+reply-moved user heard pieces backend reply at = inside-after user heard pieces pieces backend backend.own reply backend.command at at.written at.commands at.command at.new at.unasked
 
 -- What was written of the command, once a byte of it was.
 pub begun-some : (command : Handed) → 0 < command.sent → begun (Some command) ≡ record { tag = command.tag; bytes = take command.sent command.bytes } ∷ []
@@ -144,35 +133,18 @@ own-first user heard pieces backend at some = nil_from_length (begun backend.com
 
 own-taken : (user : Account) (heard : List ℕ) (pieces : List Command) (backend : BackendState) (n : ℕ) → IsInside user heard pieces backend → 0 < n → n ≤ length backend.own
     → IsInside user heard (pieces ++ record { tag = Own; bytes = take n backend.own } ∷ []) (record backend { own = drop n backend.own })
-own-taken user heard pieces backend n at some fits = record {
-  account = at.account;
-  stage = at.stage;
-  framer = at.framer;
-  said = at.said;
-  past = at.past;
-  is = at.is;
-  written = inl (same-said pieces Own n backend.own ∙ own-left user heard pieces backend at (omega arith));
-  others = at.others;
-  wholes = at.wholes;
-  commands = commands;
-  command = at.command;
-  new = at.new;
-  whole = at.whole;
-  replies = at.replies;
-  all = at.all;
-  unasked = at.unasked;
-  partly = at.partly;
-} where
-  piece : Command
-  piece = record { tag = Own; bytes = take n backend.own }
+own-taken user heard pieces backend n at some fits = inside-after user heard pieces (pieces ++ piece ∷ []) backend (drop n backend.own) backend.reply backend.command at
+    (inl (same-said pieces Own n backend.own ∙ own-left user heard pieces backend at (omega arith))) commands at.command at.new at.unasked where
+      piece : Command
+      piece = record { tag = Own; bytes = take n backend.own }
 
-  longer : length at.said ≡ length (bytes_in pieces) + length backend.own
-  longer = said-longer user heard pieces backend at (omega arith)
+      longer : length at.said ≡ length (bytes_in pieces) + length backend.own
+      longer = said-longer user heard pieces backend at (omega arith)
 
-  commands : commands_in (behind (length at.said) (pieces ++ piece ∷ [])) ≡ at.others ++ begun backend.command
-  commands = (let sum = longer in let size : length (take n backend.own) ≡ n = length-take-le n backend.own fits in
-      ap commands_in (behind-past (length at.said) pieces (piece ∷ []) (omega arith) ∙ behind-one (length at.said - length (bytes_in pieces)) piece (omega arith) (omega arith))
-      ∙ none-behind user heard pieces backend at (omega arith))
+      commands : commands_in (behind (length at.said) (pieces ++ piece ∷ [])) ≡ at.others ++ begun backend.command
+      commands = (let sum = longer in let size : length (take n backend.own) ≡ n = length-take-le n backend.own fits in
+          ap commands_in (behind-past (length at.said) pieces (piece ∷ []) (omega arith) ∙ behind-one (length at.said - length (bytes_in pieces)) piece (omega arith) (omega arith))
+          ∙ none-behind user heard pieces backend at (omega arith))
 
 -- all that the router says in a login was written
 pub said-written : (user : Account) (heard : List ℕ) (pieces : List Command) (backend : BackendState) (at : IsInside user heard pieces backend) → backend.own ≡ [] → IsPrefix at.said (bytes_in pieces)
@@ -191,54 +163,39 @@ prefix-more front whole more longer at same = record { rest = at.rest ++ more; i
 command-taken : (user : Account) (heard : List ℕ) (pieces : List Command) (backend : BackendState) (command : Handed) (n : ℕ) → IsInside user heard pieces backend → backend.own ≡ [] → backend.command ≡ Some command
     → 0 < n → n ≤ length (drop command.sent command.bytes) → IsFresh backend.command pieces
     → IsInside user heard (pieces ++ record { tag = command.tag; bytes = take n (drop command.sent command.bytes) } ∷ []) (record backend { command = Some (record command { sent = command.sent + n }) })
-command-taken user heard pieces backend command n at none is some fits fresh = record {
-  account = at.account;
-  stage = at.stage;
-  framer = at.framer;
-  said = at.said;
-  past = at.past;
-  is = at.is;
-  written = inr (none, prefix-more at.said (bytes_in pieces) piece.bytes (bytes_in (pieces ++ piece ∷ [])) (said-written user heard pieces backend at none) (bytes-more pieces piece));
-  others = at.others;
-  wholes = at.wholes;
-  commands = commands;
-  command = record { payload = message.payload; spelt = message.spelt; short = message.short; sent = (let left : length (drop command.sent command.bytes) ≡ length command.bytes - command.sent = length-drop command.sent command.bytes in omega arith) };
-  new = new;
-  whole = at.whole;
-  replies = at.replies;
-  all = at.all;
-  unasked = λ no. absurd (let some_is : record { tag = command.tag; bytes = take (command.sent + n) command.bytes } ∷ [] ≡ [] = sym now ∙ no in cc);
-  partly = at.partly;
-} where
-  piece : Command
-  piece = record { tag = command.tag; bytes = take n (drop command.sent command.bytes) }
+command-taken user heard pieces backend command n at none is some fits fresh = inside-after user heard pieces (pieces ++ piece ∷ []) backend backend.own backend.reply (Some (record command { sent = command.sent + n })) at
+    (inr (none, prefix-more at.said (bytes_in pieces) piece.bytes (bytes_in (pieces ++ piece ∷ [])) (said-written user heard pieces backend at none) (bytes-more pieces piece))) commands
+    (record { payload = message.payload; spelt = message.spelt; short = message.short; sent = (let left : length (drop command.sent command.bytes) ≡ length command.bytes - command.sent = length-drop command.sent command.bytes in omega arith) }) new
+    (λ no. absurd (let some_is : record { tag = command.tag; bytes = take (command.sent + n) command.bytes } ∷ [] ≡ [] = sym now ∙ no in cc)) where
+      piece : Command
+      piece = record { tag = command.tag; bytes = take n (drop command.sent command.bytes) }
 
-  message : IsMessage command
-  message = subst IsHanded is at.command
+      message : IsMessage command
+      message = subst IsHanded is at.command
 
-  now : begun (Some (record command { sent = command.sent + n })) ≡ record { tag = command.tag; bytes = take (command.sent + n) command.bytes } ∷ []
-  now = begun-some (record command { sent = command.sent + n }) (omega arith)
+      now : begun (Some (record command { sent = command.sent + n })) ≡ record { tag = command.tag; bytes = take (command.sent + n) command.bytes } ∷ []
+      now = begun-some (record command { sent = command.sent + n }) (omega arith)
 
-  commands : commands_in (behind (length at.said) (pieces ++ piece ∷ [])) ≡ at.others ++ begun (Some (record command { sent = command.sent + n }))
-  commands = ap commands_in (behind-append (length at.said) pieces (piece ∷ []) (prefix-fits at.said (bytes_in pieces) (said-written user heard pieces backend at none)))
-      ∙ fold-append with_piece [] (behind (length at.said) pieces) (piece ∷ [])
-      ∙ ap (λ cs. with_piece cs piece) at.commands
-      ∙ with-piece-behind at.others (begun backend.command) piece at.wholes
-      ∙ ap (λ (o : Option Handed). at.others ++ with_piece (begun o) piece) is
-      ∙ ap (λ cs. at.others ++ cs) (begun-more command n message some fits ∙ sym now)
+      commands : commands_in (behind (length at.said) (pieces ++ piece ∷ [])) ≡ at.others ++ begun (Some (record command { sent = command.sent + n }))
+      commands = ap commands_in (behind-append (length at.said) pieces (piece ∷ []) (prefix-fits at.said (bytes_in pieces) (said-written user heard pieces backend at none)))
+          ∙ fold-append with_piece [] (behind (length at.said) pieces) (piece ∷ [])
+          ∙ ap (λ cs. with_piece cs piece) at.commands
+          ∙ with-piece-behind at.others (begun backend.command) piece at.wholes
+          ∙ ap (λ (o : Option Handed). at.others ++ with_piece (begun o) piece) is
+          ∙ ap (λ cs. at.others ++ cs) (begun-more command n message some fits ∙ sym now)
 
-  new : (m i : ℕ) → list_any (is_of m i) (begun (Some (record command { sent = command.sent + n }))) ≡ true → list_any (is_of m i) at.others ≡ false
-  new m i any = by command.sent refl where
-    here : (is_command m i command.tag || false) ≡ true
-    here = sym (ap (list_any (is_of m i)) now) ∙ any
+      new : (m i : ℕ) → list_any (is_of m i) (begun (Some (record command { sent = command.sent + n }))) ≡ true → list_any (is_of m i) at.others ≡ false
+      new m i any = by command.sent refl where
+        here : (is_command m i command.tag || false) ≡ true
+        here = sym (ap (list_any (is_of m i)) now) ∙ any
 
-    by : (sent : ℕ) → command.sent ≡ sent → list_any (is_of m i) at.others ≡ false
-    by zero unsent = (let out = of-commands m i (length at.said) pieces (fresh m i command is unsent (sym (or-nothing (is_command m i command.tag)) ∙ here)) in
-        (or_parts (list_any (is_of m i) at.others) (list_any (is_of m i) (begun backend.command)) (sym (list_any-append (is_of m i) at.others (begun backend.command)) ∙ sym (ap (list_any (is_of m i)) at.commands) ∙ out)).0) where
-          or-nothing : (b : Bool) → (b || false) ≡ b
-          or-nothing true = refl
-          or-nothing false = refl
-    by (suc sent) was = at.new m i (ap (λ (o : Option Handed). list_any (is_of m i) (begun o)) is ∙ ap (list_any (is_of m i)) (begun-some command (omega arith)) ∙ here)
+        by : (sent : ℕ) → command.sent ≡ sent → list_any (is_of m i) at.others ≡ false
+        by zero unsent = (let out = of-commands m i (length at.said) pieces (fresh m i command is unsent (sym (or-nothing (is_command m i command.tag)) ∙ here)) in
+            (or_parts (list_any (is_of m i) at.others) (list_any (is_of m i) (begun backend.command)) (sym (list_any-append (is_of m i) at.others (begun backend.command)) ∙ sym (ap (list_any (is_of m i)) at.commands) ∙ out)).0) where
+              or-nothing : (b : Bool) → (b || false) ≡ b
+              or-nothing true = refl
+              or-nothing false = refl
+        by (suc sent) was = at.new m i (ap (λ (o : Option Handed). list_any (is_of m i) (begun o)) is ∙ ap (list_any (is_of m i)) (begun-some command (omega arith)) ∙ here)
 
 -- So many bytes of what is left are written, with its tag.
 pub taken-at : (user : Account) (heard : List ℕ) (pieces : List Command) (backend : BackendState) (l : Left) (n : ℕ) → LinkAt user heard pieces backend → left backend ≡ Some l → 0 < n → n ≤ length l.bytes → IsFresh backend.command pieces

@@ -1,21 +1,24 @@
 -- The stories, computed.
-use Rattle.std.specs.Prelude.{◌≡◌, ℕ, nat_eq, Bool, true, false, [], codes, Some, None}
+use Rattle.std.specs.Prelude.{◌≡◌, ℕ, nat_eq, Bool, true, false, List, [], codes, Option, Some, None}
 use Rattle.std.specs.Fmt.{digits}
 use Rattle.std.proofs.Common.{refl, ap, ◌∙◌, inl, arith}
 use Rattle.server_rule.specs.Replies.{one_number, reply_end}
 use Rattle.server_rule.specs.Texts.{read_id_text}
 use Rattle.session_vars.specs.Settings.{defaults}
 use Rattle.session_state.specs.Pins.{no_pin}
+use Rattle.server_rule.specs.Laws.{IsTame}
+use Rattle.session_state.specs.declared.names.MessageName.{MessageName}
 use Rattle.session_state.specs.declared.place.Told.{Told}
-use Rattle.private_model.specs.Commands.{Query, SetId}
+use Rattle.private_model.specs.Commands.{Query, Reply, SetId}
 use Rattle.private_model.specs.Headline.{MeetsPrivate}
-use Rattle.private_model.specs.Honest.{IsHonest}
+use Rattle.private_model.specs.Honest.{IsAccepted, IsHonest}
 use Rattle.private_model.specs.Lawful.{Begins, IsLawful}
 use Rattle.private_model.specs.Story.{Capture, Own, Statement, Story}
 use Rattle.private_model.specs.View.{view_after}
 use Rattle.private_model.specs.Worlds.{private_after, real_after}
-use Rattle.small_server.specs.Stories.{anybody, byte_of, digit_of, due_at, in_a_transaction, insert, message, nowhere, on_another_link, reads, server, session, setup, shared, show, somewhere, with_another_id, with_another_id_inside, with_diagnostics, without_a_capture, without_a_reset, without_its_place, zero_id}
-use Rattle.small_server.specs.Tally.{NoId, LaterId, ok, row}
+use Rattle.small_server.proofs.Lawfulness.{tally_tame}
+use Rattle.small_server.specs.Stories.{IsBreach, anybody, byte_of, digit_of, due_at, in_a_transaction, insert, message, nowhere, on_another_link, reads, server, session, setup, shared, show, somewhere, with_another_id, with_another_id_inside, with_diagnostics, without_a_capture, without_a_reset, without_its_place, zero_id}
+use Rattle.small_server.specs.Tally.{NoId, LaterId, ok, row, tally, tests}
 
 apart : {A : Type 0} {b : Bool} → b ≡ true → b ≡ false → A
 apart is isnt = absurd (cc)
@@ -76,81 +79,58 @@ pub shared_honest : IsHonest setup server shared
 unfolding reply_end one_number digits
 shared_honest = ((((((((((((((((tt, tt), tt), tt), record { unused = λ p m. apart p refl }), record { question = Statement (session 1) (due_at nowhere 1 true insert); ran = refl; same = refl }), tt), record { unused = λ p m. apart p refl }), record { question = Capture (session 1); ran = refl; same = refl }), tt), tt), tt), record { unused = λ p m. apart p refl }), record { question = Own (SetId zero_id); ran = refl; same = refl }), tt), record { unused = λ p m. apart p refl }), record { question = Statement (session 2) (due_at nowhere 1 true insert); ran = refl; same = refl })
 
-pub in_a_transaction_honest : IsHonest setup server in_a_transaction
-unfolding reply_end one_number digits
-in_a_transaction_honest = ((((((((((tt, tt), tt), tt), record { unused = λ p m. apart p refl }), record { question = Statement (session 1) (due_at nowhere 1 true (Query (codes "BEGIN"))); ran = refl; same = refl }), tt), tt), tt), record { unused = λ p m. apart p refl }), record { question = Statement (session 2) (due_at nowhere 1 true show); ran = refl; same = refl })
-
-pub without_a_reset_honest : IsHonest setup server without_a_reset
-unfolding reply_end one_number digits
-without_a_reset_honest = (((((((((((tt, tt), tt), tt), record { unused = λ p m. apart p refl }), record { question = Statement (session 1) (due_at nowhere 1 true (Query (codes "BEGIN"))); ran = refl; same = refl }), tt), tt), tt), tt), record { unused = λ p m. apart p refl }), record { question = Statement (session 2) (due_at nowhere 1 true show); ran = refl; same = refl })
-
-pub without_its_place_honest : IsHonest setup server without_its_place
-unfolding reply_end one_number digits
-without_its_place_honest = (((((tt, tt), tt), tt), record { unused = λ p m. apart p refl }), record { question = Statement (session 3) (due_at somewhere 1 true show); ran = refl; same = refl })
-
-pub with_another_id_honest : IsHonest setup server with_another_id
-unfolding reply_end one_number digits
-with_another_id_honest = (((((((((((((tt, tt), tt), tt), record { unused = λ p m. apart p refl }), record { question = Statement (session 1) (due_at nowhere 1 true insert); ran = refl; same = refl }), tt), record { unused = λ p m. apart p refl }), record { question = Capture (session 1); ran = refl; same = refl }), tt), tt), tt), record { unused = λ p m. apart p refl }), record { question = Statement (session 2) (due_at nowhere 1 true (Query read_id_text)); ran = refl; same = refl })
-
-pub with_diagnostics_honest : IsHonest setup server with_diagnostics
-unfolding reply_end one_number digits
-with_diagnostics_honest = ((((((((((tt, tt), tt), tt), record { unused = λ p m. apart p refl }), record { question = Statement (session 1) (due_at nowhere 1 true show); ran = refl; same = refl }), tt), tt), tt), record { unused = λ p m. apart p refl }), record { question = Statement (session 2) (due_at nowhere 1 true (Query (codes "SHOW WARNINGS"))); ran = refl; same = refl })
-
-pub without_a_capture_honest : IsHonest setup server without_a_capture
-unfolding reply_end one_number digits
-without_a_capture_honest = (((((((((((tt, tt), tt), tt), tt), record { unused = λ p m. apart p refl }), record { question = Statement (session 1) (due_at nowhere 1 true insert); ran = refl; same = refl }), tt), tt), tt), record { unused = λ p m. apart p refl }), record { question = Statement (session 1) (due_at nowhere 2 true (Query read_id_text)); ran = refl; same = refl })
-
-abbrev Meets : Story → Type 0
-Meets story = MeetsPrivate reads (view_after setup story) (real_after setup server story) (private_after setup server story)
-
-pub in_a_transaction_broken : Meets in_a_transaction → ⊥
-unfolding reply_end one_number digits
-in_a_transaction_broken meets =
-    differ 0 1 refl (ap (byte_of 3) (meets.replies (message 2 1) (record { to_prepare = false; payloads = ok false NoId true }) refl))
-
-pub without_a_reset_broken : Meets without_a_reset → ⊥
-unfolding reply_end one_number digits
-without_a_reset_broken meets =
-    differ 0 1 refl (ap (byte_of 3) (meets.replies (message 2 1) (record { to_prepare = false; payloads = ok false NoId true }) refl))
-
-pub without_its_place_broken : Meets without_its_place → ⊥
-unfolding reply_end one_number digits
-without_its_place_broken meets =
-    differ 1 0 refl (ap (byte_of 1) (meets.replies (message 3 1) (record { to_prepare = false; payloads = ok false NoId false }) refl))
-
-pub with_another_id_broken : Meets with_another_id → ⊥
-unfolding reply_end one_number digits
-with_another_id_broken meets =
-    differ 48 49 refl (ap (digit_of) (meets.replies (message 2 1) (record { to_prepare = false; payloads = row false 49 }) refl))
-
-pub with_diagnostics_broken : Meets with_diagnostics → ⊥
-unfolding reply_end one_number digits
-with_diagnostics_broken meets =
-    differ 0 1 refl (ap (byte_of 1) (meets.replies (message 2 1) (record { to_prepare = false; payloads = ok true NoId false }) refl))
-
-pub without_a_capture_broken : Meets without_a_capture → ⊥
-unfolding reply_end one_number digits
-without_a_capture_broken meets =
-    differ 49 48 refl (ap (digit_of) (meets.replies (message 1 2) (record { to_prepare = false; payloads = row false 48 }) refl))
-
 pub shared_answered : (private_after setup server shared).answers (message 2 1) ≡ Some (record { to_prepare = false; payloads = ok false LaterId false })
 unfolding reply_end one_number digits
 shared_answered = refl
 
-pub on_another_link_honest : IsHonest setup server on_another_link
-unfolding reply_end one_number digits
-on_another_link_honest = ((((((((((tt, tt), tt), tt), tt), record { unused = λ p m. apart p refl }), record { question = Statement (session 1) (due_at nowhere 1 true (Query (codes "BEGIN"))); ran = refl; same = refl }), tt), tt), record { unused = λ p m. apart p refl }), record { question = Statement (session 1) (due_at nowhere 2 false show); ran = refl; same = refl })
+-- the law of private worlds, of the small server
+abbrev pub Law : Type 0
+Law = (story : Story) → IsTame reads tests (tally reads) → IsAccepted setup tests → IsLawful setup story → IsHonest setup server story
+    → MeetsPrivate reads (view_after setup story) (real_after setup server story) (private_after setup server story)
 
-pub with_another_id_inside_honest : IsHonest setup server with_another_id_inside
-unfolding reply_end one_number digits
-with_another_id_inside_honest = (((((((((((((((((tt, tt), tt), tt), record { unused = λ p m. apart p refl }), record { question = Statement (session 1) (due_at nowhere 1 true insert); ran = refl; same = refl }), tt), record { unused = λ p m. apart p refl }), record { question = Capture (session 1); ran = refl; same = refl }), tt), tt), tt), record { unused = λ p m. apart p refl }), record { question = Statement (session 2) (due_at nowhere 1 true (Query (codes "BEGIN"))); ran = refl; same = refl }), tt), tt), record { unused = λ p m. apart p refl }), record { question = Statement (session 2) (due_at nowhere 2 false (Query read_id_text)); ran = refl; same = refl })
+-- A story that may happen, and in which a reply that was read differs from the private world's in a number, is a breach.
+breach : Law → (story : Story) (number : Option Reply → ℕ) (key : MessageName) (payloads : List (List ℕ)) → (view_after setup story).replies key ≡ Some (record { to_prepare = false; payloads = payloads })
+    → nat_eq (number ((private_after setup server story).answers key)) (number (Some (record { to_prepare = false; payloads = payloads }))) ≡ false → IsHonest setup server story → IsBreach story
+breach law story number key payloads read other honest = record { honest = honest; broken = broken; unlawful = λ lawful. broken (law story (tally_tame reads) (λ s. refl) lawful honest) } where
+  broken : MeetsPrivate reads (view_after setup story) (real_after setup server story) (private_after setup server story) → ⊥
+  broken meets = differ _ _ other (ap number (meets.replies key (record { to_prepare = false; payloads = payloads }) read))
 
-pub on_another_link_broken : Meets on_another_link → ⊥
+pub in_a_transaction_breach : Law → IsBreach in_a_transaction
 unfolding reply_end one_number digits
-on_another_link_broken meets =
-    differ 1 0 refl (ap (byte_of 3) (meets.replies (message 1 2) (record { to_prepare = false; payloads = ok false NoId false }) refl))
+in_a_transaction_breach law = breach law in_a_transaction (byte_of 3) (message 2 1) (ok false NoId true) refl refl
+    ((((((((((tt, tt), tt), tt), record { unused = λ p m. apart p refl }), record { question = Statement (session 1) (due_at nowhere 1 true (Query (codes "BEGIN"))); ran = refl; same = refl }), tt), tt), tt), record { unused = λ p m. apart p refl }), record { question = Statement (session 2) (due_at nowhere 1 true show); ran = refl; same = refl })
 
-pub with_another_id_inside_broken : Meets with_another_id_inside → ⊥
+pub without_a_reset_breach : Law → IsBreach without_a_reset
 unfolding reply_end one_number digits
-with_another_id_inside_broken meets =
-    differ 48 49 refl (ap (digit_of) (meets.replies (message 2 2) (record { to_prepare = false; payloads = row true 49 }) refl))
+without_a_reset_breach law = breach law without_a_reset (byte_of 3) (message 2 1) (ok false NoId true) refl refl
+    (((((((((((tt, tt), tt), tt), record { unused = λ p m. apart p refl }), record { question = Statement (session 1) (due_at nowhere 1 true (Query (codes "BEGIN"))); ran = refl; same = refl }), tt), tt), tt), tt), record { unused = λ p m. apart p refl }), record { question = Statement (session 2) (due_at nowhere 1 true show); ran = refl; same = refl })
+
+pub without_its_place_breach : Law → IsBreach without_its_place
+unfolding reply_end one_number digits
+without_its_place_breach law = breach law without_its_place (byte_of 1) (message 3 1) (ok false NoId false) refl refl
+    (((((tt, tt), tt), tt), record { unused = λ p m. apart p refl }), record { question = Statement (session 3) (due_at somewhere 1 true show); ran = refl; same = refl })
+
+pub with_another_id_breach : Law → IsBreach with_another_id
+unfolding reply_end one_number digits
+with_another_id_breach law = breach law with_another_id digit_of (message 2 1) (row false 49) refl refl
+    (((((((((((((tt, tt), tt), tt), record { unused = λ p m. apart p refl }), record { question = Statement (session 1) (due_at nowhere 1 true insert); ran = refl; same = refl }), tt), record { unused = λ p m. apart p refl }), record { question = Capture (session 1); ran = refl; same = refl }), tt), tt), tt), record { unused = λ p m. apart p refl }), record { question = Statement (session 2) (due_at nowhere 1 true (Query read_id_text)); ran = refl; same = refl })
+
+pub with_another_id_inside_breach : Law → IsBreach with_another_id_inside
+unfolding reply_end one_number digits
+with_another_id_inside_breach law = breach law with_another_id_inside digit_of (message 2 2) (row true 49) refl refl
+    (((((((((((((((((tt, tt), tt), tt), record { unused = λ p m. apart p refl }), record { question = Statement (session 1) (due_at nowhere 1 true insert); ran = refl; same = refl }), tt), record { unused = λ p m. apart p refl }), record { question = Capture (session 1); ran = refl; same = refl }), tt), tt), tt), record { unused = λ p m. apart p refl }), record { question = Statement (session 2) (due_at nowhere 1 true (Query (codes "BEGIN"))); ran = refl; same = refl }), tt), tt), record { unused = λ p m. apart p refl }), record { question = Statement (session 2) (due_at nowhere 2 false (Query read_id_text)); ran = refl; same = refl })
+
+pub with_diagnostics_breach : Law → IsBreach with_diagnostics
+unfolding reply_end one_number digits
+with_diagnostics_breach law = breach law with_diagnostics (byte_of 1) (message 2 1) (ok true NoId false) refl refl
+    ((((((((((tt, tt), tt), tt), record { unused = λ p m. apart p refl }), record { question = Statement (session 1) (due_at nowhere 1 true show); ran = refl; same = refl }), tt), tt), tt), record { unused = λ p m. apart p refl }), record { question = Statement (session 2) (due_at nowhere 1 true (Query (codes "SHOW WARNINGS"))); ran = refl; same = refl })
+
+pub on_another_link_breach : Law → IsBreach on_another_link
+unfolding reply_end one_number digits
+on_another_link_breach law = breach law on_another_link (byte_of 3) (message 1 2) (ok false NoId false) refl refl
+    ((((((((((tt, tt), tt), tt), tt), record { unused = λ p m. apart p refl }), record { question = Statement (session 1) (due_at nowhere 1 true (Query (codes "BEGIN"))); ran = refl; same = refl }), tt), tt), record { unused = λ p m. apart p refl }), record { question = Statement (session 1) (due_at nowhere 2 false show); ran = refl; same = refl })
+
+pub without_a_capture_breach : Law → IsBreach without_a_capture
+unfolding reply_end one_number digits
+without_a_capture_breach law = breach law without_a_capture digit_of (message 1 2) (row false 48) refl refl
+    (((((((((((tt, tt), tt), tt), tt), record { unused = λ p m. apart p refl }), record { question = Statement (session 1) (due_at nowhere 1 true insert); ran = refl; same = refl }), tt), tt), tt), record { unused = λ p m. apart p refl }), record { question = Statement (session 1) (due_at nowhere 2 true (Query read_id_text)); ran = refl; same = refl })
