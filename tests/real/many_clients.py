@@ -1,5 +1,5 @@
 #!/usr/bin/python3
-"""Many clients at once, each with a user variable of its own that is written to a table."""
+"""Many clients at once, each with a user variable of its own that is written to a table and read back."""
 
 import threading
 
@@ -18,6 +18,9 @@ def client(n):
         cursor.execute(f"SET @mine = {n}")
         for k in range(ROUNDS):
             cursor.execute(f"INSERT INTO d.t VALUES ({n}, {k}, @mine)")
+            cursor.execute("SELECT @mine")
+            if cursor.fetchall() != ((n,),):
+                raise ValueError("another client's variable")
         link.close()
     except Exception as error:  # whatever it is, the client failed
         failed.append(error)

@@ -4,7 +4,7 @@ use Rattle.packet_frame.specs.declared.fault.FrameFault.{FrameFault}
 use Rattle.packet_frame.specs.declared.fault.FrameFault.TheVariants.{OutOfOrder, TooLarge}
 use Rattle.packet_frame.specs.Packets.{Framed, Split, next_id, split, spelling}
 use Rattle.command_parse.specs.Meaning.{Meaning, parsed}
-use Rattle.command_parse.specs.Meaning.Meaning.{Query, Ping, Quit}
+use Rattle.command_parse.specs.Meaning.Meaning.{Query, InitDb, Ping, Quit}
 use Rattle.command_parse.specs.declared.fault.CommandFault.{CommandFault}
 use Rattle.handshake.specs.declared.response.Response.{Response}
 use Rattle.client_side.specs.declared.step.ClientFault.{ClientFault}
@@ -87,8 +87,10 @@ front talk = front_in talk (opening_of talk)
 
 -- The answers to its commands.
 
+-- a query is what a server answers: a text, or the choice of a schema
 abbrev pub query_by : Result Meaning CommandFault → Bool
 query_by (Ok (Query text)) = true
+query_by (Ok (InitDb schema)) = true
 query_by _ = false
 
 abbrev pub is_query : List ℕ → Bool
@@ -105,6 +107,7 @@ is_quit payload = quit_by (parsed payload)
 abbrev pub answer_by : Option (List ℕ) → Result Meaning CommandFault → Option (List ℕ)
 answer_by reply (Err fault) = Some malformed_command
 answer_by reply (Ok (Query text)) = reply
+answer_by reply (Ok (InitDb schema)) = reply
 answer_by reply (Ok Ping) = Some own_ok
 answer_by reply (Ok Quit) = None
 answer_by reply (Ok _) = Some unknown_command

@@ -1,3 +1,4 @@
 pub mod Logins
 pub mod Commands
 pub mod Replies
+pub mod Manual

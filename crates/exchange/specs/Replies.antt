@@ -1,12 +1,13 @@
 -- The replies of a server, each at the place of its command, and how a link stands by them.
-use Rattle.std.specs.Prelude.{ℕ, Bool, ◌&&◌, if◌then◌else◌, List, [], ◌∷◌, ◌++◌, length, drop, slice_get, Option, Some, None}
+use Rattle.std.specs.Prelude.{ℕ, ◌-◌, Bool, ◌&&◌, if◌then◌else◌, List, [], ◌∷◌, length, take, drop, slice_get, Option, Some, None}
 use Rattle.std.specs.List.{list_all}
 use Rattle.mx_base.specs.declared.names.LinkId.{LinkId}
 use Rattle.mx_wire.specs.Log.{Log}
-use Rattle.packet_frame.specs.Packets.{Found, Nothing, Whole, Faulty, first_message, id_behind, spelling}
-use Rattle.reply_text.specs.Replies.{is_lone}
+use Rattle.packet_frame.specs.Packets.{spellings}
+use Rattle.reply_track.specs.Runs.{Ending, Going, Ended, Failed}
+use Rattle.reply_track.specs.Replying.{replied, payloads_in}
 use Rattle.server_side.specs.Account.{Account}
-use Rattle.server_side.specs.Login.{Opening, Goes, LogsIn, Fails, most_payload}
+use Rattle.server_side.specs.Login.{Opening, Goes, LogsIn, Fails}
 use Rattle.client_session.specs.Errors.{bad_server_bytes, connection_lost}
 use Rattle.exchange.specs.Logins.{is_empty, was_lost, login_on}
 use Rattle.exchange.specs.Commands.{Command, is_whole, commands_on}
@@ -16,8 +17,7 @@ abbrev pub Answer : Type 0
 Answer = List (List ℕ)
 
 abbrev pub spelt : (id : ℕ) → Answer → List ℕ
-spelt id [] = []
-spelt id (payload ∷ payloads) = spelling id payload ++ spelt (id_behind id payload) payloads
+spelt id payloads = spellings id payloads
 
 -- What the bytes behind a command begin with: a part of its reply, the whole reply and the bytes behind it, or bytes with which no reply goes
 -- on, and the place of these.
@@ -30,14 +30,15 @@ pub data Heard : Type 0 where
 abbrev pub Grammar : Type 0
 Grammar = Command → List ℕ → Heard
 
--- one payload: an OK that no result follows, or an ERR; its id is 1, behind that of a command of one packet
-abbrev pub lone_in : Found → Heard
-lone_in Nothing = Partly
-lone_in (Whole message rest) = if is_lone message.payload then Wholly (message.payload ∷ []) rest else Never 0
-lone_in (Faulty fault) = Never 0
+-- the replies to a command of one packet, whose first id is 1: results, the last of which is the one that says that no other follows. That
+-- this is what the manual says is a law (Manual).
+abbrev pub heard_by : (bytes : List ℕ) → Ending → Heard
+heard_by bytes (Going state) = Partly
+heard_by bytes (Ended end rest) = Wholly (payloads_in 1 (take (length bytes - length rest) bytes)) rest
+heard_by bytes (Failed behind) = Never (length bytes - length behind)
 
-abbrev pub one_payload : Grammar
-one_payload command bytes = lone_in (first_message most_payload 1 bytes)
+abbrev pub command_reply : Grammar
+command_reply command bytes = heard_by bytes (replied bytes)
 
 -- the whole replies in order, the bytes behind them, and the place of bad bytes there
 pub record Replies : Type 0 where
@@ -68,7 +69,7 @@ abbrev pub behind_login : Account → LinkId → Log → List ℕ
 behind_login user link log = rest_of (login_on user link log)
 
 abbrev pub replies_on : Account → LinkId → Log → Replies
-replies_on user link log = replies_by one_payload (commands_on user link log) (behind_login user link log)
+replies_on user link log = replies_by command_reply (commands_on user link log) (behind_login user link log)
 
 -- How a link stands: the login goes on; every command is whole and answered, and nothing stands behind; the last command is written in part,
 -- and unanswered; it is whole, and its reply runs; or the link can't be used again: it was lost, its login failed, or bytes came that no

@@ -1,5 +1,5 @@
 -- What is decided for one link and one client.
-use Rattle.std.specs.Prelude.{ℕ, Bool, true, false, not, is_some, nat_eq, ◌&&◌, List, length, Option, Some, None}
+use Rattle.std.specs.Prelude.{ℕ, Bool, true, false, not, is_some, nat_eq, ◌&&◌, List, Option, Some, None}
 use Rattle.std.specs.Option.{option_map}
 use Rattle.mx_base.specs.declared.names.ClientNo.{ClientNo}
 use Rattle.mx_base.specs.declared.names.LinkId.{LinkId}
@@ -141,19 +141,19 @@ abbrev pub logged_in : LinkId → Lent → (owner : Option ClientNo) → Lends �
 logged_in link lent None lends = with_link link lent lends
 logged_in link lent (Some client) lends = logged_in_with link lent client (lends.asks client.0) (without_ask client lends)
 
--- the link may serve again: the command was wholly written, nothing is behind the reply, and the owner is there
-abbrev pub may_stay : Due → (owner : Option ClientNo) → BackendState → Bool
-may_stay (Reply is_sent first) owner backend = is_sent && nat_eq (length backend.framer.kept) 0 && is_some owner
-may_stay _ owner backend = false
+-- the link may serve again: the command was wholly written, the piece ended with the reply, and the owner is there
+abbrev pub may_stay : Due → (ended : Bool) → (owner : Option ClientNo) → Bool
+may_stay (Reply is_sent first) ended owner = is_sent && ended && is_some owner
+may_stay _ ended owner = false
 
 abbrev pub kept_or_closed : (stays : Bool) → LinkId → Lent → Lends → Lends
 kept_or_closed true link lent lends = with_link link lent lends
 kept_or_closed false link lent lends = closed link lent.owner lends
 
--- a reply is whole: the owner is answered by it
-abbrev pub replied : LinkId → Due → (owner : Option ClientNo) → BackendState → Lends → Told
-replied link due owner backend lends =
-    answering owner backend.reply (kept_or_closed (may_stay due owner backend) link (record { owner = owner; backend = without_reply backend }) lends)
+-- a reply is whole, and the piece ended with it or not: the owner is answered by it
+abbrev pub replied : LinkId → Due → (ended : Bool) → (owner : Option ClientNo) → BackendState → Lends → Told
+replied link due ended owner backend lends =
+    answering owner backend.reply (kept_or_closed (may_stay due ended owner) link (record { owner = owner; backend = without_reply backend }) lends)
 
 -- the place of bad bytes in a reply
 abbrev pub place_of : BackendFault → ℕ
@@ -162,13 +162,14 @@ place_of (Plugin name) = 0
 place_of (Denied code) = 0
 place_of OutOfMemory = 0
 
-abbrev pub heard_by : LinkId → Lent → Heard → BackendState → Lends → Told
-heard_by link lent Quiet backend lends = quietly (with_link link (record lent { backend = backend }) lends)
-heard_by link lent LoggedIn backend lends = quietly (logged_in link (record lent { backend = backend }) lent.owner lends)
-heard_by link lent (Part used) backend lends = quietly (with_link link (record lent { backend = backend }) lends)
-heard_by link lent (Whole used) backend lends = replied link (due_on lent.backend) lent.owner backend lends
+-- a piece of so many bytes told this of the link
+abbrev pub heard_by : LinkId → Lent → (size : ℕ) → Heard → BackendState → Lends → Told
+heard_by link lent size Quiet backend lends = quietly (with_link link (record lent { backend = backend }) lends)
+heard_by link lent size LoggedIn backend lends = quietly (logged_in link (record lent { backend = backend }) lent.owner lends)
+heard_by link lent size (Part used) backend lends = quietly (with_link link (record lent { backend = backend }) lends)
+heard_by link lent size (Whole used) backend lends = replied link (due_on lent.backend) (nat_eq used size) lent.owner backend lends
 
--- what a piece told of the link, whose row is taken out
-abbrev pub told_by : LinkId → Lent → Got → Lends → Told
-told_by link lent (Hears what backend) lends = heard_by link lent what backend lends
-told_by link lent (Fails fault) lends = failed link lent (BadServerBytes (place_of fault)) lends
+-- what it told of the link, whose row is taken out
+abbrev pub told_by : LinkId → Lent → (size : ℕ) → Got → Lends → Told
+told_by link lent size (Hears what backend) lends = heard_by link lent size what backend lends
+told_by link lent size (Fails fault) lends = failed link lent (BadServerBytes (place_of fault)) lends

@@ -1,5 +1,5 @@
 -- What each event makes of the links and of the commands.
-use Rattle.std.specs.Prelude.{ℕ, Bool, true, false, List, [], ◌∷◌, Option, Some, None}
+use Rattle.std.specs.Prelude.{ℕ, Bool, true, false, List, [], ◌∷◌, length, Option, Some, None}
 use Rattle.mx_base.specs.declared.names.ClientNo.{ClientNo}
 use Rattle.mx_base.specs.declared.names.LinkId.{LinkId}
 use Rattle.server_side.specs.Backend.{new_backend, is_begun, Left, left}
@@ -47,7 +47,7 @@ open_failed lends = refused_owner (oldest lends.waiting) (without_first lends)
 
 abbrev pub heard_on : LinkId → (piece : List ℕ) → Option Lent → Lends → Told
 heard_on link piece None lends = quietly lends
-heard_on link piece (Some lent) lends = told_by link lent (got_of piece lent.backend) lends
+heard_on link piece (Some lent) lends = told_by link lent (length piece) (got_of piece lent.backend) lends
 
 abbrev pub heard : LinkId → (piece : List ℕ) → Lends → Told
 heard link piece lends = heard_on link piece (lends.links link.0) (without_link link lends)

@@ -1,5 +1,5 @@
 -- What a piece that was heard on a link is to the router.
-use Rattle.std.specs.Prelude.{◌≡◌}
+use Rattle.std.specs.Prelude.{◌≡◌, ℕ, nat_eq}
 use Rattle.mx_base.specs.declared.names.LinkId.{LinkId}
 use Rattle.server_side.specs.Backend.{BackendState}
 use Rattle.server_side.specs.Hearing.{Got, Hears, Fails}
@@ -14,14 +14,14 @@ use Rattle.lend_core.specs.Lends.{Lends, Told}
 use Rattle.lend_core.specs.Changes.{with_link}
 use Rattle.lend_core.specs.Decisions.{quietly, closed, failed_by, logged_in, replied, place_of}
 
--- the news of a piece, and the link behind it where it is of use
-abbrev pub IsNews : News → (left : BackendState) → Got → Type 0
-IsNews news.GoesOn left (Hears Quiet backend) = left ≡ backend
-IsNews news.GoesOn left (Hears (Part used) backend) = left ≡ backend
-IsNews news.LoggedIn left (Hears LoggedIn backend) = left ≡ backend
-IsNews news.Replied left (Hears (Whole used) backend) = left ≡ backend
-IsNews (news.Failed at) left (Fails fault) = at ≡ place_of fault
-IsNews _ left got = ⊥
+-- the news of a piece of so many bytes, and the link behind it where it is of use
+abbrev pub IsNews : News → (size : ℕ) → (left : BackendState) → Got → Type 0
+IsNews news.GoesOn size left (Hears Quiet backend) = left ≡ backend
+IsNews news.GoesOn size left (Hears (Part used) backend) = left ≡ backend
+IsNews news.LoggedIn size left (Hears LoggedIn backend) = left ≡ backend
+IsNews (news.Replied is_last) size left (Hears (Whole used) backend) = (left ≡ backend) × (is_last ≡ nat_eq used size)
+IsNews (news.Failed at) size left (Fails fault) = at ≡ place_of fault
+IsNews _ size left got = ⊥
 
 -- a piece can be a part of a login or of a reply
 abbrev pub IsDue : Due → Type 0
@@ -31,5 +31,5 @@ IsDue _ = Unit {0}
 abbrev pub by_news : LinkId → Due → News → Lent → Lends → Told
 by_news link due news.GoesOn lent lends = quietly (with_link link lent lends)
 by_news link due news.LoggedIn lent lends = quietly (logged_in link lent lent.owner lends)
-by_news link due news.Replied lent lends = replied link due lent.owner lent.backend lends
+by_news link due (news.Replied is_last) lent lends = replied link due is_last lent.owner lent.backend lends
 by_news link due (news.Failed at) lent lends = failed_by due lent.owner lent.backend (BadServerBytes at) (closed link lent.owner lends)

@@ -48,7 +48,7 @@ fn error_for(
 }
 
 impl Lender {
-    ghost use Rattle.std.specs.Prelude.{◌≡◌, Some, IfOk, OnOk};
+    ghost use Rattle.std.specs.Prelude.{◌≡◌, Some, length, IfOk, OnOk};
     ghost use Rattle.std.specs.Option.{option_map};
     ghost use Rattle.server_side.specs.Backend.{new_backend};
     ghost use Rattle.server_side.specs.Hearing.{got_of};
@@ -306,12 +306,18 @@ impl Lender {
         }
     }
 
-    // A reply is whole: it is the owner's answer.
-    fn reply(&mut self, link: LinkId, due: Due, lent: Lent) -> Result<Option<Answered>, OutOfMemory>
-        ensures { IfOk result (λ answer. record { lends = lends_of self.new; answer = answer } ≡ replied link due lent.owner lent.backend (lends_of self.old)) }
+    // A reply is whole: it is the owner's answer. The piece ended with it or not.
+    fn reply(
+        &mut self,
+        link: LinkId,
+        due: Due,
+        ended: bool,
+        lent: Lent,
+    ) -> Result<Option<Answered>, OutOfMemory>
+        ensures { IfOk result (λ answer. record { lends = lends_of self.new; answer = answer } ≡ replied link due ended lent.owner lent.backend (lends_of self.old)) }
     {
         let Lent { owner, mut backend } = lent;
-        let stays = may_stay(due, owner, &backend);
+        let stays = may_stay(due, ended, owner);
         let packets = backend.take_reply();
         self.keep_or_drop(stays, link, Lent { owner, backend })?;
         Ok(answer_for(owner, packets))
@@ -336,7 +342,7 @@ impl Lender {
                 self.log_in(link, lent)?;
                 Ok(None)
             }
-            News::Replied => self.reply(link, due, lent),
+            News::Replied { is_last } => self.reply(link, due, is_last, lent),
             News::Failed { at } => {
                 self.fail(link, due, lent, Refusal::BadServerBytes { place: at })
             }
@@ -353,7 +359,7 @@ impl Lender {
     ) -> Result<Option<Answered>, OutOfMemory>
         requires some { IsDue due }
         requires is { due ≡ due_on lent.backend }
-        ensures { IfOk result (λ answer. record { lends = lends_of self.new; answer = answer } ≡ told_by link lent (got_of bytes.old lent.backend) (lends_of self.old)) }
+        ensures { IfOk result (λ answer. record { lends = lends_of self.new; answer = answer } ≡ told_by link lent (length bytes.old) (got_of bytes.old lent.backend) (lends_of self.old)) }
     {
         let Lent { owner, mut backend } = lent;
         let news = hear_on(&mut backend, bytes)?;
@@ -367,7 +373,7 @@ impl Lender {
         lent: Lent,
         bytes: &mut [u8],
     ) -> Result<Option<Answered>, OutOfMemory>
-        ensures { IfOk result (λ answer. record { lends = lends_of self.new; answer = answer } ≡ told_by link lent (got_of bytes.old lent.backend) (lends_of self.old)) }
+        ensures { IfOk result (λ answer. record { lends = lends_of self.new; answer = answer } ≡ told_by link lent (length bytes.old) (got_of bytes.old lent.backend) (lends_of self.old)) }
     {
         match due_on(&lent.backend) {
             Due::Nothing => {

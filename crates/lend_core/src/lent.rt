@@ -1,5 +1,5 @@
 // An open link to a server.
-ghost use Rattle.std.specs.Prelude.{◌≡◌, true, IfOk};
+ghost use Rattle.std.specs.Prelude.{◌≡◌, true, length, IfOk};
 ghost use Rattle.server_side.specs.Hearing.{got_of};
 ghost use Rattle.lend_core.specs.Decisions.{takes_command, due_by, due_on, may_stay, commanded};
 ghost use Rattle.lend_core.specs.Telling.{IsNews};
@@ -33,8 +33,8 @@ pub enum News {
     GoesOn,
     /// The router is logged in.
     LoggedIn,
-    /// The reply is whole.
-    Replied,
+    /// The reply is whole, and the piece ends with it or not.
+    Replied { is_last: bool },
     /// No login and no reply goes on with it, from this place of the reply on.
     Failed { at: u64 },
 }
@@ -70,13 +70,13 @@ pub fn due_on(backend: &Backend) -> Due
     }
 }
 
-/// Whether the link may serve again behind a whole reply: the command was wholly written, nothing stands behind the reply, and the
+/// Whether the link may serve again behind a whole reply: the command was wholly written, the piece ended with the reply, and the
 /// owner is there.
-pub fn may_stay(due: Due, owner: Option<ClientNo>, backend: &Backend) -> bool
-    ensures { result ≡ may_stay due owner backend.now }
+pub fn may_stay(due: Due, ended: bool, owner: Option<ClientNo>) -> bool
+    ensures { result ≡ may_stay due ended owner }
 {
     match due {
-        Due::Reply { is_sent, .. } => is_sent && backend.kept() == 0 && owner.is_some(),
+        Due::Reply { is_sent, .. } => is_sent && ended && owner.is_some(),
         _ => false,
     }
 }
@@ -97,13 +97,16 @@ pub fn command_on(lent: Lent, client: ClientNo, ask: Ask) -> Lent
 
 /// Bytes come on the link.
 pub fn hear_on(backend: &mut Backend, bytes: &mut [u8]) -> Result<News, OutOfMemory>
-    ensures { IfOk result (λ news. IsNews news backend.new (got_of bytes.old backend.old)) }
+    ensures { IfOk result (λ news. IsNews news (length bytes.old) backend.new (got_of bytes.old backend.old)) }
 {
+    let size = bytes.len();
     match backend.got(bytes) {
         Ok(Heard::Quiet) => Ok(News::GoesOn),
         Ok(Heard::Part { .. }) => Ok(News::GoesOn),
         Ok(Heard::LoggedIn) => Ok(News::LoggedIn),
-        Ok(Heard::Whole { .. }) => Ok(News::Replied),
+        Ok(Heard::Whole { used }) => Ok(News::Replied {
+            is_last: used == size,
+        }),
         Err(BackendFault::OutOfMemory) => Err(OutOfMemory),
         Err(BackendFault::BadBytes { at }) => Ok(News::Failed { at }),
         Err(_) => Ok(News::Failed { at: 0 }),

@@ -4,7 +4,7 @@ use crate::steps::{Steps, take_steps};
 use crate::text::{id_of, is_text, number_of};
 use check_lines::{Case, CaseFault, bytes_of, shown};
 use mx_base::{ClientNo, Tag};
-use server_side::{Backend, Stage};
+use server_side::{Backend, BackendFault, Heard, Stage};
 use std::alloc::Global;
 
 /// The tag of each command.
@@ -13,9 +13,9 @@ const COMMAND: Tag = Tag::For {
     ordinal: 1,
 };
 
-/// `backend <found rows> <user> <password> <step> ..`: a Backend that is led through the steps `got=<piece>`,
-/// `command=<first>:<payload>`, `write`, which is outgoing and then taken whole, `taken=<count>`, `withdraw` and the words of
-/// `look`.
+/// `backend <found rows> <user> <password> <step> ..`: a Backend that is led through the steps `got=<piece>`, `each=<piece>`,
+/// whose bytes come each alone, `command=<first>:<payload>`, `write`, which is outgoing and then taken whole,
+/// `taken=<count>`, `withdraw` and the words of `look`.
 pub fn log_in(alloc: Global, case: &mut Case<'_>) -> Result<String, CaseFault> {
     let found_rows = case.text()? == "true";
     let user = case.bytes(alloc)?;
@@ -31,6 +31,7 @@ impl Steps for Backend {
     fn step(&mut self, alloc: Global, call: &str, argument: &str) -> Result<String, CaseFault> {
         match call {
             "got" => debug(alloc, self.got(&mut bytes_of(alloc, argument)?)),
+            "each" => debug(alloc, each(self, &mut bytes_of(alloc, argument)?)),
             "command" => command(alloc, self, argument),
             "taken" => take(alloc, self, number_of(argument)?),
             "write" => write(alloc, self),
@@ -43,12 +44,24 @@ impl Steps for Backend {
     }
 }
 
+// What bytes that come each alone tell of the whole piece.
+fn each(backend: &mut Backend, piece: &mut [u8]) -> Result<Heard, BackendFault> {
+    let mut heard = Heard::Quiet;
+    for at in 0..piece.len() {
+        heard = match backend.got(&mut piece[at..at + 1])? {
+            Heard::Part { .. } => Heard::Part { used: at + 1 },
+            Heard::Whole { .. } => return Ok(Heard::Whole { used: at + 1 }),
+            login => login,
+        };
+    }
+    Ok(heard)
+}
+
 // What can be seen of a link.
 fn look(alloc: Global, backend: &Backend, call: &str) -> Result<String, CaseFault> {
     match call {
         "outgoing" => outgoing(alloc, backend),
         "reply" => shown(alloc, backend.reply()),
-        "kept" => debug(alloc, backend.kept()),
         "stage" => debug(alloc, backend.stage()),
         "has_command" => debug(alloc, backend.has_command()),
         "is_begun" => debug(alloc, backend.is_begun()),

@@ -2,7 +2,7 @@
 use std::alloc::{AllocError, Global};
 
 /// Names with their hexadecimal digits. Where one's digits stand in another's, the longer comes first.
-const NAMES: [(&str, &str); 18] = [
+const NAMES: [(&str, &str); 17] = [
     // The greeting to the first client. A server's is the same.
     (
         "{greeting}",
@@ -49,11 +49,6 @@ const NAMES: [(&str, &str); 18] = [
     (
         "{refused}",
         "22000001ff8f2323485930303053657276657220636f6e6e656374696f6e2072656675736564",
-    ),
-    // Error 9110.
-    (
-        "{bad_bytes}",
-        "1e000001ff9623234859303030426164207365727665722062797465732061742030",
     ),
     // The name of the login method.
     ("{method}", "6d7973716c5f6e61746976655f70617373776f726400"),

@@ -1,5 +1,5 @@
 -- From a moment on at which a link is clean its commands are those written since, and its replies those read since.
-use Rattle.std.specs.Prelude.{◌≡◌, ℕ, zero, suc, ◌+◌, ◌-◌, ◌≤◌, Bool, true, false, not, nat_le, ◌&&◌, cond, List, [], ◌∷◌, ◌++◌, length, drop, fold, Option, Some, None, refl}
+use Rattle.std.specs.Prelude.{◌≡◌, ℕ, zero, suc, ◌+◌, ◌-◌, ◌≤◌, Bool, true, false, not, nat_le, ◌&&◌, cond, List, [], ◌∷◌, ◌++◌, length, take, drop, fold, Option, Some, None, refl}
 use Rattle.std.specs.List.{flat_map, filter_map, list_any, list_all}
 use Rattle.std.proofs.Common.{sym, ◌∙◌, ap, append-nil, arith, length-append}
 use Rattle.std.proofs.lemmas.List.Elements.{filter-append, filter_map-append}
@@ -8,54 +8,57 @@ use Rattle.std.proofs.lemmas.Grind.{flat_map-append}
 use Rattle.mx_base.specs.declared.names.LinkId.{LinkId}
 use Rattle.mx_wire.specs.Log.{Log, link_of, is_link, of_link, got_bytes, wrote_bytes}
 use Rattle.mx_wire.specs.declared.entry.Entry.{Entry}
-use Rattle.packet_frame.specs.Packets.{Found, Nothing, Whole, Faulty, first_message}
-use Rattle.packet_frame.specs.Packets.{Framed}
-use Rattle.packet_frame.specs.declared.fault.FrameFault.{FrameFault}
-use Rattle.packet_frame.specs.Laws.{first_message-whole-more, first_message-faulty-more}
-use Rattle.reply_text.specs.Replies.{is_lone}
+use Rattle.reply_track.specs.Runs.{Ending, Going, Ended, Failed}
+use Rattle.reply_track.specs.Tracking.{started}
+use Rattle.reply_track.specs.Replying.{to_command, replied, payloads_in}
+use Rattle.reply_track.proofs.Replying.{ended-more, failed-more}
 use Rattle.server_side.specs.Account.{Account}
-use Rattle.server_side.specs.Login.{Opening, Goes, LogsIn, Fails, opening, most_payload}
+use Rattle.server_side.specs.Login.{Opening, Goes, LogsIn, Fails, opening}
 use Rattle.server_side.specs.Laws.{opening-logged_in}
 use Rattle.exchange.specs.Logins.{is_empty, is_loss, was_lost, until_loss, heard_of, login_on, IsLoggedIn}
 use Rattle.exchange.specs.Commands.{Command, piece, pieces_of, behind, joins, with_piece, commands_in, commands_behind, commands_on, is_whole}
-use Rattle.exchange.specs.Replies.{Answer, Heard, Partly, Wholly, Never, Grammar, lone_in, one_payload, Replies, with_reply, cut, replies_by, replies_on, rest_of, behind_login, Standing, Enters, Clean, Sends, Runs, Spoilt, stands_by, stands, standing_in, standing_on}
+use Rattle.exchange.specs.Replies.{Answer, Heard, Partly, Wholly, Never, Grammar, heard_by, command_reply, Replies, with_reply, cut, replies_by, replies_on, rest_of, behind_login, Standing, Enters, Clean, Sends, Runs, Spoilt, stands_by, stands, standing_in, standing_on}
 use Rattle.promises.specs.Follows.{IsGrammar, behind_replies, Since}
 use Rattle.packet_frame.specs.PacketLaws.{nat_eq-true}
 use Rattle.mx_base.specs.declared.tag.Tag.{Tag}
 use Rattle.mx_base.specs.declared.tag.Tag.TheVariants.{For}
 use Rattle.mx_wire.specs.declared.entry.Entry.TheVariants.{Wrote}
 use Rattle.std.specs.List.{cons_option}
-use Rattle.std.proofs.lemmas.List.{length-drop}
+use Rattle.std.proofs.lemmas.List.{length-drop, take-append-le}
 use Rattle.std.specs.Prelude.{◌||◌, nat_eq}
 use Rattle.exchange.specs.Commands.{same_tag, is_command, place_in}
 
+-- so many bytes less the ones behind, with more of both
+less-same : (bytes left more : List ℕ) → length (bytes ++ more) - length (left ++ more) ≡ length bytes - length left
+less-same bytes left more = omega (arith, length-append bytes more, length-append left more)
+
 -- A whole reply stays as more bytes come.
-pub lone-stays : (found : Found) (reply : Answer) (rest more : List ℕ) (later : Found) → ((message : Rattle.packet_frame.specs.Packets.Framed) (behind : List ℕ) → found ≡ Whole message behind → later ≡ Whole message (behind ++ more)) → lone_in found ≡ Wholly reply rest → lone_in later ≡ Wholly reply (rest ++ more)
-lone-stays Nothing reply rest more later grows is = absurd (let no : Partly ≡ Wholly reply rest = is in cc)
-lone-stays (Faulty fault) reply rest more later grows is = absurd (let no : Never 0 ≡ Wholly reply rest = is in cc)
-lone-stays (Whole message left) reply rest more later grows is = ap lone_in (grows message left refl) ∙ by (is_lone message.payload) is where
-  by : (b : Bool) → cond b (Wholly (message.payload ∷ []) left) (Never 0) ≡ Wholly reply rest → cond b (Wholly (message.payload ∷ []) (left ++ more)) (Never 0) ≡ Wholly reply (rest ++ more)
-  by true same = (let one : message.payload ∷ [] ≡ reply = cc in let two : left ≡ rest = cc in ap (λ r. Wholly r (left ++ more)) one ∙ ap (λ r. Wholly reply (r ++ more)) two)
-  by false same = absurd (let no : Never 0 ≡ Wholly reply rest = same in cc)
+command-stays : (c : Command) (bytes more : List ℕ) (reply : Answer) (rest : List ℕ) → command_reply c bytes ≡ Wholly reply rest → command_reply c (bytes ++ more) ≡ Wholly reply (rest ++ more)
+command-stays c bytes more reply rest is = by (replied bytes) refl is where
+  by : (ending : Ending) → replied bytes ≡ ending → heard_by bytes ending ≡ Wholly reply rest → command_reply c (bytes ++ more) ≡ Wholly reply (rest ++ more)
+  by (Going state) at same = absurd (let no : Partly ≡ Wholly reply rest = same in cc)
+  by (Failed behind) at same = absurd (let no : Never (length bytes - length behind) ≡ Wholly reply rest = same in cc)
+  by (Ended end left) at same =
+      (let one : payloads_in 1 (take (length bytes - length left) bytes) ≡ reply = cc in
+      let two : left ≡ rest = cc in
+      ap (heard_by (bytes ++ more)) (ended-more (started (to_command 1)) bytes more end left at)
+      ∙ ap (λ n. Wholly (payloads_in 1 (take n (bytes ++ more))) (left ++ more)) (less-same bytes left more)
+      ∙ ap (λ l. Wholly (payloads_in 1 l) (left ++ more)) (take-append-le (length bytes - length left) bytes more (omega arith))
+      ∙ ap (λ l. Wholly l (left ++ more)) one ∙ ap (λ l. Wholly reply (l ++ more)) two)
 
 -- Bad bytes stay bad.
-pub lone-never : (found : Found) (place : ℕ) (more : List ℕ) (later : Found) → ((message : Framed) (rest : List ℕ) → found ≡ Whole message rest → later ≡ Whole message (rest ++ more)) → ((fault : FrameFault) → found ≡ Faulty fault → later ≡ Faulty fault)
-    → lone_in found ≡ Never place → lone_in later ≡ Never place
-lone-never Nothing place more later whole faulty is = absurd (let no : Partly ≡ Never place = is in cc)
-lone-never (Faulty fault) place more later whole faulty is = ap lone_in (faulty fault refl) ∙ is
-lone-never (Whole message rest) place more later whole faulty is = ap lone_in (whole message rest refl) ∙ by (is_lone message.payload) is where
-  by : (b : Bool) → cond b (Wholly (message.payload ∷ []) rest) (Never 0) ≡ Never place → cond b (Wholly (message.payload ∷ []) (rest ++ more)) (Never 0) ≡ Never place
-  by true same = absurd (let no : Wholly (message.payload ∷ []) rest ≡ Never place = same in cc)
-  by false same = same
+pub never-more : (c : Command) (bytes more : List ℕ) (place : ℕ) → command_reply c bytes ≡ Never place → command_reply c (bytes ++ more) ≡ Never place
+never-more c bytes more place is = by (replied bytes) refl is where
+  by : (ending : Ending) → replied bytes ≡ ending → heard_by bytes ending ≡ Never place → command_reply c (bytes ++ more) ≡ Never place
+  by (Going state) at same = absurd (let no : Partly ≡ Never place = same in cc)
+  by (Ended end left) at same = absurd (let no : Wholly (payloads_in 1 (take (length bytes - length left) bytes)) left ≡ Never place = same in cc)
+  by (Failed behind) at same =
+      ap (heard_by (bytes ++ more)) (failed-more (started (to_command 1)) bytes more behind at) ∙ ap Never (less-same bytes behind more) ∙ same
 
-pub never-more : (c : Command) (bytes more : List ℕ) (place : ℕ) → one_payload c bytes ≡ Never place → one_payload c (bytes ++ more) ≡ Never place
-never-more c bytes more place is = lone-never (first_message most_payload 1 bytes) place more (first_message most_payload 1 (bytes ++ more))
-    (λ message rest at. first_message-whole-more most_payload 1 bytes more message rest at) (λ fault at. first_message-faulty-more most_payload 1 bytes more fault at) is
-
-pub one-payload-grammar : IsGrammar one_payload
-one-payload-grammar = record {
-  stays = λ command bytes more reply rest is. lone-stays (first_message most_payload 1 bytes) reply rest more (first_message most_payload 1 (bytes ++ more)) (λ message left at. first_message-whole-more most_payload 1 bytes more message left at) is;
-  bad = λ command bytes more place is. never-more command bytes more place is;
+pub command-reply-grammar : IsGrammar command_reply
+command-reply-grammar = record {
+  stays = command-stays;
+  bad = never-more;
   longer = λ command longer bytes reply rest more is. is;
   bad_longer = λ command longer bytes place more is. is;
 }
@@ -136,7 +139,7 @@ clean-means user link log is = (let one = by-loss (was_lost link log) (standing_
     let two = by-login (login_on user link log) (commands_on user link log) (replies_on user link log) one.1 in
     let three = by-stands (replies_on user link log).bad (is_empty (replies_on user link log).rest && list_all is_whole (commands_on user link log)) (drop (length (replies_on user link log).whole) (commands_on user link log)) two.so in
     let four = both-true (is_empty (replies_on user link log).rest) (list_all is_whole (commands_on user link log)) three.1 in
-    let most : length (replies_on user link log).whole ≤ length (commands_on user link log) = replies-count one_payload (commands_on user link log) (behind_login user link log) in
+    let most : length (replies_on user link log).whole ≤ length (commands_on user link log) = replies-count command_reply (commands_on user link log) (behind_login user link log) in
     let least : length (commands_on user link log) ≤ length (replies_on user link log).whole = none-left (length (replies_on user link log).whole) (commands_on user link log) three.2 in
     record { unlost = one.0; said = two.said; rest = two.rest; within = two.is; sound = three.0; none = empty-is (replies_on user link log).rest four.0; all = omega arith; wholes = four.1 })
 
@@ -239,11 +242,11 @@ since-clean user link log more is inside = by (clean-means user link log is) whe
         ∙ ap (λ l. fold with_piece l (pieces_of link more)) (sym was ∙ sym (append-nil (commands_on user link log)))
         ∙ commands-behind (pieces_of link more) (commands_on user link log) [] clean.wholes
 
-    replies : replies_on user link (log ++ more) ≡ behind_replies (replies_on user link log).whole (replies_by one_payload (commands_in (pieces_of link more)) (heard_of link more))
-    replies = ap (λ l. replies_by one_payload l (behind_login user link (log ++ more))) commands
-        ∙ ap (λ (o : Opening). replies_by one_payload (commands_on user link log ++ commands_in (pieces_of link more)) (rest_of o)) login
-        ∙ ap (λ (o : Opening). replies_by one_payload (commands_on user link log ++ commands_in (pieces_of link more)) (rest_of o ++ heard_of link more)) (sym clean.within)
-        ∙ replies-behind one_payload one-payload-grammar (commands_on user link log) (commands_in (pieces_of link more)) (behind_login user link log) (heard_of link more) clean.sound clean.none clean.all
+    replies : replies_on user link (log ++ more) ≡ behind_replies (replies_on user link log).whole (replies_by command_reply (commands_in (pieces_of link more)) (heard_of link more))
+    replies = ap (λ l. replies_by command_reply l (behind_login user link (log ++ more))) commands
+        ∙ ap (λ (o : Opening). replies_by command_reply (commands_on user link log ++ commands_in (pieces_of link more)) (rest_of o)) login
+        ∙ ap (λ (o : Opening). replies_by command_reply (commands_on user link log ++ commands_in (pieces_of link more)) (rest_of o ++ heard_of link more)) (sym clean.within)
+        ∙ replies-behind command_reply command-reply-grammar (commands_on user link log) (commands_in (pieces_of link more)) (behind_login user link log) (heard_of link more) clean.sound clean.none clean.all
 
 pub same-command : (n i m j : ℕ) (tag : Tag) → is_command n i tag ≡ true → is_command m j tag ≡ true → (n ≡ m) × (i ≡ j)
 same-command n i m j (For client ordinal) one two = (let a = both-true (nat_eq n client.0) (nat_eq i ordinal) one in let b = both-true (nat_eq m client.0) (nat_eq j ordinal) two in

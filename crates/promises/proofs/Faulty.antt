@@ -5,6 +5,7 @@ use Rattle.mx_base.specs.declared.names.LinkId.{LinkId}
 use Rattle.mx_base.specs.declared.names.Port.TheVariants.{Traffic}
 use Rattle.mx_wire.specs.Log.{Log}
 use Rattle.packet_frame.specs.Packets.{first_message, split, spelling}
+use Rattle.reply_track.specs.Replying.{payloads_in}
 use Rattle.handshake.specs.Response.{response_fields, head_fields, response_of}
 use Rattle.handshake.specs.Greeting.{greeting_fields, greeting_of, protocol_field, offer_fields, back_field}
 use Rattle.handshake.specs.Switch.{switch_of}
@@ -23,7 +24,7 @@ use Rattle.promises.specs.Worked.{link, salt, at, setup, service, first_turn, qu
 use Rattle.promises.proofs.InWork.{refused-unsent}
 
 bob-refused : is_refused service 2 1 denied ≡ true
-unfolding client_opening server_opening first_message split spelling account_of response_fields head_fields response_of greeting_fields protocol_field offer_fields back_field greeting_of switch_of number_field bytes_field text_field counted_field optional_text last_text own_ok connection_refused bad_server_bytes connection_lost response_said answer_said
+unfolding client_opening server_opening payloads_in first_message split spelling account_of response_fields head_fields response_of greeting_fields protocol_field offer_fields back_field greeting_of switch_of number_field bytes_field text_field counted_field optional_text last_text own_ok connection_refused bad_server_bytes connection_lost response_said answer_said
 bob-refused = refl
 
 -- the second client's query, which was refused, is sent at no later moment, on no link
@@ -35,7 +36,7 @@ ann_work : Work
 ann_work = record { ordinal = 1; message = record { first = 0; last = 0; payload = query } }
 
 ann-works : work_of service 1 drained ≡ Some ann_work
-unfolding ann_work client_opening server_opening first_message split spelling account_of response_fields head_fields response_of greeting_fields protocol_field offer_fields back_field greeting_of switch_of number_field bytes_field text_field counted_field optional_text last_text own_ok connection_refused bad_server_bytes connection_lost response_said answer_said
+unfolding ann_work client_opening server_opening payloads_in first_message split spelling account_of response_fields head_fields response_of greeting_fields protocol_field offer_fields back_field greeting_of switch_of number_field bytes_field text_field counted_field optional_text last_text own_ok connection_refused bad_server_bytes connection_lost response_said answer_said
 ann-works = refl
 
 unowned : Waits service 1 ann_work drained → ⊥

@@ -17,7 +17,7 @@ use Rattle.server_side.specs.Login.{Opening, Goes, LogsIn, Fails, opening}
 use Rattle.server_side.specs.Laws.{opening-logged_in}
 use Rattle.exchange.specs.Logins.{sound_of, is_loss, was_lost, until_loss, heard_of, login_on}
 use Rattle.exchange.specs.Commands.{Command, piece, commands_behind, pieces_of, behind, joins, with_piece, commands_in, commands_on, is_command, place_in, first_some, carries, carrier_of}
-use Rattle.exchange.specs.Replies.{Grammar, Answer, Heard, Partly, Wholly, Never, one_payload, cut, replies_by, replies_on, rest_of, behind_login, reply_at}
+use Rattle.exchange.specs.Replies.{Grammar, Answer, Heard, Partly, Wholly, Never, command_reply, cut, replies_by, replies_on, rest_of, behind_login, reply_at}
 use Rattle.std.specs.Prelude.{Result, Ok}
 use Rattle.std.proofs.lemmas.List.Elements.{filter_map-append}
 use Rattle.std.proofs.lemmas.Grind.{flat_map-append}
@@ -25,7 +25,7 @@ use Rattle.mx_wire.specs.Log.{read_of}
 use Rattle.packet_frame.specs.Packets.{Split, split, grown}
 use Rattle.packet_frame.specs.Laws.{split-grown, split-nothing}
 use Rattle.command_parse.specs.Meaning.{Meaning, parsed}
-use Rattle.command_parse.specs.Meaning.Meaning.{Query}
+use Rattle.command_parse.specs.Meaning.Meaning.{Query, InitDb}
 use Rattle.command_parse.specs.declared.fault.CommandFault.{CommandFault}
 use Rattle.client_side.specs.Login.{Opening as ClientOpening, Waits, Says, Fails as FailsToSay}
 use Rattle.client_side.specs.Laws.{opening-says-more}
@@ -42,7 +42,7 @@ use Rattle.promises.proofs.InWork.{some-same, refused-stays}
 use Rattle.promises.proofs.Causes.{then-of, or-inl}
 use Rattle.promises.proofs.Moments.{due-stays}
 use Rattle.promises.proofs.Links.{refused-or-sent}
-use Rattle.promises.proofs.Clean.{one-payload-grammar, heard-more, pieces-more, of-link-more, behind-append, piece_bytes}
+use Rattle.promises.proofs.Clean.{command-reply-grammar, heard-more, pieces-more, of-link-more, behind-append, piece_bytes}
 
 -- A reply, or the error in its place, stays as commands and bytes come, in any grammar.
 pub reply-longer : (grammar : Grammar) → IsGrammar grammar → (place : ℕ) (commands others : List Command) (bytes more : List ℕ) (now : Bool) (reply : Answer) → Extends commands others → place < length commands
@@ -274,7 +274,7 @@ longer-behind n i bytes pieces more place is = by (behind bytes pieces) refl whe
 
 -- what is said of a link by its entries before it was lost
 abbrev pub reply_by_sound : (n i : ℕ) → Account → Log → Bool → Option Answer
-reply_by_sound n i user sound lost = option_and_then (λ place. reply_at place (replies_by one_payload (commands_behind (opening user (flat_map got_bytes sound)) (filter_map piece sound)) (rest_of (opening user (flat_map got_bytes sound)))) lost)
+reply_by_sound n i user sound lost = option_and_then (λ place. reply_at place (replies_by command_reply (commands_behind (opening user (flat_map got_bytes sound)) (filter_map piece sound)) (rest_of (opening user (flat_map got_bytes sound)))) lost)
     (place_in n i 0 (commands_behind (opening user (flat_map got_bytes sound)) (filter_map piece sound)))
 
 pub on-stays : (n i : ℕ) (link : LinkId) (log more : Log) (user : Account) (reply : Answer) → reply_on n i link log user ≡ Some reply → reply_on n i link (log ++ more) user ≡ Some reply
@@ -286,12 +286,12 @@ on-stays n i link log more user reply is = by (bool_cases (was_lost link log)) w
       let there : place_in n i 0 (commands_in (behind (length said) (pieces_of link log))) ≡ Some place = ap (place_in n i 0) (sym was) ∙ at in
       let longer = longer-behind n i (length said) (pieces_of link log) (pieces_of link more) place there in
       let within : place < 0 + length (commands_in (behind (length said) (pieces_of link log))) = place-within n i 0 (commands_in (behind (length said) (pieces_of link log))) place there in
-      ap (λ l. option_and_then (λ p. reply_at p (replies_by one_payload l (behind_login user link (log ++ more))) (was_lost link (log ++ more))) (place_in n i 0 l)) now
-      ∙ ap (option_and_then (λ p. reply_at p (replies_by one_payload (commands_in (behind (length said) (pieces_of link log ++ pieces_of link more))) (behind_login user link (log ++ more))) (was_lost link (log ++ more)))) longer.at
-      ∙ ap (λ (o : Opening). reply_at place (replies_by one_payload (commands_in (behind (length said) (pieces_of link log ++ pieces_of link more))) (rest_of o)) (was_lost link (log ++ more))) further
-      ∙ reply-longer one_payload one-payload-grammar place (commands_in (behind (length said) (pieces_of link log))) (commands_in (behind (length said) (pieces_of link log ++ pieces_of link more))) rest (heard_of link more) (was_lost link (log ++ more)) reply longer.extends
+      ap (λ l. option_and_then (λ p. reply_at p (replies_by command_reply l (behind_login user link (log ++ more))) (was_lost link (log ++ more))) (place_in n i 0 l)) now
+      ∙ ap (option_and_then (λ p. reply_at p (replies_by command_reply (commands_in (behind (length said) (pieces_of link log ++ pieces_of link more))) (behind_login user link (log ++ more))) (was_lost link (log ++ more)))) longer.at
+      ∙ ap (λ (o : Opening). reply_at place (replies_by command_reply (commands_in (behind (length said) (pieces_of link log ++ pieces_of link more))) (rest_of o)) (was_lost link (log ++ more))) further
+      ∙ reply-longer command_reply command-reply-grammar place (commands_in (behind (length said) (pieces_of link log))) (commands_in (behind (length said) (pieces_of link log ++ pieces_of link more))) rest (heard_of link more) (was_lost link (log ++ more)) reply longer.extends
       (let less : place < 0 + length (commands_in (behind (length said) (pieces_of link log))) = within in omega arith)
-      (ap (λ l. reply_at place (replies_by one_payload l rest) false) (sym was) ∙ ap (λ (o : Opening). reply_at place (replies_by one_payload (commands_on user link log) (rest_of o)) false) (sym login) ∙ ap (reply_at place (replies_on user link log)) (sym unlost) ∙ is))
+      (ap (λ l. reply_at place (replies_by command_reply l rest) false) (sym was) ∙ ap (λ (o : Opening). reply_at place (replies_by command_reply (commands_on user link log) (rest_of o)) false) (sym login) ∙ ap (reply_at place (replies_on user link log)) (sym unlost) ∙ is))
   heard-in (Goes said) login place unlost at is = absurd (let no : None ≡ Some place = sym (ap (λ (o : Opening). place_in n i 0 (commands_behind o (pieces_of link log))) login) ∙ at in cc)
   heard-in (Fails said fault) login place unlost at is = absurd (let no : None ≡ Some place = sym (ap (λ (o : Opening). place_in n i 0 (commands_behind o (pieces_of link log))) login) ∙ at in cc)
 
@@ -309,6 +309,7 @@ reply-stays service n i log more reply is = (let one = then-of (carrier_of n i l
 -- So does the answer to a message.
 pub by-stays : (old new : Option Answer) (meaning : Result Meaning CommandFault) (reply : Answer) → (old ≡ Some reply → new ≡ Some reply) → answer_by old meaning ≡ Some reply → answer_by new meaning ≡ Some reply
 by-stays old new (Ok (Query text)) reply stays is = stays is
+by-stays old new (Ok (InitDb schema)) reply stays is = stays is
 by-stays old new _ reply stays is = is
 
 pub query-stays : (service : Service) (n i : ℕ) (message : Framed) (due log more : Log) (reply : Answer) → RefusedOrSent service (log ++ more) → query_answer service n i message due log ≡ Some reply → query_answer service n i message due (log ++ more) ≡ Some reply

@@ -18,6 +18,7 @@ use Rattle.packet_frame.specs.PacketLaws.{nat_eq-true}
 use Rattle.server_side.specs.Account.{Account}
 use Rattle.client_session.specs.Arrivals.{Arrival, arrival_of, arrivals}
 use Rattle.packet_frame.specs.Packets.{Framed, first_message, split, spelling}
+use Rattle.reply_track.specs.Replying.{payloads_in}
 use Rattle.handshake.specs.Response.{response_fields, head_fields, response_of}
 use Rattle.handshake.specs.Greeting.{greeting_fields, greeting_of, protocol_field, offer_fields, back_field}
 use Rattle.handshake.specs.Switch.{switch_of}
@@ -103,7 +104,7 @@ each-is test before (e ∷ log) is zero = ap test (append-nil before) ∙ (and-t
 each-is test before (e ∷ log) is (suc n) = ap test (sym (append_assoc before (e ∷ []) (take n log))) ∙ each-is test (before ++ e ∷ []) log (and-true (test before) (at_each test (before ++ e ∷ []) log) is).1 n
 
 served-whole : at_each (serves_all service) [] whole ≡ true
-unfolding client_opening server_opening first_message split spelling account_of response_fields head_fields response_of greeting_fields protocol_field offer_fields back_field greeting_of switch_of number_field bytes_field text_field counted_field optional_text last_text own_ok connection_refused bad_server_bytes connection_lost response_said answer_said
+unfolding client_opening server_opening payloads_in first_message split spelling account_of response_fields head_fields response_of greeting_fields protocol_field offer_fields back_field greeting_of switch_of number_field bytes_field text_field counted_field optional_text last_text own_ok connection_refused bad_server_bytes connection_lost response_said answer_said
 served-whole = refl
 
 pub served : AtEachMoment (IsServed service) whole
@@ -115,11 +116,11 @@ abbrev query_message : Framed
 query_message = record { first = 0; last = 0; payload = query }
 
 reached-early : due_at service 1 1 early ≡ Some early
-unfolding client_opening server_opening first_message split spelling account_of response_fields head_fields response_of greeting_fields protocol_field offer_fields back_field greeting_of switch_of number_field bytes_field text_field counted_field optional_text last_text own_ok connection_refused bad_server_bytes connection_lost response_said answer_said
+unfolding client_opening server_opening payloads_in first_message split spelling account_of response_fields head_fields response_of greeting_fields protocol_field offer_fields back_field greeting_of switch_of number_field bytes_field text_field counted_field optional_text last_text own_ok connection_refused bad_server_bytes connection_lost response_said answer_said
 reached-early = refl
 
 opens-first : MayOpen service at (early ++ ReadNothing (link 1) ∷ [])
-unfolding client_opening server_opening first_message split spelling account_of response_fields head_fields response_of greeting_fields protocol_field offer_fields back_field greeting_of switch_of number_field bytes_field text_field counted_field optional_text last_text own_ok connection_refused bad_server_bytes connection_lost response_said answer_said
+unfolding client_opening server_opening payloads_in first_message split spelling account_of response_fields head_fields response_of greeting_fields protocol_field offer_fields back_field greeting_of switch_of number_field bytes_field text_field counted_field optional_text last_text own_ok connection_refused bad_server_bytes connection_lost response_said answer_said
 opens-first = record {
   turn = first_turn;
   is_next = refl;
@@ -134,14 +135,14 @@ opens-first = record {
 }
 
 says-first : MaySay service (link 3) (response_said ann server_greeting) entering
-unfolding client_opening server_opening first_message split spelling account_of response_fields head_fields response_of greeting_fields protocol_field offer_fields back_field greeting_of switch_of number_field bytes_field text_field counted_field optional_text last_text own_ok connection_refused bad_server_bytes connection_lost response_said answer_said
+unfolding client_opening server_opening payloads_in first_message split spelling account_of response_fields head_fields response_of greeting_fields protocol_field offer_fields back_field greeting_of switch_of number_field bytes_field text_field counted_field optional_text last_text own_ok connection_refused bad_server_bytes connection_lost response_said answer_said
 says-first = record { user = ann; is_user = refl; sound = λ same. (let no : Enters ≡ Spoilt = same in cc); front = record { rest = []; is = refl } }
 
 carried-none : (other : LinkId) → carrier_of 1 1 logged_in ≡ Some other → other ≡ link 3
 carried-none other is = absurd (let no : None ≡ Some other = is in cc)
 
 sends-first : MaySend service 1 1 (link 3) (spelling 0 query) logged_in
-unfolding client_opening server_opening first_message split spelling account_of response_fields head_fields response_of greeting_fields protocol_field offer_fields back_field greeting_of switch_of number_field bytes_field text_field counted_field optional_text last_text own_ok connection_refused bad_server_bytes connection_lost response_said answer_said
+unfolding client_opening server_opening payloads_in first_message split spelling account_of response_fields head_fields response_of greeting_fields protocol_field offer_fields back_field greeting_of switch_of number_field bytes_field text_field counted_field optional_text last_text own_ok connection_refused bad_server_bytes connection_lost response_said answer_said
 sends-first = record {
   message = query_message;
   due = early;
@@ -169,7 +170,7 @@ owned-by other is = absurd (by (nat_eq other.0 3) is) where
   by false same = (let no : None ≡ Some (owner_for service 2 query_message bob_asked) = same in cc)
 
 opens-second : MayOpen service at bob_asks
-unfolding client_opening server_opening first_message split spelling account_of response_fields head_fields response_of greeting_fields protocol_field offer_fields back_field greeting_of switch_of number_field bytes_field text_field counted_field optional_text last_text own_ok connection_refused bad_server_bytes connection_lost response_said answer_said
+unfolding client_opening server_opening payloads_in first_message split spelling account_of response_fields head_fields response_of greeting_fields protocol_field offer_fields back_field greeting_of switch_of number_field bytes_field text_field counted_field optional_text last_text own_ok connection_refused bad_server_bytes connection_lost response_said answer_said
 opens-second = record {
   turn = second_turn;
   is_next = refl;
@@ -194,11 +195,11 @@ parts-not (suc (suc zero)) came is on = (let same : bob_at ≡ came = some-same 
 parts-not (suc (suc (suc n))) came is on = (let no : None ≡ Some came = is in cc)
 
 spoilt-second : standing_on bob (link 4) denied ≡ Spoilt
-unfolding client_opening server_opening first_message split spelling account_of response_fields head_fields response_of greeting_fields protocol_field offer_fields back_field greeting_of switch_of number_field bytes_field text_field counted_field optional_text last_text own_ok connection_refused bad_server_bytes connection_lost response_said answer_said
+unfolding client_opening server_opening payloads_in first_message split spelling account_of response_fields head_fields response_of greeting_fields protocol_field offer_fields back_field greeting_of switch_of number_field bytes_field text_field counted_field optional_text last_text own_ok connection_refused bad_server_bytes connection_lost response_said answer_said
 spoilt-second = refl
 
 bob-on : user_on service (link 4) denied ≡ Some bob
-unfolding client_opening server_opening first_message split spelling account_of response_fields head_fields response_of greeting_fields protocol_field offer_fields back_field greeting_of switch_of number_field bytes_field text_field counted_field optional_text last_text own_ok connection_refused bad_server_bytes connection_lost response_said answer_said
+unfolding client_opening server_opening payloads_in first_message split spelling account_of response_fields head_fields response_of greeting_fields protocol_field offer_fields back_field greeting_of switch_of number_field bytes_field text_field counted_field optional_text last_text own_ok connection_refused bad_server_bytes connection_lost response_said answer_said
 bob-on = refl
 
 closes-second : MayClose service (link 4) denied
@@ -300,43 +301,43 @@ ann_work : Work
 ann_work = record { ordinal = 1; message = query_message }
 
 ann-work : work_of service 1 waiting ≡ Some ann_work
-unfolding ann_work client_opening server_opening first_message split spelling account_of response_fields head_fields response_of greeting_fields protocol_field offer_fields back_field greeting_of switch_of number_field bytes_field text_field counted_field optional_text last_text own_ok connection_refused bad_server_bytes connection_lost response_said answer_said
+unfolding ann_work client_opening server_opening payloads_in first_message split spelling account_of response_fields head_fields response_of greeting_fields protocol_field offer_fields back_field greeting_of switch_of number_field bytes_field text_field counted_field optional_text last_text own_ok connection_refused bad_server_bytes connection_lost response_said answer_said
 ann-work = refl
 
 bob-work : work_of service 2 waiting ≡ Some ann_work
-unfolding ann_work client_opening server_opening first_message split spelling account_of response_fields head_fields response_of greeting_fields protocol_field offer_fields back_field greeting_of switch_of number_field bytes_field text_field counted_field optional_text last_text own_ok connection_refused bad_server_bytes connection_lost response_said answer_said
+unfolding ann_work client_opening server_opening payloads_in first_message split spelling account_of response_fields head_fields response_of greeting_fields protocol_field offer_fields back_field greeting_of switch_of number_field bytes_field text_field counted_field optional_text last_text own_ok connection_refused bad_server_bytes connection_lost response_said answer_said
 bob-work = refl
 
 ann-waits : Waits service 1 ann_work waiting
-unfolding ann_work client_opening server_opening first_message split spelling account_of response_fields head_fields response_of greeting_fields protocol_field offer_fields back_field greeting_of switch_of number_field bytes_field text_field counted_field optional_text last_text own_ok connection_refused bad_server_bytes connection_lost response_said answer_said
+unfolding ann_work client_opening server_opening payloads_in first_message split spelling account_of response_fields head_fields response_of greeting_fields protocol_field offer_fields back_field greeting_of switch_of number_field bytes_field text_field counted_field optional_text last_text own_ok connection_refused bad_server_bytes connection_lost response_said answer_said
 ann-waits = record { due = early; is_due = refl; link = link 3; opened = refl; owner = refl; user = ann; is_user = refl; on = Sent [] refl refl }
 
 bob-waits : Waits service 2 ann_work waiting
-unfolding ann_work client_opening server_opening first_message split spelling account_of response_fields head_fields response_of greeting_fields protocol_field offer_fields back_field greeting_of switch_of number_field bytes_field text_field counted_field optional_text last_text own_ok connection_refused bad_server_bytes connection_lost response_said answer_said
+unfolding ann_work client_opening server_opening payloads_in first_message split spelling account_of response_fields head_fields response_of greeting_fields protocol_field offer_fields back_field greeting_of switch_of number_field bytes_field text_field counted_field optional_text last_text own_ok connection_refused bad_server_bytes connection_lost response_said answer_said
 bob-waits = record { due = bob_asked; is_due = refl; link = link 4; opened = refl; owner = refl; user = bob; is_user = refl; on = LogsIn refl refl }
 
 ann-answered : IsAnswered service 1 ann_at waiting
-unfolding client_opening server_opening first_message split spelling account_of response_fields head_fields response_of greeting_fields protocol_field offer_fields back_field greeting_of switch_of number_field bytes_field text_field counted_field optional_text last_text own_ok connection_refused bad_server_bytes connection_lost response_said answer_said
+unfolding client_opening server_opening payloads_in first_message split spelling account_of response_fields head_fields response_of greeting_fields protocol_field offer_fields back_field greeting_of switch_of number_field bytes_field text_field counted_field optional_text last_text own_ok connection_refused bad_server_bytes connection_lost response_said answer_said
 ann-answered = record { served = refl; told = inl refl; lasts = inl refl; waits = λ here work is query. subst (λ (w : Work). Waits service 1 w waiting) (some-same ann_work work (sym ann-work ∙ is)) ann-waits }
 
 bob-answered : IsAnswered service 2 bob_at waiting
-unfolding client_opening server_opening first_message split spelling account_of response_fields head_fields response_of greeting_fields protocol_field offer_fields back_field greeting_of switch_of number_field bytes_field text_field counted_field optional_text last_text own_ok connection_refused bad_server_bytes connection_lost response_said answer_said
+unfolding client_opening server_opening payloads_in first_message split spelling account_of response_fields head_fields response_of greeting_fields protocol_field offer_fields back_field greeting_of switch_of number_field bytes_field text_field counted_field optional_text last_text own_ok connection_refused bad_server_bytes connection_lost response_said answer_said
 bob-answered = record { served = refl; told = inl refl; lasts = inl refl; waits = λ here work is query. subst (λ (w : Work). Waits service 2 w waiting) (some-same ann_work work (sym bob-work ∙ is)) bob-waits }
 
 third-kept : IsKept (record { client = 1; hostgroup = 0 }) ann (link 3) waiting
-unfolding client_opening server_opening first_message split spelling account_of response_fields head_fields response_of greeting_fields protocol_field offer_fields back_field greeting_of switch_of number_field bytes_field text_field counted_field optional_text last_text own_ok connection_refused bad_server_bytes connection_lost response_said answer_said
+unfolding client_opening server_opening payloads_in first_message split spelling account_of response_fields head_fields response_of greeting_fields protocol_field offer_fields back_field greeting_of switch_of number_field bytes_field text_field counted_field optional_text last_text own_ok connection_refused bad_server_bytes connection_lost response_said answer_said
 third-kept = record { sound = λ same. (let no : Runs ≡ Spoilt = same in cc); needed = inl refl }
 
 fourth-kept : IsKept (record { client = 2; hostgroup = 0 }) bob (link 4) waiting
-unfolding client_opening server_opening first_message split spelling account_of response_fields head_fields response_of greeting_fields protocol_field offer_fields back_field greeting_of switch_of number_field bytes_field text_field counted_field optional_text last_text own_ok connection_refused bad_server_bytes connection_lost response_said answer_said
+unfolding client_opening server_opening payloads_in first_message split spelling account_of response_fields head_fields response_of greeting_fields protocol_field offer_fields back_field greeting_of switch_of number_field bytes_field text_field counted_field optional_text last_text own_ok connection_refused bad_server_bytes connection_lost response_said answer_said
 fourth-kept = record { sound = λ same. (let no : Enters ≡ Spoilt = same in cc); needed = inl refl }
 
 ann-there : user_on service (link 3) waiting ≡ Some ann
-unfolding client_opening server_opening first_message split spelling account_of response_fields head_fields response_of greeting_fields protocol_field offer_fields back_field greeting_of switch_of number_field bytes_field text_field counted_field optional_text last_text own_ok connection_refused bad_server_bytes connection_lost response_said answer_said
+unfolding client_opening server_opening payloads_in first_message split spelling account_of response_fields head_fields response_of greeting_fields protocol_field offer_fields back_field greeting_of switch_of number_field bytes_field text_field counted_field optional_text last_text own_ok connection_refused bad_server_bytes connection_lost response_said answer_said
 ann-there = refl
 
 bob-there : user_on service (link 4) waiting ≡ Some bob
-unfolding client_opening server_opening first_message split spelling account_of response_fields head_fields response_of greeting_fields protocol_field offer_fields back_field greeting_of switch_of number_field bytes_field text_field counted_field optional_text last_text own_ok connection_refused bad_server_bytes connection_lost response_said answer_said
+unfolding client_opening server_opening payloads_in first_message split spelling account_of response_fields head_fields response_of greeting_fields protocol_field offer_fields back_field greeting_of switch_of number_field bytes_field text_field counted_field optional_text last_text own_ok connection_refused bad_server_bytes connection_lost response_said answer_said
 bob-there = refl
 
 rest-waiting : IsAtRest service waiting
@@ -359,19 +360,19 @@ rest-waiting = record { accepted = accepted; named = refl; read = λ l opened. i
 
 -- and at the end
 ann-done : IsAnswered service 1 ann_at answered
-unfolding client_opening server_opening first_message split spelling account_of response_fields head_fields response_of greeting_fields protocol_field offer_fields back_field greeting_of switch_of number_field bytes_field text_field counted_field optional_text last_text own_ok connection_refused bad_server_bytes connection_lost response_said answer_said
+unfolding client_opening server_opening payloads_in first_message split spelling account_of response_fields head_fields response_of greeting_fields protocol_field offer_fields back_field greeting_of switch_of number_field bytes_field text_field counted_field optional_text last_text own_ok connection_refused bad_server_bytes connection_lost response_said answer_said
 ann-done = record { served = refl; told = inl refl; lasts = inl refl; waits = λ here work is query. absurd (let no : None ≡ Some work = is in cc) }
 
 bob-done : IsAnswered service 2 bob_at answered
-unfolding client_opening server_opening first_message split spelling account_of response_fields head_fields response_of greeting_fields protocol_field offer_fields back_field greeting_of switch_of number_field bytes_field text_field counted_field optional_text last_text own_ok connection_refused bad_server_bytes connection_lost response_said answer_said
+unfolding client_opening server_opening payloads_in first_message split spelling account_of response_fields head_fields response_of greeting_fields protocol_field offer_fields back_field greeting_of switch_of number_field bytes_field text_field counted_field optional_text last_text own_ok connection_refused bad_server_bytes connection_lost response_said answer_said
 bob-done = record { served = refl; told = inl refl; lasts = inl refl; waits = λ here work is query. absurd (let no : None ≡ Some work = is in cc) }
 
 third-clean : IsKept (record { client = 1; hostgroup = 0 }) ann (link 3) answered
-unfolding client_opening server_opening first_message split spelling account_of response_fields head_fields response_of greeting_fields protocol_field offer_fields back_field greeting_of switch_of number_field bytes_field text_field counted_field optional_text last_text own_ok connection_refused bad_server_bytes connection_lost response_said answer_said
+unfolding client_opening server_opening payloads_in first_message split spelling account_of response_fields head_fields response_of greeting_fields protocol_field offer_fields back_field greeting_of switch_of number_field bytes_field text_field counted_field optional_text last_text own_ok connection_refused bad_server_bytes connection_lost response_said answer_said
 third-clean = record { sound = λ same. (let no : Clean ≡ Spoilt = same in cc); needed = inl refl }
 
 ann-still : user_on service (link 3) answered ≡ Some ann
-unfolding client_opening server_opening first_message split spelling account_of response_fields head_fields response_of greeting_fields protocol_field offer_fields back_field greeting_of switch_of number_field bytes_field text_field counted_field optional_text last_text own_ok connection_refused bad_server_bytes connection_lost response_said answer_said
+unfolding client_opening server_opening payloads_in first_message split spelling account_of response_fields head_fields response_of greeting_fields protocol_field offer_fields back_field greeting_of switch_of number_field bytes_field text_field counted_field optional_text last_text own_ok connection_refused bad_server_bytes connection_lost response_said answer_said
 ann-still = refl
 
 rest-answered : IsAtRest service answered

@@ -7,7 +7,7 @@ use Rattle.mx_base.specs.declared.names.Port.TheVariants.{Traffic, Admin}
 use Rattle.mx_wire.specs.Log.{Log}
 use Rattle.packet_frame.specs.Packets.{Framed, next_id, spelling}
 use Rattle.command_parse.specs.Meaning.{Meaning, parsed}
-use Rattle.command_parse.specs.Meaning.Meaning.{Query, Ping, Quit}
+use Rattle.command_parse.specs.Meaning.Meaning.{Query, InitDb, Ping, Quit}
 use Rattle.command_parse.specs.declared.fault.CommandFault.{CommandFault}
 use Rattle.server_side.specs.Account.{Account}
 use Rattle.client_session.specs.declared.setup.ServerAt.{ServerAt}
@@ -51,6 +51,7 @@ query_answer service n i message due log =
 abbrev pub answer_by : Option Answer → Result Meaning CommandFault → Option Answer
 answer_by reply (Err fault) = Some (malformed_command ∷ [])
 answer_by reply (Ok (Query text)) = reply
+answer_by reply (Ok (InitDb schema)) = reply
 answer_by reply (Ok Ping) = Some (own_ok ∷ [])
 answer_by reply (Ok Quit) = None
 answer_by reply (Ok _) = Some (unknown_command ∷ [])

@@ -11,7 +11,7 @@ ghost use Rattle.promises.specs.Due.{due, Work, work_of, message_of, due_at, rou
 ghost use Rattle.client_session.specs.Setups.{Setup};
 ghost use Rattle.promises.specs.Service.{open_tries, Turn, turn_of, Service};
 ghost use Rattle.std.specs.Prelude.{◌<◌, is_some, ◌≡◌, ◌≢◌, ℕ, ◌≤◌, ◌⊎◌, Bool, true, false, List, [], ◌∷◌, ◌++◌, length, Option, Some, None};
-ghost use Rattle.exchange.specs.Replies.{reply_at, Spoilt, Runs, Sends, Enters, Clean, standing_on, Answer, Grammar, one_payload, replies_by};
+ghost use Rattle.exchange.specs.Replies.{reply_at, Spoilt, Runs, Sends, Enters, Clean, standing_on, Answer, Grammar, command_reply, replies_by};
 ghost use Rattle.promises.specs.Owners.{is_here, user_of, Owner, refused_by, refused, is_refused};
 ghost use Rattle.promises.specs.Closes.{MayDrop};
 ghost use Rattle.promises.specs.Rest.{IsAtRest};
@@ -54,8 +54,8 @@ pub fn open_refuses()
 {}
 
 /// Today's grammar of replies is one.
-pub fn one_payload_is_grammar()
-    ensures { IsGrammar one_payload }
+pub fn command_reply_is_grammar()
+    ensures { IsGrammar command_reply }
 {}
 
 /// Behind commands that are all answered, with nothing behind their replies, others are answered by what comes then, in any grammar.

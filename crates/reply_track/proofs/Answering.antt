@@ -41,7 +41,7 @@ goes-by [] ys from to is = let same : from ≡ to = cc in record { runs = ap (λ
 goes-by (b ∷ xs) ys from to is = goes_step from to b xs ys (step from b) refl is (λ next more. goes-by xs ys next to more)
 
 -- bytes that end a reply
-record EndsBy (from : State) (xs : List ℕ) (end : ReplyEnd) (rest : List ℕ) : Type 0 where
+pub record EndsBy (from : State) (xs : List ℕ) (end : ReplyEnd) (rest : List ℕ) : Type 0 where
   pub front : List ℕ
   pub is : xs ≡ front ++ rest
   pub ends : run from front ≡ Ended end []
@@ -69,12 +69,12 @@ ends_step from b xs end rest (Over last) is goes others =
     }
 ends_step from b xs end rest Wrong is goes others = absurd (cc)
 
-ends_by : (xs : List ℕ) (from : State) (end : ReplyEnd) (rest : List ℕ) → run from xs ≡ Ended end rest → EndsBy from xs end rest
+pub ends_by : (xs : List ℕ) (from : State) (end : ReplyEnd) (rest : List ℕ) → run from xs ≡ Ended end rest → EndsBy from xs end rest
 ends_by [] from end rest is = absurd (cc)
 ends_by (b ∷ xs) from end rest is = ends_step from b xs end rest (step from b) refl is (λ next more. ends_by xs next end rest more)
 
 -- bytes one of which is wrong
-record FailsBy (from : State) (xs rest : List ℕ) : Type 0 where
+pub record FailsBy (from : State) (xs rest : List ℕ) : Type 0 where
   pub front : List ℕ
   pub to : State
   pub b : ℕ
@@ -105,7 +105,7 @@ fails_step from b xs rest Wrong is goes others =
     let left : b ∷ xs ≡ rest = cc in
     record { front = []; to = from; b = b; others = xs; is = left; first = sym left; goes = refl; wrong = is; makes = ap (λ (o : Outcome). renumbered_by o (written from b) b xs (λ (n : State). renumbered n xs)) is ∙ left }
 
-fails_by : (xs : List ℕ) (from : State) (rest : List ℕ) → run from xs ≡ Failed rest → FailsBy from xs rest
+pub fails_by : (xs : List ℕ) (from : State) (rest : List ℕ) → run from xs ≡ Failed rest → FailsBy from xs rest
 fails_by [] from rest is = absurd (cc)
 fails_by (b ∷ xs) from rest is = fails_step from b xs rest (step from b) refl is (λ next more. fails_by xs next rest more)
 
@@ -115,7 +115,7 @@ whole_runs sought bytes payloads end whole =
     let crosses = (reply-sent sought.kind sought.number payloads end whole.reply).over sought.server sought.client in
     ap (run (started sought)) (whole.spelled ∙ sym (append-nil (spellings sought.server payloads))) ∙ crosses.runs []
 
-whole_makes : (sought : Sought) (bytes : List ℕ) (payloads : List (List ℕ)) (end : ReplyEnd) → IsWhole sought bytes payloads end → renumbered (started sought) bytes ≡ spellings sought.client (renamed sought.kind sought.number payloads)
+pub whole_makes : (sought : Sought) (bytes : List ℕ) (payloads : List (List ℕ)) (end : ReplyEnd) → IsWhole sought bytes payloads end → renumbered (started sought) bytes ≡ spellings sought.client (renamed sought.kind sought.number payloads)
 whole_makes sought bytes payloads end whole =
     let crosses = (reply-sent sought.kind sought.number payloads end whole.reply).over sought.server sought.client in
     ap (renumbered (started sought)) (whole.spelled ∙ sym (append-nil (spellings sought.server payloads))) ∙ crosses.makes [] ∙ append-nil (spellings sought.client (renamed sought.kind sought.number payloads))
@@ -123,14 +123,14 @@ whole_makes sought bytes payloads end whole =
 start_alive : (sought : Sought) → sought.server < 256 → IsAlive (started sought)
 start_alive sought small = record { small = small; at = tt }
 
-goes_on : (sought : Sought) (bytes : List ℕ) (state : State) → sought.server < 256 → AreBytes bytes → run (started sought) bytes ≡ Going state → GoesOn sought bytes
+pub goes_on : (sought : Sought) (bytes : List ℕ) (state : State) → sought.server < 256 → AreBytes bytes → run (started sought) bytes ≡ Going state → GoesOn sought bytes
 goes_on sought bytes state small are goes =
     let more = alive-completes state (run-alive bytes (started sought) state (start_alive sought small) goes) in
     let ends : run (started sought) (bytes ++ more.more) ≡ Ended more.end [] = (goes-by bytes more.more (started sought) state goes).runs ∙ more.ends in
     let found = reply-found sought (bytes ++ more.more) more.end [] (AreBytes-append bytes more.more are more.are) ends in
     record { more = more.more; payloads = found.payloads; end = more.end; some = more.some; are = more.are; whole = record { reply = found.reply; spelled = found.is ∙ append-nil (spellings sought.server found.payloads) } }
 
-AreBytes-begin : (xs ys : List ℕ) → AreBytes (xs ++ ys) → AreBytes xs
+pub AreBytes-begin : (xs ys : List ℕ) → AreBytes (xs ++ ys) → AreBytes xs
 AreBytes-begin [] ys are i = are_nil i where
   are_nil : AreBytes []
   are_nil k = lit< tt
@@ -142,7 +142,7 @@ length_by (On next) new b bytes others = ap suc (others next)
 length_by (Over end) new b bytes others = refl
 length_by Wrong new b bytes others = refl
 
-length-renumbered : (bytes : List ℕ) (state : State) → length (renumbered state bytes) ≡ length bytes
+pub length-renumbered : (bytes : List ℕ) (state : State) → length (renumbered state bytes) ≡ length bytes
 length-renumbered [] state = refl
 length-renumbered (b ∷ bytes) state = length_by (step state b) (written state b) b bytes (length-renumbered bytes)
 

@@ -13,6 +13,7 @@ pub mod Inverse
 pub mod Living
 pub mod Meaning
 pub mod Messages
+pub mod Replying
 pub mod Sentences
 pub mod Sorting
 pub mod Spoken

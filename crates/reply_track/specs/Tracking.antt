@@ -1,5 +1,5 @@
 -- What a tracker promises.
-use Rattle.std.specs.Prelude.{◌≡◌, ◌≤◌, ◌<◌, ℕ, ◌+◌, List, [], ◌∷◌, ◌++◌, length, take, drop}
+use Rattle.std.specs.Prelude.{◌≡◌, ◌≤◌, ◌<◌, ℕ, ◌+◌, List, ◌++◌, length, take, drop}
 use Rattle.mx_base.specs.Fields.{AreBytes}
 use Rattle.packet_frame.specs.Packets.{spellings}
 use Rattle.reply_track.specs.declared.reply.ReplyEnd.{ReplyEnd}

@@ -70,7 +70,8 @@ impl Tracker {
     /// byte behind which no reply goes on, be it of a length, a sequence id or a payload. Bytes behind the end, and
     /// from the bad byte on, stay as they are. Takes no memory. After `Done` and `Bad` there is nothing more to take.
     pub fn take(&mut self, piece: &mut [u8]) -> Progress
-        ensures { (sought : Sought) (bytes made : List ℕ) → Took sought bytes made self.old.state → Answers sought bytes made piece.old piece.new self.new.state result }
+        ensures means { (sought : Sought) (bytes made : List ℕ) → Took sought bytes made self.old.state → Answers sought bytes made piece.old piece.new self.new.state result }
+        ensures walks { Walked self.old.state piece.old self.new.state piece.new result }
     {
         walk(&mut self.state, piece)
     }

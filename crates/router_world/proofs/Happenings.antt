@@ -1,6 +1,7 @@
 -- What the entries on an open link make of what stands, by whose it is.
 use Rattle.std.specs.Prelude.{◌≡◌, ◌≢◌, ◌<◌, ◌+◌, ℕ, Bool, true, false, is_some, nat_eq, cond, List, [], ◌∷◌, ◌++◌, length, take, Some, None, refl}
 use Rattle.std.proofs.Common.{sym, ◌∙◌, ap, subst, arith, length-append, inl, inr}
+use Rattle.mx_base.specs.Fields.{AreBytes}
 use Rattle.mx_base.specs.declared.names.ClientNo.{ClientNo}
 use Rattle.mx_base.specs.declared.names.LinkId.{LinkId}
 use Rattle.mx_base.specs.declared.tag.Tag.{Tag}
@@ -96,8 +97,8 @@ unnumbered : (service : Service) (log : Log) (link : LinkId) (tables : Tables) (
 unnumbered service log link tables lent sound there = none-if (tables.numbers link.0) (λ client is. none-some (tables.lends.links link.0) (sound.unlent link client is) there)
 
 -- Bytes come.
-pub got-step : (service : Service) (log : Log) (link : LinkId) (bytes : List ℕ) (tables : Tables) → OnLink service log (Got link bytes) link tables → Sound service (log ++ Got link bytes ∷ []) None (got_on service.setup link bytes (tables.numbers link.0) tables)
-got-step service log link bytes tables on = by (whose service log (Got link bytes) link tables on) where
+pub got-step : (service : Service) (log : Log) (link : LinkId) (bytes : List ℕ) (tables : Tables) → AreBytes bytes → OnLink service log (Got link bytes) link tables → Sound service (log ++ Got link bytes ∷ []) None (got_on service.setup link bytes (tables.numbers link.0) tables)
+got-step service log link bytes tables are on = by (whose service log (Got link bytes) link tables on) where
   then : Log
   then = log ++ Got link bytes ∷ []
 
@@ -106,7 +107,7 @@ got-step service log link bytes tables on = by (whose service log (Got link byte
       (got-client service log client link bytes seat tables on.happens.sound (on-client service log (Got link bytes) link tables client on number (λ n i. refl)) is at (nobody-waits service.setup tables on.acted)
       (let few : length log + 1 < 281474976710656 = on.happens.few in let size : length then ≡ length log + 1 = length-append log (Got link bytes ∷ []) in omega arith)))
   by (OfServer lent is) = subst (λ o. Sound service then None (got_on service.setup link bytes o tables)) (sym (unnumbered service log link tables lent on.happens.sound is)) (subst (λ o. Sound service then None (heard_on service.setup link bytes o tables)) (sym is)
-      (heard-step service log link bytes lent tables on.happens.sound (on-row service log (Got link bytes) link tables lent on is)))
+      (heard-step service log link bytes lent tables are on.happens.sound (on-row service log (Got link bytes) link tables lent on is)))
 
 -- Its end is read.
 pub ended-step : (service : Service) (log : Log) (link : LinkId) (tables : Tables) → OnLink service log (Ended link) link tables → Sound service (log ++ Ended link ∷ []) None (ended_on service.setup link (tables.numbers link.0) tables)

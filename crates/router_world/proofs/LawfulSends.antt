@@ -126,7 +126,7 @@ may-send service log tables link lent command k sound is none has less = by (sou
       is_user = row.user;
       logged_in = record {
         said = inside.said;
-        rest = inside.past ++ lent.backend.framer.kept;
+        rest = inside.past ++ inside.part;
         is = inside.is;
         written = subst (IsPrefix inside.said) (sym (row-written link log row.unlost)) (said-written lent.backend.account (heard_of link log) (pieces_of link log) lent.backend inside none);
       };

@@ -12,6 +12,7 @@ pub mod Mending
 pub mod Moves
 pub mod RowsHeard
 pub mod RowsPieces
+pub mod RowsReplies
 pub mod RowsSaid
 pub mod RowsStanding
 pub mod RowsWritten

@@ -7,6 +7,7 @@ use Rattle.mx_base.specs.declared.tag.Tag.TheVariants.{For}
 use Rattle.mx_wire.specs.Log.{Log}
 use Rattle.mx_wire.specs.Growth.{same_number}
 use Rattle.packet_frame.specs.PacketLaws.{nat_eq-true}
+use Rattle.server_side.specs.Backend.{command_of}
 use Rattle.server_side.specs.declared.command.Command.{Command as Handed}
 use Rattle.server_side.specs.declared.stage.Stage.TheVariants as stage
 use Rattle.lend_core.specs.declared.ask.Ask.{Ask}
@@ -96,7 +97,7 @@ handed-row service log n ask lends other link lent stands inside idle owner owns
   mine = owner-turn service log lends link lent n row.turn.client row.owned owner
 
   the : Handed
-  the = record { tag = For client ask.ordinal; bytes = ask.packets; sent = 0; first = ask.first }
+  the = command_of (For client ask.ordinal) ask.packets ask.first
 
   handed_stands : HandedStands service log n link the
   handed_stands = record { ordinal = ask.ordinal; tag = refl; asked = stands.asked; carrier = stands.unsent }
@@ -105,7 +106,7 @@ pub taken-sound : (service : Service) (log : Log) (n : ℕ) (ask : Ask) (lends :
     → lends.links link.0 ≡ Some lent → lent.backend.stage ≡ stage.In → lent.backend.command ≡ None → Asked service log n ask.ordinal lends (with_link link (commanded (record { 0 = n }) ask lent) (without_link link lends))
 taken-sound service log n ask lends link lent sound idle unasked stands owns there inside free = record {
   sound = mended service log n lends other (but-one service log n lends sound) new;
-  busy = On unasked link now (record { tag = For client ask.ordinal; bytes = ask.packets; sent = 0; first = ask.first }) owns here inside refl refl;
+  busy = On unasked link now (command_of (For client ask.ordinal) ask.packets ask.first) owns here inside refl refl;
   apart = apart;
   traces = traces-one n link lends other lent there one;
 } where

@@ -1,6 +1,7 @@
 -- What comes of bytes on a link to a server, and of its loss.
 use Rattle.std.specs.Prelude.{◌≡◌, ℕ, Bool, true, false, cond, List, [], ◌∷◌, ◌++◌, Option, Some, None, refl}
 use Rattle.std.proofs.Common.{sym, ◌∙◌, ap, subst}
+use Rattle.mx_base.specs.Fields.{AreBytes}
 use Rattle.mx_base.specs.declared.names.LinkId.{LinkId}
 use Rattle.mx_wire.specs.Log.{Log, link_of, open_step}
 use Rattle.mx_wire.specs.Tells.{Fits}
@@ -30,12 +31,12 @@ use Rattle.router_world.proofs.LinksAt.{AtRow, user-later}
 use Rattle.router_world.proofs.LinksFailed.{Fails, failed-came}
 use Rattle.router_world.proofs.LinksHeard.{heard-came}
 
-pub heard-sound : (service : Service) (log : Log) (link : LinkId) (bytes : List ℕ) (lends : Lends) (lent : Lent) (turn : Turn) → AllLawful (IsLawful service) (log ++ Got link bytes ∷ []) → AllLawful Fits (log ++ Got link bytes ∷ []) → LendsSound service log lends → lends.waiting ≡ [] → lends.closing ≡ []
+pub heard-sound : (service : Service) (log : Log) (link : LinkId) (bytes : List ℕ) (lends : Lends) (lent : Lent) (turn : Turn) → AreBytes bytes → AllLawful (IsLawful service) (log ++ Got link bytes ∷ []) → AllLawful Fits (log ++ Got link bytes ∷ []) → LendsSound service log lends → lends.waiting ≡ [] → lends.closing ≡ []
     → lends.links link.0 ≡ Some lent → turn_of service link log ≡ Some turn → Came service (log ++ Got link bytes ∷ []) turn.client lends (heard link bytes lends)
-heard-sound service log link bytes lends lent turn lawful fits sound idle unclosed there is_turn =
+heard-sound service log link bytes lends lent turn are lawful fits sound idle unclosed there is_turn =
     subst (λ (t : Turn). Came service (log ++ Got link bytes ∷ []) t.client lends (heard link bytes lends)) (some-same at.row.turn turn (sym at.row.is_turn ∙ is_turn))
     (subst (λ (o : Option Lent). Came service (log ++ Got link bytes ∷ []) at.row.turn.client lends (heard_on link bytes o (without_link link lends))) (sym there)
-    (heard-came service log bytes lends link lent (record { at = at; some = (lawful-last Fits log (Got link bytes) fits).1.some }))) where
+    (heard-came service log bytes lends link lent (record { at = at; piece = record { some = (lawful-last Fits log (Got link bytes) fits).1.some; are = are } }))) where
       at : AtRow service log (Got link bytes) lends link lent
       at = record { lawful = lawful; fits = fits; sound = sound; idle = idle; unclosed = unclosed; there = there; row = sound.rows link lent there; names = refl; writes = λ k i differs. refl }
 

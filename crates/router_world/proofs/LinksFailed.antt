@@ -32,7 +32,7 @@ use Rattle.lend_core.specs.Changes.{without_link, owns_none, to_close, without_a
 use Rattle.lend_core.specs.Decisions.{refusal_for, due_at, due_by, due_on, queued, closed, again, again_for, failed_by, failed}
 use Rattle.exchange.specs.Logins.{goes_on, login_fails, heard_of}
 use Rattle.exchange.specs.Commands.{pieces_of, carries, carrier_of}
-use Rattle.exchange.specs.Replies.{Spoilt, standing_on}
+use Rattle.exchange.specs.Replies.{Answer, spelt, Spoilt, standing_on}
 use Rattle.promises.specs.Service.{Turn, Service}
 use Rattle.promises.specs.Owners.{is_turn, refused, is_refused}
 use Rattle.promises.specs.Due.{Work, reply_to}
@@ -137,22 +137,26 @@ refused-now service log e lends link lent ask names row same unsent fails = ap (
     fails = fails;
   })) ∙ list_any-append (is_turn turn.client ask.ordinal) (refused service log) (turn ∷ []) ∙ or-inr (list_any (is_turn turn.client ask.ordinal) (refused service log)) (is_turn turn.client ask.ordinal turn || false) (ap (λ b. b || false) here)
 
--- One answer of one payload.
-pub answers-one : (service : Service) (log : Log) (n i : ℕ) (lends other : Lends) (payload packets bytes : List ℕ) (id : ℕ) (before : Log) → packets ≡ spelling id payload → Busy lends n i → IsAsked service n i bytes id before → replied service n i log ≡ Some (payload ∷ []) → Free other n → other.waiting ≡ []
+-- One answer, as packets.
+pub answers-one : (service : Service) (log : Log) (n i : ℕ) (lends other : Lends) (answer : Answer) (packets bytes : List ℕ) (id : ℕ) (before : Log) → packets ≡ spelt id answer → Busy lends n i → IsAsked service n i bytes id before → replied service n i log ≡ Some answer → Free other n → other.waiting ≡ []
     → (other.closing ≡ []) ⊎ (other.owned n ≡ None) → Comes service log n lends other (Some (record { client = record { 0 = n }; packets = packets }))
-answers-one service log n i lends other payload packets bytes id before is busy asked told free unwaiting closes =
-    subst (λ (p : List ℕ). Comes service log n lends other (Some (record { client = record { 0 = n }; packets = p }))) (append-nil (spelling id payload) ∙ sym is) (Answers i (payload ∷ []) bytes id before busy asked told free unwaiting closes)
+answers-one service log n i lends other answer packets bytes id before is busy asked told free unwaiting closes =
+    subst (λ (p : List ℕ). Comes service log n lends other (Some (record { client = record { 0 = n }; packets = p }))) (sym is) (Answers i answer bytes id before busy asked told free unwaiting closes)
+
+-- an error of the router's is an answer of one payload
+pub error-spelt : (id : ℕ) (payload : List ℕ) → spelling id payload ≡ spelt id (payload ∷ [])
+error-spelt id payload = sym (append-nil (spelling id payload))
 
 -- The link is closed as the command that is begun there is answered.
-pub answered-shut : (service : Service) (log : Log) (e : Entry) (lends : Lends) (link : LinkId) (lent : Lent) (at : AtRow service log e lends link lent) (c : Handed) (payload packets : List ℕ) → IsOpen link (log ++ e ∷ [])
+pub answered-shut : (service : Service) (log : Log) (e : Entry) (lends : Lends) (link : LinkId) (lent : Lent) (at : AtRow service log e lends link lent) (c : Handed) (answer : Answer) (packets : List ℕ) → IsOpen link (log ++ e ∷ [])
     → MayDrop service (record { client = at.row.turn.client; hostgroup = at.row.turn.hostgroup }) lent.backend.account link (log ++ e ∷ []) → ((ask : Ask) → lends.asks at.row.turn.client ≡ Some ask → AskStands service (log ++ e ∷ []) at.row.turn.client ask)
-    → lent.backend.stage ≡ stage.In → lent.backend.command ≡ Some c → 0 < c.sent → lends.owned at.row.turn.client ≡ Some link → packets ≡ spelling c.first payload
-    → ((i : ℕ) → c.tag ≡ For (record { 0 = at.row.turn.client }) i → carrier_of at.row.turn.client i log ≡ Some link → replied service at.row.turn.client i (log ++ e ∷ []) ≡ Some (payload ∷ []))
+    → lent.backend.stage ≡ stage.In → lent.backend.command ≡ Some c → 0 < c.sent → lends.owned at.row.turn.client ≡ Some link → packets ≡ spelt c.first answer
+    → ((i : ℕ) → c.tag ≡ For (record { 0 = at.row.turn.client }) i → carrier_of at.row.turn.client i log ≡ Some link → replied service at.row.turn.client i (log ++ e ∷ []) ≡ Some answer)
     → Came service (log ++ e ∷ []) at.row.turn.client lends (record { lends = to_close link (owns_none (record { 0 = at.row.turn.client }) (without_link link lends)); answer = Some (record { client = record { 0 = at.row.turn.client }; packets = packets }) })
-answered-shut service log e lends link lent at c payload packets opened may asks_stay inside has some owns is told = came-of service log e lends link lent at base (Some (record { client = client; packets = packets }))
+answered-shut service log e lends link lent at c answer packets opened may asks_stay inside has some owns is told = came-of service log e lends link lent at base (Some (record { client = client; packets = packets }))
     (shut-news service log e lends link lent at base (record { links = λ k differs. set-other lends.links link.0 k None differs; out = set-same lends.links link.0 None; closing = ap (λ l. l ++ link ∷ []) at.unclosed; asks = λ k differs. refl; owned = λ k differs. set-other lends.owned n k None differs })
     opened may asks_stay (λ l owned. absurd (unowned l owned)) at.sound.one_waits (λ someone waits. absurd (none-one lends.waiting at.idle waits)))
-    (answers-one service (log ++ e ∷ []) n stands.ordinal lends base payload packets c.bytes c.first log is (On unasked link lent c owns at.there inside has stands.tag) stands.asked
+    (answers-one service (log ++ e ∷ []) n stands.ordinal lends base answer packets c.bytes c.first log is (On unasked link lent c owns at.there inside has stands.tag) stands.asked
     (told stands.ordinal stands.tag (carried service log n link c stands some)) (record { unasked = unasked; idle = λ l x owned here. absurd (unowned l owned) }) at.idle (inr (set-same lends.owned n None))) where
       n : ℕ
       n = at.row.turn.client
@@ -266,7 +270,7 @@ failed-came service log e lends link lent refusal at why = by at.row.at where
         came = came-of service log e lends link lent at other (Some (refusal_for client mine.ask))
             (shut-news service log e lends link lent at other (shut other (λ k. refl) refl (λ k differs. set-other lends.asks n k None differs) (λ k. refl)) why.opened spoilt
             (λ ask is. absurd (let no' : None ≡ Some ask = sym (set-same lends.asks n None) ∙ is in cc)) (none-owned other unowned) at.sound.one_waits (nobody-waits other refl))
-            (answers-one service new n mine.ask.ordinal lends other connection_refused (spelling mine.ask.first connection_refused) mine.ask.packets mine.ask.first log refl
+            (answers-one service new n mine.ask.ordinal lends other (connection_refused ∷ []) (spelling mine.ask.first connection_refused) mine.ask.packets mine.ask.first log (error-spelt mine.ask.first connection_refused)
             (Logs mine.ask mine.is refl link lent mine.owns at.there outside) stands.asked
             (refused-now service log e lends link lent mine.ask at.names at.row same stands.unsent (why.fails enters))
             (record { unasked = set-same lends.asks n None; idle = λ l x owns is. absurd (let no' : None ≡ Some l = sym unowned ∙ owns in cc) }) at.idle (inr unowned))
@@ -342,7 +346,7 @@ failed-came service log e lends link lent refusal at why = by at.row.at where
 
     -- a byte of it was
     answered : (c : Handed) → lent.backend.command ≡ Some c → 0 < c.sent → lends.owned n ≡ Some link → Came service new n lends (record { lends = base; answer = Some (record { client = client; packets = spelling c.first (payload_of refusal) }) })
-    answered c has some owns = answered-shut service log e lends link lent at c (payload_of refusal) (spelling c.first (payload_of refusal)) why.opened spoilt asks-stay is_in.stage has some owns refl
+    answered c has some owns = answered-shut service log e lends link lent at c (payload_of refusal ∷ []) (spelling c.first (payload_of refusal)) why.opened spoilt asks-stay is_in.stage has some owns (error-spelt c.first (payload_of refusal))
         (λ i tag carrier. why.told c i is_in has some tag carrier)
 
     -- its client has gone

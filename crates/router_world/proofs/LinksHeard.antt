@@ -12,7 +12,7 @@ use Rattle.mx_wire.specs.declared.entry.Entry.TheVariants.{Got}
 use Rattle.server_side.specs.Account.{Account}
 use Rattle.server_side.specs.Login.{opening}
 use Rattle.server_side.specs.Laws.{opening-got}
-use Rattle.server_side.specs.Backend.{BackendState, is_begun}
+use Rattle.server_side.specs.Backend.{BackendState, is_begun, command_of}
 use Rattle.server_side.specs.Hearing.{Got as Gets, Hears, Fails as GotFault, got_of}
 use Rattle.server_side.specs.Reading.{IsOpening, TellsOf}
 use Rattle.server_side.specs.declared.command.Command.{Command as Handed}
@@ -36,7 +36,7 @@ use Rattle.promises.proofs.Links.{refused-or-sent}
 use Rattle.promises.proofs.Staying.{carrier-stays}
 use Rattle.router_world.specs.Replied.{replied}
 use Rattle.router_world.specs.Rows.{bytes_in, standing_said, reply_said, LinkAt, Entering, Inside, IsInside, IsEntering, begun}
-use Rattle.router_world.proofs.RowsHeard.{TellsEntering, TellsInside, heard-entering, heard-inside, heard-quiet, heard-logged-in, heard-failure, heard-part, heard-bad, IsReplied, heard-whole}
+use Rattle.router_world.proofs.RowsHeard.{TellsEntering, TellsInside, heard-entering, heard-inside, heard-quiet, heard-logged-in, heard-failure, heard-part, heard-bad, IsReplied, IsGoing, heard-whole}
 use Rattle.router_world.proofs.Sets.{set-same, set-other}
 use Rattle.router_world.proofs.Calm.{carrier-same}
 use Rattle.router_world.proofs.Frames.{Calm, asked-stays, ask-calm, gone-stays}
@@ -107,10 +107,13 @@ module _ (service : Service) (log : Log) (bytes : List ℕ) (lends : Lends) (lin
 
   -- a reply is whole
   replied-came : (left : BackendState) (used : ℕ) → IsInside user heard_here pieces lent.backend → got_of bytes lent.backend ≡ Hears (Whole used) left → ((ask : Ask) → lends.asks n ≡ Some ask → AskStands service new n ask)
-      → Came service new n lends (answers link (due_on lent.backend) lent.owner left (without_link link lends))
-  replied-came left used inside is asks_stay = subst (λ (due : Due). Came service new n lends (answers link due lent.owner left (without_link link lends))) (sym due) (by at.row.owned) where
-    rep : IsReplied user (heard_here ++ bytes) pieces lent.backend left
-    rep = heard-whole user heard_here bytes pieces lent.backend left used inside got.some is
+      → Came service new n lends (answers link (due_on lent.backend) (nat_eq used (length bytes)) lent.owner left (without_link link lends))
+  replied-came left used inside is asks_stay = subst (λ (due : Due). Came service new n lends (answers link due ended lent.owner left (without_link link lends))) (sym due) (by at.row.owned) where
+    ended : Bool
+    ended = nat_eq used (length bytes)
+
+    rep : IsReplied user (heard_here ++ bytes) pieces lent.backend left ended
+    rep = heard-whole user heard_here bytes pieces lent.backend left used inside got.piece is
 
     c : Handed
     c = rep.command
@@ -119,12 +122,12 @@ module _ (service : Service) (log : Log) (bytes : List ℕ) (lends : Lends) (lin
     sent = nat_eq c.sent (length c.bytes)
 
     clean : Bool
-    clean = nat_eq c.sent (length c.bytes) && nat_eq (length left.framer.kept) 0
+    clean = nat_eq c.sent (length c.bytes) && ended
 
     due : due_on lent.backend ≡ Reply (nat_eq c.sent (length c.bytes)) c.first
     due = due-begun lent.backend c inside.stage rep.is rep.sent
 
-    told : (i : ℕ) → c.tag ≡ For client i → carrier_of n i log ≡ Some link → replied service n i new ≡ Some (rep.payload ∷ [])
+    told : (i : ℕ) → c.tag ≡ For client i → carrier_of n i log ≡ Some link → replied service n i new ≡ Some rep.answer
     told i tag carrier = replied-said service n i link user new (refused-or-sent service new at.lawful) (carrier-stays n i log (e ∷ []) link carrier) (user-later service log e lends link lent at.row)
         ∙ said-got (λ h p. reply_said n i user h p (was_lost link new)) link log bytes at.row.unlost
         ∙ rep.told n i (was_lost link new) (command-is n i c.tag tag)
@@ -136,7 +139,7 @@ module _ (service : Service) (log : Log) (bytes : List ℕ) (lends : Lends) (lin
     kept : lent.owner ≡ Some client → lends.owned n ≡ Some link → clean ≡ true
         → Came service new n lends (record { lends = with_link link (record { owner = Some client; backend = without_reply left }) (without_link link lends); answer = Some (record { client = client; packets = left.reply }) })
     kept own owns is_clean = came-of service log e lends link lent at other (Some (record { client = client; packets = left.reply })) (kept-news service log e lends link lent at now other keeps (sym own) row asks_stay)
-        (answers-one service new n stands.ordinal lends other rep.payload left.reply c.bytes c.first log rep.reply (On unasked link lent c owns at.there inside.stage rep.is stands.tag) stands.asked
+        (answers-one service new n stands.ordinal lends other rep.answer left.reply c.bytes c.first log rep.reply (On unasked link lent c owns at.there inside.stage rep.is stands.tag) stands.asked
         (told stands.ordinal stands.tag (carried service log n link c stands rep.sent)) (record { unasked = unasked; idle = λ l x owned here. idle l x owned here }) at.idle (inl at.unclosed)) where
           now : Lent
           now = record { owner = Some client; backend = without_reply left }
@@ -158,7 +161,7 @@ module _ (service : Service) (log : Log) (bytes : List ℕ) (lends : Lends) (lin
 
           row : RowStands service new other link now
           row = row-later service log e lends other link lent now at.row at.fits opened unlost in_left.account
-              (got-at user link log bytes (without_reply left) at.row.unlost (Inside (reply-moved user (heard_here ++ bytes) pieces left [] in_left)))
+              (got-at user link log bytes (without_reply left) at.row.unlost (Inside (reply-moved user (heard_here ++ bytes) pieces left [] in_left rep.idle)))
               (λ d has. absurd (let no' : None ≡ Some d = sym rep.idle ∙ has in cc)) (λ out. absurd (out in_left.stage)) (Own refl owns)
 
           idle : (l : LinkId) (x : Lent) → lends.owned n ≡ Some l → other.links l.0 ≡ Some x → (x.backend.stage ≡ stage.In) × (x.backend.command ≡ None)
@@ -168,7 +171,7 @@ module _ (service : Service) (log : Log) (bytes : List ℕ) (lends : Lends) (lin
     finish : lent.owner ≡ Some client → lends.owned n ≡ Some link → (b : Bool) → clean ≡ b
         → Came service new n lends (record { lends = kept_or_closed b link (record { owner = Some client; backend = without_reply left }) (without_link link lends); answer = Some (record { client = client; packets = left.reply }) })
     finish own owns true is_clean = kept own owns is_clean
-    finish own owns false unclean = answered-shut service log e lends link lent at c rep.payload left.reply opened (spoilt _ unclean) asks_stay inside.stage rep.is rep.sent owns rep.reply told
+    finish own owns false unclean = answered-shut service log e lends link lent at c rep.answer left.reply opened (spoilt _ unclean) asks_stay inside.stage rep.is rep.sent owns rep.reply told
 
     -- its client has gone
     drops : is_here n log ≡ false → (b : Bool) → clean ≡ b → MayDrop service (record { client = n; hostgroup = at.row.turn.hostgroup }) user link new
@@ -176,14 +179,14 @@ module _ (service : Service) (log : Log) (bytes : List ℕ) (lends : Lends) (lin
     drops gone true is_clean = HasGone (gone-stays service n user log e (lawful-last Fits log e at.fits).1 at.row.user gone)
         (λ runs. (let no' : Clean ≡ Runs = sym (got-standing user link log bytes Clean at.row.unlost (standing-clean user (heard_here ++ bytes) pieces left (rep.inside is_clean) (ap begun rep.idle))) ∙ runs in cc))
 
-    by : Owned service log lends link n lent → Came service new n lends (answers link (Reply (nat_eq c.sent (length c.bytes)) c.first) lent.owner left (without_link link lends))
-    by (Own own owns) = subst (λ (o : Option ClientNo). Came service new n lends (answers link (Reply (nat_eq c.sent (length c.bytes)) c.first) o left (without_link link lends))) (sym own)
+    by : Owned service log lends link n lent → Came service new n lends (answers link (Reply (nat_eq c.sent (length c.bytes)) c.first) ended lent.owner left (without_link link lends))
+    by (Own own owns) = subst (λ (o : Option ClientNo). Came service new n lends (answers link (Reply (nat_eq c.sent (length c.bytes)) c.first) ended o left (without_link link lends))) (sym own)
         (subst (λ b. Came service new n lends (record { lends = kept_or_closed b link (record { owner = Some client; backend = without_reply left }) (without_link link lends); answer = Some (record { client = client; packets = left.reply }) })) (sym (and-some clean)) (finish own owns clean refl))
-    by (Left none gone begins) = subst (λ (o : Option ClientNo). Came service new n lends (answers link (Reply (nat_eq c.sent (length c.bytes)) c.first) o left (without_link link lends))) (sym none)
+    by (Left none gone begins) = subst (λ (o : Option ClientNo). Came service new n lends (answers link (Reply (nat_eq c.sent (length c.bytes)) c.first) ended o left (without_link link lends))) (sym none)
         (subst (λ b. Came service new n lends (record { lends = kept_or_closed b link (record { owner = None; backend = without_reply left }) (without_link link lends); answer = None })) (sym (and-none clean))
         (forgotten-shut service log e lends link lent at none opened (drops gone clean refl) asks_stay))
 
-  pub heard-came : Came service new n lends (told_by link lent (got_of bytes lent.backend) (without_link link lends))
+  pub heard-came : Came service new n lends (told_by link lent (length bytes) (got_of bytes lent.backend) (without_link link lends))
   heard-came = by at.row.at (got_of bytes lent.backend) refl where
     calm-at : login_fails user link log e ≡ false → Calm service log e n
     calm-at stays = calm-own service log e lends link lent n refl at.row stays (λ i. refl)
@@ -294,7 +297,7 @@ module _ (service : Service) (log : Log) (bytes : List ℕ) (lends : Lends) (lin
           ordinal i ask asks same = ap (λ (a : Ask). a.ordinal) (some-same mine.ask ask (sym mine.is ∙ asks)) ∙ same
 
           goes : (i : ℕ) → BusyHere lends n i link lent → Busy other n i
-          goes i (LogsHere owns ask asks same out) = On unasked link carrying (record { tag = For client mine.ask.ordinal; bytes = mine.ask.packets; sent = 0; first = mine.ask.first }) mine.owns here inside.0.stage refl (ap (For client) (ordinal i ask asks same))
+          goes i (LogsHere owns ask asks same out) = On unasked link carrying (command_of (For client mine.ask.ordinal) mine.ask.packets mine.ask.first) mine.owns here inside.0.stage refl (ap (For client) (ordinal i ask asks same))
           goes i (OnHere owns unasked c staged has tag) = absurd (outside staged)
 
           came : Came service new n lends (record { lends = other; answer = None })
@@ -307,22 +310,29 @@ module _ (service : Service) (log : Log) (bytes : List ℕ) (lends : Lends) (lin
     -- a reply goes on
     part : (left : BackendState) (used : ℕ) → IsInside user heard_here pieces lent.backend → got_of bytes lent.backend ≡ Hears (Part used) left → Came service new n lends (record { lends = with_link link (record lent { backend = left }) (without_link link lends); answer = None })
     part left used inside is = came-of service log e lends link lent at (lends_with left) None (kept-news service log e lends link lent at (row_with left) (lends_with left) (kept_with left) refl row (asks-stay calm))
-        (Quiet (λ i busy. goes i (busy-at i busy)) (free-kept service log e lends link lent at (row_with left) (lends_with left) (kept_with left) (λ idle. (goes_in.0.stage, goes_in.1 ∙ idle.1))) (gone-kept n link (row_with left) lends (lends_with left) (kept_with left)) (λ i busy. silent i (busy-at i busy))) where
-          goes_in : IsInside user (heard_here ++ bytes) pieces left × (left.command ≡ lent.backend.command)
-          goes_in = heard-part user heard_here bytes pieces lent.backend left used inside got.some is
+        (Quiet (λ i busy. goes i (busy-at i busy)) (free-kept service log e lends link lent at (row_with left) (lends_with left) (kept_with left) (λ idle. absurd (let no' : None ≡ Some goes_in.command = sym idle.1 ∙ goes_in.was in cc))) (gone-kept n link (row_with left) lends (lends_with left) (kept_with left)) (λ i busy. silent i (busy-at i busy))) where
+          goes_in : IsGoing user (heard_here ++ bytes) pieces lent.backend left
+          goes_in = heard-part user heard_here bytes pieces lent.backend left used inside got.piece is
 
           calm : Calm service log e n
           calm = calm-inside inside
 
           now_at : LinkAt user (heard_of link new) (pieces_of link new) left
-          now_at = got-at user link log bytes left at.row.unlost (Inside goes_in.0)
+          now_at = got-at user link log bytes left at.row.unlost (Inside goes_in.inside)
+
+          -- the command, but for how far its reply is
+          further : Handed → Handed
+          further c = record c { tracker = record { state = goes_in.state } }
+
+          has_further : (c : Handed) → lent.backend.command ≡ Some c → left.command ≡ Some (further c)
+          has_further c has = goes_in.is ∙ ap (λ (d : Handed). Some (further d)) (some-same goes_in.command c (sym goes_in.was ∙ has))
 
           unreplied : (c : Handed) (has : lent.backend.command ≡ Some c) → replied service n (at.row.command c has).ordinal new ≡ None
           unreplied c has = (let stands = at.row.command c has in
-              command-unreplied service n stands.ordinal link user new left c (refused-or-sent service new at.lawful) now_at (goes_in.1 ∙ has) stands.tag (carrier-same n stands.ordinal log e refl ∙ stands.carrier) (user-later service log e lends link lent at.row) unlost
+              command-unreplied service n stands.ordinal link user new left (further c) (refused-or-sent service new at.lawful) now_at (has_further c has) stands.tag (carrier-same n stands.ordinal log e refl ∙ stands.carrier) (user-later service log e lends link lent at.row) unlost
               (λ none. handed-unrefused service log e n stands.ordinal c.bytes c.first stands.asked calm))
 
-          handed : (c : Handed) → lent.backend.command ≡ Some c → HandedStands service new n link c
+          handed : (c : Handed) → lent.backend.command ≡ Some c → HandedStands service new n link (further c)
           handed c has = (let stands = at.row.command c has in record {
             ordinal = stands.ordinal;
             tag = stands.tag;
@@ -331,21 +341,21 @@ module _ (service : Service) (log : Log) (bytes : List ℕ) (lends : Lends) (lin
           })
 
           row : RowStands service new (lends_with left) link (row_with left)
-          row = row-later service log e lends (lends_with left) link lent (row_with left) at.row at.fits opened unlost goes_in.0.account now_at (λ c has. handed c (sym goes_in.1 ∙ has)) (λ out. absurd (out goes_in.0.stage)) (owned at.row.owned) where
+          row = row-later service log e lends (lends_with left) link lent (row_with left) at.row at.fits opened unlost goes_in.inside.account now_at (λ c has. subst (HandedStands service new n link) (some-same (further goes_in.command) c (sym goes_in.is ∙ has)) (handed goes_in.command goes_in.was)) (λ out. absurd (out goes_in.inside.stage)) (owned at.row.owned) where
             owned : Owned service log lends link n lent → Owned service new (lends_with left) link n (row_with left)
             owned (Own own owns) = Own own owns
-            owned (Left none gone begins) = Left none (gone-stays service n user log e (lawful-last Fits log e at.fits).1 at.row.user gone) (ap is_begun goes_in.1 ∙ begins)
+            owned (Left none gone begins) = Left none (gone-stays service n user log e (lawful-last Fits log e at.fits).1 at.row.user gone) (ap is_begun goes_in.is ∙ sym (ap is_begun goes_in.was) ∙ begins)
 
           goes : (i : ℕ) → BusyHere lends n i link lent → Busy (lends_with left) n i
           goes i (LogsHere owns ask asks same out) = absurd (out inside.stage)
-          goes i (OnHere owns unasked c staged has tag) = On unasked link (row_with left) c owns (kept_with left).here goes_in.0.stage (goes_in.1 ∙ has) tag
+          goes i (OnHere owns unasked c staged has tag) = On unasked link (row_with left) (further c) owns (kept_with left).here goes_in.inside.stage (has_further c has) tag
 
           silent : (i : ℕ) → BusyHere lends n i link lent → replied service n i new ≡ None
           silent i (LogsHere owns ask asks same out) = absurd (out inside.stage)
           silent i (OnHere owns unasked c staged has tag) = (let stands = at.row.command c has in
               let same : stands.ordinal ≡ i = (let both : For client stands.ordinal ≡ For client i = sym stands.tag ∙ tag in cc) in ap (λ k. replied service n k new) (sym same) ∙ unreplied c has)
 
-    whole : (left : BackendState) (used : ℕ) → IsInside user heard_here pieces lent.backend → got_of bytes lent.backend ≡ Hears (Whole used) left → Came service new n lends (answers link (due_on lent.backend) lent.owner left (without_link link lends))
+    whole : (left : BackendState) (used : ℕ) → IsInside user heard_here pieces lent.backend → got_of bytes lent.backend ≡ Hears (Whole used) left → Came service new n lends (answers link (due_on lent.backend) (nat_eq used (length bytes)) lent.owner left (without_link link lends))
     whole left used inside is = replied-came left used inside is (asks-stay (calm-inside inside))
 
     -- no reply goes on so
@@ -355,21 +365,21 @@ module _ (service : Service) (log : Log) (bytes : List ℕ) (lends : Lends) (lin
       spoilt = got-standing user link log bytes Spoilt at.row.unlost spoilt;
       silent = λ i. refl;
       fails = λ enters. ap (λ b. cond b false (cond (goes_on (login_on user link log)) (breaks_off user link log e) false)) at.row.unlost ∙ ap (λ b. cond b (breaks_off user link log e) false) (ap goes_on enters.goes) ∙ (heard-failure user heard_here bytes pieces lent.backend fault enters at.row.some is).0;
-      told = λ c i inside has some tag carrier. (let bad = heard-bad user heard_here bytes pieces lent.backend fault inside got.some is in
+      told = λ c i inside has some tag carrier. (let bad = heard-bad user heard_here bytes pieces lent.backend fault inside got.piece is in
           replied-said service n i link user new (refused-or-sent service new at.lawful) (carrier-stays n i log (e ∷ []) link carrier) (user-later service log e lends link lent at.row)
           ∙ said-got (λ h p. reply_said n i user h p (was_lost link new)) link log bytes at.row.unlost
           ∙ bad.told c n i (was_lost link new) has some (command-is n i c.tag tag)
           ∙ ap (λ f. Some (bad_server_bytes (place_of f) ∷ [])) (sym bad.bad_bytes));
     }
 
-    by : LinkAt user heard_here pieces lent.backend → (gets : Gets) → got_of bytes lent.backend ≡ gets → Came service new n lends (told_by link lent gets (without_link link lends))
+    by : LinkAt user heard_here pieces lent.backend → (gets : Gets) → got_of bytes lent.backend ≡ gets → Came service new n lends (told_by link lent (length bytes) gets (without_link link lends))
     by (Entering enters) (Hears GoesOn left) is = quiet left enters is
     by (Entering enters) (Hears LoggedIn left) is = logs_in left enters is
     by (Entering enters) (Hears (Part used) left) is = absurd (subst (TellsEntering user (heard_here ++ bytes) pieces) is (heard-entering user heard_here bytes pieces lent.backend enters at.row.some))
     by (Entering enters) (Hears (Whole used) left) is = absurd (subst (TellsEntering user (heard_here ++ bytes) pieces) is (heard-entering user heard_here bytes pieces lent.backend enters at.row.some))
     by (Entering enters) (GotFault fault) is = failed-came service log e lends link lent (BadServerBytes (place_of fault)) at (broken fault is (heard-failure user heard_here bytes pieces lent.backend fault enters at.row.some is).1)
-    by (Inside inside) (Hears GoesOn left) is = absurd (subst (TellsInside user (heard_here ++ bytes) pieces lent.backend) is (heard-inside user heard_here bytes pieces lent.backend inside got.some))
-    by (Inside inside) (Hears LoggedIn left) is = absurd (subst (TellsInside user (heard_here ++ bytes) pieces lent.backend) is (heard-inside user heard_here bytes pieces lent.backend inside got.some))
+    by (Inside inside) (Hears GoesOn left) is = absurd (subst (TellsInside user (heard_here ++ bytes) pieces lent.backend (length bytes)) is (heard-inside user heard_here bytes pieces lent.backend inside got.piece))
+    by (Inside inside) (Hears LoggedIn left) is = absurd (subst (TellsInside user (heard_here ++ bytes) pieces lent.backend (length bytes)) is (heard-inside user heard_here bytes pieces lent.backend inside got.piece))
     by (Inside inside) (Hears (Part used) left) is = part left used inside is
     by (Inside inside) (Hears (Whole used) left) is = whole left used inside is
-    by (Inside inside) (GotFault fault) is = failed-came service log e lends link lent (BadServerBytes (place_of fault)) at (broken fault is (heard-bad user heard_here bytes pieces lent.backend fault inside got.some is).spoilt)
+    by (Inside inside) (GotFault fault) is = failed-came service log e lends link lent (BadServerBytes (place_of fault)) at (broken fault is (heard-bad user heard_here bytes pieces lent.backend fault inside got.piece is).spoilt)

@@ -21,6 +21,7 @@ use Rattle.promises.specs.Service.{Service}
 use Rattle.promises.specs.Headline.{IsLawful}
 use Rattle.promises.proofs.InWork.{some-same}
 use Rattle.router_world.specs.Rows.{standing_said, LinkAt}
+use Rattle.router_world.proofs.RowsReplies.{IsPiece}
 use Rattle.router_world.proofs.Sets.{set-same}
 use Rattle.router_world.proofs.Sound.{AskStands, RowStands, AtMostOne, Owns, Free, Gone}
 use Rattle.router_world.proofs.LinksApart.{none-one, put-other, Stays}
@@ -82,4 +83,4 @@ got-standing user link log bytes standing unlost is = standing-unlost user link 
 -- The piece, on a row.
 pub record GotAt (service : Service) (log : Log) (bytes : List ℕ) (lends : Lends) (link : LinkId) (lent : Lent) : Type 0 where
   pub at : AtRow service log (Got link bytes) lends link lent
-  pub some : 0 < length bytes
+  pub piece : IsPiece bytes

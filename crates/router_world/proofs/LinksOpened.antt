@@ -52,7 +52,7 @@ use Rattle.router_world.proofs.Moves.{Comes, Quiet, Came}
 use Rattle.router_world.proofs.LinksApart.{none-one, one-same, NoRow, apart-none, traces-none}
 use Rattle.router_world.proofs.LinksCalm.{Opens, OpensNone, open-cause, but-client}
 use Rattle.router_world.proofs.LinksAt.{ask-unreplied}
-use Rattle.router_world.proofs.LinksFailed.{answers-one}
+use Rattle.router_world.proofs.LinksFailed.{answers-one, error-spelt}
 
 -- The command that an open is for is that of the client that waits.
 turns-more : (setup : Setup) (before log : Log) (e : Entry) → turns_behind setup before (log ++ e ∷ []) ≡ turns_behind setup before log ++ turn_at (tables_after setup (before ++ log)) e
@@ -183,7 +183,7 @@ open-failed-sound service log server address lends client lawful fits awaited co
         sound = mended service new client.0 lends other (but-client service log e client.0 lends lawful fits awaited.sound (OpensNone server address (turn_with client mine.ask) next refl)) mends;
         apart = apart-none client.0 lends other same;
         traces = traces-none client.0 lends other same;
-        comes = answers-one service new client.0 mine.ask.ordinal lends other connection_refused (spelling mine.ask.first connection_refused) mine.ask.packets mine.ask.first log refl (Waits mine.ask mine.asks refl mine.unowned awaited.waiting) stands.asked told
+        comes = answers-one service new client.0 mine.ask.ordinal lends other (connection_refused ∷ []) (spelling mine.ask.first connection_refused) mine.ask.packets mine.ask.first log (error-spelt mine.ask.first connection_refused) (Waits mine.ask mine.asks refl mine.unowned awaited.waiting) stands.asked told
             (record { unasked = unasked; idle = λ l x owned is. absurd (let no' : None ≡ Some l = sym mine.unowned ∙ owned in cc) }) unwaiting (inl awaited.unclosed);
       }
 

@@ -79,8 +79,8 @@ entry-step service log (entry.Accepted port link salt) tables short are happens 
 }) short
 entry-step service log (entry.Opened server address link) tables short are happens covers ours = opened-step service log server address link tables happens.sound (on-open service log (entry.Opened server address link) tables _ are happens covers (subst (λ (t : Tables). awaits service.setup t ≡ Some (record { server = server; address = address })) are ours) refl)
 entry-step service log (entry.OpenFailed server address) tables short are happens covers ours = open-failed-step service log server address tables happens.sound (on-open service log (entry.OpenFailed server address) tables _ are happens covers (subst (λ (t : Tables). awaits service.setup t ≡ Some (record { server = server; address = address })) are ours) refl)
-entry-step service log (entry.Got link bytes) tables short are happens covers ours = got-step service log link bytes tables
-    (record { happens = happens; acted = subst (λ (t : Tables). asks service.setup t ≡ false) are ours; names = refl; opened = happens.fits.opened; plain = record { arrives = λ before. refl; stays = λ links. refl }; stays = λ was. refl; refuses = refl })
+entry-step service log (entry.Got link bytes) tables short are happens covers ours = got-step service log link bytes tables ours.1
+    (record { happens = happens; acted = subst (λ (t : Tables). asks service.setup t ≡ false) are ours.0; names = refl; opened = happens.fits.opened; plain = record { arrives = λ before. refl; stays = λ links. refl }; stays = λ was. refl; refuses = refl })
 entry-step service log (entry.Ended link) tables short are happens covers ours = ended-step service log link tables
     (record { happens = happens; acted = subst (λ (t : Tables). asks service.setup t ≡ false) are ours; names = refl; opened = happens.fits; plain = record { arrives = λ before. refl; stays = λ links. refl }; stays = λ was. refl; refuses = refl })
 entry-step service log (entry.ReadFailed link) tables short are happens covers ours = failed-step service log (entry.ReadFailed link) link tables

@@ -5,17 +5,16 @@ use Rattle.std.proofs.Common.{sym, ◌∙◌, ap, subst, append-nil, arith, leng
 use Rattle.std.proofs.lemmas.Bool.{and_parts, and_from, and_left, and_right, and_cases}
 use Rattle.std.proofs.lemmas.List.{length_push, nil_from_length}
 use Rattle.std.proofs.lemmas.List.Folds.{list_all-append}
-use Rattle.packet_frame.specs.Packets.{Framed, Found, Nothing, Whole, Faulty, first_message, message_size, spelling}
+use Rattle.mx_base.specs.Fields.{AreBytes}
+use Rattle.packet_frame.specs.Packets.{first_message}
 use Rattle.packet_frame.specs.PacketLaws.{nat_eq-true, nat_eq-false}
-use Rattle.packet_frame.specs.FramerState.{look, look_by, seen}
-use Rattle.packet_frame.specs.Laws.{first_message-empty}
-use Rattle.packet_frame.specs.MessageLaws.{first_message-goes}
-use Rattle.reply_text.specs.Replies.{is_lone}
+use Rattle.reply_track.specs.declared.place.State.{State}
+use Rattle.reply_track.specs.Runs.{Ending, Going, Ended, Failed, run, renumbered}
 use Rattle.server_side.specs.Account.{Account}
-use Rattle.server_side.specs.Login.{Opening, Goes, LogsIn, Fails, said_of, most_payload, opening}
+use Rattle.server_side.specs.Login.{Opening, Goes, LogsIn, Fails, said_of, opening}
 use Rattle.server_side.specs.Laws.{opening-got, opening-said}
 use Rattle.server_side.specs.Backend.{BackendState}
-use Rattle.server_side.specs.Hearing.{Got, Hears, Fails as GotFault, bad, behind as behind_message, replied, reply_found, reply_begun, reply_due, hears, fed, got_of}
+use Rattle.server_side.specs.Hearing.{Got, Hears, Fails as GotFault, bad, reply_by, reply_begun, reply_due, hears, got_of}
 use Rattle.server_side.specs.Reading.{HasFailed, TellsOf}
 use Rattle.server_side.specs.declared.command.Command.{Command as Handed}
 use Rattle.server_side.specs.declared.fault.BackendFault.{BackendFault}
@@ -24,11 +23,12 @@ use Rattle.server_side.specs.declared.hear.Heard.TheVariants.{Quiet, LoggedIn, P
 use Rattle.client_session.specs.Errors.{bad_server_bytes}
 use Rattle.exchange.specs.Logins.{is_empty, has_failed}
 use Rattle.exchange.specs.Commands.{Command, most_command, whole_by, is_whole, is_command, commands_in}
-use Rattle.exchange.specs.Replies.{Replies, Wholly, Never, lone_in, one_payload, cut, replies_by, Clean, Spoilt, stands, standing_in, reply_at}
+use Rattle.exchange.specs.Replies.{Answer, spelt, Replies, Never, command_reply, cut, replies_by, Clean, Spoilt, stands, standing_in, reply_at}
 use Rattle.promises.specs.Follows.{behind_replies}
 use Rattle.promises.proofs.InWork.{some-same}
-use Rattle.router_world.specs.Rows.{bytes_in, commands_said, replies_said, standing_said, reply_said, is_of, begun_by, begun, IsMessage, IsHanded, IsEntering, IsInside}
+use Rattle.router_world.specs.Rows.{bytes_in, commands_said, replies_said, standing_said, reply_said, is_of, begun_by, begun, IsMessage, IsHanded, IsEntering, IsHearing, HearsPart, IsInside}
 use Rattle.router_world.proofs.RowsPieces.{has_bytes, empty-not, behind-all, whole-spelt, part-spelt}
+use Rattle.router_world.proofs.RowsReplies.{IsPiece, IsWholeReply, hearing-more, whole-reply, never-reply}
 use Rattle.router_world.proofs.RowsSaid.{Stands, stands-at, stands-more, opening-more, replies-both, standing-of, reply-of, reply-open, reply-there, stands-answered}
 use Rattle.router_world.proofs.RowsWritten.{begun-some}
 
@@ -87,16 +87,16 @@ heard-entering user heard piece pieces backend at some = by (got_of piece backen
     said : List ℕ
     said = bytes_in pieces ++ left.own
 
-    is : opening user (heard ++ piece) ≡ LogsIn said ([] ++ left.framer.kept)
-    is = ap (λ (u : Account). opening u (heard ++ piece)) (sym (tells.1 ∙ at.account)) ∙ ap (opening left.account) (sym (append-nil (heard ++ piece))) ∙ tells.0.is [] ∙ ap (LogsIn said) (sym tells.0.kept)
+    is : opening user (heard ++ piece) ≡ LogsIn said []
+    is = ap (λ (u : Account). opening u (heard ++ piece)) (sym (tells.1 ∙ at.account)) ∙ ap (opening left.account) (sym (append-nil (heard ++ piece))) ∙ tells.0.is []
 
     inside : IsInside user (heard ++ piece) pieces left
     inside = record {
       account = tells.1 ∙ at.account;
       stage = tells.0.stage;
-      framer = tells.0.framer;
       said = said;
       past = [];
+      part = [];
       is = is;
       written = inl refl;
       others = [];
@@ -107,187 +107,214 @@ heard-entering user heard piece pieces backend at some = by (got_of piece backen
       whole = [];
       replies = refl;
       all = refl;
-      unasked = λ none. tells.0.kept;
-      partly = ap (first_message most_payload 1) tells.0.kept ∙ first_message-empty most_payload 1;
+      unasked = λ none. refl;
+      partly = subst (λ (o : Option Handed). HearsPart o [] left.reply) (sym tells.0.idle) refl;
     }
   by (Hears (Part used) left) tells = tells
   by (Hears (WholeReply used) left) tells = tells
   by (GotFault fault) tells = failed-by user (heard ++ piece) pieces fault (opening user (heard ++ piece)) refl (subst (λ (u : Account). HasFailed (opening u (heard ++ piece)) fault) at.account tells) some fits
 
--- The reply to the command that is begun is whole: this is what it says, and the link is clean where all of the command was written and nothing is behind.
-pub record IsReplied (user : Account) (heard : List ℕ) (pieces : List Command) (backend left : BackendState) : Type 0 where
+-- The reply to the command that is begun is whole: this is what it says, and the link is clean where all of the command was written and the piece
+-- ended with the reply.
+pub record IsReplied (user : Account) (heard : List ℕ) (pieces : List Command) (backend left : BackendState) (ended : Bool) : Type 0 where
   pub command : Handed
   pub is : backend.command ≡ Some command
   pub sent : 0 < command.sent
-  pub payload : List ℕ
-  pub reply : left.reply ≡ spelling command.first payload
+  pub answer : Answer
+  pub reply : left.reply ≡ spelt command.first answer
   pub idle : left.command ≡ None
-  pub told : (n i : ℕ) (lost : Bool) → is_command n i command.tag ≡ true → reply_said n i user heard pieces lost ≡ Some (payload ∷ [])
-  pub inside : (nat_eq command.sent (length command.bytes) && nat_eq (length left.framer.kept) 0) ≡ true → IsInside user heard pieces left
-  pub spoilt : (nat_eq command.sent (length command.bytes) && nat_eq (length left.framer.kept) 0) ≡ false → standing_said user heard pieces ≡ Spoilt
+  pub told : (n i : ℕ) (lost : Bool) → is_command n i command.tag ≡ true → reply_said n i user heard pieces lost ≡ Some answer
+  pub inside : (nat_eq command.sent (length command.bytes) && ended) ≡ true → IsInside user heard pieces left
+  pub spoilt : (nat_eq command.sent (length command.bytes) && ended) ≡ false → standing_said user heard pieces ≡ Spoilt
 
--- Bytes came that no command asked for, or that are no reply to it.
+-- The reply goes on: the command is the same, but for how far its reply is.
+pub record IsGoing (user : Account) (heard : List ℕ) (pieces : List Command) (backend left : BackendState) : Type 0 where
+  pub command : Handed
+  pub was : backend.command ≡ Some command
+  pub sent : 0 < command.sent
+  pub state : State
+  pub is : left.command ≡ Some (record command { tracker = record { state = state } })
+  pub inside : IsInside user heard pieces left
+
+-- Bytes came that no command asked for, or that are no reply to it, from this place of the reply on.
 pub record IsBroken (user : Account) (heard : List ℕ) (pieces : List Command) (backend : BackendState) (fault : BackendFault) : Type 0 where
-  pub bad_bytes : fault ≡ BadBytes 0
-  pub told : (command : Handed) (n i : ℕ) (lost : Bool) → backend.command ≡ Some command → 0 < command.sent → is_command n i command.tag ≡ true → reply_said n i user heard pieces lost ≡ Some (bad_server_bytes 0 ∷ [])
+  pub place : ℕ
+  pub bad_bytes : fault ≡ BadBytes place
+  pub told : (command : Handed) (n i : ℕ) (lost : Bool) → backend.command ≡ Some command → 0 < command.sent → is_command n i command.tag ≡ true → reply_said n i user heard pieces lost ≡ Some (bad_server_bytes place ∷ [])
   pub spoilt : standing_said user heard pieces ≡ Spoilt
 
-abbrev pub TellsInside : Account → (heard : List ℕ) → (pieces : List Command) → BackendState → Got → Type 0
-TellsInside user heard pieces backend (Hears Quiet left) = ⊥
-TellsInside user heard pieces backend (Hears LoggedIn left) = ⊥
-TellsInside user heard pieces backend (Hears (Part used) left) = IsInside user heard pieces left × (left.command ≡ backend.command)
-TellsInside user heard pieces backend (Hears (WholeReply used) left) = IsReplied user heard pieces backend left
-TellsInside user heard pieces backend (GotFault fault) = IsBroken user heard pieces backend fault
+abbrev pub TellsInside : Account → (heard : List ℕ) → (pieces : List Command) → BackendState → (size : ℕ) → Got → Type 0
+TellsInside user heard pieces backend size (Hears Quiet left) = ⊥
+TellsInside user heard pieces backend size (Hears LoggedIn left) = ⊥
+TellsInside user heard pieces backend size (Hears (Part used) left) = IsGoing user heard pieces backend left
+TellsInside user heard pieces backend size (Hears (WholeReply used) left) = IsReplied user heard pieces backend left (nat_eq used size)
+TellsInside user heard pieces backend size (GotFault fault) = IsBroken user heard pieces backend fault
 
--- What a piece tells inside, by the message that the kept bytes begin with then.
-abbrev told_begun : (sent first size : ℕ) → BackendState → Found → Got
-told_begun zero first size backend found = bad
-told_begun (suc sent) first size backend found = reply_found first size backend found
-
-abbrev told : Option Handed → (size : ℕ) → BackendState → Found → Got
-told None size backend found = bad
-told (Some command) size backend found = told_begun command.sent command.first size backend found
-
-got-inside : (user : Account) (heard piece : List ℕ) (pieces : List Command) (backend : BackendState) → IsInside user heard pieces backend
-    → got_of piece backend ≡ told backend.command (length piece) (fed backend piece) (first_message most_payload 1 (backend.framer.kept ++ piece))
-got-inside user heard piece pieces backend at = ap (λ s. hears s (length piece) (fed backend piece)) at.stage ∙ due backend.command where
-  bytes : List ℕ
-  bytes = backend.framer.kept ++ piece
-
-  looked : look 1 (fed backend piece).framer ≡ first_message most_payload 1 bytes
-  looked = ap (λ fault. look_by fault (first_message backend.framer.limit 1 bytes)) at.framer.faultless ∙ ap (λ limit. first_message limit 1 bytes) at.framer.limited
-
-  due-begun : (sent first : ℕ) → reply_begun sent first (length piece) (fed backend piece) ≡ told_begun sent first (length piece) (fed backend piece) (first_message most_payload 1 bytes)
-  due-begun zero first = refl
-  due-begun (suc sent) first = ap (reply_found first (length piece) (fed backend piece)) looked
-
-  due : (o : Option Handed) → reply_due o (length piece) (fed backend piece) ≡ told o (length piece) (fed backend piece) (first_message most_payload 1 bytes)
-  due None = refl
-  due (Some command) = due-begun command.sent command.first
+got-inside : (user : Account) (heard piece : List ℕ) (pieces : List Command) (backend : BackendState) → IsInside user heard pieces backend → got_of piece backend ≡ reply_due backend.command piece backend
+got-inside user heard piece pieces backend at = ap (λ s. hears s piece backend) at.stage
 
 -- nothing was asked for
 unasked-at : (user : Account) (heard piece : List ℕ) (pieces : List Command) (backend : BackendState) → IsInside user heard pieces backend → 0 < length piece → begun backend.command ≡ [] → IsBroken user (heard ++ piece) pieces backend (BadBytes 0)
 unasked-at user heard piece pieces backend at some none = record {
+  place = 0;
   bad_bytes = refl;
   told = λ command n i lost is sent here. absurd (let no : record { tag = command.tag; bytes = take command.sent command.bytes } ∷ [] ≡ [] = sym (begun-some command sent) ∙ sym (ap begun is) ∙ none in cc);
-  spoilt = spoilt-by user (heard ++ piece) pieces (backend.framer.kept ++ piece)
-      (subst (λ last. Stands user (heard ++ piece) pieces last (backend.framer.kept ++ piece)) none (stands-more user heard piece pieces (begun backend.command) backend.framer.kept (stands-at user heard pieces backend at)))
-      (let sum : length (backend.framer.kept ++ piece) ≡ length backend.framer.kept + length piece = length-append backend.framer.kept piece in omega arith);
+  spoilt = spoilt-by user (heard ++ piece) pieces (at.part ++ piece)
+      (subst (λ last. Stands user (heard ++ piece) pieces last (at.part ++ piece)) none (stands-more user heard piece pieces (begun backend.command) at.part (stands-at user heard pieces backend at)))
+      (let sum : length (at.part ++ piece) ≡ length at.part + length piece = length-append at.part piece in omega arith);
 }
+
+-- A command that is begun, of whose reply a part was read, and the piece that comes.
+record IsAsked (user : Account) (heard piece : List ℕ) (pieces : List Command) (backend : BackendState) (command : Handed) : Type 0 where
+  pub at : IsInside user heard pieces backend
+  pub is : backend.command ≡ Some command
+  pub sent : 0 < command.sent
+  pub are : AreBytes piece
+
+-- what was written of it
+abbrev sent_of : Handed → Command
+sent_of command = record { tag = command.tag; bytes = take command.sent command.bytes }
+
+hearing : (user : Account) (heard piece : List ℕ) (pieces : List Command) (backend : BackendState) (command : Handed) (asked : IsAsked user heard piece pieces backend command) → IsHearing command asked.at.part backend.reply
+hearing user heard piece pieces backend command asked = subst (λ (o : Option Handed). HearsPart o asked.at.part backend.reply) asked.is asked.at.partly
+
+last-begun : (user : Account) (heard piece : List ℕ) (pieces : List Command) (backend : BackendState) (command : Handed) → IsAsked user heard piece pieces backend command → begun backend.command ≡ sent_of command ∷ []
+last-begun user heard piece pieces backend command asked = ap begun asked.is ∙ begun-some command asked.sent
+
+begun-stands : (user : Account) (heard piece : List ℕ) (pieces : List Command) (backend : BackendState) (command : Handed) (asked : IsAsked user heard piece pieces backend command)
+    → Stands user (heard ++ piece) pieces (sent_of command ∷ []) (asked.at.part ++ piece)
+begun-stands user heard piece pieces backend command asked =
+    subst (λ l. Stands user (heard ++ piece) pieces l (asked.at.part ++ piece)) (last-begun user heard piece pieces backend command asked)
+    (stands-more user heard piece pieces (begun backend.command) asked.at.part (stands-at user heard pieces backend asked.at))
 
 -- the reply goes on
-part-at : (user : Account) (heard piece : List ℕ) (pieces : List Command) (backend : BackendState) → IsInside user heard pieces backend → first_message most_payload 1 (backend.framer.kept ++ piece) ≡ Nothing → (begun backend.command ≡ [] → ⊥)
-    → IsInside user (heard ++ piece) pieces (record (fed backend piece) { framer = seen (fed backend piece).framer Nothing })
-part-at user heard piece pieces backend at found asked = record {
-  account = at.account;
-  stage = at.stage;
-  framer = record { limited = at.framer.limited; unfound = refl; faultless = at.framer.faultless };
-  said = at.said;
-  past = at.past;
-  is = opening-more user heard piece at.said at.past backend.framer.kept at.is;
-  written = at.written;
-  others = at.others;
-  wholes = at.wholes;
-  commands = at.commands;
-  command = at.command;
-  new = at.new;
-  whole = at.whole;
-  replies = at.replies;
-  all = at.all;
-  unasked = λ none. absurd (asked none);
-  partly = found;
-}
+part-at : (user : Account) (heard piece : List ℕ) (pieces : List Command) (backend : BackendState) (command : Handed) (state : State) → IsAsked user heard piece pieces backend command → run command.tracker.state piece ≡ Going state
+    → IsGoing user (heard ++ piece) pieces backend (record backend { command = Some (record command { tracker = record { state = state } }); reply = backend.reply ++ renumbered command.tracker.state piece })
+part-at user heard piece pieces backend command state asked goes = record { command = command; was = asked.is; sent = asked.sent; state = state; is = refl; inside = inside } where
+  now : Handed
+  now = record command { tracker = record { state = state } }
 
--- how a command that is begun is heard of
-begun-stands : (user : Account) (heard piece : List ℕ) (pieces : List Command) (backend : BackendState) (c : Command) → IsInside user heard pieces backend → begun backend.command ≡ c ∷ [] → Stands user (heard ++ piece) pieces (c ∷ []) (backend.framer.kept ++ piece)
-begun-stands user heard piece pieces backend c at last =
-    subst (λ l. Stands user (heard ++ piece) pieces l (backend.framer.kept ++ piece)) last (stands-more user heard piece pieces (begun backend.command) backend.framer.kept (stands-at user heard pieces backend at))
+  heard_of : IsHearing command asked.at.part backend.reply
+  heard_of = hearing user heard piece pieces backend command asked
+
+  handed : IsMessage command
+  handed = subst IsHanded asked.is asked.at.command
+
+  same : begun (Some now) ≡ begun backend.command
+  same = begun-some now asked.sent ∙ sym (last-begun user heard piece pieces backend command asked)
+
+  inside : IsInside user (heard ++ piece) pieces (record backend { command = Some now; reply = backend.reply ++ renumbered command.tracker.state piece })
+  inside = record {
+    account = asked.at.account;
+    stage = asked.at.stage;
+    said = asked.at.said;
+    past = asked.at.past;
+    part = asked.at.part ++ piece;
+    is = opening-more user heard piece asked.at.said asked.at.past asked.at.part asked.at.is;
+    written = asked.at.written;
+    others = asked.at.others;
+    wholes = asked.at.wholes;
+    commands = asked.at.commands ∙ ap (λ cs. asked.at.others ++ cs) (sym same);
+    command = record { payload = handed.payload; spelt = handed.spelt; short = handed.short; sent = handed.sent };
+    new = λ n i any. asked.at.new n i (sym (ap (list_any (is_of n i)) same) ∙ any);
+    whole = asked.at.whole;
+    replies = asked.at.replies;
+    all = asked.at.all;
+    unasked = λ none. absurd (let no : sent_of command ∷ [] ≡ [] = sym (begun-some now asked.sent) ∙ none in cc);
+    partly = hearing-more command asked.at.part backend.reply piece state heard_of asked.are goes;
+  }
 
 -- no reply goes on so
-broken-at : (user : Account) (read : List ℕ) (pieces : List Command) (backend : BackendState) (command : Handed) (c : Command) (bytes : List ℕ) → backend.command ≡ Some command → c.tag ≡ command.tag → Stands user read pieces (c ∷ []) bytes → one_payload c bytes ≡ Never 0
-    → IsBroken user read pieces backend (BadBytes 0)
-broken-at user read pieces backend command c bytes is tag at never = record {
-  bad_bytes = refl;
-  told = λ other n i lost same sent here. reply-of user read pieces c bytes at n i lost (ap (is_command n i) tag ∙ ap (λ (h : Handed). is_command n i h.tag) (some-same command other (sym is ∙ same)) ∙ here)
-      ∙ ap (λ (r : Replies). reply_at (length at.others) (behind_replies at.whole r) lost) last ∙ reply-open at.whole bytes (Some 0) (length at.others) lost at.all;
-  spoilt = standing-of user read pieces (c ∷ []) bytes at ∙ ap (λ (r : Replies). stands (at.others ++ c ∷ []) (behind_replies at.whole r)) last;
-} where
-  last : replies_by one_payload (c ∷ []) bytes ≡ record { whole = []; rest = bytes; bad = Some 0 }
-  last = ap (λ h. cut h bytes (replies_by one_payload [])) never
+broken-at : (user : Account) (heard piece : List ℕ) (pieces : List Command) (backend : BackendState) (command : Handed) (place : ℕ) (asked : IsAsked user heard piece pieces backend command)
+    → command_reply (sent_of command) (asked.at.part ++ piece) ≡ Never place → IsBroken user (heard ++ piece) pieces backend (BadBytes place)
+broken-at user heard piece pieces backend command place asked never = by (begun-stands user heard piece pieces backend command asked) where
+  bytes : List ℕ
+  bytes = asked.at.part ++ piece
+
+  last : replies_by command_reply (sent_of command ∷ []) bytes ≡ record { whole = []; rest = bytes; bad = Some place }
+  last = ap (λ h. cut h bytes (replies_by command_reply [])) never
+
+  by : Stands user (heard ++ piece) pieces (sent_of command ∷ []) bytes → IsBroken user (heard ++ piece) pieces backend (BadBytes place)
+  by now = record {
+    place = place;
+    bad_bytes = refl;
+    told = λ other n i lost same sent here. reply-of user (heard ++ piece) pieces (sent_of command) bytes now n i lost (ap (λ (h : Handed). is_command n i h.tag) (some-same command other (sym asked.is ∙ same)) ∙ here)
+        ∙ ap (λ (r : Replies). reply_at (length now.others) (behind_replies now.whole r) lost) last ∙ reply-open now.whole bytes (Some place) (length now.others) lost now.all;
+    spoilt = standing-of user (heard ++ piece) pieces (sent_of command ∷ []) bytes now ∙ ap (λ (r : Replies). stands (now.others ++ sent_of command ∷ []) (behind_replies now.whole r)) last;
+  }
 
 -- the reply is whole
-replied-at : (user : Account) (heard piece : List ℕ) (pieces : List Command) (backend : BackendState) (command : Handed) (message : Framed) (rest : List ℕ) → IsInside user heard pieces backend → backend.command ≡ Some command → 0 < command.sent
-    → first_message most_payload 1 (backend.framer.kept ++ piece) ≡ Whole message rest → is_lone message.payload ≡ true
-    → IsReplied user (heard ++ piece) pieces backend (record (behind_message message (fed backend piece)) { reply = spelling command.first message.payload; command = None })
-replied-at user heard piece pieces backend command message rest at is sent found lone = record {
+replied-at : (user : Account) (heard piece : List ℕ) (pieces : List Command) (backend : BackendState) (command : Handed) (asked : IsAsked user heard piece pieces backend command) (reply : Answer) (rest : List ℕ)
+    → IsWholeReply command asked.at.part backend.reply piece reply rest
+    → IsReplied user (heard ++ piece) pieces backend (record backend { command = None; reply = backend.reply ++ take (length piece - length rest) (renumbered command.tracker.state piece) }) (nat_eq (length piece - length rest) (length piece))
+replied-at user heard piece pieces backend command asked reply rest whole = record {
   command = command;
-  is = is;
-  sent = sent;
-  payload = message.payload;
-  reply = refl;
+  is = asked.is;
+  sent = asked.sent;
+  answer = reply;
+  reply = whole.handed;
   idle = refl;
-  told = λ n i lost here. reply-of user (heard ++ piece) pieces c bytes now n i lost here ∙ ap (λ (r : Replies). reply_at (length now.others) (behind_replies now.whole r) lost) one ∙ reply-there now.whole (message.payload ∷ []) rest (length now.others) lost now.all;
+  told = λ n i lost here. reply-of user (heard ++ piece) pieces c bytes now n i lost here ∙ ap (λ (r : Replies). reply_at (length now.others) (behind_replies now.whole r) lost) one ∙ reply-there now.whole reply rest (length now.others) lost now.all;
   inside = inside;
   spoilt = spoilt;
 } where
+  at : IsInside user heard pieces backend
+  at = asked.at
+
   bytes : List ℕ
-  bytes = backend.framer.kept ++ piece
+  bytes = at.part ++ piece
 
   c : Command
-  c = record { tag = command.tag; bytes = take command.sent command.bytes }
+  c = sent_of command
+
+  used : ℕ
+  used = length piece - length rest
 
   handed : IsMessage command
-  handed = subst IsHanded is at.command
-
-  last : begun backend.command ≡ c ∷ []
-  last = ap begun is ∙ begun-some command sent
+  handed = subst IsHanded asked.is at.command
 
   now : Stands user (heard ++ piece) pieces (c ∷ []) bytes
-  now = begun-stands user heard piece pieces backend c at last
+  now = begun-stands user heard piece pieces backend command asked
 
-  left : List ℕ
-  left = drop (message_size bytes) bytes
-
-  goes : rest ≡ left
-  goes = first_message-goes most_payload 1 bytes message rest found
-
-  one : replies_by one_payload (c ∷ []) bytes ≡ record { whole = (message.payload ∷ []) ∷ []; rest = rest; bad = None }
-  one = ap (λ f. cut (lone_in f) bytes (replies_by one_payload [])) found ∙ ap (λ b. cut (cond b (Wholly (message.payload ∷ []) rest) (Never 0)) bytes (replies_by one_payload [])) lone
+  one : replies_by command_reply (c ∷ []) bytes ≡ record { whole = reply ∷ []; rest = rest; bad = None }
+  one = ap (λ h. cut h bytes (replies_by command_reply [])) (whole.said c)
 
   wholly : command.sent ≡ length command.bytes → is_whole c ≡ true
   wholly all = ap (λ bytes. whole_by (first_message most_command 0 bytes)) (take_all command.sent command.bytes (omega arith) ∙ handed.spelt) ∙ whole-spelt handed.payload handed.short
 
-  inside : (nat_eq command.sent (length command.bytes) && nat_eq (length left) 0) ≡ true → IsInside user (heard ++ piece) pieces (record (behind_message message (fed backend piece)) { reply = spelling command.first message.payload; command = None })
-  inside both = (let parts = and_parts (nat_eq command.sent (length command.bytes)) (nat_eq (length left) 0) both in
-      let empty : left ≡ [] = nil_from_length left (nat_eq-true (length left) 0 parts.1) in
+  inside : (nat_eq command.sent (length command.bytes) && nat_eq used (length piece)) ≡ true → IsInside user (heard ++ piece) pieces (record backend { command = None; reply = backend.reply ++ take used (renumbered command.tracker.state piece) })
+  inside both = (let parts = and_parts (nat_eq command.sent (length command.bytes)) (nat_eq used (length piece)) both in
+      let ended : used ≡ length piece = nat_eq-true used (length piece) parts.1 in
+      let shorter : length rest < length piece = whole.shorter in
+      let empty : rest ≡ [] = nil_from_length rest (omega arith) in
       let all : command.sent ≡ length command.bytes = nat_eq-true command.sent (length command.bytes) parts.0 in
       record {
         account = at.account;
         stage = at.stage;
-        framer = record { limited = at.framer.limited; unfound = refl; faultless = at.framer.faultless };
         said = at.said;
         past = at.past ++ bytes;
-        is = opening-more user heard piece at.said at.past backend.framer.kept at.is ∙ ap (LogsIn at.said) (sym (append-nil (at.past ++ bytes)) ∙ ap (λ k. at.past ++ bytes ++ k) (sym empty));
+        part = [];
+        is = opening-more user heard piece at.said at.past at.part at.is ∙ ap (LogsIn at.said) (sym (append-nil (at.past ++ bytes)));
         written = at.written;
         others = at.others ++ c ∷ [];
         wholes = list_all-append is_whole at.others (c ∷ []) ∙ and_from (list_all is_whole at.others) (is_whole c && true) at.wholes (and_from (is_whole c) true (wholly all) refl);
-        commands = at.commands ∙ ap (λ l. at.others ++ l) last ∙ sym (append-nil (at.others ++ c ∷ []));
+        commands = at.commands ∙ ap (λ l. at.others ++ l) (last-begun user heard piece pieces backend command asked) ∙ sym (append-nil (at.others ++ c ∷ []));
         command = tt;
         new = λ n i any. absurd (let no : false ≡ true = any in cc);
-        whole = at.whole ++ (message.payload ∷ []) ∷ [];
+        whole = at.whole ++ reply ∷ [];
         replies = replies-both at.others (c ∷ []) at.past bytes at.whole at.replies at.all ∙ ap (behind_replies at.whole) one
-            ∙ ap (λ r. record { whole = at.whole ++ (message.payload ∷ []) ∷ []; rest = r; bad = None }) (goes ∙ empty);
-        all = length_push at.whole (message.payload ∷ []) ∙ ap (λ n. n + 1) at.all ∙ sym (length_push at.others c);
-        unasked = λ none. empty;
-        partly = ap (first_message most_payload 1) empty ∙ first_message-empty most_payload 1;
+            ∙ ap (λ r. record { whole = at.whole ++ reply ∷ []; rest = r; bad = None }) empty;
+        all = length_push at.whole reply ∙ ap (λ n. n + 1) at.all ∙ sym (length_push at.others c);
+        unasked = λ none. refl;
+        partly = refl;
       })
 
-  spoilt : (nat_eq command.sent (length command.bytes) && nat_eq (length left) 0) ≡ false → standing_said user (heard ++ piece) pieces ≡ Spoilt
+  spoilt : (nat_eq command.sent (length command.bytes) && nat_eq used (length piece)) ≡ false → standing_said user (heard ++ piece) pieces ≡ Spoilt
   spoilt either = standing-of user (heard ++ piece) pieces (c ∷ []) bytes now ∙ ap (λ (r : Replies). stands (now.others ++ c ∷ []) (behind_replies now.whole r)) one
-      ∙ stands-answered (now.others ++ c ∷ []) (now.whole ++ (message.payload ∷ []) ∷ []) rest (let a = length_push now.others c in let b = length_push now.whole (message.payload ∷ []) in let same = now.all in omega arith)
-      ∙ ap (λ b. cond b Clean Spoilt) (unclean (and_cases (nat_eq command.sent (length command.bytes)) (nat_eq (length left) 0) either)) where
-        unclean : (nat_eq command.sent (length command.bytes) ≡ false) ⊎ (nat_eq (length left) 0 ≡ false) → (is_empty rest && list_all is_whole (now.others ++ c ∷ [])) ≡ false
-        unclean (inr more) = and_left (is_empty rest) (list_all is_whole (now.others ++ c ∷ [])) (ap is_empty goes ∙ empty-not left (let other : length left ≢ 0 = nat_eq-false (length left) 0 more in omega arith))
+      ∙ stands-answered (now.others ++ c ∷ []) (now.whole ++ reply ∷ []) rest (let a = length_push now.others c in let b = length_push now.whole reply in let same = now.all in omega arith)
+      ∙ ap (λ b. cond b Clean Spoilt) (unclean (and_cases (nat_eq command.sent (length command.bytes)) (nat_eq used (length piece)) either)) where
+        unclean : (nat_eq command.sent (length command.bytes) ≡ false) ⊎ (nat_eq used (length piece) ≡ false) → (is_empty rest && list_all is_whole (now.others ++ c ∷ [])) ≡ false
+        unclean (inr more) = and_left (is_empty rest) (list_all is_whole (now.others ++ c ∷ [])) (empty-not rest (let other : used ≢ length piece = nat_eq-false used (length piece) more in omega arith))
         unclean (inl unsent) = and_right (is_empty rest) (list_all is_whole (now.others ++ c ∷ []))
             (list_all-append is_whole now.others (c ∷ []) ∙ and_right (list_all is_whole now.others) (is_whole c && true) (and_left (is_whole c) true part)) where
               less : command.sent ≢ length command.bytes
@@ -299,40 +326,22 @@ replied-at user heard piece pieces backend command message rest at is sent found
                   let other : command.sent ≢ length command.bytes = less in omega arith) handed.short
 
 -- A piece comes, which isn't empty.
-pub heard-inside : (user : Account) (heard piece : List ℕ) (pieces : List Command) (backend : BackendState) → IsInside user heard pieces backend → 0 < length piece → TellsInside user (heard ++ piece) pieces backend (got_of piece backend)
-heard-inside user heard piece pieces backend at some = subst (TellsInside user (heard ++ piece) pieces backend) (sym (got-inside user heard piece pieces backend at)) (asked backend.command refl) where
-  bytes : List ℕ
-  bytes = backend.framer.kept ++ piece
+pub heard-inside : (user : Account) (heard piece : List ℕ) (pieces : List Command) (backend : BackendState) → IsInside user heard pieces backend → IsPiece piece → TellsInside user (heard ++ piece) pieces backend (length piece) (got_of piece backend)
+heard-inside user heard piece pieces backend at some = subst (TellsInside user (heard ++ piece) pieces backend (length piece)) (sym (got-inside user heard piece pieces backend at)) (asked backend.command refl) where
+  read : (command : Handed) → IsAsked user heard piece pieces backend command → (ending : Ending) → run command.tracker.state piece ≡ ending
+      → TellsInside user (heard ++ piece) pieces backend (length piece) (reply_by (length piece) (renumbered command.tracker.state piece) command backend ending)
+  read command asked (Going state) is = part-at user heard piece pieces backend command state asked is
+  read command asked (Ended end rest) is = (let whole = whole-reply command asked.at.part backend.reply piece end rest (hearing user heard piece pieces backend command asked) asked.are is in
+      replied-at user heard piece pieces backend command asked whole.0 rest whole.1)
+  read command asked (Failed behind) is = (let never = never-reply command asked.at.part backend.reply piece behind (hearing user heard piece pieces backend command asked) is in
+      broken-at user heard piece pieces backend command (length backend.reply + (length piece - length behind)) asked (never (sent_of command)))
 
-  read : (command : Handed) → backend.command ≡ Some command → 0 < command.sent → (found : Found) → first_message most_payload 1 bytes ≡ found
-      → TellsInside user (heard ++ piece) pieces backend (reply_found command.first (length piece) (fed backend piece) found)
-  read command is sent found = by found where
-    c : Command
-    c = record { tag = command.tag; bytes = take command.sent command.bytes }
+  by-sent : (command : Handed) → backend.command ≡ Some command → (sent : ℕ) → command.sent ≡ sent → TellsInside user (heard ++ piece) pieces backend (length piece) (reply_begun sent piece command backend)
+  by-sent command is zero none = unasked-at user heard piece pieces backend at some.some (ap begun is ∙ ap (λ sent. begun_by sent command) none)
+  by-sent command is (suc sent) more = read command (record { at = at; is = is; sent = omega arith; are = some.are }) (run command.tracker.state piece) refl
 
-    last : begun backend.command ≡ c ∷ []
-    last = ap begun is ∙ begun-some command sent
-
-    broken : one_payload c bytes ≡ Never 0 → IsBroken user (heard ++ piece) pieces backend (BadBytes 0)
-    broken never = broken-at user (heard ++ piece) pieces backend command c bytes is refl (begun-stands user heard piece pieces backend c at last) never
-
-    lone : (message : Framed) (rest : List ℕ) (b : Bool) → first_message most_payload 1 bytes ≡ Whole message rest → is_lone message.payload ≡ b
-        → TellsInside user (heard ++ piece) pieces backend (cond b (replied command.first (length piece) message (behind_message message (fed backend piece))) bad)
-    lone message rest true is_found is_so = replied-at user heard piece pieces backend command message rest at is sent is_found is_so
-    lone message rest false is_found is_so = broken (ap lone_in is_found ∙ ap (λ b. cond b (Wholly (message.payload ∷ []) rest) (Never 0)) is_so)
-
-    by : (found : Found) → first_message most_payload 1 bytes ≡ found → TellsInside user (heard ++ piece) pieces backend (reply_found command.first (length piece) (fed backend piece) found)
-    by Nothing here = (part-at user heard piece pieces backend at here (λ none. (let no : c ∷ [] ≡ [] = sym last ∙ none in cc)), refl)
-    by (Whole message rest) here = lone message rest (is_lone message.payload) here refl
-    by (Faulty fault) here = broken (ap lone_in here)
-
-  by-sent : (command : Handed) → backend.command ≡ Some command → (sent : ℕ) → command.sent ≡ sent
-      → TellsInside user (heard ++ piece) pieces backend (told_begun sent command.first (length piece) (fed backend piece) (first_message most_payload 1 bytes))
-  by-sent command is zero none = unasked-at user heard piece pieces backend at some (ap begun is ∙ ap (λ sent. begun_by sent command) none)
-  by-sent command is (suc sent) more = read command is (omega arith) (first_message most_payload 1 bytes) refl
-
-  asked : (o : Option Handed) → backend.command ≡ o → TellsInside user (heard ++ piece) pieces backend (told o (length piece) (fed backend piece) (first_message most_payload 1 bytes))
-  asked None is = unasked-at user heard piece pieces backend at some (ap begun is)
+  asked : (o : Option Handed) → backend.command ≡ o → TellsInside user (heard ++ piece) pieces backend (length piece) (reply_due o piece backend)
+  asked None is = unasked-at user heard piece pieces backend at some.some (ap begun is)
   asked (Some command) is = by-sent command is command.sent refl
 
 -- By what a piece tells, of a login:
@@ -349,36 +358,33 @@ pub heard-failure : (user : Account) (heard piece : List ℕ) (pieces : List Com
 heard-failure user heard piece pieces backend fault at some is = subst (TellsEntering user (heard ++ piece) pieces) is (heard-entering user heard piece pieces backend at some)
 
 -- and inside.
-pub heard-part : (user : Account) (heard piece : List ℕ) (pieces : List Command) (backend left : BackendState) (used : ℕ) → IsInside user heard pieces backend → 0 < length piece → got_of piece backend ≡ Hears (Part used) left
-    → IsInside user (heard ++ piece) pieces left × (left.command ≡ backend.command)
-heard-part user heard piece pieces backend left used at some is = subst (TellsInside user (heard ++ piece) pieces backend) is (heard-inside user heard piece pieces backend at some)
+pub heard-part : (user : Account) (heard piece : List ℕ) (pieces : List Command) (backend left : BackendState) (used : ℕ) → IsInside user heard pieces backend → IsPiece piece → got_of piece backend ≡ Hears (Part used) left
+    → IsGoing user (heard ++ piece) pieces backend left
+heard-part user heard piece pieces backend left used at some is = subst (TellsInside user (heard ++ piece) pieces backend (length piece)) is (heard-inside user heard piece pieces backend at some)
 
-pub heard-whole : (user : Account) (heard piece : List ℕ) (pieces : List Command) (backend left : BackendState) (used : ℕ) → IsInside user heard pieces backend → 0 < length piece → got_of piece backend ≡ Hears (WholeReply used) left
-    → IsReplied user (heard ++ piece) pieces backend left
-heard-whole user heard piece pieces backend left used at some is = subst (TellsInside user (heard ++ piece) pieces backend) is (heard-inside user heard piece pieces backend at some)
+pub heard-whole : (user : Account) (heard piece : List ℕ) (pieces : List Command) (backend left : BackendState) (used : ℕ) → IsInside user heard pieces backend → IsPiece piece → got_of piece backend ≡ Hears (WholeReply used) left
+    → IsReplied user (heard ++ piece) pieces backend left (nat_eq used (length piece))
+heard-whole user heard piece pieces backend left used at some is = subst (TellsInside user (heard ++ piece) pieces backend (length piece)) is (heard-inside user heard piece pieces backend at some)
 
-pub heard-bad : (user : Account) (heard piece : List ℕ) (pieces : List Command) (backend : BackendState) (fault : BackendFault) → IsInside user heard pieces backend → 0 < length piece → got_of piece backend ≡ GotFault fault
+pub heard-bad : (user : Account) (heard piece : List ℕ) (pieces : List Command) (backend : BackendState) (fault : BackendFault) → IsInside user heard pieces backend → IsPiece piece → got_of piece backend ≡ GotFault fault
     → IsBroken user (heard ++ piece) pieces backend fault
-heard-bad user heard piece pieces backend fault at some is = subst (TellsInside user (heard ++ piece) pieces backend) is (heard-inside user heard piece pieces backend at some)
+heard-bad user heard piece pieces backend fault at some is = subst (TellsInside user (heard ++ piece) pieces backend (length piece)) is (heard-inside user heard piece pieces backend at some)
 
 -- the error in the reply's place
-pub heard-told : (user : Account) (heard piece : List ℕ) (pieces : List Command) (backend : BackendState) (place : ℕ) (command : Handed) (n i : ℕ) (lost : Bool) → IsInside user heard pieces backend → 0 < length piece → got_of piece backend ≡ GotFault (BadBytes place)
+pub heard-told : (user : Account) (heard piece : List ℕ) (pieces : List Command) (backend : BackendState) (place : ℕ) (command : Handed) (n i : ℕ) (lost : Bool) → IsInside user heard pieces backend → IsPiece piece → got_of piece backend ≡ GotFault (BadBytes place)
     → backend.command ≡ Some command → 0 < command.sent → is_command n i command.tag ≡ true → reply_said n i user (heard ++ piece) pieces lost ≡ Some (bad_server_bytes place ∷ [])
 heard-told user heard piece pieces backend place command n i lost at some is same sent here = (let broken = heard-bad user heard piece pieces backend (BadBytes place) at some is in
-    let first : 0 ≡ place = (let fault : BadBytes place ≡ BadBytes 0 = broken.bad_bytes in cc) in
+    let first : broken.place ≡ place = (let fault : BadBytes place ≡ BadBytes broken.place = broken.bad_bytes in cc) in
     broken.told command n i lost same sent here ∙ ap (λ p. Some (bad_server_bytes p ∷ [])) first)
 
 -- Where nothing is begun any piece is bad.
-pub unasked-bad : (user : Account) (heard piece : List ℕ) (pieces : List Command) (backend : BackendState) → IsInside user heard pieces backend → 0 < length piece → begun backend.command ≡ []
+pub unasked-bad : (user : Account) (heard piece : List ℕ) (pieces : List Command) (backend : BackendState) → IsInside user heard pieces backend → IsPiece piece → begun backend.command ≡ []
     → (got_of piece backend ≡ GotFault (BadBytes 0)) × (standing_said user (heard ++ piece) pieces ≡ Spoilt)
-unasked-bad user heard piece pieces backend at some none = (got-inside user heard piece pieces backend at ∙ by backend.command none, (unasked-at user heard piece pieces backend at some none).spoilt) where
-  found : Found
-  found = first_message most_payload 1 (backend.framer.kept ++ piece)
-
-  by-sent : (command : Handed) (sent : ℕ) → begun_by sent command ≡ [] → told_begun sent command.first (length piece) (fed backend piece) found ≡ bad
+unasked-bad user heard piece pieces backend at some none = (got-inside user heard piece pieces backend at ∙ by backend.command none, (unasked-at user heard piece pieces backend at some.some none).spoilt) where
+  by-sent : (command : Handed) (sent : ℕ) → begun_by sent command ≡ [] → reply_begun sent piece command backend ≡ bad
   by-sent command zero none = refl
   by-sent command (suc sent) none = absurd (let no : record { tag = command.tag; bytes = take (suc sent) command.bytes } ∷ [] ≡ [] = none in cc)
 
-  by : (o : Option Handed) → begun o ≡ [] → told o (length piece) (fed backend piece) found ≡ bad
+  by : (o : Option Handed) → begun o ≡ [] → reply_due o piece backend ≡ bad
   by None none = refl
   by (Some command) none = by-sent command command.sent none

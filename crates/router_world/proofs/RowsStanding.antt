@@ -6,6 +6,11 @@ use Rattle.std.proofs.Common.{◌∙◌, ap, subst, append-nil, arith, length-ap
 use Rattle.packet_frame.specs.Packets.{first_message, spelling}
 use Rattle.packet_frame.specs.PacketLaws.{nat_eq-true, nat_eq-false}
 use Rattle.packet_frame.specs.SpellingLaws.{spelling-some}
+use Rattle.reply_track.specs.declared.place.State.{State}
+use Rattle.reply_track.specs.Runs.{Ending, Going, Ended, Failed, run}
+use Rattle.reply_track.specs.Tracking.{started}
+use Rattle.reply_track.specs.Replying.{to_command, replied}
+use Rattle.reply_track.proofs.Replying.{SameEnd, same-end}
 use Rattle.server_side.specs.Account.{Account}
 use Rattle.server_side.specs.Login.{Opening, Goes, LogsIn, Fails, opening}
 use Rattle.server_side.specs.Backend.{BackendState}
@@ -15,9 +20,9 @@ use Rattle.server_side.specs.declared.stage.Stage.TheVariants.{In}
 use Rattle.client_session.specs.Errors.{connection_lost}
 use Rattle.exchange.specs.Logins.{is_empty}
 use Rattle.exchange.specs.Commands.{Command, most_command, whole_by, is_whole, is_command, commands_behind}
-use Rattle.exchange.specs.Replies.{Replies, lone_in, one_payload, cut, replies_by, Standing, Enters, Clean, Sends, Runs, Spoilt, stands, standing_in, reply_at}
+use Rattle.exchange.specs.Replies.{Replies, heard_by, Heard, Partly, command_reply, cut, replies_by, Standing, Enters, Clean, Sends, Runs, Spoilt, stands, standing_in, reply_at}
 use Rattle.promises.specs.Follows.{behind_replies}
-use Rattle.router_world.specs.Rows.{commands_said, replies_said, standing_said, reply_said, is_of, begun_by, begun, IsMessage, IsHanded, IsEntering, IsInside, LinkAt, Entering, Inside, bytes_in}
+use Rattle.router_world.specs.Rows.{commands_said, replies_said, standing_said, reply_said, is_of, begun_by, begun, IsMessage, IsHanded, IsEntering, HearsPart, IsInside, LinkAt, Entering, Inside, bytes_in}
 use Rattle.router_world.proofs.RowsPieces.{whole-spelt, part-spelt, of-commands, place-none}
 use Rattle.router_world.proofs.RowsSaid.{Stands, stands-at, standing-of, reply-of, reply-open, stands-answered, stands-open}
 use Rattle.router_world.proofs.RowsWritten.{begun-some}
@@ -42,9 +47,21 @@ commands-entering user heard pieces backend at = ap (λ (o : Opening). commands_
 pub commands-inside : (user : Account) (heard : List ℕ) (pieces : List Command) (backend : BackendState) (at : IsInside user heard pieces backend) → commands_said user heard pieces ≡ at.others ++ begun backend.command
 commands-inside user heard pieces backend at = ap (λ (o : Opening). commands_behind o pieces) at.is ∙ at.commands
 
--- what is kept is a part of its reply
-partly-by : (user : Account) (heard : List ℕ) (pieces : List Command) (backend : BackendState) (c : Command) → IsInside user heard pieces backend → replies_by one_payload (c ∷ []) backend.framer.kept ≡ record { whole = []; rest = backend.framer.kept; bad = None }
-partly-by user heard pieces backend c at = ap (λ f. cut (lone_in f) backend.framer.kept (replies_by one_payload [])) at.partly
+-- what was read behind the others is a part of its reply
+pub hears-partly : (command : Option Handed) (part kept : List ℕ) (c : Command) → HearsPart command part kept → command_reply c part ≡ Partly
+hears-partly None part kept c none = ap (command_reply c) none
+hears-partly (Some command) part kept c hears = by (replied part) refl where
+  first : SameEnd (run (started (to_command command.first)) part) (replied part)
+  first = same-end command.first 1 part
+
+  by : (ending : Ending) → replied part ≡ ending → heard_by part ending ≡ Partly
+  by (Going state) is = refl
+  by (Ended end rest) is = absurd (subst (λ (e : Ending). SameEnd (Going command.tracker.state) e) is (subst (λ (e : Ending). SameEnd e (replied part)) hears.goes first))
+  by (Failed behind) is = absurd (subst (λ (e : Ending). SameEnd (Going command.tracker.state) e) is (subst (λ (e : Ending). SameEnd e (replied part)) hears.goes first))
+
+partly-by : (user : Account) (heard : List ℕ) (pieces : List Command) (backend : BackendState) (c : Command) (at : IsInside user heard pieces backend)
+    → replies_by command_reply (c ∷ []) at.part ≡ record { whole = []; rest = at.part; bad = None }
+partly-by user heard pieces backend c at = ap (λ (h : Heard). cut h at.part (replies_by command_reply [])) (hears-partly backend.command at.part backend.reply c at.partly)
 
 -- a command of which a byte was written
 pub record IsBegun (user : Account) (heard : List ℕ) (pieces : List Command) (backend : BackendState) (command : Handed) : Type 0 where
@@ -58,24 +75,24 @@ written command = record { tag = command.tag; bytes = take command.sent command.
 handed : (user : Account) (heard : List ℕ) (pieces : List Command) (backend : BackendState) (command : Handed) → IsInside user heard pieces backend → backend.command ≡ Some command → IsMessage command
 handed user heard pieces backend command at is = subst IsHanded is at.command
 
-begun-at : (user : Account) (heard : List ℕ) (pieces : List Command) (backend : BackendState) (command : Handed) → IsBegun user heard pieces backend command → Stands user heard pieces (written command ∷ []) backend.framer.kept
-begun-at user heard pieces backend command at = subst (λ last. Stands user heard pieces last backend.framer.kept) (ap begun at.is ∙ begun-some command at.some) (stands-at user heard pieces backend at.inside)
+begun-at : (user : Account) (heard : List ℕ) (pieces : List Command) (backend : BackendState) (command : Handed) (at : IsBegun user heard pieces backend command) → Stands user heard pieces (written command ∷ []) at.inside.part
+begun-at user heard pieces backend command at = subst (λ last. Stands user heard pieces last at.inside.part) (ap begun at.is ∙ begun-some command at.some) (stands-at user heard pieces backend at.inside)
 
 -- no command, or nothing of it was written
 pub standing-clean : (user : Account) (heard : List ℕ) (pieces : List Command) (backend : BackendState) → IsInside user heard pieces backend → begun backend.command ≡ [] → standing_said user heard pieces ≡ Clean
-standing-clean user heard pieces backend at none = by (subst (λ last. Stands user heard pieces last backend.framer.kept) none (stands-at user heard pieces backend at)) where
-  by : Stands user heard pieces [] backend.framer.kept → standing_said user heard pieces ≡ Clean
-  by now = standing-of user heard pieces [] backend.framer.kept now
-      ∙ stands-answered (now.others ++ []) (now.whole ++ []) backend.framer.kept (let one : length (now.others ++ []) ≡ length now.others + 0 = length-append now.others [] in let two : length (now.whole ++ []) ≡ length now.whole + 0 = length-append now.whole [] in let same : length now.whole ≡ length now.others = now.all in omega arith)
+standing-clean user heard pieces backend at none = by (subst (λ last. Stands user heard pieces last at.part) none (stands-at user heard pieces backend at)) where
+  by : Stands user heard pieces [] at.part → standing_said user heard pieces ≡ Clean
+  by now = standing-of user heard pieces [] at.part now
+      ∙ stands-answered (now.others ++ []) (now.whole ++ []) at.part (let one : length (now.others ++ []) ≡ length now.others + 0 = length-append now.others [] in let two : length (now.whole ++ []) ≡ length now.whole + 0 = length-append now.whole [] in let same : length now.whole ≡ length now.others = now.all in omega arith)
       ∙ ap (λ kept. cond (is_empty kept && list_all is_whole (now.others ++ [])) Clean Spoilt) (at.unasked none)
       ∙ ap (λ b. cond b Clean Spoilt) (ap (list_all is_whole) (append-nil now.others) ∙ now.wholes)
 
 standing-begun : (user : Account) (heard : List ℕ) (pieces : List Command) (backend : BackendState) (command : Handed) → IsBegun user heard pieces backend command → standing_said user heard pieces ≡ cond (is_whole (written command)) Runs Sends
 standing-begun user heard pieces backend command at = by (begun-at user heard pieces backend command at) where
-  by : Stands user heard pieces (written command ∷ []) backend.framer.kept → standing_said user heard pieces ≡ cond (is_whole (written command)) Runs Sends
-  by now = standing-of user heard pieces (written command ∷ []) backend.framer.kept now
+  by : Stands user heard pieces (written command ∷ []) at.inside.part → standing_said user heard pieces ≡ cond (is_whole (written command)) Runs Sends
+  by now = standing-of user heard pieces (written command ∷ []) at.inside.part now
       ∙ ap (λ (r : Replies). stands (now.others ++ written command ∷ []) (behind_replies now.whole r)) (partly-by user heard pieces backend (written command) at.inside)
-      ∙ stands-open now.others (written command) now.whole backend.framer.kept now.all
+      ∙ stands-open now.others (written command) now.whole at.inside.part now.all
 
 -- a part of it
 pub standing-sends : (user : Account) (heard : List ℕ) (pieces : List Command) (backend : BackendState) (command : Handed) → IsBegun user heard pieces backend command → command.sent < length command.bytes → standing_said user heard pieces ≡ Sends
@@ -113,10 +130,10 @@ standing-inside user heard pieces backend at = by backend.command refl where
 pub unanswered-at : (user : Account) (heard : List ℕ) (pieces : List Command) (backend : BackendState) (command : Handed) (n i : ℕ) (lost : Bool) → IsBegun user heard pieces backend command → is_command n i command.tag ≡ true
     → reply_said n i user heard pieces lost ≡ cond lost (Some (connection_lost ∷ [])) None
 unanswered-at user heard pieces backend command n i lost at here = by (begun-at user heard pieces backend command at) where
-  by : Stands user heard pieces (written command ∷ []) backend.framer.kept → reply_said n i user heard pieces lost ≡ cond lost (Some (connection_lost ∷ [])) None
-  by now = reply-of user heard pieces (written command) backend.framer.kept now n i lost here
+  by : Stands user heard pieces (written command ∷ []) at.inside.part → reply_said n i user heard pieces lost ≡ cond lost (Some (connection_lost ∷ [])) None
+  by now = reply-of user heard pieces (written command) at.inside.part now n i lost here
       ∙ ap (λ (r : Replies). reply_at (length now.others) (behind_replies now.whole r) lost) (partly-by user heard pieces backend (written command) at.inside)
-      ∙ reply-open now.whole backend.framer.kept None (length now.others) lost now.all
+      ∙ reply-open now.whole at.inside.part None (length now.others) lost now.all
 
 -- One that isn't among the pieces has none.
 pub unsent-at : (user : Account) (heard : List ℕ) (pieces : List Command) (n i : ℕ) (lost : Bool) → list_any (is_of n i) pieces ≡ false → reply_said n i user heard pieces lost ≡ None

@@ -1,19 +1,24 @@
 -- A link to a server as bytes are handed to it and written.
 use Rattle.std.specs.Prelude.{◌≡◌, ◌≢◌, ◌⊎◌, ◌≤◌, ◌<◌, ℕ, zero, suc, ◌+◌, ◌-◌, Bool, true, false, nat_lt, ◌||◌, cond, List, [], ◌∷◌, ◌++◌, length, take, drop, Option, Some, None, refl}
 use Rattle.std.specs.List.{list_any}
-use Rattle.std.proofs.Common.{sym, ◌∙◌, ap, subst, append-nil, append_assoc, arith, length-append, length-drop, take-append-drop, take-add, length-take-le, inl, inr}
+use Rattle.std.proofs.Common.{sym, ◌∙◌, ap, subst, append-nil, append_assoc, arith, length-append, length-drop, take-append-drop, take-add, length-take-le, inl, inr, lit<}
 use Rattle.std.proofs.lemmas.Bool.{or_parts}
 use Rattle.std.proofs.lemmas.List.{nil_from_length}
 use Rattle.std.proofs.lemmas.List.Folds.{list_any-append}
 use Rattle.std.proofs.lemmas.List.Sums.{fold-append}
 use Rattle.mx_base.specs.declared.tag.Tag.{Tag}
 use Rattle.mx_base.specs.declared.tag.Tag.TheVariants.{Own}
+use Rattle.mx_base.specs.Fields.{AreBytes}
 use Rattle.packet_frame.specs.Packets.{spelling}
 use Rattle.packet_frame.specs.Laws.{first_message-empty}
+use Rattle.reply_track.specs.Runs.{run, renumbered}
+use Rattle.reply_track.specs.Tracking.{started}
+use Rattle.reply_track.specs.Replying.{to_command}
 use Rattle.server_side.specs.Account.{Account}
 use Rattle.server_side.specs.Login.{Goes, said_of, most_payload, greeting_by, opening}
 use Rattle.server_side.specs.Laws.{opening-new}
-use Rattle.server_side.specs.Backend.{BackendState, new_backend, commanded, Left, command_left, left_by, left, command_taken, taken_by, taken}
+use Rattle.server_side.specs.Backend.{BackendState, new_backend, command_of, commanded, Left, command_left, left_by, left, command_taken, taken_by, taken}
+use Rattle.server_side.specs.Handing.{handed}
 use Rattle.server_side.specs.Reading.{IsOpening, IsLoggingIn}
 use Rattle.server_side.specs.declared.command.Command.{Command as Handed}
 use Rattle.server_side.specs.declared.stage.Stage.{Stage}
@@ -22,7 +27,7 @@ use Rattle.exchange.specs.Logins.{IsPrefix}
 use Rattle.exchange.specs.Commands.{Command, most_command, with_piece, is_command, behind, commands_in}
 use Rattle.promises.proofs.Clean.{behind-append}
 use Rattle.promises.proofs.InWork.{some-same}
-use Rattle.router_world.specs.Rows.{bytes_in, is_of, begun_by, begun, IsMessage, IsHanded, IsEntering, IsInside, LinkAt, Entering, Inside}
+use Rattle.router_world.specs.Rows.{bytes_in, is_of, begun_by, begun, IsMessage, IsHanded, IsEntering, IsHearing, HearsPart, IsInside, LinkAt, Entering, Inside}
 use Rattle.router_world.proofs.RowsPieces.{not-empty, bytes-more, behind-past, behind-short, behind-one, part-spelt, with-piece-behind, with-piece-on, of-commands}
 
 -- nothing was heard or written yet
@@ -30,43 +35,55 @@ pub first-at : (user : Account) → LinkAt user [] [] (new_backend user)
 unfolding opening
 first-at user = Entering (record { account = refl; login = opening-new user; goes = ap (greeting_by user) (first_message-empty most_payload 0) })
 
+no-bytes : AreBytes []
+no-bytes i = lit< tt
+
 -- A link on which a session runs, after what was handed to it, written of it or moved out.
-inside-after : (user : Account) (heard : List ℕ) (pieces now : List Command) (backend : BackendState) (own reply : List ℕ) (handed : Option Handed) (at : IsInside user heard pieces backend)
-    → (bytes_in now ++ own ≡ at.said) ⊎ ((own ≡ []) × IsPrefix at.said (bytes_in now)) → commands_in (behind (length at.said) now) ≡ at.others ++ begun handed → IsHanded handed
-    → ((n i : ℕ) → list_any (is_of n i) (begun handed) ≡ true → list_any (is_of n i) at.others ≡ false) → (begun handed ≡ [] → backend.framer.kept ≡ []) → IsInside user heard now (record backend { own = own; command = handed; reply = reply })
-inside-after user heard pieces now backend own reply handed at written commands command new unasked = record {
+inside-after : (user : Account) (heard : List ℕ) (pieces now : List Command) (backend : BackendState) (own reply : List ℕ) (command_now : Option Handed) (at : IsInside user heard pieces backend)
+    → (bytes_in now ++ own ≡ at.said) ⊎ ((own ≡ []) × IsPrefix at.said (bytes_in now)) → commands_in (behind (length at.said) now) ≡ at.others ++ begun command_now → IsHanded command_now
+    → ((n i : ℕ) → list_any (is_of n i) (begun command_now) ≡ true → list_any (is_of n i) at.others ≡ false) → (begun command_now ≡ [] → at.part ≡ []) → HearsPart command_now at.part reply
+    → IsInside user heard now (record backend { own = own; command = command_now; reply = reply })
+inside-after user heard pieces now backend own reply command_now at written commands is_message new unasked partly = record {
   account = at.account;
   stage = at.stage;
-  framer = at.framer;
   said = at.said;
   past = at.past;
+  part = at.part;
   is = at.is;
   written = written;
   others = at.others;
   wholes = at.wholes;
   commands = commands;
-  command = command;
+  command = is_message;
   new = new;
   whole = at.whole;
   replies = at.replies;
   all = at.all;
   unasked = unasked;
-  partly = at.partly;
+  partly = partly;
 }
 
 -- The packets of a message are handed to a link that has no command.
 pub packets-handed : (user : Account) (heard : List ℕ) (pieces : List Command) (backend : BackendState) (tag : Tag) (packets payload : List ℕ) (first : ℕ) → IsInside user heard pieces backend → backend.command ≡ None → packets ≡ spelling 0 payload → length payload ≤ most_command
-    → IsInside user heard pieces (record backend { command = Some (record { tag = tag; bytes = packets; sent = 0; first = first }) })
-packets-handed user heard pieces backend tag packets payload first at none spelt short = inside-after user heard pieces pieces backend backend.own backend.reply (Some (record { tag = tag; bytes = packets; sent = 0; first = first })) at at.written
-    (at.commands ∙ ap (λ o. at.others ++ begun o) none) (record { payload = payload; spelt = spelt; short = short; sent = omega arith }) (λ n i is. absurd (let no : false ≡ true = is in cc)) (λ is. at.unasked (ap begun none))
+    → IsInside user heard pieces (handed tag packets first backend)
+packets-handed user heard pieces backend tag packets payload first at none spelt short = inside-after user heard pieces pieces backend backend.own [] (Some (command_of tag packets first)) at at.written
+    (at.commands ∙ ap (λ o. at.others ++ begun o) none) (record { payload = payload; spelt = spelt; short = short; sent = omega arith }) (λ n i is. absurd (let no : false ≡ true = is in cc)) (λ is. unheard)
+    (record {
+      goes = ap (run (started (to_command first))) unheard;
+      made = ap (renumbered (started (to_command first))) (sym unheard);
+      are = subst AreBytes (sym unheard) no-bytes;
+    }) where
+      unheard : at.part ≡ []
+      unheard = at.unasked (ap begun none)
 
 pub handed-at : (user : Account) (heard : List ℕ) (pieces : List Command) (backend : BackendState) (tag : Tag) (payload : List ℕ) (first : ℕ) → IsInside user heard pieces backend → backend.command ≡ None → length payload ≤ most_command
     → IsInside user heard pieces (commanded tag payload first backend)
 handed-at user heard pieces backend tag payload first at none short = packets-handed user heard pieces backend tag (spelling 0 payload) payload first at none refl short
 
 -- The last reply is moved out.
-pub reply-moved : (user : Account) (heard : List ℕ) (pieces : List Command) (backend : BackendState) (reply : List ℕ) → IsInside user heard pieces backend → IsInside user heard pieces (record backend { reply = reply })
-reply-moved user heard pieces backend reply at = inside-after user heard pieces pieces backend backend.own reply backend.command at at.written at.commands at.command at.new at.unasked
+pub reply-moved : (user : Account) (heard : List ℕ) (pieces : List Command) (backend : BackendState) (reply : List ℕ) → IsInside user heard pieces backend → backend.command ≡ None → IsInside user heard pieces (record backend { reply = reply })
+reply-moved user heard pieces backend reply at none = inside-after user heard pieces pieces backend backend.own reply backend.command at at.written at.commands at.command at.new at.unasked
+    (subst (λ (o : Option Handed). HearsPart o at.part reply) (sym none) (subst (λ (o : Option Handed). HearsPart o at.part backend.reply) none at.partly))
 
 -- What was written of the command, once a byte of it was.
 pub begun-some : (command : Handed) → 0 < command.sent → begun (Some command) ≡ record { tag = command.tag; bytes = take command.sent command.bytes } ∷ []
@@ -134,7 +151,7 @@ own-first user heard pieces backend at some = nil_from_length (begun backend.com
 own-taken : (user : Account) (heard : List ℕ) (pieces : List Command) (backend : BackendState) (n : ℕ) → IsInside user heard pieces backend → 0 < n → n ≤ length backend.own
     → IsInside user heard (pieces ++ record { tag = Own; bytes = take n backend.own } ∷ []) (record backend { own = drop n backend.own })
 own-taken user heard pieces backend n at some fits = inside-after user heard pieces (pieces ++ piece ∷ []) backend (drop n backend.own) backend.reply backend.command at
-    (inl (same-said pieces Own n backend.own ∙ own-left user heard pieces backend at (omega arith))) commands at.command at.new at.unasked where
+    (inl (same-said pieces Own n backend.own ∙ own-left user heard pieces backend at (omega arith))) commands at.command at.new at.unasked at.partly where
       piece : Command
       piece = record { tag = Own; bytes = take n backend.own }
 
@@ -166,7 +183,8 @@ command-taken : (user : Account) (heard : List ℕ) (pieces : List Command) (bac
 command-taken user heard pieces backend command n at none is some fits fresh = inside-after user heard pieces (pieces ++ piece ∷ []) backend backend.own backend.reply (Some (record command { sent = command.sent + n })) at
     (inr (none, prefix-more at.said (bytes_in pieces) piece.bytes (bytes_in (pieces ++ piece ∷ [])) (said-written user heard pieces backend at none) (bytes-more pieces piece))) commands
     (record { payload = message.payload; spelt = message.spelt; short = message.short; sent = (let left : length (drop command.sent command.bytes) ≡ length command.bytes - command.sent = length-drop command.sent command.bytes in omega arith) }) new
-    (λ no. absurd (let some_is : record { tag = command.tag; bytes = take (command.sent + n) command.bytes } ∷ [] ≡ [] = sym now ∙ no in cc)) where
+    (λ no. absurd (let some_is : record { tag = command.tag; bytes = take (command.sent + n) command.bytes } ∷ [] ≡ [] = sym now ∙ no in cc))
+    (let hears : IsHearing command at.part backend.reply = subst (λ (o : Option Handed). HearsPart o at.part backend.reply) is at.partly in record { goes = hears.goes; made = hears.made; are = hears.are }) where
       piece : Command
       piece = record { tag = command.tag; bytes = take n (drop command.sent command.bytes) }
 

@@ -1,6 +1,7 @@
 -- What the entries on a link to a server make of what stands.
 use Rattle.std.specs.Prelude.{◌≡◌, ◌⊎◌, ◌<◌, ◌≤◌, ℕ, Bool, true, false, is_some, nat_eq, ◌||◌, ◌&&◌, List, [], ◌∷◌, ◌++◌, length, Option, Some, None, refl}
 use Rattle.std.proofs.Common.{sym, ◌∙◌, ap, arith, inl, inr}
+use Rattle.mx_base.specs.Fields.{AreBytes}
 use Rattle.mx_base.specs.declared.names.ClientNo.{ClientNo}
 use Rattle.mx_base.specs.declared.names.LinkId.{LinkId}
 use Rattle.mx_base.specs.declared.tag.Tag.{Tag}
@@ -99,10 +100,10 @@ row-step service log e link lent tables news sound on row writes later came = se
   at = record { lawful = on.lawful; fits = lawful-more Fits log e on.told on.fits; sound = sound.lends; idle = on.idle; unclosed = on.quiet.unclosed; there = on.there; row = row; names = on.names; writes = writes }
 
 -- Bytes of a server come.
-pub heard-step : (service : Service) (log : Log) (link : LinkId) (bytes : List ℕ) (lent : Lent) (tables : Tables) → Sound service log None tables → OnRow service log (Got link bytes) link lent tables → Sound service (log ++ Got link bytes ∷ []) None (told service.setup (heard link bytes tables.lends) tables)
-heard-step service log link bytes lent tables sound on = (let row = sound.lends.rows link lent on.there in
+pub heard-step : (service : Service) (log : Log) (link : LinkId) (bytes : List ℕ) (lent : Lent) (tables : Tables) → AreBytes bytes → Sound service log None tables → OnRow service log (Got link bytes) link lent tables → Sound service (log ++ Got link bytes ∷ []) None (told service.setup (heard link bytes tables.lends) tables)
+heard-step service log link bytes lent tables are sound on = (let row = sound.lends.rows link lent on.there in
     row-step service log (Got link bytes) link lent tables (heard link bytes tables.lends) sound on row (λ k i apart. refl) (λ seat is unsent i later. refl)
-    (heard-sound service log link bytes tables.lends lent row.turn on.lawful (lawful-more Fits log (Got link bytes) on.told on.fits) sound.lends on.idle on.quiet.unclosed on.there row.is_turn))
+    (heard-sound service log link bytes tables.lends lent row.turn are on.lawful (lawful-more Fits log (Got link bytes) on.told on.fits) sound.lends on.idle on.quiet.unclosed on.there row.is_turn))
 
 -- A link to a server is lost.
 pub lost-step : (service : Service) (log : Log) (e : Entry) (link : LinkId) (lent : Lent) (tables : Tables) → Sound service log None tables → OnRow service log e link lent tables → is_loss e ≡ true → ((k i : ℕ) → carries k i e ≡ None) → Sound service (log ++ e ∷ []) None (told service.setup (lost link tables.lends) tables)

@@ -1,5 +1,6 @@
 -- What the router does next, by what it knows: what it reads, writes, opens and closes.
 use Rattle.std.specs.Prelude.{◌≡◌, ◌⊎◌, ℕ, Bool, true, false, is_some, ◌||◌, ◌&&◌, List, [], ◌∷◌, take, Option, Some, None}
+use Rattle.mx_base.specs.Fields.{AreBytes}
 use Rattle.mx_base.specs.declared.names.ClientNo.{ClientNo}
 use Rattle.mx_base.specs.declared.names.LinkId.{LinkId}
 use Rattle.mx_base.specs.declared.tag.Tag.{Tag}
@@ -119,7 +120,7 @@ pub record IsClosing (tables : Tables) (link : LinkId) (log : Log) : Type 0 wher
 -- The entries of a log of the router's: it is told of what comes once all that it asked for is done, and does what it asks for.
 abbrev pub IsOurs : Setup → Log → Entry → Type 0
 IsOurs setup log (entry.Accepted port link salt) = asks setup (tables_after setup log) ≡ false
-IsOurs setup log (entry.Got link bytes) = asks setup (tables_after setup log) ≡ false
+IsOurs setup log (entry.Got link bytes) = (asks setup (tables_after setup log) ≡ false) × AreBytes bytes
 IsOurs setup log (entry.Ended link) = asks setup (tables_after setup log) ≡ false
 IsOurs setup log (entry.ReadFailed link) = asks setup (tables_after setup log) ≡ false
 IsOurs setup log (entry.WriteFailed link) = (asks setup (tables_after setup log) ≡ false) ⊎ IsFarewell (tables_after setup log) link

@@ -2,16 +2,20 @@
 use Rattle.std.specs.Prelude.{◌≡◌, ◌⊎◌, ◌≤◌, ℕ, zero, suc, Bool, true, false, List, [], ◌∷◌, ◌++◌, length, take, Option, Some, None}
 use Rattle.std.specs.List.{flat_map, list_all, list_any}
 use Rattle.std.specs.Option.{option_and_then}
-use Rattle.packet_frame.specs.Packets.{Nothing, first_message, spelling}
+use Rattle.mx_base.specs.Fields.{AreBytes}
+use Rattle.packet_frame.specs.Packets.{spelling}
+use Rattle.reply_track.specs.Runs.{Going, run, renumbered}
+use Rattle.reply_track.specs.Tracking.{started}
+use Rattle.reply_track.specs.Replying.{to_command}
 use Rattle.server_side.specs.Account.{Account}
-use Rattle.server_side.specs.Login.{Goes, LogsIn, opening, most_payload}
+use Rattle.server_side.specs.Login.{Goes, LogsIn, opening}
 use Rattle.server_side.specs.Backend.{BackendState}
-use Rattle.server_side.specs.Reading.{IsReading, IsLoggingIn}
+use Rattle.server_side.specs.Reading.{IsLoggingIn}
 use Rattle.server_side.specs.declared.command.Command.{Command as Handed}
 use Rattle.server_side.specs.declared.stage.Stage.TheVariants.{In}
 use Rattle.exchange.specs.Logins.{IsPrefix}
 use Rattle.exchange.specs.Commands.{Command, most_command, is_whole, is_command, place_in, behind, commands_in, commands_behind}
-use Rattle.exchange.specs.Replies.{Answer, Replies, Standing, one_payload, replies_by, rest_of, reply_at, standing_in}
+use Rattle.exchange.specs.Replies.{Answer, Replies, Standing, command_reply, replies_by, rest_of, reply_at, standing_in}
 
 -- What was heard of a server, and the pieces that were written to it, say: the commands, the replies to them, and how the link stands.
 
@@ -19,7 +23,7 @@ abbrev pub commands_said : Account → (heard : List ℕ) → (pieces : List Com
 commands_said user heard pieces = commands_behind (opening user heard) pieces
 
 abbrev pub replies_said : Account → (heard : List ℕ) → (pieces : List Command) → Replies
-replies_said user heard pieces = replies_by one_payload (commands_said user heard pieces) (rest_of (opening user heard))
+replies_said user heard pieces = replies_by command_reply (commands_said user heard pieces) (rest_of (opening user heard))
 
 abbrev pub standing_said : Account → (heard : List ℕ) → (pieces : List Command) → Standing
 standing_said user heard pieces = standing_in (opening user heard) (commands_said user heard pieces) (replies_said user heard pieces)
@@ -65,14 +69,24 @@ pub record IsEntering (user : Account) (heard : List ℕ) (pieces : List Command
   pub login : IsLoggingIn backend heard (bytes_in pieces ++ backend.own)
   pub goes : opening user heard ≡ Goes (bytes_in pieces ++ backend.own)
 
--- the router is logged in: the other commands are whole and answered, and what is kept is a part of the reply to the one that is begun
+-- this part of a command's reply was read, and is kept as the client will get it
+pub record IsHearing (command : Handed) (part kept : List ℕ) : Type 0 where
+  pub goes : run (started (to_command command.first)) part ≡ Going command.tracker.state
+  pub made : kept ≡ renumbered (started (to_command command.first)) part
+  pub are : AreBytes part
+
+abbrev pub HearsPart : Option Handed → (part kept : List ℕ) → Type 0
+HearsPart None part kept = part ≡ []
+HearsPart (Some command) part kept = IsHearing command part kept
+
+-- the router is logged in: the other commands are whole and answered, and a part of the reply to the one that is begun was read
 pub record IsInside (user : Account) (heard : List ℕ) (pieces : List Command) (backend : BackendState) : Type 0 where
   pub account : backend.account ≡ user
   pub stage : backend.stage ≡ In
-  pub framer : IsReading backend.framer
   pub said : List ℕ
   pub past : List ℕ
-  pub is : opening user heard ≡ LogsIn said (past ++ backend.framer.kept)
+  pub part : List ℕ
+  pub is : opening user heard ≡ LogsIn said (past ++ part)
   pub written : (bytes_in pieces ++ backend.own ≡ said) ⊎ ((backend.own ≡ []) × IsPrefix said (bytes_in pieces))
   pub others : List Command
   pub wholes : list_all is_whole others ≡ true
@@ -80,10 +94,10 @@ pub record IsInside (user : Account) (heard : List ℕ) (pieces : List Command) 
   pub command : IsHanded backend.command
   pub new : (n i : ℕ) → list_any (is_of n i) (begun backend.command) ≡ true → list_any (is_of n i) others ≡ false
   pub whole : List Answer
-  pub replies : replies_by one_payload others past ≡ record { whole = whole; rest = []; bad = None }
+  pub replies : replies_by command_reply others past ≡ record { whole = whole; rest = []; bad = None }
   pub all : length whole ≡ length others
-  pub unasked : begun backend.command ≡ [] → backend.framer.kept ≡ []
-  pub partly : first_message most_payload 1 backend.framer.kept ≡ Nothing
+  pub unasked : begun backend.command ≡ [] → part ≡ []
+  pub partly : HearsPart backend.command part backend.reply
 
 pub data LinkAt (user : Account) (heard : List ℕ) (pieces : List Command) (backend : BackendState) : Type 0 where
   Entering : IsEntering user heard pieces backend → LinkAt user heard pieces backend

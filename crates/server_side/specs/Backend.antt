@@ -4,6 +4,8 @@ use Rattle.mx_base.specs.declared.tag.Tag.{Tag}
 use Rattle.mx_base.specs.declared.tag.Tag.TheVariants.{Own}
 use Rattle.packet_frame.specs.FramerState.{FramerState}
 use Rattle.packet_frame.specs.Packets.{spelling}
+use Rattle.reply_track.specs.Replying.{to_command}
+use Rattle.reply_track.specs.Tracking.{started}
 use Rattle.server_side.specs.Account.{Account}
 use Rattle.server_side.specs.declared.command.Command.{Command}
 use Rattle.server_side.specs.declared.command.Outgoing.{Outgoing}
@@ -11,8 +13,8 @@ use Rattle.server_side.specs.declared.stage.Stage.{Stage}
 use Rattle.server_side.specs.declared.stage.Stage.TheVariants.{Greeting}
 use Rattle.server_side.specs.Login.{most_payload}
 
--- who logs in, what was read, how far the login is, what is left of what the router says of its own, the command that has no reply yet, and
--- the last reply that was whole
+-- who logs in, what was read of the login, how far that is, what is left of what the router says of its own, the command whose reply isn't whole
+-- yet, and what was read of the reply, or the last one that was whole
 pub record BackendState : Type 0 where
   pub account : Account
   pub framer : FramerState
@@ -28,8 +30,12 @@ reading kept = record { limit = most_payload; kept = kept; found = None; fault =
 abbrev pub new_backend : Account → BackendState
 new_backend account = record { account = account; framer = reading []; stage = Greeting; own = []; command = None; reply = [] }
 
+-- a command of which nothing is written and nothing of the reply is read, which is to have ids from `first` on
+abbrev pub command_of : Tag → (packets : List ℕ) → (first : ℕ) → Command
+command_of tag packets first = record { tag = tag; bytes = packets; sent = 0; first = first; tracker = record { state = started (to_command first) } }
+
 abbrev pub commanded : Tag → List ℕ → (first : ℕ) → BackendState → BackendState
-commanded tag payload first backend = record backend { command = Some (record { tag = tag; bytes = spelling 0 payload; sent = 0; first = first }) }
+commanded tag payload first backend = record backend { command = Some (command_of tag (spelling 0 payload) first); reply = [] }
 
 -- What is to be written: bytes with their tag.
 pub record Left : Type 0 where

@@ -2,13 +2,13 @@
 use Rattle.std.specs.Prelude.{ℕ, zero, suc, List, [], Option, Some, None}
 use Rattle.mx_base.specs.declared.tag.Tag.{Tag}
 use Rattle.server_side.specs.Account.{Account}
-use Rattle.server_side.specs.Backend.{BackendState}
+use Rattle.server_side.specs.Backend.{BackendState, command_of}
 use Rattle.server_side.specs.declared.command.Command.{Command}
 use Rattle.server_side.specs.declared.handing.Unsent.{Unsent}
 
 -- these packets are to be written
 abbrev pub handed : Tag → (packets : List ℕ) → (first : ℕ) → BackendState → BackendState
-handed tag packets first backend = record backend { command = Some (record { tag = tag; bytes = packets; sent = 0; first = first }) }
+handed tag packets first backend = record backend { command = Some (command_of tag packets first); reply = [] }
 
 -- the last whole reply is moved out
 abbrev pub without_reply : BackendState → BackendState

@@ -1,9 +1,12 @@
 -- What is heard on a link to a server, and what is left of it.
-use Rattle.std.specs.Prelude.{◌≡◌, ℕ, zero, suc, ◌+◌, ◌-◌, nat_eq, not, ◌&&◌, bytes_eq, List, ◌++◌, length, Option, Some, None, Result, Ok, Err, if◌then◌else◌}
+use Rattle.std.specs.Prelude.{◌≡◌, ℕ, zero, suc, ◌+◌, ◌-◌, nat_eq, not, ◌&&◌, bytes_eq, List, ◌++◌, length, take, Option, Some, None, Result, Ok, Err, if◌then◌else◌}
 use Rattle.packet_frame.specs.FramerState.{FramerState, look, seen, past}
-use Rattle.packet_frame.specs.Packets.{Framed, Found, spelling}
+use Rattle.packet_frame.specs.Packets.{Framed, Found}
 use Rattle.packet_frame.specs.Packets.Found.{Nothing, Whole, Faulty}
 use Rattle.reply_text.specs.Replies.{is_lone}
+use Rattle.reply_track.specs.declared.place.State.{State}
+use Rattle.reply_track.specs.Runs.{Ending, run, renumbered}
+use Rattle.reply_track.specs.Runs.Ending.{Going, Ended, Failed}
 use Rattle.handshake.specs.declared.fault.HandFault.{HandFault}
 use Rattle.handshake.specs.declared.greeting.Greeting.{Greeting}
 use Rattle.handshake.specs.declared.switch.Switch.{Switch}
@@ -118,40 +121,45 @@ greeting_found backend found = found_by greeting_read backend found
 
 -- The reply.
 
--- the link behind a whole reply, and how many bytes of the piece are a part of it
-abbrev pub replied : (first length : ℕ) → Framed → BackendState → Got
-replied first size message backend =
-    Hears (WholeReply (size - length backend.framer.kept)) (record backend { reply = spelling first message.payload; command = None })
+-- the reply goes on, and this was read of it
+abbrev pub going : (size : ℕ) → (made : List ℕ) → Command → State → BackendState → Got
+going size made command state backend = Hears (Part size) (record backend { command = Some (record command { tracker = record { state = state } }); reply = backend.reply ++ made })
 
-abbrev pub reply_read : (first length : ℕ) → Framed → BackendState → Got
-reply_read first size message backend = if is_lone message.payload then replied first size message backend else bad
+-- the reply is whole with the first `used` bytes of the piece
+abbrev pub replied : (used : ℕ) → (made : List ℕ) → BackendState → Got
+replied used made backend = Hears (WholeReply used) (record backend { command = None; reply = backend.reply ++ take used made })
 
-abbrev pub reply_found : (first length : ℕ) → BackendState → Found → Got
-reply_found first size backend Nothing = nothing (Part size) backend
-reply_found first size backend (Whole message rest) = reply_read first size message (behind message backend)
-reply_found first size backend (Faulty fault) = bad
+-- where it stands behind the piece; a bad byte's place counts in the reply
+abbrev pub reply_by : (size : ℕ) → (made : List ℕ) → Command → BackendState → Ending → Got
+reply_by size made command backend (Going state) = going size made command state backend
+reply_by size made command backend (Ended end rest) = replied (size - length rest) made backend
+reply_by size made command backend (Failed behind) = Fails (BadBytes (length backend.reply + (size - length behind)))
+
+abbrev pub reply_read : (piece : List ℕ) → Command → BackendState → Got
+reply_read piece command backend = reply_by (length piece) (renumbered command.tracker.state piece) command backend (run command.tracker.state piece)
 
 -- it is due once a byte of the command is written
-abbrev pub reply_begun : (sent first length : ℕ) → BackendState → Got
-reply_begun zero first size backend = bad
-reply_begun (suc sent) first size backend = reply_found first size backend (look 1 backend.framer)
+abbrev pub reply_begun : (sent : ℕ) → (piece : List ℕ) → Command → BackendState → Got
+reply_begun zero piece command backend = bad
+reply_begun (suc sent) piece command backend = reply_read piece command backend
 
-abbrev pub reply_due : Option Command → (length : ℕ) → BackendState → Got
-reply_due None size backend = bad
-reply_due (Some command) size backend = reply_begun command.sent command.first size backend
+abbrev pub reply_due : Option Command → (piece : List ℕ) → BackendState → Got
+reply_due None piece backend = bad
+reply_due (Some command) piece backend = reply_begun command.sent piece command backend
 
 -- Both.
 
-abbrev pub hears : Stage → (length : ℕ) → BackendState → Got
-hears stage.Greeting size backend = greeting_found backend (look 0 backend.framer)
-hears stage.Welcome size backend = welcome_found backend (look 2 backend.framer)
-hears stage.Switched size backend = end_found backend (look 4 backend.framer)
-hears stage.In size backend = reply_due backend.command size backend
-hears stage.Lost size backend = bad
-
+-- the login keeps what it reads, and a reply is read as it comes
 abbrev pub fed : BackendState → List ℕ → BackendState
 fed backend piece = record backend { framer = record backend.framer { kept = backend.framer.kept ++ piece } }
 
+abbrev pub hears : Stage → (piece : List ℕ) → BackendState → Got
+hears stage.Greeting piece backend = greeting_found (fed backend piece) (look 0 (fed backend piece).framer)
+hears stage.Welcome piece backend = welcome_found (fed backend piece) (look 2 (fed backend piece).framer)
+hears stage.Switched piece backend = end_found (fed backend piece) (look 4 (fed backend piece).framer)
+hears stage.In piece backend = reply_due backend.command piece backend
+hears stage.Lost piece backend = bad
+
 -- what a piece tells
 abbrev pub got_of : List ℕ → BackendState → Got
-got_of piece backend = hears backend.stage (length piece) (fed backend piece)
+got_of piece backend = hears backend.stage piece backend

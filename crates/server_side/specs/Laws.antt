@@ -37,7 +37,7 @@ opening-got backend piece read written at = by backend.stage refl at.is where
       → (more : List ℕ) → opening backend.account (read ++ piece ++ more) ≡ next (framer.kept ++ more)
   more-by next is more = ap (opening backend.account) (append_assoc read piece more) ∙ is (piece ++ more) ∙ ap next (sym (append_assoc backend.framer.kept piece more))
 
-  by : (stage : Stage) → backend.stage ≡ stage → IsOpening stage backend read (written ++ backend.own) → TellsOf (hears stage (length piece) (fed backend piece)) backend written (read ++ piece)
+  by : (stage : Stage) → backend.stage ≡ stage → IsOpening stage backend read (written ++ backend.own) → TellsOf (hears stage piece backend) backend written (read ++ piece)
   by stages.Greeting same is =
       subst (λ (s : Stage). TellsOf (greeting_found (placed backend framer backend.own s) (look 0 framer)) backend written (read ++ piece)) (sym same)
       (greeting-tells backend framer backend.own written (read ++ piece) idle reading (ap (λ kept. kept ++ piece) is.0) is.1)

@@ -37,6 +37,7 @@ pub record HasLoggedIn (backend : BackendState) (read said : List ℕ) : Type 0 
   pub framer : IsReading backend.framer
   pub kept : backend.framer.kept ≡ []
   pub is : (more : List ℕ) → opening backend.account (read ++ more) ≡ LogsIn said more
+  pub unreplied : backend.reply ≡ []
   pub idle : backend.command ≡ None
 
 -- it fails so: at a message of the server's, or by bytes behind its end

@@ -72,7 +72,7 @@ accepted-tells old framer own stage written read true idle reading is = by (nat_
   by : (none : Bool) → nat_eq (length framer.kept) 0 ≡ none → TellsOf (if none then Hears LoggedIn (placed old framer own stages.In) else bad_got) old written read
   by true same =
       let empty : framer.kept ≡ [] = nil_from_length framer.kept (nat_eq-true (length framer.kept) 0 same) in
-      (record { stage = refl; framer = reading; kept = empty; is = λ more. is more ∙ ap (λ kept. LogsIn (written ++ own) (kept ++ more)) empty; idle = idle.idle }, refl)
+      (record { stage = refl; framer = reading; kept = empty; is = λ more. is more ∙ ap (λ kept. LogsIn (written ++ own) (kept ++ more)) empty; unreplied = idle.unreplied; idle = idle.idle }, refl)
   by false other =
       let some : 0 < length framer.kept = omega (arith, nat_eq-false (length framer.kept) 0 other) in
       subst (λ (o : Opening). HasFailed o (BadBytes 0)) (sym (now-by old.account read framer.kept (LogsIn (written ++ own)) is)) (some, refl)

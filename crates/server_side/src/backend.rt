@@ -1,6 +1,6 @@
 // The link to a server.
 use crate::account::Account;
-use crate::command::{Command, Outgoing};
+use crate::command::{Command, Outgoing, command_of};
 use crate::stage::Stage;
 use mx_base::{ByteQueue, Bytes, OutOfMemory, Tag};
 use packet_frame::{Framer, write_message};
@@ -64,7 +64,7 @@ impl Backend {
     }
 
     /// A command is to be written, as packets from the sequence id 0 on, with this tag. The reply to it will begin with the
-    /// sequence id `first` for the client. OutOfMemory leaves everything as it was.
+    /// sequence id `first` for the client; the last one is dropped. OutOfMemory leaves everything as it was.
     pub fn command(&mut self, tag: Tag, payload: &[u8], first: u8) -> Result<(), OutOfMemory>
         requires logged_in { self.old.stage ≡ In }
         requires free { self.old.command ≡ None }
@@ -73,12 +73,8 @@ impl Backend {
     {
         let mut bytes = Vec::new(self.alloc);
         write_message(&mut bytes, 0, payload)?;
-        self.command = Some(Command {
-            tag,
-            bytes: Bytes::from_vec(bytes),
-            sent: 0,
-            first,
-        });
+        self.command = Some(command_of(tag, Bytes::from_vec(bytes), first));
+        self.reply = Bytes::new(self.alloc);
         Ok(())
     }
 
@@ -134,18 +130,11 @@ impl Backend {
         }
     }
 
-    /// The last reply that was whole, as packets from the client's sequence id on.
+    /// What was read of the reply, or the last one that was whole, as packets from the client's sequence id on.
     pub fn reply(&self) -> &[u8]
         ensures { result.now ≡ self.now.reply }
     {
         self.reply.as_slice()
-    }
-
-    /// How many bytes are kept that were read and aren't a part of what was heard.
-    pub fn kept(&self) -> u64
-        ensures { result ≡ length self.now.framer.kept }
-    {
-        self.framer.kept()
     }
 
     /// Whether a command has no reply yet.

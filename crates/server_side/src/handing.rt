@@ -4,7 +4,7 @@ ghost use Rattle.server_side.specs.Handing.{unsent_by};
 
 use crate::account::Account;
 use crate::backend::Backend;
-use crate::command::Command;
+use crate::command::{Command, command_of};
 use mx_base::{Bytes, Tag};
 
 /// A command of which no byte was written, for another link of the account: its packets, and the sequence id with which its
@@ -23,18 +23,14 @@ impl Backend {
     ghost use Rattle.server_side.specs.Handing.{handed, without_reply, unsent, reply_id};
 
     /// These packets, from the sequence id 0 on, are to be written as a command with this tag (client/server protocol, "Command
-    /// Phase"). The reply to it will begin with the sequence id `first` for the client. Takes no memory.
+    /// Phase"). The reply to it will begin with the sequence id `first` for the client; the last one is dropped. Takes no memory.
     pub fn hand(&mut self, tag: Tag, packets: Bytes, first: u8)
         requires logged_in { self.old.stage ≡ In }
         requires free { self.old.command ≡ None }
         ensures { self.new ≡ handed tag packets first self.old }
     {
-        self.command = Some(Command {
-            tag,
-            bytes: packets,
-            sent: 0,
-            first,
-        });
+        self.command = Some(command_of(tag, packets, first));
+        self.reply = Bytes::new(self.alloc);
     }
 
     /// The sequence id with which the reply that is due begins for the client; None where no byte of a command was written.

@@ -8,8 +8,6 @@ use crate::payloads::{
 };
 use crate::stage::Stage;
 use handshake::{Greeting, HandFault, Switch, read_greeting, read_switch};
-use mx_base::Bytes;
-use packet_frame::write_message;
 use reply_text::is_lone_reply;
 
 /// What was heard on a link to a server. Of the piece, `used` bytes are a part of the reply.
@@ -27,20 +25,20 @@ pub enum Heard {
 
 impl Backend {
     ghost use Rattle.std.specs.Prelude.{◌≡◌, IsSome, IfSome};
-    ghost use Rattle.server_side.specs.Hearing.{Gives, Tells, behind, got_of, hears, greeting_found, greeting_read, greeted, welcome_found, welcome_read, switched, end_found, end_read, accepted_by, reply_due, reply_found, reply_read};
+    ghost use Rattle.server_side.specs.Hearing.{Gives, Tells, behind, got_of, hears, greeting_found, greeting_read, greeted, welcome_found, welcome_read, switched, end_found, end_read, accepted_by};
     ghost use Rattle.packet_frame.specs.FramerState.{look};
 
-    /// Takes bytes that were read (client/server protocol, "Connection Phase" and "Text Resultset" for what a reply is): of the
+    /// Takes bytes that were read (client/server protocol, "Connection Phase", and "Command Phase" for what a reply is): of the
     /// login, in which the router says its response and a bare answer by itself, and then of the reply to the command of which
-    /// a byte was written. A reply is one OK without more results or one ERR so far. Behind a fault other than OutOfMemory
-    /// nothing more is heard: BadBytes where no login and no reply goes on with the bytes, where nothing was due, and where
-    /// FOUND_ROWS is wanted and isn't offered; Plugin where another login method is asked for; Denied where the server
-    /// answers the login by an ERR.
+    /// a byte was written. A reply is any number of results, of which all but the last have MORE_RESULTS_EXISTS; it is kept
+    /// until it is whole, and its sequence ids in the piece become those of the client. What stands behind its end isn't looked
+    /// at. Behind a fault other than OutOfMemory nothing more is heard: BadBytes where no login and no reply goes on with the
+    /// bytes, where nothing was due, and where FOUND_ROWS is wanted and isn't offered; Plugin where another login method is
+    /// asked for; Denied where the server answers the login by an ERR.
     pub fn got(&mut self, piece: &mut [u8]) -> Result<Heard, BackendFault>
         ensures { Gives result self.new (got_of piece.old self.old) }
     {
-        self.framer.feed(piece)?;
-        let heard = self.hear(piece.len());
+        let heard = self.hear(piece);
         match &heard {
             Ok(_) => {}
             Err(BackendFault::OutOfMemory) => {}
@@ -49,15 +47,24 @@ impl Backend {
         heard
     }
 
-    // What the kept bytes say.
-    fn hear(&mut self, length: usize) -> Result<Heard, BackendFault>
-        ensures { Tells result self.new (hears self.old.stage length self.old) }
+    // What the piece says. What a login reads is kept until a message is whole.
+    fn hear(&mut self, piece: &mut [u8]) -> Result<Heard, BackendFault>
+        ensures { Tells result self.new (hears self.old.stage piece.old self.old) }
     {
         match self.stage {
-            Stage::Greeting => self.hear_greeting(),
-            Stage::Welcome => self.hear_welcome(),
-            Stage::Switched => self.hear_end(),
-            Stage::In => self.hear_reply(length),
+            Stage::Greeting => {
+                self.framer.feed(piece)?;
+                self.hear_greeting()
+            }
+            Stage::Welcome => {
+                self.framer.feed(piece)?;
+                self.hear_welcome()
+            }
+            Stage::Switched => {
+                self.framer.feed(piece)?;
+                self.hear_end()
+            }
+            Stage::In => self.hear_reply(piece),
             Stage::Lost => Err(BackendFault::BadBytes { at: 0 }),
         }
     }
@@ -179,48 +186,5 @@ impl Backend {
         }
         self.stage = Stage::In;
         Ok(Heard::LoggedIn)
-    }
-
-    // The reply to the command, where it is whole.
-    fn hear_reply(&mut self, length: usize) -> Result<Heard, BackendFault>
-        ensures { Tells result self.new (reply_due self.old.command length self.old) }
-    {
-        match &self.command {
-            Some(command) if command.sent != 0 => {
-                let first = command.first;
-                self.read_reply(length, first)
-            }
-            _ => Err(BackendFault::BadBytes { at: 0 }),
-        }
-    }
-
-    // The reply, of which it is known that it is due.
-    fn read_reply(&mut self, length: usize, first: u8) -> Result<Heard, BackendFault>
-        ensures { Tells result self.new (reply_found first length self.old (look 1 self.old.framer)) }
-    {
-        match self.framer.next(1) {
-            Ok(None) => Ok(Heard::Part { used: length }),
-            Ok(Some(_)) => self.keep_reply(length, first),
-            Err(_) => Err(BackendFault::BadBytes { at: 0 }),
-        }
-    }
-
-    // What was found is the reply.
-    fn keep_reply(&mut self, length: usize, first: u8) -> Result<Heard, BackendFault>
-        requires { IsSome self.old.framer.found }
-        ensures { IfSome self.old.framer.found (λ message. Tells result self.new (reply_read first length message (behind message self.old))) }
-    {
-        if !is_lone_reply(self.framer.payload()) {
-            return Err(BackendFault::BadBytes { at: 0 });
-        }
-        let mut reply = Vec::new(self.alloc);
-        write_message(&mut reply, first, self.framer.payload())?;
-        self.framer.done();
-        self.reply = Bytes::from_vec(reply);
-        self.command = None;
-        let kept = self.framer.kept() as usize;
-        Ok(Heard::Whole {
-            used: length.saturating_sub(kept),
-        })
     }
 }

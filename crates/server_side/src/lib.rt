@@ -9,6 +9,7 @@ mod fault;
 mod handing;
 mod hear;
 mod payloads;
+mod replying;
 mod stage;
 
 pub use account::Account;

@@ -1,6 +1,7 @@
 -- The core is carried over what it is told of.
 use Rattle.std.specs.Prelude.{◌≡◌, ℕ, false, List, Some}
 use Rattle.std.proofs.Common.{inl}
+use Rattle.mx_base.specs.Fields.{AreBytes}
 use Rattle.mx_base.specs.declared.names.Address.{Address}
 use Rattle.mx_base.specs.declared.names.LinkId.{LinkId}
 use Rattle.mx_base.specs.declared.names.Port.{Port}
@@ -20,8 +21,8 @@ use Rattle.session_core.specs.Carrying.{carried, acted-after, awaited-after}
 pub comes-carries : (old : Core) (known : Known) (port : Port) (link : LinkId) (salt : List ℕ) → asks old ≡ false → tables_of known ≡ comes port old.setup link salt (tables_of old.known) → CarriesOver Stands due_in old (record old { known = known }) (entry.Accepted port link salt)
 comes-carries old known port link salt acted is = carried old known (entry.Accepted port link salt) (λ log is_due held. record { is = is; ours = acted-after old log acted held })
 
-pub got-carries : (old : Core) (known : Known) (link : LinkId) (bytes : List ℕ) → asks old ≡ false → tables_of known ≡ got_on old.setup link bytes ((tables_of old.known).numbers link.0) (tables_of old.known) → CarriesOver Stands due_in old (record old { known = known }) (entry.Got link bytes)
-got-carries old known link bytes acted is = carried old known (entry.Got link bytes) (λ log is_due held. record { is = is; ours = acted-after old log acted held })
+pub got-carries : (old : Core) (known : Known) (link : LinkId) (bytes : List ℕ) → AreBytes bytes → asks old ≡ false → tables_of known ≡ got_on old.setup link bytes ((tables_of old.known).numbers link.0) (tables_of old.known) → CarriesOver Stands due_in old (record old { known = known }) (entry.Got link bytes)
+got-carries old known link bytes are acted is = carried old known (entry.Got link bytes) (λ log is_due held. record { is = is; ours = (acted-after old log acted held, are) })
 
 pub ended-carries : (old : Core) (known : Known) (link : LinkId) → asks old ≡ false → tables_of known ≡ ended_on old.setup link ((tables_of old.known).numbers link.0) (tables_of old.known) → CarriesOver Stands due_in old (record old { known = known }) (entry.Ended link)
 ended-carries old known link acted is = carried old known (entry.Ended link) (λ log is_due held. record { is = is; ours = acted-after old log acted held })

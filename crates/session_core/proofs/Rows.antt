@@ -1,5 +1,5 @@
 -- Which links to servers an event among them leaves.
-use Rattle.std.specs.Prelude.{◌≡◌, ℕ, Bool, true, false, nat_eq, ◌||◌, cond, List, [], ◌∷◌, Option, Some, None, refl}
+use Rattle.std.specs.Prelude.{◌≡◌, ℕ, Bool, true, false, nat_eq, ◌||◌, cond, List, [], ◌∷◌, length, Option, Some, None, refl}
 use Rattle.std.proofs.Common.{◌∙◌, ap}
 use Rattle.mx_base.specs.declared.names.ClientNo.{ClientNo}
 use Rattle.mx_base.specs.declared.names.LinkId.{LinkId}
@@ -111,19 +111,19 @@ kept-leaves : (stays : Bool) (link : LinkId) (lent : Lent) (lends : Lends) (k : 
 kept-leaves true link lent lends k other = put-in link lent lends k other
 kept-leaves false link lent lends k other = closed-leaves link lent.owner lends k
 
-hears-leaves : (link : LinkId) (lent : Lent) (what : Heard) (backend : BackendState) (lends : Lends) (k : ℕ) → nat_eq k link.0 ≡ false → Leaves k lends (heard_by link lent what backend lends).lends
-hears-leaves link lent Quiet backend lends k other = put-in link _ lends k other
-hears-leaves link lent LoggedIn backend lends k other = logs-leaves link _ lent.owner lends k other
-hears-leaves link lent (Part used) backend lends k other = put-in link _ lends k other
-hears-leaves link lent (Whole used) backend lends k other = kept-leaves (may_stay (due_on lent.backend) lent.owner backend) link _ lends k other
+hears-leaves : (link : LinkId) (lent : Lent) (size : ℕ) (what : Heard) (backend : BackendState) (lends : Lends) (k : ℕ) → nat_eq k link.0 ≡ false → Leaves k lends (heard_by link lent size what backend lends).lends
+hears-leaves link lent size Quiet backend lends k other = put-in link _ lends k other
+hears-leaves link lent size LoggedIn backend lends k other = logs-leaves link _ lent.owner lends k other
+hears-leaves link lent size (Part used) backend lends k other = put-in link _ lends k other
+hears-leaves link lent size (Whole used) backend lends k other = kept-leaves (may_stay (due_on lent.backend) (nat_eq used size) lent.owner) link _ lends k other
 
-got-leaves : (link : LinkId) (lent : Lent) (got : Got) (lends : Lends) (k : ℕ) → nat_eq k link.0 ≡ false → Leaves k lends (told_by link lent got lends).lends
-got-leaves link lent (Hears what backend) lends k other = hears-leaves link lent what backend lends k other
-got-leaves link lent (Fails fault) lends k other = failed-leaves link lent (BadServerBytes (place_of fault)) lends k
+got-leaves : (link : LinkId) (lent : Lent) (size : ℕ) (got : Got) (lends : Lends) (k : ℕ) → nat_eq k link.0 ≡ false → Leaves k lends (told_by link lent size got lends).lends
+got-leaves link lent size (Hears what backend) lends k other = hears-leaves link lent size what backend lends k other
+got-leaves link lent size (Fails fault) lends k other = failed-leaves link lent (BadServerBytes (place_of fault)) lends k
 
 row-leaves : (link : LinkId) (piece : List ℕ) (o : Option Lent) (lends : Lends) (k : ℕ) → nat_eq k link.0 ≡ false → Leaves k lends (heard_on link piece o (without_link link lends)).lends
 row-leaves link piece None lends k other = taken-out link lends k other
-row-leaves link piece (Some lent) lends k other = got-leaves link lent (got_of piece lent.backend) (without_link link lends) k other ∙ taken-out link lends k other
+row-leaves link piece (Some lent) lends k other = got-leaves link lent (length piece) (got_of piece lent.backend) (without_link link lends) k other ∙ taken-out link lends k other
 
 pub heard-leaves : (link : LinkId) (piece : List ℕ) (lends : Lends) (k : LinkId) → is_among k (link ∷ []) ≡ false → Leaves k.0 lends (heard link piece lends).lends
 heard-leaves link piece lends k off = row-leaves link piece (lends.links link.0) lends k.0 (or-none (nat_eq k.0 link.0) off)

@@ -12,6 +12,7 @@ impl Known {
     ghost use Rattle.lend_core.specs.Events.{opened, open_failed, heard, lost};
     ghost use Rattle.router_world.specs.Tables.{with_lends};
     ghost use Rattle.router_world.specs.World.{admitted, refused, admitted_if, comes, told, heard_on, got_on, lost_on, ended_on, failed_on};
+    ghost use Rattle.mx_base.specs.Fields.{AreBytes};
     ghost use Rattle.session_core.specs.Known.{tables_of, is_changed};
     ghost use Rattle.session_core.specs.Says.{known_reads, known_sends};
 
@@ -179,6 +180,7 @@ impl Known {
     ) -> Result<(), OutOfMemory>
         requires { (tables_of self.old).parting ≡ [] }
         ensures tables { OnOk result (tables_of self.new ≡ got_on setup.now link bytes.old ((tables_of self.old).numbers link.0) (tables_of self.old)) }
+        ensures are { OnOk result (AreBytes bytes.old) }
         ensures changes { OnOk result (ChangesOnly is_changed known_reads known_sends self.old self.new) }
     {
         match self.number_of(link) {

@@ -21,7 +21,7 @@ returns-in_ok-fail_open-in-OpenFailed-clause-carries c = λ e is.
 
 pub returns-in_ok-hear-in-Got-clause-carries : goal.returns-in_ok-hear-in-Got-clause-carries
 returns-in_ok-hear-in-Got-clause-carries c = λ e is.
-    subst (λ (x : Entry). CarriesOver Stands due_in c.args.core.now (record c.args.core.now { known = c.hear.new.self }) x) (sym (rw c.in-Got.is at is)) (got-carries c.args.core.now c.hear.new.self _ _ (rw c.in-Got.is at c.requires.acted) c.in_ok-hear-in-Got.ensures.tables)
+    subst (λ (x : Entry). CarriesOver Stands due_in c.args.core.now (record c.args.core.now { known = c.hear.new.self }) x) (sym (rw c.in-Got.is at is)) (got-carries c.args.core.now c.hear.new.self _ _ c.in_ok-hear-in-Got.ensures.are (rw c.in-Got.is at c.requires.acted) c.in_ok-hear-in-Got.ensures.tables)
 
 pub returns-in_ok-end-in-Ended-clause-carries : goal.returns-in_ok-end-in-Ended-clause-carries
 returns-in_ok-end-in-Ended-clause-carries c = λ e is.

@@ -1,0 +1,5 @@
+use Rattle.exchange.proofs.Hearing.{one-way}
+use Rattle.exchange.proofs.laws.one_way_to_hear.Goals as goal
+
+pub returns : goal.returns
+returns c = one-way
