@@ -1,10 +1,13 @@
 -- Which servers are picked, and how often.
-use Rattle.std.proofs.Common.{◌≡◌, ℕ, zero, suc, ◌+◌, ◌<◌, ◌≤◌, Bool, true, false, cond, eqb, List, [], ◌∷◌, ◌++◌, length, map, get_or, Option, Some, None, append_assoc, append-nil, refl, sym, ap, ◌∙◌, inl, inr, arith}
+use Rattle.std.proofs.Common.{◌≡◌, ℕ, zero, suc, ◌+◌, ◌*◌, ◌<◌, ◌≤◌, Bool, true, false, cond, eqb, leb, List, [], ◌∷◌, ◌++◌, length, map, take, drop, get_or, Option, Some, None, append_assoc, append-nil, refl, sym, ap, subst, ◌∙◌, inl, inr, arith}
 use Rattle.std.specs.Prelude.{slice_get}
 use Rattle.std.specs.List.{All, find, list_any, position_or_len}
 use Rattle.std.specs.Option.{IfNone, IfSome, option_map}
-use Rattle.std.proofs.lemmas.Bool.{cases_Bool, eqb-true, eq-eqb, or_left, or_right}
-use Rattle.std.proofs.lemmas.List.Elements.{All-head, All-tail, All-weaker, All-get_or}
+use Rattle.std.proofs.lemmas.Bool.{cases_Bool, eqb-true, eq-eqb, false_from_ne_true, or_left, or_right}
+use Rattle.std.proofs.lemmas.Bool.Decides.{nat_tests}
+use Rattle.std.proofs.lemmas.Nat.{mul-le}
+use Rattle.std.proofs.lemmas.List.{length-take-le, take-append-drop}
+use Rattle.std.proofs.lemmas.List.Elements.{All-cons, All-head, All-nil, All-tail, All-take, All-weaker, All-get_or}
 use Rattle.std.proofs.lemmas.List.Sums.{sum_by-cons}
 use Rattle.std.proofs.lemmas.Option.{slice_get-map, slice_get_within, get_or_from_slice_get}
 use Rattle.mx_base.specs.declared.names.Hostgroup.{Hostgroup}
@@ -15,10 +18,11 @@ use Rattle.hostgroups.specs.Picks.{AllReady, IsRoundOfPicks, after_pick, is_read
 use Rattle.hostgroups.specs.Rounds.{AreFull, Coming, turns_of}
 use Rattle.hostgroups.specs.Servers.{belongs, belongs_there, in_force, nth, rows_of}
 use Rattle.hostgroups.specs.Tables.{Holds, Table}
-use Rattle.hostgroups.specs.Turns.{behind, is_in, row_at, times, weight_there, weights_in}
+use Rattle.hostgroups.specs.Turns.{IsApart, IsFullRound, behind, from_turn, is_in, row_at, times, weight_of_all, weight_there, weights_in}
 use Rattle.hostgroups.proofs.Building.{rows_of-in_force}
-use Rattle.hostgroups.proofs.Lookups.{times-with_turns, turns_of-with_turns}
-use Rattle.hostgroups.proofs.Turning.{times-from_turn}
+use Rattle.hostgroups.proofs.Lookups.{either-with_turns, turns_of-with_turns}
+use Rattle.hostgroups.proofs.Spread.{even-from_turn, spread-from_turn}
+use Rattle.hostgroups.proofs.Turning.{length-from_turn, times-from_turn}
 
 numbered : ℕ → ServerId
 numbered n = record { 0 = n }
@@ -128,12 +132,12 @@ weighs servers (suc n) all server some =
 pub standing_belongs : (table : Table) (hostgroup : Hostgroup) (server : ServerId) → Holds table
     → 1 ≤ times server (turns_of table.rounds hostgroup) → belongs table.servers hostgroup server ≡ true
 standing_belongs table hostgroup server holds h =
-    there-belongs hostgroup (nth table.servers server.0) (rw (← row_of table.servers server.0) (rw (← holds.full hostgroup server) h))
+    there-belongs hostgroup (nth table.servers server.0) (rw (← row_of table.servers server.0) (rw (← (holds.full hostgroup).as_often server) h))
 
 pub belonging_stands : (table : Table) (hostgroup : Hostgroup) (server : ServerId) → Holds table
     → belongs table.servers hostgroup server ≡ true → 1 ≤ times server (turns_of table.rounds hostgroup)
 belonging_stands table hostgroup server holds h =
-    rw (holds.full hostgroup server, row_of table.servers server.0)
+    rw ((holds.full hostgroup).as_often server, row_of table.servers server.0)
     (belongs-there hostgroup (nth table.servers server.0) (weighs table.servers server.0 holds.weights) h)
 
 -- One pick.
@@ -176,14 +180,26 @@ pub picked_nobody : (table : Table) (hostgroup : Hostgroup) (counts : List ℕ) 
 picked_nobody table hostgroup counts None holds is = picked_none table hostgroup counts holds (sym is)
 picked_nobody table hostgroup counts (Some server) holds is = tt
 
--- a pick leaves each server as many turns
+full_rotated : (rows : List ServerRow) (hostgroup : Hostgroup) (k : ℕ) (turns : List ServerId) → IsFullRound rows hostgroup turns
+    → IsFullRound rows hostgroup (from_turn k turns)
+full_rotated rows hostgroup k turns full = record {
+  as_often = λ server. times-from_turn server k turns ∙ full.as_often server;
+  whole = length-from_turn k turns ∙ full.whole;
+  spread = spread-from_turn k turns full.spread;
+  even = even-from_turn k turns full.even;
+}
+
+-- a pick leaves each round full
 pub holds_after_pick : (table : Table) (hostgroup : Hostgroup) (counts : List ℕ) → Holds table → Holds (after_pick table hostgroup counts)
 holds_after_pick table hostgroup counts holds = record {
-  full = λ other server.
-      times-with_turns server table.rounds hostgroup (behind (is_ready table.servers counts) (turns_of table.rounds hostgroup)) other
-      (times-from_turn server (position_or_len (is_ready table.servers counts) (turns_of table.rounds hostgroup) + 1)
-      (turns_of table.rounds hostgroup))
-      ∙ holds.full other server;
+  full = λ other.
+      let turns = turns_of table.rounds hostgroup in
+      let over = position_or_len (is_ready table.servers counts) turns + 1 in
+      elim (either-with_turns table.rounds hostgroup (from_turn over turns) other) [
+        | inl kept ↦ rw kept (holds.full other)
+        | inr written ↦
+            rw written.0 (full_rotated (rows_of table.servers) other over turns (rw written.1 at (holds.full other)))
+      ];
   weights = holds.weights;
 }
 
@@ -243,6 +259,14 @@ stands_at [] k d h = absurd (omega arith)
 stands_at (turn ∷ turns) zero d h = first_stands turn turns
 stands_at (turn ∷ turns) (suc k) d h = rest_stands (get_or turns k d) turn turns (stands_at turns k d (omega arith))
 
+-- all turns are of servers that are ready
+turns_ready : (table : Table) (hostgroup : Hostgroup) (counts : List ℕ) → Holds table → AllReady table.servers hostgroup counts
+    → All (λ (turn : ServerId). is_ready table.servers counts turn ≡ true) (turns_of table.rounds hostgroup)
+turns_ready table hostgroup counts holds ready = λ k d h.
+    ready (get_or (turns_of table.rounds hostgroup) k d)
+    (standing_belongs table hostgroup (get_or (turns_of table.rounds hostgroup) k d) holds
+    (stands_at (turns_of table.rounds hostgroup) k d h))
+
 pub fair : (table : Table) (hostgroup : Hostgroup) (counts : List (List ℕ)) → IsRoundOfPicks table hostgroup counts → (server : ServerId)
     → times_picked server (picks table hostgroup counts) ≡ weights_in (rows_of table.servers) hostgroup server
 fair table hostgroup counts round server =
@@ -251,11 +275,110 @@ fair table hostgroup counts round server =
     counts =
     All-weaker (AllReady table.servers hostgroup) (λ (cs : List ℕ). All (λ (turn : ServerId). is_ready table.servers cs turn ≡ true)
     (turns_of table.rounds hostgroup))
-    (λ cs (ready : AllReady table.servers hostgroup cs) k d h. ready (get_or (turns_of table.rounds hostgroup) k d)
-    (standing_belongs table hostgroup (get_or (turns_of table.rounds hostgroup) k d) round.holds
-    (stands_at (turns_of table.rounds hostgroup) k d h)))
+    (λ cs (ready : AllReady table.servers hostgroup cs). turns_ready table hostgroup cs round.holds ready)
     counts round.ready in
     let order : picks table hostgroup counts ≡ map (λ (turn : ServerId). Some turn) (turns_of table.rounds hostgroup) =
     in_order (turns_of table.rounds hostgroup) [] table hostgroup counts round.whole (sym (append-nil (turns_of table.rounds hostgroup)))
     all in
-    rw order (times-map server (turns_of table.rounds hostgroup) ∙ round.holds.full hostgroup server)
+    rw order (times-map server (turns_of table.rounds hostgroup) ∙ (round.holds.full hostgroup).as_often server)
+
+-- So many picks in a row.
+
+-- the first turns are those of the picks
+first_picks : (table : Table) (hostgroup : Hostgroup) (counts : List (List ℕ)) (server : ServerId) → Holds table
+    → All (AllReady table.servers hostgroup) counts → length counts ≤ length (turns_of table.rounds hostgroup)
+    → times_picked server (picks table hostgroup counts) ≡ times server (take (length counts) (turns_of table.rounds hostgroup))
+first_picks table hostgroup counts server holds ready few =
+    let turns = turns_of table.rounds hostgroup in
+    let n = length counts in
+    let all : All (λ (cs : List ℕ). All (λ (turn : ServerId). is_ready table.servers cs turn ≡ true)
+    (take (length counts) (turns_of table.rounds hostgroup))) counts =
+    All-weaker (AllReady table.servers hostgroup) (λ (cs : List ℕ). All (λ (turn : ServerId). is_ready table.servers cs turn ≡ true)
+    (take (length counts) (turns_of table.rounds hostgroup)))
+    (λ cs (now : AllReady table.servers hostgroup cs). All-take (λ (turn : ServerId). is_ready table.servers cs turn ≡ true) n turns
+    (turns_ready table hostgroup cs holds now)) counts ready in
+    let order : picks table hostgroup counts ≡ map (λ (turn : ServerId). Some turn) (take (length counts) (turns_of table.rounds hostgroup)) =
+    in_order (take n turns) (drop n turns) table hostgroup counts (sym (length-take-le n turns few)) (sym (take-append-drop n turns)) all in
+    ap (λ (answers : List (Option ServerId)). times_picked server answers) order ∙ times-map server (take n turns)
+
+first_apart : (server : ServerId) (n : ℕ) (turns : List ServerId) → IsApart server n turns → times server (take n turns) ≤ 1
+first_apart server n turns apart =
+    subst (λ (ts : List ServerId). times server (take n ts) ≤ 1) (append-nil turns) (apart [] turns refl)
+
+bit_le : (b : Bool) → cond b 1 0 ≤ 1
+bit_le true = omega arith
+bit_le false = omega arith
+
+-- a hostgroup without a turn, of which nothing is picked, and one with a single turn
+one_turn : (turns : List ServerId) (table : Table) (hostgroup : Hostgroup) (now next : List ℕ) (server : ServerId)
+    → turns_of table.rounds hostgroup ≡ turns → length turns ≤ 1 → 2 * times server turns ≤ length turns
+    → is_server server (picked table hostgroup now) ≡ false
+one_turn [] table hostgroup now next server is short few =
+    let none : picked table hostgroup now ≡ None = rw is refl in
+    rw none refl
+one_turn (turn ∷ []) table hostgroup now next server is short few =
+    let other : eqb turn.0 server.0 ≡ false = false_from_ne_true _
+    (λ same. absurd (omega (arith, few, first_is server turn [] same))) in
+    elim (cases_Bool (is_ready table.servers now turn)) [
+      | inl here ↦ let some : picked table hostgroup now ≡ Some turn = rw (is, here) refl in rw some other
+      | inr not ↦ let none : picked table hostgroup now ≡ None = rw (is, not) refl in rw none refl
+    ]
+one_turn (turn ∷ second ∷ turns) table hostgroup now next server is short few = absurd (omega (arith, short))
+
+second_alone : (server : ServerId) (a b : Option ServerId) → is_server server a ≡ false → times_picked server (a ∷ b ∷ []) ≤ 1
+second_alone server a b other =
+    let none : ◌≡◌ {A = ℕ} (cond (is_server server a) 1 0) 0 = rw other refl in
+    omega (
+      arith,
+      none,
+      bit_le (is_server server b),
+      sum_by-cons (λ (o : Option ServerId). cond (is_server server o) 1 0) a (b ∷ []),
+      sum_by-cons (λ (o : Option ServerId). cond (is_server server o) 1 0) b [],
+    )
+
+pub not_twice : (table : Table) (hostgroup : Hostgroup) (now next : List ℕ) → Holds table → AllReady table.servers hostgroup now
+    → AllReady table.servers hostgroup next → (server : ServerId)
+    → 2 * weights_in (rows_of table.servers) hostgroup server ≤ weight_of_all (rows_of table.servers) hostgroup
+    → times_picked server (picks table hostgroup (now ∷ next ∷ [])) ≤ 1
+not_twice table hostgroup now next holds ready later server light =
+    let full = holds.full hostgroup in
+    let few : 2 * times server (turns_of table.rounds hostgroup) ≤ length (turns_of table.rounds hostgroup) =
+    rw (full.as_often server, full.whole) light in
+    elim (cases_Bool (leb 2 (length (turns_of table.rounds hostgroup)))) [
+      | inl two ↦
+          let le : 2 ≤ length (turns_of table.rounds hostgroup) = grind (arith, nat_tests) in
+          let both : All (AllReady table.servers hostgroup) (now ∷ next ∷ []) =
+          All-cons (AllReady table.servers hostgroup) now (next ∷ []) ready
+          (All-cons (AllReady table.servers hostgroup) next [] later (All-nil (AllReady table.servers hostgroup))) in
+          let same = first_picks table hostgroup (now ∷ next ∷ []) server holds both le in
+          omega (arith, same, first_apart server 2 (turns_of table.rounds hostgroup) (full.spread server few))
+      | inr short ↦
+          let le : length (turns_of table.rounds hostgroup) ≤ 1 = grind (arith, nat_tests) in
+          second_alone server (picked table hostgroup now) (picked (after_pick table hostgroup now) hostgroup next)
+          (one_turn (turns_of table.rounds hostgroup) table hostgroup now next server refl le few)
+    ]
+
+factor_le : (n t m : ℕ) → 1 ≤ t → n * t ≤ m → n ≤ m
+factor_le n t m some le =
+    let less : n * 1 ≤ n * t = mul-le n 1 n t (omega arith) some in
+    omega (arith, less, le)
+
+pub heaviest_apart : (table : Table) (hostgroup : Hostgroup) (counts : List (List ℕ)) → Holds table
+    → All (AllReady table.servers hostgroup) counts → (server : ServerId) → belongs table.servers hostgroup server ≡ true
+    → ((other : ServerId) → weights_in (rows_of table.servers) hostgroup other ≤ weights_in (rows_of table.servers) hostgroup server)
+    → length counts * weights_in (rows_of table.servers) hostgroup server ≤ weight_of_all (rows_of table.servers) hostgroup
+    → times_picked server (picks table hostgroup counts) ≤ 1
+heaviest_apart table hostgroup counts holds ready server there most room =
+    let full = holds.full hostgroup in
+    let turns = turns_of table.rounds hostgroup in
+    let few : length counts * times server (turns_of table.rounds hostgroup) ≤ length (turns_of table.rounds hostgroup) =
+    rw (full.as_often server, full.whole) room in
+    let within : length counts ≤ length (turns_of table.rounds hostgroup) =
+    factor_le (length counts) (times server turns) (length turns) (belonging_stands table hostgroup server holds there) few in
+    let greatest : (other : ServerId) → times other (turns_of table.rounds hostgroup) ≤ times server (turns_of table.rounds hostgroup) =
+    λ other. rw (full.as_often other, full.as_often server) (most other) in
+    omega (
+      arith,
+      first_picks table hostgroup counts server holds ready within,
+      first_apart server (length counts) turns (full.even server greatest (length counts) few),
+    )

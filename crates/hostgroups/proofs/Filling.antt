@@ -1,15 +1,19 @@
 -- The rounds of the hostgroups of the rows so far.
-use Rattle.std.proofs.Common.{◌≡◌, ℕ, zero, suc, ◌+◌, ◌<◌, ◌≤◌, true, false, eqb, List, [], ◌∷◌, ◌++◌, length, take, get_or, is_some, refl, sym, ◌∙◌, inl, inr}
+use Rattle.std.proofs.Common.{◌≡◌, ℕ, zero, suc, ◌+◌, ◌<◌, ◌≤◌, true, false, eqb, List, [], ◌∷◌, ◌++◌, length, take, get_or, Some, is_some, refl, sym, ◌∙◌, inl, inr, arith}
 use Rattle.std.specs.Prelude.{slice_get}
 use Rattle.std.specs.List.{list_any}
 use Rattle.std.proofs.lemmas.Bool.{both_ways, cases_Bool, eqb-true, false_from_ne_true, or_parts, or_left, or_right}
 use Rattle.std.proofs.lemmas.List.{take_all}
 use Rattle.std.proofs.lemmas.List.Folds.{list_any_more}
+use Rattle.std.proofs.lemmas.List.Sums.{sum_by-cons}
 use Rattle.mx_base.specs.declared.names.Hostgroup.{Hostgroup}
+use Rattle.mx_base.specs.declared.names.ServerId.{ServerId}
 use Rattle.hostgroups.specs.declared.row.ServerRow.{ServerRow}
 use Rattle.hostgroups.specs.Rounds.{AreFull, Coming, place_of, turns_of}
-use Rattle.hostgroups.specs.Turns.{IsFullRound, is_in, row_at, weight_there}
+use Rattle.hostgroups.specs.Turns.{IsFullRound, is_in, row_at, weight_of_all, weight_there}
 use Rattle.hostgroups.proofs.Lookups.{absent, has-last, not_some, turns_of-last}
+use Rattle.hostgroups.proofs.Evenness.{even_none}
+use Rattle.hostgroups.proofs.Spread.{spread_none}
 
 -- each hostgroup of the rows so far has a round, and each round is full
 pub record Filled (rows : List ServerRow) (i : ℕ) (rounds : List Coming) : Type 0 where
@@ -59,18 +63,27 @@ seen_last rows i d rounds round h seen group hostgroup any =
           or_right (is_some (place_of rounds hostgroup)) (eqb round.hostgroup.0 hostgroup.0) (rw group here)
     ]
 
+full_same : (rows : List ServerRow) (a b : Hostgroup) (turns : List ServerId) → a.0 ≡ b.0 → IsFullRound rows a turns
+    → IsFullRound rows b turns
+full_same rows a b turns one full = record {
+  as_often = λ server. rw one at (full.as_often server);
+  whole = rw one at full.whole;
+  spread = full.spread;
+  even = full.even;
+}
+
 full_last : (rows : List ServerRow) (rounds : List Coming) (round : Coming)
     → ((hostgroup : Hostgroup) → is_some (place_of rounds hostgroup) ≡ true → IsFullRound rows hostgroup (turns_of rounds hostgroup))
     → IsFullRound rows round.hostgroup round.turns
     → (hostgroup : Hostgroup) → is_some (place_of (rounds ++ round ∷ []) hostgroup) ≡ true → IsFullRound rows hostgroup
     (turns_of (rounds ++ round ∷ []) hostgroup)
-full_last rows rounds round full is_full hostgroup has = λ server.
+full_last rows rounds round full is_full hostgroup has =
     elim (cases_Bool (is_some (place_of rounds hostgroup))) [
-      | inl before ↦ rw (turns_of-last rounds round hostgroup, before) (full hostgroup before server)
+      | inl before ↦ rw (turns_of-last rounds round hostgroup, before) (full hostgroup before)
       | inr not ↦
           let same : eqb round.hostgroup.0 hostgroup.0 ≡ true = rw not at (sym (has-last rounds round hostgroup) ∙ has) in
           let one : round.hostgroup.0 ≡ hostgroup.0 = eqb-true round.hostgroup.0 hostgroup.0 same in
-          rw (turns_of-last rounds round hostgroup, not, same) (rw one at (is_full server))
+          rw (turns_of-last rounds round hostgroup, not, same) (full_same rows round.hostgroup hostgroup round.turns one is_full)
     ]
 
 -- a row of a hostgroup that gets its round
@@ -94,15 +107,35 @@ nowhere : (hostgroup : Hostgroup) (rows : List ServerRow) (n : ℕ) → list_any
 nowhere hostgroup rows zero none = refl
 nowhere hostgroup rows (suc n) none = no_weight hostgroup rows n none
 
+weightless : (hostgroup : Hostgroup) (rows : List ServerRow) → list_any (is_in hostgroup) rows ≡ false → 0 ≡ weight_of_all rows hostgroup
+weightless hostgroup [] none = refl
+weightless hostgroup (row ∷ rows) none =
+    let other : is_in hostgroup row ≡ false = (or_parts _ _ none).0 in
+    let here : weight_there hostgroup (Some row) ≡ 0 = rw other refl in
+    omega (
+      arith,
+      here,
+      weightless hostgroup rows (or_parts _ _ none).1,
+      sum_by-cons (λ (r : ServerRow). weight_there hostgroup (Some r)) row rows,
+    )
+
+full_none : (rows : List ServerRow) (hostgroup : Hostgroup) → list_any (is_in hostgroup) rows ≡ false → IsFullRound rows hostgroup []
+full_none rows hostgroup none = record {
+  as_often = λ server. sym (nowhere hostgroup rows server.0 none);
+  whole = weightless hostgroup rows none;
+  spread = spread_none;
+  even = even_none;
+}
+
 -- at the end each round is full, and a hostgroup without one has no row
 pub filled_all : (rows : List ServerRow) (i : ℕ) (rounds : List Coming) → length rows ≤ i → Filled rows i rounds → AreFull rows rounds
-filled_all rows i rounds h filled = λ hostgroup server.
+filled_all rows i rounds h filled = λ hostgroup.
     elim (cases_Bool (is_some (place_of rounds hostgroup))) [
-      | inl has ↦ filled.full hostgroup has server
+      | inl has ↦ filled.full hostgroup has
       | inr not ↦
           let whole : take i rows ≡ rows = take_all i rows h in
           let none : list_any (is_in hostgroup) rows ≡ false = false_from_ne_true _
           (λ any. both_ways _ not (filled.seen hostgroup (rw whole any))) in
           let empty : turns_of rounds hostgroup ≡ [] = (absent rounds hostgroup [] (not_some _ not)).0 in
-          rw (empty, nowhere hostgroup rows server.0 none) refl
+          rw empty (full_none rows hostgroup none)
     ]

@@ -1,8 +1,10 @@
 pub mod Building
 pub mod Changes
 pub mod Deals
+pub mod Evenness
 pub mod Fairness
 pub mod Filling
 pub mod Lookups
+pub mod Spread
 pub mod Turning
 pub mod Numbering

@@ -1,11 +1,10 @@
 -- The rounds of hostgroups, found and changed.
-use Rattle.std.proofs.Common.{◌≡◌, ℕ, zero, suc, ◌+◌, ◌<◌, ◌≤◌, Bool, true, false, ◌||◌, cond, eqb, List, [], ◌∷◌, ◌++◌, length, get_or, set, Option, Some, None, is_some, refl, sym, ap, ◌∙◌, inl, inr, arith}
+use Rattle.std.proofs.Common.{◌≡◌, ℕ, zero, suc, ◌+◌, ◌<◌, ◌≤◌, Bool, true, false, ◌||◌, cond, eqb, List, [], ◌∷◌, ◌++◌, length, get_or, set, Option, Some, None, is_some, ◌⊎◌, refl, sym, ap, ◌∙◌, inl, inr, arith}
 use Rattle.std.specs.List.{position_from}
 use Rattle.std.specs.Option.{option_or}
 use Rattle.std.proofs.lemmas.Bool.{cases_Bool, eqb-true}
 use Rattle.mx_base.specs.declared.names.Hostgroup.{Hostgroup}
 use Rattle.mx_base.specs.declared.names.ServerId.{ServerId}
-use Rattle.hostgroups.specs.Turns.{times}
 use Rattle.hostgroups.specs.Rounds.{Coming, is_of, place_of, turns_of, with_turns}
 
 place-last : {X : Type 0} (test : X → Bool) (n : ℕ) (xs : List X) (last : X)
@@ -155,23 +154,24 @@ pub place_of-with_turns : (rounds : List Coming) (q : Hostgroup) (turns : List S
     → place_of (with_turns rounds q turns) other ≡ place_of rounds other
 place_of-with_turns rounds q turns other = place_kept 0 rounds q turns other
 
--- and each server in its place as often as before
-pub times-with_turns : (server : ServerId) (rounds : List Coming) (q : Hostgroup) (turns : List ServerId) (other : Hostgroup)
-    → times server turns ≡ times server (turns_of rounds q)
-    → times server (turns_of (with_turns rounds q turns) other) ≡ times server (turns_of rounds other)
-times-with_turns server [] q turns other same = refl
-times-with_turns server (first ∷ rounds) q turns other same =
+-- and leaves a hostgroup the turns that it had, but for the one whose turns are written
+pub either-with_turns : (rounds : List Coming) (q : Hostgroup) (turns : List ServerId) (other : Hostgroup)
+    → (turns_of (with_turns rounds q turns) other ≡ turns_of rounds other)
+    ⊎ ((turns_of (with_turns rounds q turns) other ≡ turns) × (turns_of rounds other ≡ turns_of rounds q))
+either-with_turns [] q turns other = inl refl
+either-with_turns (first ∷ rounds) q turns other =
     elim (cases_Bool (is_of q first)) [
-      | inl here ↦
-          let as_often : times server turns ≡ times server first.turns = rw here at same in
-          elim (cases_Bool (is_of other first)) [ inl that ↦ rw (here, that) as_often | inr apart ↦ rw (here, apart) refl ]
-      | inr not ↦
-          let as_often : times server turns ≡ times server (turns_of rounds q) = rw not at same in
-          elim (cases_Bool (is_of other first)) [
-            | inl that ↦ rw (not, that) refl
-            | inr apart ↦ rw (not, apart)
-                (times-with_turns server rounds q turns other as_often)
-          ]
+      | inl here ↦ elim (cases_Bool (is_of other first)) [
+        | inl that ↦ inr (rw (here, that) refl, rw (here, that) refl)
+        | inr apart ↦ inl (rw (here, apart) refl)
+      ]
+      | inr not ↦ elim (cases_Bool (is_of other first)) [
+        | inl that ↦ inl (rw (not, that) refl)
+        | inr apart ↦ elim (either-with_turns rounds q turns other) [
+          | inl kept ↦ inl (rw (not, apart) kept)
+          | inr written ↦ inr (rw (not, apart) written.0, rw (not, apart) written.1)
+        ]
+      ]
     ]
 
 -- the turns that were written are those that come

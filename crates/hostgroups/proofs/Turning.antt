@@ -186,3 +186,8 @@ any-from_turn test k turns =
     (← list_any-append test (take k turns) (drop k turns), take-append-drop k turns) refl in
     whole ∙ or_swapped (list_any test (take k turns)) (list_any test (drop k turns)) ∙ sym
     (list_any-append test (drop k turns) (take k turns))
+
+pub length-from_turn : (k : ℕ) (turns : List ServerId) → length (from_turn k turns) ≡ length turns
+length-from_turn k turns =
+    let whole : length (take k turns ++ drop k turns) ≡ length turns = ap (λ (ts : List ServerId). length ts) (take-append-drop k turns) in
+    omega (arith, whole, length-append (take k turns) (drop k turns), length-append (drop k turns) (take k turns))

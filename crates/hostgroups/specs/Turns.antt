@@ -1,5 +1,5 @@
 -- The turns of servers in the rounds of their hostgroups.
-use Rattle.std.specs.Prelude.{◌≡◌, ℕ, zero, suc, ◌+◌, ◌<◌, ◌≤◌, ◌==◌, Bool, if◌then◌else◌, List, ◌++◌, take, drop, length, All, count_by, slice_get, Option, None, Some}
+use Rattle.std.specs.Prelude.{◌≡◌, ℕ, zero, suc, ◌+◌, ◌*◌, ◌<◌, ◌≤◌, ◌==◌, Bool, if◌then◌else◌, List, ◌++◌, take, drop, length, All, count_by, sum_by, slice_get, Option, None, Some}
 use Rattle.std.specs.List.{find, position_or_len}
 use Rattle.mx_base.specs.declared.names.ServerId.{ServerId}
 use Rattle.mx_base.specs.declared.names.Hostgroup.{Hostgroup}
@@ -25,13 +25,38 @@ row_at rows (suc n) = slice_get rows n
 abbrev pub weights_in : List ServerRow → Hostgroup → ServerId → ℕ
 weights_in rows hostgroup server = weight_there hostgroup (row_at rows server.0)
 
--- a full round of a hostgroup: each server stands in it as often as its weight
-abbrev pub IsFullRound : List ServerRow → Hostgroup → List ServerId → Type 0
-IsFullRound rows hostgroup turns = (server : ServerId) → times server turns ≡ weights_in rows hostgroup server
+-- the weights of a hostgroup's servers together
+abbrev pub weight_of_all : List ServerRow → Hostgroup → ℕ
+weight_of_all rows hostgroup = sum_by (λ row. weight_there hostgroup (Some row)) rows
+
+-- of each n turns in a row, wherever the round begins, the server has one at most
+abbrev pub IsApart : ServerId → (n : ℕ) → List ServerId → Type 0
+IsApart server n turns = (over coming : List ServerId) → turns ≡ over ++ coming → times server (take n (coming ++ over)) ≤ 1
+
+-- no server has two turns one right behind the other, but for one that has more turns than the others have together
+abbrev pub IsSpread : List ServerId → Type 0
+IsSpread turns = (server : ServerId) → 2 * times server turns ≤ length turns → IsApart server 2 turns
+
+-- where no server has more turns than this one, its turns are as far from one another as there is room for
+abbrev pub IsEven : List ServerId → Type 0
+IsEven turns = (server : ServerId) → ((other : ServerId) → times other turns ≤ times server turns)
+    → (n : ℕ) → n * times server turns ≤ length turns → IsApart server n turns
+
+-- a full round of a hostgroup: each server stands in it as often as its weight, and its turns don't follow one another
+pub record IsFullRound (rows : List ServerRow) (hostgroup : Hostgroup) (turns : List ServerId) : Type 0 where
+  pub as_often : (server : ServerId) → times server turns ≡ weights_in rows hostgroup server
+  pub whole : length turns ≡ weight_of_all rows hostgroup
+  pub spread : IsSpread turns
+  pub even : IsEven turns
 
 -- no weight in the hostgroup is greater
 abbrev pub IsWithin : Hostgroup → ℕ → List ServerRow → Type 0
 IsWithin hostgroup heaviest rows = All (λ row. weight_there hostgroup (Some row) ≤ heaviest) rows
+
+-- the greatest weight in the hostgroup, 0 where it has no server
+pub record IsHeaviest (hostgroup : Hostgroup) (heaviest : ℕ) (rows : List ServerRow) : Type 0 where
+  pub within : IsWithin hostgroup heaviest rows
+  pub least : (most : ℕ) → IsWithin hostgroup most rows → heaviest ≤ most
 
 -- a round from its k-th turn on: those before it come last
 abbrev pub from_turn : ℕ → List ServerId → List ServerId

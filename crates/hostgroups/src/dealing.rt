@@ -5,15 +5,13 @@
 // turns in a pass, and the passes have as many turns as each other, or one more. The heaviest, which has a turn in every
 // pass, comes first there: it has no two turns in a row where the others have as many in all. The passes come in the order
 // of their reversed bits, which spreads the turns of a light server over the round.
-ghost use Rattle.std.specs.Prelude.{◌≡◌, ℕ, ◌+◌, ◌<◌, ◌≤◌, ◌++◌, length, All, IfOk, OnOk, Some, IsPermutation};
-ghost use Rattle.mx_base.specs.declared.names.ServerId.{ServerId};
-ghost use Rattle.hostgroups.specs.Turns.{IsFullRound, IsWithin, weight_there, weights_in};
-ghost use Rattle.hostgroups.specs.Dealing.{Fits, plays, pass_turns, upto, weight_in, weight_of};
+ghost use Rattle.std.specs.Prelude.{◌≡◌, ◌<◌, ◌≤◌, ◌++◌, length, All, IfOk, OnOk, Some, IsPermutation};
+ghost use Rattle.hostgroups.specs.Turns.{IsFullRound, IsHeaviest, weight_there};
+ghost use Rattle.hostgroups.specs.Dealing.{AreShares, Fits, pass_behind, plays, pass_turns, upto, with_share};
 
 use crate::ServerRow;
 use mx_base::{Hostgroup, OutOfMemory, ServerId};
 use std::alloc::Global;
-use std::cmp::Reverse;
 
 // What a server gets of a round: its turns stand in as many passes as its weight, from the pass `first` on and round.
 #[derive(Clone, Copy)]
@@ -71,7 +69,7 @@ fn weight(row: &ServerRow, hostgroup: Hostgroup) -> u16
 
 // The greatest weight in a hostgroup, 0 where it has no server.
 fn heaviest(rows: &[ServerRow], hostgroup: Hostgroup) -> u16
-    ensures { IsWithin hostgroup result rows.now }
+    ensures { IsHeaviest hostgroup result rows.now }
 {
     let mut heaviest = 0;
     for row in rows {
@@ -88,9 +86,8 @@ fn shares(
     heaviest: u16,
 ) -> Result<Vec<Share>, OutOfMemory>
     requires few { length rows.now ≤ 1024 }
-    requires within { IsWithin hostgroup heaviest rows.now }
-    ensures fits { IfOk result (λ shares. All (Fits heaviest) shares.items) }
-    ensures weights { IfOk result (λ shares. (server : ServerId) → weight_of server shares.items ≡ weights_in rows.now hostgroup server) }
+    requires heaviest { IsHeaviest hostgroup heaviest rows.now }
+    ensures { IfOk result (λ shares. AreShares rows.now hostgroup heaviest shares.items) }
 {
     let mut shares = Vec::new(alloc);
     let mut first = 0;
@@ -107,16 +104,13 @@ fn shares(
         )?;
         first = after(first, weight, heaviest);
     }
-    shares.sort_by_key(|share| Reverse(share.weight))?;
+    shares.sort_by_key(|share| u16::MAX - share.weight)?;
     Ok(shares)
 }
 
 // Adds a share, unless it is none.
 fn add_share(shares: &mut Vec<Share>, share: Share) -> Result<(), OutOfMemory>
-    ensures fits { OnOk result ((heaviest : ℕ) → Fits heaviest share
-        → All (Fits heaviest) shares.old.items → All (Fits heaviest) shares.new.items) }
-    ensures weights { OnOk result ((server : ServerId)
-        → weight_of server shares.new.items ≡ weight_of server shares.old.items + weight_in server share) }
+    ensures { OnOk result (shares.new.items ≡ with_share shares.old.items share) }
 {
     if share.weight > 0 {
         shares.push(share)?;
@@ -128,7 +122,7 @@ fn add_share(shares: &mut Vec<Share>, share: Share) -> Result<(), OutOfMemory>
 fn after(first: u16, weight: u16, heaviest: u16) -> u16
     requires weight { weight ≤ heaviest }
     requires first { first ≤ heaviest }
-    ensures { result ≤ heaviest }
+    ensures { result ≡ pass_behind heaviest first weight }
 {
     let left = heaviest - first;
     if weight < left {

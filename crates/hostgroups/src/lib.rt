@@ -13,7 +13,7 @@ mod server;
 mod servers;
 
 pub use fault::ServersFault;
-pub use laws::full_round;
+pub use laws::{full_round, heaviest_apart, not_twice};
 pub use numbers::ServerNumbers;
 pub use row::{ServerName, ServerRow, ServerStatus};
 pub use servers::Servers;
