@@ -35,7 +35,7 @@ is_close _ = false
 
 -- settings but for autocommit
 unfoldable pub core : List SlotValue → List SlotValue
-core settings = changed settings (record { slot = Autocommit; value = Default })
+core settings = changed settings (record { slot = Autocommit; value = Default; adds = false })
 
 -- what a command changes of schema and settings, answered OK
 abbrev pub effect_run : Reads → Cmd → Effect

@@ -1,30 +1,32 @@
 -- Assignments that are written for changes, and read again.
-use Rattle.std.proofs.Common.{◌≡◌, ℕ, ◌+◌, Bool, true, false, not, ◌&&◌, ◌||◌, bytes_eq, List, [], ◌∷◌, ◌++◌, Some, length, codes, refl, ◌∙◌, ap, inl, inr, arith, append_assoc, length-append}
+use Rattle.std.proofs.Common.{◌≡◌, ◌⊎◌, ℕ, ◌+◌, Bool, true, false, not, ◌&&◌, ◌||◌, bytes_eq, nat_eq, cond, ◌-◌, List, [], ◌∷◌, ◌++◌, Some, length, codes, slice_index_or, nat_le, Option, None, subst, sym, refl, ◌∙◌, ap, inl, inr, arith, append_assoc, length-append}
 use Rattle.std.specs.List.{list_all, flat_map}
-use Rattle.std.proofs.lemmas.Bool.{cond-true, cond-false, and_parts, and_from, and_left, not-true, not_from_false}
+use Rattle.std.proofs.lemmas.Bool.{cond-true, cond-false, and_parts, and_from, and_left, not-true, not_from_false, eqb-true, le-leb}
 use Rattle.std.proofs.lemmas.List.{append-nil}
 use Rattle.std.proofs.lemmas.List.Folds.{list_all-append}
 use Rattle.sql_tokens.specs.Tokens.{tokens_behind}
-use Rattle.sql_tokens.specs.Words.{bytes_of, is_symbol_kind, is_symbol, same_text}
+use Rattle.sql_tokens.specs.Words.{bytes_of, is_symbol_kind, is_symbol, is_word, same_text, says, word_by}
 use Rattle.sql_tokens.specs.declared.token.Token.{Token}
 use Rattle.sql_tokens.specs.declared.token.TokenKind.{TokenKind}
-use Rattle.sql_tokens.specs.declared.token.TokenKind.TheVariants.{Word, Quoted, Number, Symbol}
+use Rattle.sql_tokens.specs.declared.token.TokenKind.TheVariants.{Word, Quoted, Number, SysVar, Symbol}
 use Rattle.session_vars.specs.Assignments.{change_to, written, assigned, assignment, assignments, with_change}
-use Rattle.session_vars.specs.Scopes.{is_server_scope, names_server, deeper, sets_server}
+use Rattle.session_vars.specs.Modes.{base_of, is_added_list, is_mode_list, joined, joined_at, joined_change, joined_text, joined_with, list_of, lists_behind, lists_joined, own_mode, takes_modes}
+use Rattle.session_vars.specs.Scopes.{before_comma, behind_comma, is_server_scope, names_server, deeper, divides, sets_server}
 use Rattle.session_vars.specs.Slots.{name_of, slot_named}
-use Rattle.session_vars.specs.Statement.{is_comment, is_comma, is_session_word, before_comma, behind_comma}
+use Rattle.session_vars.specs.Statement.{is_comment, is_session_word}
 use Rattle.session_vars.specs.Texts.{is_names, value_text, assignment_text}
-use Rattle.session_vars.specs.Tracked.{IsOneValue, IsNegative, IsAssignable}
-use Rattle.session_vars.specs.Values.{value_of, negative_value}
+use Rattle.session_vars.specs.Tracked.{IsOneValue, IsNegative, IsBase, IsJoined, IsAssignable}
+use Rattle.session_vars.specs.Values.{has_reading_mode, is_plain_byte, value_of, negative_value}
 use Rattle.session_vars.specs.declared.change.Change.{Change}
 use Rattle.session_vars.specs.declared.change.SlotValue.{SlotValue}
+use Rattle.session_vars.specs.declared.change.SlotValue.TheVariants.{Text}
 use Rattle.session_vars.specs.declared.slot.Slot.{Slot}
-use Rattle.session_vars.specs.declared.slot.Slot.TheVariants.{Names}
+use Rattle.session_vars.specs.declared.slot.Slot.TheVariants.{Names, SqlMode}
 use Rattle.session_vars.proofs.Joining.{with_comma}
 use Rattle.session_vars.proofs.OneToken.{IsValueKind, value_kind, value_piece, number_text}
 use Rattle.session_vars.proofs.Parts.{last_assigned, next_assigned}
 use Rattle.session_vars.proofs.Pieces.{Stops, At, IsPiece, token_of, behind, scanned, said, behind_blank, past_blank, at_end}
-use Rattle.session_vars.proofs.Rules.{IsWordText, number_first, word_piece, symbol_piece, number_piece, minus_piece}
+use Rattle.session_vars.proofs.Rules.{IsWordText, in_quotes, inside_quotes, number_first, word_piece, symbol_piece, number_piece, minus_piece, quoted_piece, variable_piece}
 
 -- a token within an assignment: no comment, comma, bracket or `;`
 abbrev quiet_by : TokenKind → List ℕ → Bool
@@ -48,12 +50,35 @@ quiet_parts text token quiet =
     let d = and_parts (not (is_comment token.kind)) (not (is_symbol text token 44)) c.0 in
     record { no_comment = not-true _ d.0; no_comma = not-true _ d.1; no_end = not-true _ c.1; no_opening = not-true _ b.1; no_closing = not-true _ a.1 }
 
+-- tokens at whose end as many brackets are open as before the first comma: no comment, no `;` and no comma outside brackets
+abbrev pub inner_by : TokenKind → List ℕ → (depth : ℕ) → Bool
+inner_by kind bytes depth = not (is_comment kind) && not (is_symbol_kind kind && bytes_eq bytes (59 ∷ [])) && not (is_symbol_kind kind && bytes_eq bytes (44 ∷ []) && nat_eq depth 0)
+
+abbrev pub deeper_by : TokenKind → List ℕ → (depth : ℕ) → ℕ
+deeper_by kind bytes depth = cond (is_symbol_kind kind && bytes_eq bytes (40 ∷ [])) (depth + 1) (cond (is_symbol_kind kind && bytes_eq bytes (41 ∷ [])) (depth - 1) depth)
+
+abbrev pub is_calm : (text : List ℕ) → (depth : ℕ) → List Token → Bool
+is_calm text depth [] = nat_eq depth 0
+is_calm text depth (token ∷ tokens) = inner_by token.kind (bytes_of text token) depth && is_calm text (deeper_by token.kind (bytes_of text token) depth) tokens
+
+pub calm_step : (text : List ℕ) (depth : ℕ) (token : Token) (bytes : List ℕ) (tokens : List Token) → bytes_of text token ≡ bytes → inner_by token.kind bytes depth ≡ true → is_calm text (deeper_by token.kind bytes depth) tokens ≡ true → is_calm text depth (token ∷ tokens) ≡ true
+calm_step text depth token bytes tokens is inner rest =
+    and_from (inner_by token.kind (bytes_of text token) depth) _ (ap (λ said. inner_by token.kind said depth) is ∙ inner) (ap (λ said. is_calm text (deeper_by token.kind said depth) tokens) is ∙ rest)
+
+calm_onto : (text : List ℕ) (token : Token) (tokens : List Token) → is_quiet text token ≡ true → is_calm text 0 tokens ≡ true → is_calm text 0 (token ∷ tokens) ≡ true
+calm_onto text token tokens quiet rest =
+    let is = quiet_parts text token quiet in
+    let same : deeper text token 0 ≡ 0 = cond-false (is_symbol text token 40) _ _ is.no_opening ∙ cond-false (is_symbol text token 41) _ _ is.no_closing in
+    and_from (inner_by token.kind (bytes_of text token) 0) _
+    (and_from _ _ (and_from _ _ (not_from_false _ is.no_comment) (not_from_false _ is.no_end)) (not_from_false _ (and_left _ _ is.no_comma)))
+    (ap (λ n. is_calm text n tokens) same ∙ rest)
+
 -- the tokens of a value that is written
 record IsValueRead (text : List ℕ) (place : ℕ) (slot : Slot) (value : SlotValue) : Type 0 where
   tokens : List Token
   scan : tokens_behind text place ≡ tokens ++ tokens_behind text (place + length (value_text value))
-  gives : written text slot tokens ≡ Some (record { slot = slot; value = value })
-  quiet : list_all (is_quiet text) tokens ≡ true
+  gives : written text slot tokens ≡ Some (record { slot = slot; value = value; adds = false })
+  calm : is_calm text 0 tokens ≡ true
 
 value_quiet : (slot : Slot) (kind : TokenKind) (bytes : List ℕ) → IsValueKind kind → quiet_by kind bytes ≡ true
 value_quiet slot Word bytes is = refl
@@ -73,7 +98,7 @@ one_value text place slot value rest one at stops =
       tokens = token ∷ [];
       scan = scanned text place one.kind bytes rest at piece;
       gives = ap (λ (written : List ℕ). change_to slot (value_of slot one.kind written)) is ∙ ap (change_to slot) one.gives;
-      quiet = and_from (is_quiet text token) true (value_quiet slot one.kind (bytes_of text token) kind) refl;
+      calm = calm_onto text token [] (value_quiet slot one.kind (bytes_of text token) kind) refl;
     }
 
 negative : (text : List ℕ) (place : ℕ) (slot : Slot) (value : SlotValue) (rest : List ℕ) → IsNegative slot value → At text place (value_text value ++ rest) → Stops rest → IsValueRead text place slot value
@@ -97,12 +122,176 @@ negative text place slot value rest minus at stops =
           cond-true (is_symbol text sign 45) _ _ (ap (λ bytes. bytes_eq bytes (45 ∷ [])) sign_is)
           ∙ ap (λ (written : List ℕ). change_to slot (negative_value slot Number written)) is
           ∙ ap (change_to slot) minus.gives;
-      quiet = and_from (is_quiet text sign) _ (ap (quiet_by Symbol) sign_is) (and_from (is_quiet text token) true refl refl);
+      calm = calm_onto text sign (token ∷ []) (ap (quiet_by Symbol) sign_is) (calm_onto text token [] refl refl);
+    }
+
+equals_piece : (rest : List ℕ) → IsPiece Symbol (61 ∷ []) rest
+equals_piece rest = symbol_piece 61 rest (record { no_hash = refl; no_dash = refl; no_slash = refl; no_single = refl; no_double = refl; no_backtick = refl; no_at = refl }) refl refl refl refl
+
+pub comma_piece : (rest : List ℕ) → IsPiece Symbol (44 ∷ []) rest
+comma_piece rest = symbol_piece 44 rest (record { no_hash = refl; no_dash = refl; no_slash = refl; no_single = refl; no_double = refl; no_backtick = refl; no_at = refl }) refl refl refl refl
+
+bracket_piece : (b : ℕ) (rest : List ℕ) → (b ≡ 40) ⊎ (b ≡ 41) → IsPiece Symbol (b ∷ []) rest
+bracket_piece b rest (inl is) = subst (λ n. IsPiece Symbol (n ∷ []) rest) (sym is) (symbol_piece 40 rest (record { no_hash = refl; no_dash = refl; no_slash = refl; no_single = refl; no_double = refl; no_backtick = refl; no_at = refl }) refl refl refl refl)
+bracket_piece b rest (inr is) = subst (λ n. IsPiece Symbol (n ∷ []) rest) (sym is) (symbol_piece 41 rest (record { no_hash = refl; no_dash = refl; no_slash = refl; no_single = refl; no_double = refl; no_backtick = refl; no_at = refl }) refl refl refl refl)
+
+-- CONCAT, a mode and lists
+record IsBaseRead (base rest : List ℕ) : Type 0 where
+  kind : TokenKind
+  piece : IsPiece kind base rest
+  gives : base_of kind base ≡ Some base
+  inner : inner_by kind base 1 ≡ true
+  level : deeper_by kind base 1 ≡ 1
+  no_word : word_by kind base ≡ None
+
+base_read : (base rest : List ℕ) → IsBase base → Stops rest → IsBaseRead base rest
+unfolding base_of
+base_read base rest (inl is) stops = subst (λ (b : List ℕ). IsBaseRead b rest) (sym is) (record {
+  kind = SysVar;
+  piece = variable_piece (codes "GLOBAL.sql_mode") rest refl (omega arith) stops;
+  gives = refl;
+  inner = refl;
+  level = refl;
+  no_word = refl;
+})
+base_read base rest (inr quoted) stops =
+    let list = quoted.0 in
+    let is = quoted.1.1 in
+    let plain = (and_parts (list_all is_plain_byte list) (not (has_reading_mode list)) is).0 in
+    let kept : List ℕ → Option (List ℕ) = λ inner. cond (is_mode_list inner) (Some (in_quotes inner)) None in
+    subst (λ (b : List ℕ). IsBaseRead b rest) (sym quoted.1.0) (record {
+      kind = Quoted;
+      piece = quoted_piece list rest plain stops;
+      gives = ap kept (inside_quotes list) ∙ cond-true (is_mode_list list) _ _ is;
+      inner = refl;
+      level = refl;
+      no_word = refl;
+    })
+
+base_adds_not : (base : List ℕ) → IsBase base → bytes_eq base own_mode ≡ false
+base_adds_not base (inl is) = ap (λ b. bytes_eq b own_mode) is
+base_adds_not base (inr quoted) = ap (λ b. bytes_eq b own_mode) quoted.1.0
+
+some_list : (lists : List ℕ) → is_added_list lists ≡ true → nat_le 1 (length lists) ≡ true
+some_list [] is = absurd (cc)
+some_list (b ∷ lists) is = le-leb 1 (length (b ∷ lists)) (omega arith)
+
+list_again : (lists : List ℕ) → is_added_list lists ≡ true → list_of Quoted (in_quotes lists) ≡ Some lists
+unfolding list_of
+list_again lists is =
+    let kept : List ℕ → Option (List ℕ) = λ inner. cond (is_added_list inner) (Some inner) None in
+    ap kept (inside_quotes lists) ∙ cond-true (is_added_list lists) _ _ is
+
+pub mode_slot : (slot : Slot) → takes_modes slot ≡ true → slot ≡ SqlMode
+mode_slot SqlMode is = refl
+mode_slot _ is = absurd (cc)
+
+-- the tokens of such an expression, read
+joined_gives : (text : List ℕ) (slot : Slot) (concat opening base comma list close : Token) (b lists : List ℕ) → takes_modes slot ≡ true → says text concat (codes "CONCAT") ≡ true → is_symbol text opening 40 ≡ true → word_by base.kind (bytes_of text base) ≡ None → base_of base.kind (bytes_of text base) ≡ Some b → is_symbol text comma 41 ≡ false → is_symbol text comma 44 ≡ true → list_of list.kind (bytes_of text list) ≡ Some lists → is_symbol text close 41 ≡ true → IsBase b → is_added_list lists ≡ true → written text slot (concat ∷ opening ∷ base ∷ comma ∷ list ∷ close ∷ []) ≡ Some (record { slot = slot; value = Text (joined_text b lists); adds = false })
+unfolding written joined joined_at lists_behind
+joined_gives text slot concat opening base comma list close b lists takes is_concat is_open no_word is_base no_close is_comma is_list is_close of_base are =
+    let rest = comma ∷ list ∷ close ∷ [] in
+    let end : lists_behind text 1 (close ∷ []) ≡ Some [] = cond-true (is_symbol text close 41) (lists_behind text 0 []) None is_close in
+    let behind : lists_behind text 1 rest ≡ Some lists =
+    cond-false (is_symbol text comma 41) _ _ no_close
+    ∙ cond-true (is_symbol text comma 44) _ _ is_comma
+    ∙ ap (λ (first : Option (List ℕ)). lists_joined first (lists_behind text 1 (close ∷ []))) is_list
+    ∙ ap (lists_joined (Some lists)) end
+    ∙ ap (λ (all : List ℕ). Some all) (append-nil lists) in
+    let no_concat : says text base (codes "CONCAT") ≡ false = ap (λ named. is_word named (codes "CONCAT")) no_word in
+    let change = joined_change b lists in
+    let same : change ≡ record { slot = slot; value = Text (joined_text b lists); adds = false } =
+    ap (λ (s : Slot). record { slot = s; value = Text (joined_text b lists); adds = bytes_eq b own_mode }) (sym (mode_slot slot takes))
+    ∙ ap (λ (adds : Bool). record { slot = slot; value = Text (joined_text b lists); adds = adds }) (base_adds_not b of_base) in
+    cond-true (takes_modes slot && true) _ _ (and_from _ _ takes refl)
+    ∙ cond-true (says text concat (codes "CONCAT") && is_symbol text opening 40) _ _ (and_from _ _ is_concat is_open)
+    ∙ cond-false (says text base (codes "CONCAT") && is_symbol text comma 40) _ _ (and_left _ _ no_concat)
+    ∙ ap (λ (found : Option (List ℕ)). joined_with found (lists_behind text 1 rest)) is_base
+    ∙ ap (joined_with (Some b)) behind
+    ∙ cond-true (nat_le 1 (length lists)) _ _ (some_list lists are)
+    ∙ ap (λ (found : Change). Some found) same
+
+joined_read : (text : List ℕ) (place : ℕ) (slot : Slot) (value : SlotValue) (rest : List ℕ) → IsJoined slot value → At text place (value_text value ++ rest) → Stops rest → IsValueRead text place slot value
+joined_read text place slot value rest j at stops =
+    let base = j.base in
+    let lists = j.lists in
+    let concat = codes "CONCAT" in
+    let opening = codes "CONCAT(" in
+    let gap = codes ", '" in
+    let ending = codes "')" in
+    let tail = lists ++ (ending ++ rest) in
+    let quoted = in_quotes lists in
+    let in_list : 39 ∷ tail ≡ quoted ++ 41 ∷ rest = ap (λ (bytes : List ℕ). 39 ∷ bytes) (sym (append_assoc lists (39 ∷ []) (41 ∷ rest))) in
+    let at_whole : At text place (concat ++ 40 ∷ (base ++ 44 ∷ 32 ∷ 39 ∷ tail)) =
+    at
+    ∙ ap (λ (v : SlotValue). value_text v ++ rest) j.is
+    ∙ append_assoc (opening ++ base ++ gap ++ lists) ending rest
+    ∙ append_assoc (opening ++ base ++ gap) lists (ending ++ rest)
+    ∙ append_assoc (opening ++ base) gap tail
+    ∙ append_assoc opening base (gap ++ tail) in
+    let p1 = place + 6 in
+    let p2 = p1 + 1 in
+    let p3 = p2 + length base in
+    let p4 = p3 + 1 + 1 in
+    let p5 = p4 + length quoted in
+    let at_open : At text p1 (40 ∷ (base ++ 44 ∷ 32 ∷ 39 ∷ tail)) = behind text place concat _ at_whole in
+    let at_base : At text p2 (base ++ 44 ∷ 32 ∷ 39 ∷ tail) = behind text p1 (40 ∷ []) _ at_open in
+    let at_comma : At text p3 (44 ∷ 32 ∷ 39 ∷ tail) = behind text p2 base _ at_base in
+    let at_gap : At text (p3 + 1) (32 ∷ 39 ∷ tail) = behind text p3 (44 ∷ []) _ at_comma in
+    let at_list : At text p4 (quoted ++ 41 ∷ rest) = behind_blank text (p3 + 1) _ at_gap ∙ in_list in
+    let at_close : At text p5 ((41 ∷ []) ++ rest) = behind text p4 quoted _ at_list in
+    let plain = (and_parts (list_all is_plain_byte lists) (not (has_reading_mode lists)) (and_parts (nat_eq (slice_index_or lists 0 0) 44) (is_mode_list lists) j.are_lists).1).0 in
+    let b = base_read base (44 ∷ 32 ∷ 39 ∷ tail) j.of_base (inr (inl refl)) in
+    let t0 = token_of Word place concat in
+    let t1 = token_of Symbol p1 (40 ∷ []) in
+    let t2 = token_of b.kind p2 base in
+    let t3 = token_of Symbol p3 (44 ∷ []) in
+    let t4 = token_of Quoted p4 quoted in
+    let t5 = token_of Symbol p5 (41 ∷ []) in
+    let is0 : bytes_of text t0 ≡ concat = said text place Word concat _ at_whole in
+    let is1 : bytes_of text t1 ≡ 40 ∷ [] = said text p1 Symbol (40 ∷ []) _ at_open in
+    let is2 : bytes_of text t2 ≡ base = said text p2 b.kind base _ at_base in
+    let is3 : bytes_of text t3 ≡ 44 ∷ [] = said text p3 Symbol (44 ∷ []) _ at_comma in
+    let is4 : bytes_of text t4 ≡ quoted = said text p4 Quoted quoted _ at_list in
+    let is5 : bytes_of text t5 ≡ 41 ∷ [] = said text p5 Symbol (41 ∷ []) rest at_close in
+    let size : p5 + 1 ≡ place + length (value_text value) =
+    omega (arith, ap (λ (v : SlotValue). length (value_text v)) j.is, length-append (opening ++ base ++ gap ++ lists) ending, length-append (opening ++ base ++ gap) lists, length-append (opening ++ base) gap, length-append opening base, length-append lists (39 ∷ [])) in
+    record {
+      tokens = t0 ∷ t1 ∷ t2 ∷ t3 ∷ t4 ∷ t5 ∷ [];
+      scan =
+          scanned text place Word concat _ at_whole (word_piece concat _ (refl, refl) (inr (inr (inl refl))))
+          ∙ ap (λ (tokens : List Token). t0 ∷ tokens) (scanned text p1 Symbol (40 ∷ []) _ at_open (bracket_piece 40 _ (inl refl)))
+          ∙ ap (λ (tokens : List Token). t0 ∷ t1 ∷ tokens) (scanned text p2 b.kind base _ at_base b.piece)
+          ∙ ap (λ (tokens : List Token). t0 ∷ t1 ∷ t2 ∷ tokens) (scanned text p3 Symbol (44 ∷ []) _ at_comma (comma_piece _) ∙ ap (λ (tokens : List Token). t3 ∷ tokens) (past_blank text (p3 + 1) _ at_gap))
+          ∙ ap (λ (tokens : List Token). t0 ∷ t1 ∷ t2 ∷ t3 ∷ tokens) (scanned text p4 Quoted quoted _ at_list (quoted_piece lists (41 ∷ rest) plain (inr (inr (inr refl)))))
+          ∙ ap (λ (tokens : List Token). t0 ∷ t1 ∷ t2 ∷ t3 ∷ t4 ∷ tokens) (scanned text p5 Symbol (41 ∷ []) rest at_close (bracket_piece 41 rest (inr refl)) ∙ ap (λ n. t5 ∷ tokens_behind text n) size);
+      gives =
+          joined_gives text slot t0 t1 t2 t3 t4 t5 base lists j.takes
+          (ap (λ word. same_text word (codes "CONCAT")) is0)
+          (ap (λ bytes. bytes_eq bytes (40 ∷ [])) is1)
+          (ap (word_by b.kind) is2 ∙ b.no_word)
+          (ap (base_of b.kind) is2 ∙ b.gives)
+          (ap (λ bytes. bytes_eq bytes (41 ∷ [])) is3)
+          (ap (λ bytes. bytes_eq bytes (44 ∷ [])) is3)
+          (ap (list_of Quoted) is4 ∙ list_again lists j.are_lists)
+          (ap (λ bytes. bytes_eq bytes (41 ∷ [])) is5)
+          j.of_base
+          j.are_lists
+          ∙ ap (λ (v : SlotValue). Some (record { slot = slot; value = v; adds = false })) (sym j.is);
+      calm =
+          calm_step text 0 t0 concat (t1 ∷ t2 ∷ t3 ∷ t4 ∷ t5 ∷ []) is0 refl
+          (calm_step text 0 t1 (40 ∷ []) (t2 ∷ t3 ∷ t4 ∷ t5 ∷ []) is1 refl
+          (calm_step text 1 t2 base (t3 ∷ t4 ∷ t5 ∷ []) is2 b.inner
+          (ap (λ n. is_calm text n (t3 ∷ t4 ∷ t5 ∷ [])) b.level
+          ∙ calm_step text 1 t3 (44 ∷ []) (t4 ∷ t5 ∷ []) is3 refl
+          (calm_step text 1 t4 quoted (t5 ∷ []) is4 refl
+          (calm_step text 1 t5 (41 ∷ []) [] is5 refl refl)))));
     }
 
 value_read : (text : List ℕ) (place : ℕ) (slot : Slot) (value : SlotValue) (rest : List ℕ) → IsAssignable slot value → At text place (value_text value ++ rest) → Stops rest → IsValueRead text place slot value
 value_read text place slot value rest (inl one) at stops = one_value text place slot value rest one at stops
-value_read text place slot value rest (inr minus) at stops = negative text place slot value rest minus at stops
+value_read text place slot value rest (inr (inl minus)) at stops = negative text place slot value rest minus at stops
+value_read text place slot value rest (inr (inr joined)) at stops = joined_read text place slot value rest joined at stops
 
 -- names of settings
 name_word : (slot : Slot) → IsWordText (name_of slot)
@@ -128,15 +317,9 @@ pub record IsNamed (text : List ℕ) (place : ℕ) (change : Change) : Type 0 wh
   pub name : bytes_of text (token_of Word place (name_of change.slot)) ≡ name_of change.slot
   pub scan : tokens_behind text place ≡ token_of Word place (name_of change.slot) ∷ equals ∷ values ++ tokens_behind text (place + length (assignment_text change))
   pub gives : assigned text (Some change.slot) (equals ∷ values) ≡ Some change
-  pub quiet : list_all (is_quiet text) (equals ∷ values) ≡ true
+  pub calm : is_calm text 0 (equals ∷ values) ≡ true
 
-equals_piece : (rest : List ℕ) → IsPiece Symbol (61 ∷ []) rest
-equals_piece rest = symbol_piece 61 rest (record { no_hash = refl; no_dash = refl; no_slash = refl; no_single = refl; no_double = refl; no_backtick = refl; no_at = refl }) refl refl refl refl
-
-pub comma_piece : (rest : List ℕ) → IsPiece Symbol (44 ∷ []) rest
-comma_piece rest = symbol_piece 44 rest (record { no_hash = refl; no_dash = refl; no_slash = refl; no_single = refl; no_double = refl; no_backtick = refl; no_at = refl }) refl refl refl refl
-
-pub named : (text : List ℕ) (place : ℕ) (change : Change) (rest : List ℕ) → IsAssignable change.slot change.value → At text place (assignment_text change ++ rest) → Stops rest → IsNamed text place change
+pub named : (text : List ℕ) (place : ℕ) (change : Change) (rest : List ℕ) → IsAssignable change.slot change.value × (change.adds ≡ false) → At text place (assignment_text change ++ rest) → Stops rest → IsNamed text place change
 unfolding assigned
 named text place change rest assignable at stops =
     let name = name_of change.slot in
@@ -148,7 +331,7 @@ named text place change rest assignable at stops =
     let behind_equals = behind_name + 1 + 1 in
     let at_gap : At text behind_equals (32 ∷ (value ++ rest)) = behind text (behind_name + 1) (61 ∷ []) _ at_equals in
     let at_value : At text (behind_equals + 1) (value ++ rest) = behind_blank text behind_equals _ at_gap in
-    let read = value_read text (behind_equals + 1) change.slot change.value rest assignable at_value stops in
+    let read = value_read text (behind_equals + 1) change.slot change.value rest assignable.0 at_value stops in
     let equals = token_of Symbol (behind_name + 1) (61 ∷ []) in
     let equals_is : bytes_of text equals ≡ 61 ∷ [] = said text (behind_name + 1) Symbol (61 ∷ []) (32 ∷ (value ++ rest)) at_equals in
     let size : behind_equals + 1 + length value ≡ place + length (assignment_text change) = omega (arith, length-append (name ++ codes " = ") value, length-append name (codes " = ")) in
@@ -163,8 +346,8 @@ named text place change rest assignable at stops =
           (past_blank text behind_name _ at_blank
           ∙ scanned text (behind_name + 1) Symbol (61 ∷ []) _ at_equals (equals_piece _)
           ∙ ap (λ (tokens : List Token). equals ∷ tokens) (past_blank text behind_equals _ at_gap ∙ read.scan ∙ ap (λ n. read.tokens ++ tokens_behind text n) size));
-      gives = cond-true (is_symbol text equals 61) _ _ (ap (λ bytes. bytes_eq bytes (61 ∷ [])) equals_is) ∙ read.gives;
-      quiet = and_from (is_quiet text equals) _ (ap (quiet_by Symbol) equals_is) read.quiet;
+      gives = cond-true (is_symbol text equals 61) _ _ (ap (λ bytes. bytes_eq bytes (61 ∷ [])) equals_is) ∙ read.gives ∙ ap (λ (adds : Bool). Some (record { slot = change.slot; value = change.value; adds = adds })) (sym assignable.1);
+      calm = calm_onto text equals read.tokens (ap (quiet_by Symbol) equals_is) read.calm;
     }
 
 -- the first of these tokens names nothing of the server
@@ -176,37 +359,36 @@ IsUnscoped text (token ∷ tokens) = names_server token.kind (bytes_of text toke
 pub record IsAssignmentRead (text : List ℕ) (place size : ℕ) (change : Change) (tokens : List Token) : Type 0 where
   pub scan : tokens_behind text place ≡ tokens ++ tokens_behind text (place + size)
   pub gives : assignment text tokens ≡ Some change
-  pub quiet : list_all (is_quiet text) tokens ≡ true
+  pub calm : is_calm text 0 tokens ≡ true
   pub unscoped : IsUnscoped text tokens
 
 -- tokens within an assignment that aren't the first set nothing of the server
-calm : (text : List ℕ) (tokens more : List Token) → list_all (is_quiet text) tokens ≡ true → sets_server text 0 false (tokens ++ more) ≡ sets_server text 0 false more
-calm text [] more quiet = refl
-calm text (token ∷ tokens) more quiet =
-    let both = and_parts (is_quiet text token) (list_all (is_quiet text) tokens) quiet in
-    let is = quiet_parts text token both.0 in
-    let depth : deeper text token 0 ≡ 0 = cond-false (is_symbol text token 40) _ _ is.no_opening ∙ cond-false (is_symbol text token 41) _ _ is.no_closing in
-    ap (λ n. sets_server text n (is_symbol text token 44 && true) (tokens ++ more)) depth
-    ∙ ap (λ first. sets_server text 0 first (tokens ++ more)) (and_left (is_symbol text token 44) true is.no_comma)
-    ∙ calm text tokens more both.1
+inner_divides : (text : List ℕ) (depth : ℕ) (token : Token) → inner_by token.kind (bytes_of text token) depth ≡ true → divides text depth token ≡ false
+inner_divides text depth token inner = not-true _ (and_parts (not (is_comment token.kind) && not (is_symbol text token 59)) (not (divides text depth token)) inner).1
+
+calm : (text : List ℕ) (depth : ℕ) (tokens more : List Token) → is_calm text depth tokens ≡ true → sets_server text depth false (tokens ++ more) ≡ sets_server text 0 false more
+calm text depth [] more is = ap (λ n. sets_server text n false more) (eqb-true depth 0 is)
+calm text depth (token ∷ tokens) more is =
+    let both = and_parts (inner_by token.kind (bytes_of text token) depth) _ is in
+    ap (λ first. sets_server text (deeper text token depth) first (tokens ++ more)) (inner_divides text depth token both.0) ∙ calm text (deeper text token depth) tokens more both.1
 
 -- nor do those behind a first one that doesn't
-calm_first : (text : List ℕ) (tokens more : List Token) → IsUnscoped text tokens → list_all (is_quiet text) tokens ≡ true → sets_server text 0 true (tokens ++ more) ≡ sets_server text 0 false more
-calm_first text [] more unscoped quiet = absurd unscoped
-calm_first text (token ∷ tokens) more unscoped quiet = ap (λ scope. (true && scope) || sets_server text (deeper text token 0) (is_symbol text token 44 && true) (tokens ++ more)) unscoped ∙ calm text (token ∷ tokens) more quiet
+calm_first : (text : List ℕ) (tokens more : List Token) → IsUnscoped text tokens → is_calm text 0 tokens ≡ true → sets_server text 0 true (tokens ++ more) ≡ sets_server text 0 false more
+calm_first text [] more unscoped is = absurd unscoped
+calm_first text (token ∷ tokens) more unscoped is = ap (λ scope. (true && scope) || sets_server text (deeper text token 0) (divides text 0 token) (tokens ++ more)) unscoped ∙ calm text 0 (token ∷ tokens) more is
 
 -- and the next comma is behind them
-before_quiet : (text : List ℕ) (tokens more : List Token) → list_all (is_quiet text) tokens ≡ true → before_comma text (tokens ++ more) ≡ tokens ++ before_comma text more
-before_quiet text [] more quiet = refl
-before_quiet text (token ∷ tokens) more quiet =
-    let both = and_parts (is_quiet text token) (list_all (is_quiet text) tokens) quiet in
-    cond-false (is_comma text token) _ _ (quiet_parts text token both.0).no_comma ∙ ap (λ (rest : List Token). token ∷ rest) (before_quiet text tokens more both.1)
+before_calm : (text : List ℕ) (depth : ℕ) (tokens more : List Token) → is_calm text depth tokens ≡ true → before_comma text depth (tokens ++ more) ≡ tokens ++ before_comma text 0 more
+before_calm text depth [] more is = ap (λ n. before_comma text n more) (eqb-true depth 0 is)
+before_calm text depth (token ∷ tokens) more is =
+    let both = and_parts (inner_by token.kind (bytes_of text token) depth) _ is in
+    cond-false (divides text depth token) _ _ (inner_divides text depth token both.0) ∙ ap (λ (rest : List Token). token ∷ rest) (before_calm text (deeper text token depth) tokens more both.1)
 
-behind_quiet : (text : List ℕ) (tokens more : List Token) → list_all (is_quiet text) tokens ≡ true → behind_comma text (tokens ++ more) ≡ behind_comma text more
-behind_quiet text [] more quiet = refl
-behind_quiet text (token ∷ tokens) more quiet =
-    let both = and_parts (is_quiet text token) (list_all (is_quiet text) tokens) quiet in
-    cond-false (is_comma text token) _ _ (quiet_parts text token both.0).no_comma ∙ behind_quiet text tokens more both.1
+behind_calm : (text : List ℕ) (depth : ℕ) (tokens more : List Token) → is_calm text depth tokens ≡ true → behind_comma text depth (tokens ++ more) ≡ behind_comma text 0 more
+behind_calm text depth [] more is = ap (λ n. behind_comma text n more) (eqb-true depth 0 is)
+behind_calm text depth (token ∷ tokens) more is =
+    let both = and_parts (inner_by token.kind (bytes_of text token) depth) _ is in
+    cond-false (divides text depth token) _ _ (inner_divides text depth token both.0) ∙ behind_calm text (deeper text token depth) tokens more both.1
 
 -- `name = value`
 bare : (text : List ℕ) (place : ℕ) (change : Change) → is_names change.slot ≡ false → (n : IsNamed text place change) → IsAssignmentRead text place (length (assignment_text change)) change (token_of Word place (name_of change.slot) ∷ n.equals ∷ n.values)
@@ -220,7 +402,7 @@ bare text place change other n =
           ∙ ap (λ name. assigned text (slot_named name) (n.equals ∷ n.values)) n.name
           ∙ ap (λ slot. assigned text slot (n.equals ∷ n.values)) (named_again change.slot other)
           ∙ n.gives;
-      quiet = n.quiet;
+      calm = calm_onto text token (n.equals ∷ n.values) refl n.calm;
       unscoped = ap is_server_scope n.name ∙ no_server change.slot;
     }
 
@@ -241,7 +423,7 @@ scoped text place change rest other at n =
           ∙ ap (λ name. assigned text (slot_named name) (n.equals ∷ n.values)) n.name
           ∙ ap (λ slot. assigned text slot (n.equals ∷ n.values)) (named_again change.slot other)
           ∙ n.gives;
-      quiet = n.quiet;
+      calm = calm_onto text session (token_of Word (place + 7 + 1) (name_of change.slot) ∷ n.equals ∷ n.values) refl (calm_onto text (token_of Word (place + 7 + 1) (name_of change.slot)) (n.equals ∷ n.values) refl n.calm);
       unscoped = ap is_server_scope is;
     }
 
@@ -249,12 +431,11 @@ scoped text place change rest other at n =
 abbrev pub counts : (text : List ℕ) → Token → Bool
 counts text token = not (is_comment token.kind) && not (is_symbol text token 59)
 
-counts_quiet : (text : List ℕ) (tokens : List Token) → list_all (is_quiet text) tokens ≡ true → list_all (counts text) tokens ≡ true
-counts_quiet text [] quiet = refl
-counts_quiet text (token ∷ tokens) quiet =
-    let both = and_parts (is_quiet text token) (list_all (is_quiet text) tokens) quiet in
-    let is = quiet_parts text token both.0 in
-    and_from (counts text token) _ (and_from _ _ (not_from_false _ is.no_comment) (not_from_false _ is.no_end)) (counts_quiet text tokens both.1)
+counts_calm : (text : List ℕ) (depth : ℕ) (tokens : List Token) → is_calm text depth tokens ≡ true → list_all (counts text) tokens ≡ true
+counts_calm text depth [] is = refl
+counts_calm text depth (token ∷ tokens) is =
+    let both = and_parts (inner_by token.kind (bytes_of text token) depth) _ is in
+    and_from (counts text token) _ (and_parts (counts text token) (not (divides text depth token)) both.0).0 (counts_calm text (deeper text token depth) tokens both.1)
 
 -- the tokens of assignments with commas between them, to the end of the text
 pub record IsListRead (text : List ℕ) (place : ℕ) (changes : List Change) (tokens : List Token) : Type 0 where
@@ -266,11 +447,11 @@ pub record IsListRead (text : List ℕ) (place : ℕ) (changes : List Change) (t
 -- each of these changes can be written as an assignment
 abbrev pub AreAssignable : List Change → Type 0
 AreAssignable [] = Unit {0}
-AreAssignable (change ∷ changes) = ((is_names change.slot ≡ false) × IsAssignable change.slot change.value) × AreAssignable changes
+AreAssignable (change ∷ changes) = ((is_names change.slot ≡ false) × (IsAssignable change.slot change.value × (change.adds ≡ false))) × AreAssignable changes
 
 pub stops_before : (changes : List Change) → Stops (flat_map with_comma changes)
 stops_before [] = tt
-stops_before (change ∷ changes) = inr refl
+stops_before (change ∷ changes) = inr (inl refl)
 
 -- the tokens of the assignments behind the first, each behind a comma
 pub list_read : (text : List ℕ) (place size : ℕ) (change : Change) (tokens : List Token) (changes : List Change) → IsAssignmentRead text place size change tokens → AreAssignable changes → At text (place + size) (flat_map with_comma changes) → (more : List Token) × IsListRead text place (change ∷ changes) (tokens ++ more)
@@ -278,9 +459,9 @@ list_read text place size change tokens [] first assignable at = (
   [],
   record {
     scan = first.scan ∙ ap (λ (rest : List Token). tokens ++ rest) (at_end text (place + size) at);
-    gives = last_assigned text (tokens ++ []) change (ap (assignment text) (before_quiet text tokens [] first.quiet ∙ append-nil tokens) ∙ first.gives) (behind_quiet text tokens [] first.quiet);
-    counting = list_all-append (counts text) tokens [] ∙ and_from _ true (counts_quiet text tokens first.quiet) refl;
-    unscoped = calm_first text tokens [] first.unscoped first.quiet;
+    gives = last_assigned text (tokens ++ []) change (ap (assignment text) (before_calm text 0 tokens [] first.calm ∙ append-nil tokens) ∙ first.gives) (behind_calm text 0 tokens [] first.calm);
+    counting = list_all-append (counts text) tokens [] ∙ and_from _ true (counts_calm text 0 tokens first.calm) refl;
+    unscoped = calm_first text tokens [] first.unscoped first.calm;
   },
 )
 list_read text place size change tokens (next ∷ changes) first assignable at =
@@ -295,7 +476,7 @@ list_read text place size change tokens (next ∷ changes) first assignable at =
     let n = named text start next rest assignable.0.1 at_next (stops_before changes) in
     let following = list_read text start (length (assignment_text next)) next (token_of Word start (name_of next.slot) ∷ n.equals ∷ n.values) changes (bare text start next assignable.0.0 n) assignable.1 (behind text start (assignment_text next) rest at_next) in
     let others = (token_of Word start (name_of next.slot) ∷ n.equals ∷ n.values) ++ following.0 in
-    let is_comma_here : is_comma text comma ≡ true = ap (λ bytes. bytes_eq bytes (44 ∷ [])) comma_is in
+    let is_comma_here : divides text 0 comma ≡ true = ap (λ found. found && true) (ap (λ bytes. bytes_eq bytes (44 ∷ [])) comma_is) in
     let no_opening : is_symbol text comma 40 ≡ false = ap (λ bytes. bytes_eq bytes (40 ∷ [])) comma_is in
     let no_closing : is_symbol text comma 41 ≡ false = ap (λ bytes. bytes_eq bytes (41 ∷ [])) comma_is in
     let no_end : is_symbol text comma 59 ≡ false = ap (λ bytes. bytes_eq bytes (59 ∷ [])) comma_is in
@@ -307,14 +488,14 @@ list_read text place size change tokens (next ∷ changes) first assignable at =
             ∙ ap (λ (tail : List Token). comma ∷ tail) (past_blank text (place + size + 1) there at_gap ∙ following.1.scan));
         gives =
             next_assigned text (tokens ++ comma ∷ others) others change
-            (ap (assignment text) (before_quiet text tokens (comma ∷ others) first.quiet ∙ ap (λ (tail : List Token). tokens ++ tail) (cond-true (is_comma text comma) _ _ is_comma_here) ∙ append-nil tokens) ∙ first.gives)
-            (behind_quiet text tokens (comma ∷ others) first.quiet ∙ cond-true (is_comma text comma) _ _ is_comma_here)
+            (ap (assignment text) (before_calm text 0 tokens (comma ∷ others) first.calm ∙ ap (λ (tail : List Token). tokens ++ tail) (cond-true (divides text 0 comma) _ _ is_comma_here) ∙ append-nil tokens) ∙ first.gives)
+            (behind_calm text 0 tokens (comma ∷ others) first.calm ∙ cond-true (divides text 0 comma) _ _ is_comma_here)
             ∙ ap (with_change (Some change)) following.1.gives;
-        counting = list_all-append (counts text) tokens (comma ∷ others) ∙ and_from _ _ (counts_quiet text tokens first.quiet) (and_from (counts text comma) _ (and_from true _ refl (not_from_false _ no_end)) following.1.counting);
+        counting = list_all-append (counts text) tokens (comma ∷ others) ∙ and_from _ _ (counts_calm text 0 tokens first.calm) (and_from (counts text comma) _ (and_from true _ refl (not_from_false _ no_end)) following.1.counting);
         unscoped =
-            calm_first text tokens (comma ∷ others) first.unscoped first.quiet
-            ∙ ap (λ n. sets_server text n (is_symbol text comma 44 && true) others) depth
-            ∙ ap (λ test. sets_server text 0 (test && true) others) is_comma_here
+            calm_first text tokens (comma ∷ others) first.unscoped first.calm
+            ∙ ap (λ n. sets_server text n (divides text 0 comma) others) depth
+            ∙ ap (λ first. sets_server text 0 first others) is_comma_here
             ∙ following.1.unscoped;
       },
     )

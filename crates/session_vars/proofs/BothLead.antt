@@ -2,7 +2,7 @@
 use Rattle.std.proofs.Common.{◌≡◌, Bool, true, false, not, ◌&&◌, cond, List, [], ◌∷◌, ◌++◌, filter, refl, sym, ◌∙◌, ap, inl, inr, arith}
 use Rattle.std.specs.List.{list_all}
 use Rattle.std.proofs.lemmas.Bool.{cond-true, cond-false, cases_Bool, and_parts, and_from, or_parts, or_right}
-use Rattle.session_vars.specs.Settings.{AreSettings, value_at, applied, is_text, differs, names_differ, results_differ, has_to_change, changes_of, difference_of}
+use Rattle.session_vars.specs.Settings.{AreSettings, value_at, changed, applied, is_text, differs, names_differ, results_differ, has_to_change, changes_of, difference_of}
 use Rattle.session_vars.specs.Shapes.{changes_in, changes_by}
 use Rattle.session_vars.specs.Slots.{all_slots}
 use Rattle.session_vars.specs.Texts.{is_assigned, names_statement, names_text, session_by, session_text}
@@ -87,7 +87,7 @@ session_made from to =
 
 applied-append : (values : List SlotValue) (xs ys : List Change) → applied values (xs ++ ys) ≡ applied (applied values xs) ys
 applied-append values [] ys = refl
-applied-append values (change ∷ xs) ys = applied-append _ xs ys
+applied-append values (change ∷ xs) ys = applied-append (changed values change) xs ys
 
 -- the first two values are the wanted ones then
 kept_default : (value : SlotValue) → is_text value && true ≡ false → value ≡ Default

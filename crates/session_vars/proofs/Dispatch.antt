@@ -5,15 +5,16 @@ use Rattle.std.specs.Cmp.Lexicographic.{bytes_decides}
 use Rattle.std.specs.Option.{ForSome, option_or, option_to_list}
 use Rattle.std.proofs.lemmas.Bool.{cond-true, cond-false, and_from, and_left, and_right, or_cases, or_from}
 use Rattle.std.proofs.lemmas.Result.{IfOk-weaker}
-use Rattle.sql_tokens.specs.Words.{bytes_of, inside, word_by, word_of, is_word, says, same_text}
+use Rattle.sql_tokens.specs.Words.{bytes_of, inside, is_symbol, is_symbol_kind, word_by, word_of, is_word, says, same_text}
 use Rattle.sql_tokens.specs.declared.token.Token.{Token}
 use Rattle.sql_tokens.specs.declared.token.TokenKind.{TokenKind}
 use Rattle.sql_tokens.specs.declared.token.TokenKind.TheVariants.{Word, Name}
 use Rattle.session_vars.specs.Assignments.{slot_by, assigned, assignment, assignments}
 use Rattle.session_vars.specs.Names.{names_value, names_changes}
+use Rattle.session_vars.specs.Scopes.{before_comma, deeper, divides}
 use Rattle.session_vars.specs.Shapes.{own_changes}
 use Rattle.session_vars.specs.Slots.{name_of, assigned_slots, slot_named}
-use Rattle.session_vars.specs.Statement.{says_first, is_comma, is_session_word, begins_with_session, before_comma}
+use Rattle.session_vars.specs.Statement.{says_first, is_session_word, begins_with_session}
 use Rattle.session_vars.specs.Transactions.{mode_of, transaction_mode, mode_changes}
 use Rattle.session_vars.specs.declared.change.Change.{Change}
 use Rattle.session_vars.specs.declared.slot.Slot.{Slot}
@@ -59,9 +60,9 @@ unnamed_word : (named : Option (List ℕ)) (word : List ℕ) → slot_in (map to
 unnamed_word None word none is = refl
 unnamed_word (Some name) word none is = unnamed name word none is
 
--- a word is no comma
-no_comma : (text : List ℕ) (token : Token) (word : List ℕ) → says text token word ≡ true → is_comma text token ≡ false
-no_comma text token word is = and_left _ _ (no_symbol token.kind (bytes_of text token) word is)
+-- a word divides nothing
+no_comma : (text : List ℕ) (depth : ℕ) (token : Token) → is_symbol_kind token.kind ≡ false → divides text depth token ≡ false
+no_comma text depth token is = and_left _ _ (and_left _ _ is)
 
 or_none : {A : Type 0} (found : Option A) → option_or found None ≡ found
 or_none None = refl
@@ -85,8 +86,8 @@ names_unassigned : (text : List ℕ) (token : Token) (tokens : List Token) → s
 unfolding slot_in
 names_unassigned text token tokens is =
     none_assigned text (token ∷ tokens)
-    (ap (assignment text) (cond-false (is_comma text token) _ _ (no_comma text token (codes "NAMES") is))
-    ∙ unassigned text token (before_comma text tokens) (names_no_session text token is) (unnamed_token token.kind (bytes_of text token) (codes "NAMES") refl is))
+    (ap (assignment text) (cond-false (divides text 0 token) _ _ (no_comma text 0 token (no_symbol token.kind (bytes_of text token) (codes "NAMES") is)))
+    ∙ unassigned text token (before_comma text (deeper text token 0) tokens) (names_no_session text token is) (unnamed_token token.kind (bytes_of text token) (codes "NAMES") refl is))
 
 pub names_alone : (text : List ℕ) (tokens : List Token) → says_first text tokens (codes "NAMES") ≡ true → own_changes text tokens ≡ names_changes (names_value text tokens)
 names_alone text [] is = absurd (cc)
@@ -122,18 +123,25 @@ session_no_names text (token ∷ tokens) is =
       | inr e ↦ apart (word_of text token) (codes "LOCAL") (codes "NAMES") refl e
     ]
 
-session_no_comma : (text : List ℕ) (token : Token) → is_session_word text token ≡ true → is_comma text token ≡ false
-session_no_comma text token is = elim (or_cases (says text token (codes "SESSION")) (says text token (codes "LOCAL")) is) [ inl e ↦ no_comma text token (codes "SESSION") e | inr e ↦ no_comma text token (codes "LOCAL") e ]
+session_no_symbol : (text : List ℕ) (token : Token) → is_session_word text token ≡ true → is_symbol_kind token.kind ≡ false
+session_no_symbol text token is =
+    elim (or_cases (says text token (codes "SESSION")) (says text token (codes "LOCAL")) is) [
+      | inl e ↦ no_symbol token.kind (bytes_of text token) (codes "SESSION") e
+      | inr e ↦ no_symbol token.kind (bytes_of text token) (codes "LOCAL") e
+    ]
 
 transaction_unassigned : (text : List ℕ) (scope token : Token) (tokens : List Token) → is_session_word text scope ≡ true → says text token (codes "TRANSACTION") ≡ true → assignments text (scope ∷ token ∷ tokens) ≡ None
 unfolding slot_in assignment assigned
 transaction_unassigned text scope token tokens is transaction =
-    let front : before_comma text (scope ∷ token ∷ tokens) ≡ scope ∷ token ∷ before_comma text tokens =
-    cond-false (is_comma text scope) _ _ (session_no_comma text scope is) ∙ ap (λ (rest : List Token). scope ∷ rest) (cond-false (is_comma text token) _ _ (no_comma text token (codes "TRANSACTION") transaction)) in
+    let inner = deeper text scope 0 in
+    let rest = before_comma text (deeper text token inner) tokens in
+    let front : before_comma text 0 (scope ∷ token ∷ tokens) ≡ scope ∷ token ∷ rest =
+    cond-false (divides text 0 scope) _ _ (no_comma text 0 scope (session_no_symbol text scope is))
+    ∙ ap (λ (behind : List Token). scope ∷ behind) (cond-false (divides text inner token) _ _ (no_comma text inner token (no_symbol token.kind (bytes_of text token) (codes "TRANSACTION") transaction))) in
     none_assigned text (scope ∷ token ∷ tokens)
     (ap (assignment text) front
     ∙ cond-true (is_session_word text scope) _ _ is
-    ∙ ap (λ slot. assigned text slot (before_comma text tokens)) (unnamed_word (word_of text token) (codes "TRANSACTION") refl transaction))
+    ∙ ap (λ slot. assigned text slot rest) (unnamed_word (word_of text token) (codes "TRANSACTION") refl transaction))
 
 mode_alone_by : (text : List ℕ) (scope token : Token) (tokens : List Token) → is_session_word text scope ≡ true → says text token (codes "TRANSACTION") ≡ true → own_changes text (scope ∷ token ∷ tokens) ≡ mode_changes (mode_of text tokens)
 unfolding transaction_mode
@@ -171,9 +179,18 @@ scoped_alone text tokens left (Some scope) read is first other gives =
     ∙ ap (λ mode. option_or (mode_changes mode) (assignments text (scope ∷ left))) (not_mode text scope left other) in
     ok_is read (assignments text (scope ∷ left)) (own_changes text tokens) (sym same) gives
 
--- SESSION or LOCAL is no comma
-pub scope_no_comma : (text : List ℕ) (tokens left : List Token) (scope : Option Token) → begins_with_session text tokens ≡ true → IsNext tokens scope left → ForSome scope (λ token. is_comma text token ≡ false)
-scope_no_comma text tokens left None is first = λ token found. absurd (cc)
-scope_no_comma text tokens left (Some scope) is first = λ token found.
+-- SESSION or LOCAL is no symbol
+pub scope_no_symbol : (text : List ℕ) (tokens left : List Token) (scope : Option Token) → begins_with_session text tokens ≡ true → IsNext tokens scope left → ForSome scope (λ token. is_symbol_kind token.kind ≡ false)
+scope_no_symbol text tokens left None is first = λ token found. absurd (cc)
+scope_no_symbol text tokens left (Some scope) is first = λ token found.
     let same : scope ≡ token = cc in
-    subst (λ one. is_comma text one ≡ false) same (session_no_comma text scope (sym (ap (begins_with_session text) first) ∙ is))
+    subst (λ one. is_symbol_kind one.kind ≡ false) same (session_no_symbol text scope (sym (ap (begins_with_session text) first) ∙ is))
+
+-- and opens and closes no bracket
+no_deeper : (text : List ℕ) (token : Token) → is_symbol_kind token.kind ≡ false → deeper text token 0 ≡ 0
+no_deeper text token is = cond-false (is_symbol text token 40) _ _ (and_left _ _ is) ∙ cond-false (is_symbol text token 41) _ _ (and_left _ _ is)
+
+pub scope_outside : (text : List ℕ) (tokens left : List Token) (scope : Option Token) (old new : ℕ) → begins_with_session text tokens ≡ true → IsNext tokens scope left → old ≡ 0 → MatchOption scope (new ≡ old) (λ token. new ≡ deeper text token old) → new ≡ 0
+scope_outside text tokens left None old new is first outside depth = depth ∙ outside
+scope_outside text tokens left (Some scope) old new is first outside depth =
+    depth ∙ ap (deeper text scope) outside ∙ no_deeper text scope (session_no_symbol text scope (sym (ap (begins_with_session text) first) ∙ is))

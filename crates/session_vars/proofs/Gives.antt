@@ -1,9 +1,8 @@
 -- What SET statements give are tracked values.
-use Rattle.std.proofs.Common.{◌≡◌, ℕ, ◌-◌, Bool, true, false, not, ◌&&◌, cond, List, [], ◌∷◌, ◌++◌, Option, Some, None, length, take, drop, codes, refl, sym, subst, ◌∙◌, ap, inl, inr, arith, length-append}
+use Rattle.std.proofs.Common.{◌≡◌, ℕ, ◌-◌, Bool, true, false, not, ◌&&◌, cond, List, [], ◌∷◌, ◌++◌, Option, Some, None, take, drop, codes, refl, sym, subst, ◌∙◌, ap, inl, inr}
 use Rattle.std.specs.List.{list_all}
 use Rattle.std.proofs.lemmas.Bool.{cond-true, cond-false, cases_Bool, and_parts}
 use Rattle.std.proofs.lemmas.List.{append-nil}
-use Rattle.std.proofs.Math.Seq.{take-append_seam}
 use Rattle.sql_tokens.specs.Spans.{AreTokens}
 use Rattle.sql_tokens.specs.Tokens.{token_at, tokens_of}
 use Rattle.sql_tokens.specs.Words.{bytes_of, inside, is_symbol}
@@ -20,7 +19,7 @@ use Rattle.session_vars.specs.declared.change.SlotValue.TheVariants.{Default, Te
 use Rattle.session_vars.specs.declared.slot.Slot.{Slot}
 use Rattle.session_vars.specs.declared.slot.Slot.TheVariants.{Names, CharacterSetResults, SqlMode, SqlAutoIsNull}
 use Rattle.session_vars.proofs.OneToken.{word_front, number_front, alone, some_if, kept_is, quoted_value}
-use Rattle.session_vars.proofs.Rules.{IsWordText, IsNumberText, in_quotes, word_piece, number_piece, quoted_piece}
+use Rattle.session_vars.proofs.Rules.{IsWordText, IsNumberText, in_quotes, inside_quotes, word_piece, number_piece, quoted_piece}
 
 -- what is known of the bytes of a token of this kind
 abbrev pub IsTokenText : TokenKind → List ℕ → Type 0
@@ -82,12 +81,6 @@ default_tracked Names other = absurd (cc)
 default_tracked CharacterSetResults other = tt
 default_tracked _ other = inl (record { kind = Word; token = default_word; gives = refl })
 
--- a quoted text, by what stands inside
-inside_quotes : (bytes : List ℕ) → inside (in_quotes bytes) ≡ bytes
-inside_quotes bytes =
-    let size : length (in_quotes bytes) - 1 - 1 ≡ length bytes = omega (arith, length-append bytes (39 ∷ [])) in
-    ap (λ n. take n (bytes ++ 39 ∷ [])) size ∙ take-append_seam bytes (39 ∷ [])
-
 abbrev may_be_inside : Slot → List ℕ → Bool
 may_be_inside CharacterSetResults text = is_character_set text
 may_be_inside SqlMode text = not (has_reading_mode text)
@@ -146,5 +139,5 @@ pub negative_tracked : (slot : Slot) (kind : TokenKind) (bytes : List ℕ) (valu
 unfolding negative_value
 negative_tracked slot Number bytes value other text gives =
     let is : value ≡ Text (45 ∷ (bytes ++ [])) = kept_is (45 ∷ (bytes ++ [])) value (some_if (takes_numbers slot && true) (kept (45 ∷ (bytes ++ []))) value gives).1 in
-    assignable_tracked slot value other (inr (record { number = bytes; parts = ap value_text is ∙ ap (λ (rest : List ℕ). 45 ∷ rest) (append-nil bytes); token = alone Number bytes (number_piece bytes [] text tt); gives = gives }))
+    assignable_tracked slot value other (inr (inl (record { number = bytes; parts = ap value_text is ∙ ap (λ (rest : List ℕ). 45 ∷ rest) (append-nil bytes); token = alone Number bytes (number_piece bytes [] text tt); gives = gives })))
 negative_tracked slot kind bytes value other text gives = let none = (and_parts (takes_numbers slot) false (some_if (takes_numbers slot && false) (kept (45 ∷ (bytes ++ []))) value gives).0).1 in absurd (cc)

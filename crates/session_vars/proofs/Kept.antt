@@ -1,8 +1,8 @@
 -- Settings that SET statements change stay tracked.
-use Rattle.std.proofs.Common.{◌≡◌, ◌≤◌, ◌<◌, ℕ, ◌+◌, Bool, true, false, not, ◌&&◌, cond, nat_eq, nat_lt, bytes_eq, List, [], ◌∷◌, ◌++◌, Option, Some, None, length, set, take, drop, codes, find, option_map, option_and_then, refl, sym, subst, ◌∙◌, ap, inl, inr, arith}
+use Rattle.std.proofs.Common.{◌≡◌, ◌⊎◌, ◌≤◌, ◌<◌, ℕ, ◌+◌, Bool, true, false, not, ◌&&◌, cond, nat_eq, nat_lt, bytes_eq, List, [], ◌∷◌, ◌++◌, Option, Some, None, length, set, take, drop, codes, find, option_map, option_and_then, slice_set, refl, sym, subst, ◌∙◌, ap, inl, inr, arith}
 use Rattle.std.specs.Char.{to_ascii_lowercase, is_ascii_digit}
 use Rattle.std.specs.Option.{option_or}
-use Rattle.std.specs.List.{list_all, list_any, slice_split, onto_first, slice_get}
+use Rattle.std.specs.List.{list_all, list_any, onto_first, slice_get}
 use Rattle.std.proofs.lemmas.Bool.{cond-true, cond-false, cond_both, cases_Bool, cases_eq, cases_lt, and_parts, and_from, eq-eqb, lt-ltb, le-ltb, agree_below_at}
 use Rattle.std.proofs.lemmas.Grind.{get_or-set_at}
 use Rattle.std.proofs.lemmas.List.{append-nil, length-set, get_or-set_other}
@@ -13,14 +13,15 @@ use Rattle.sql_tokens.specs.declared.token.Token.{Token}
 use Rattle.sql_tokens.specs.declared.token.TokenKind.{TokenKind}
 use Rattle.sql_tokens.specs.declared.token.TokenKind.TheVariants.{Word, Quoted, Name, Number, SysVar}
 use Rattle.session_vars.specs.Assignments.{slot_of_variable, slot_of_name, slot_by, change_to, written, behind_colon, assigned, assignment, all_assigned, assignments, with_change}
+use Rattle.session_vars.specs.Modes.{added_to}
 use Rattle.session_vars.specs.Names.{is_one_word_by, is_one_word, character_set, collation, lower_case, collated, names_value, names_changes}
-use Rattle.session_vars.specs.Scopes.{sets_server}
-use Rattle.session_vars.specs.Settings.{value_at, changed, applied, collation_names, collation_settings}
+use Rattle.session_vars.specs.Scopes.{deeper, divides, parts_of, sets_server}
+use Rattle.session_vars.specs.Settings.{value_at, value_after, changed, applied, collation_names, collation_settings}
 use Rattle.session_vars.specs.Shapes.{own_changes, own_shape, tracked_or_other, shape_behind, shape_by, set_shape}
 use Rattle.session_vars.specs.Slots.{name_of, all_slots, assigned_slots, place_of, slot_named, unless_transaction}
-use Rattle.session_vars.specs.Statement.{says_first, is_comma, is_session_word, spoken_by, statement_of}
+use Rattle.session_vars.specs.Statement.{says_first, is_session_word, spoken_by, statement_of}
 use Rattle.session_vars.specs.Texts.{is_names}
-use Rattle.session_vars.specs.Tracked.{IsCharacterSet, IsTrackedValue, AreTracked}
+use Rattle.session_vars.specs.Tracked.{IsAssignable, IsCharacterSet, IsTrackedValue, AreTracked}
 use Rattle.session_vars.specs.Transactions.{slot_of, value_of as mode_value, transaction_mode, mode_changes}
 use Rattle.session_vars.specs.Values.{character_sets, is_character_set, value_of, negative_value, plain_value}
 use Rattle.session_vars.specs.declared.change.Change.{Change}
@@ -29,19 +30,24 @@ use Rattle.session_vars.specs.declared.change.SlotValue.TheVariants.{Default, Te
 use Rattle.session_vars.specs.declared.shape.SetShape.{SetShape}
 use Rattle.session_vars.specs.declared.shape.SetShape.TheVariants.{Tracked, Global, NextTransaction, NotSet}
 use Rattle.session_vars.specs.declared.slot.Slot.{Slot}
-use Rattle.session_vars.specs.declared.slot.Slot.TheVariants.{Names, CharacterSetResults, TransactionIsolation, TransactionReadOnly}
+use Rattle.session_vars.specs.declared.slot.Slot.TheVariants.{Names, CharacterSetResults, SqlMode, TransactionIsolation, TransactionReadOnly}
 use Rattle.session_vars.specs.declared.transaction.Mode.{Mode}
 use Rattle.session_vars.specs.declared.transaction.Mode.TheVariants.{ReadUncommitted, ReadCommitted, RepeatableRead, Serializable, ReadOnly, ReadWrite}
+use Rattle.session_vars.proofs.Added.{AddsModes, IsReadChange, added_tracked, joined_tracked}
+use Rattle.session_vars.proofs.Assigned.{mode_slot}
 use Rattle.session_vars.proofs.Gives.{AreFound, statement_found, value_tracked, negative_tracked, default_tracked}
 use Rattle.session_vars.proofs.NamesAgain.{one_word}
 use Rattle.session_vars.proofs.OneToken.{alone, some_if, word_text}
 use Rattle.session_vars.proofs.Pieces.{At, scanned}
 use Rattle.session_vars.proofs.Rules.{IsWordText, IsNumberText, word_piece, number_piece, quoted_piece}
 
--- changes to tracked values
+-- a change to a tracked value, or of the mode by an expression over the one before it
+abbrev pub IsTrackedChange : Change → Type 0
+IsTrackedChange change = ((change.adds ≡ false) × IsTrackedValue change.slot change.value) ⊎ AddsModes change
+
 abbrev pub AreTrackedChanges : List Change → Type 0
 AreTrackedChanges [] = Unit {0}
-AreTrackedChanges (change ∷ changes) = IsTrackedValue change.slot change.value × AreTrackedChanges changes
+AreTrackedChanges (change ∷ changes) = IsTrackedChange change × AreTrackedChanges changes
 
 -- no name is that of `names`
 find_passes : (p q : Slot → Bool) (slots : List Slot) (slot : Slot) → list_all q slots ≡ true → find p slots ≡ Some slot → q slot ≡ true
@@ -92,12 +98,13 @@ some_named None slot is = absurd (cc)
 some_named (Some name) slot is = named_other name slot is
 
 -- an assignment gives a tracked value
-abbrev IsTrackedChange : Change → Type 0
-IsTrackedChange change = IsTrackedValue change.slot change.value
-
 changed_to : (slot : Slot) (found : Option SlotValue) (change : Change) → ((value : SlotValue) → found ≡ Some value → IsTrackedValue slot value) → change_to slot found ≡ Some change → IsTrackedChange change
 changed_to slot None change tracked is = absurd (cc)
-changed_to slot (Some value) change tracked is = subst IsTrackedChange (cc) (tracked value refl)
+changed_to slot (Some value) change tracked is = let same : record { slot = slot; value = value; adds = false } ≡ change = cc in subst IsTrackedChange same (inl (refl, tracked value refl))
+
+expression_tracked : (change : Change) → IsReadChange change → IsTrackedChange change
+expression_tracked change (inl new) = inl (new.0, subst (λ (s : Slot). IsTrackedValue s change.value) (sym (mode_slot change.slot new.1.0)) (subst (λ (s : Slot). IsAssignable s change.value) (mode_slot change.slot new.1.0) new.1.1))
+expression_tracked change (inr adds) = inr adds
 
 written_tracked : (text : List ℕ) (slot : Slot) (tokens : List Token) (change : Change) → is_names slot ≡ false → AreFound text tokens → written text slot tokens ≡ Some change → IsTrackedChange change
 unfolding written
@@ -106,7 +113,7 @@ written_tracked text slot (token ∷ []) change other are is =
     changed_to slot (value_of slot token.kind (bytes_of text token)) change (λ value gives. value_tracked slot token.kind (bytes_of text token) value other are.0 gives) is
 written_tracked text slot (minus ∷ token ∷ []) change other are is =
     changed_to slot (negative_value slot token.kind (bytes_of text token)) change (λ value gives. negative_tracked slot token.kind (bytes_of text token) value other are.1.0 gives) (some_if (is_symbol text minus 45) _ change is).1
-written_tracked text slot (minus ∷ token ∷ more ∷ tokens) change other are is = absurd (cc)
+written_tracked text slot (minus ∷ token ∷ more ∷ tokens) change other are is = expression_tracked change (joined_tracked text slot (minus ∷ token ∷ more ∷ tokens) change is)
 
 colon_tracked : (text : List ℕ) (slot : Slot) (colon : Token) (tokens : List Token) (change : Change) → is_names slot ≡ false → AreFound text tokens → behind_colon text slot colon tokens ≡ Some change → IsTrackedChange change
 unfolding behind_colon
@@ -142,13 +149,12 @@ onto_found : (text : List ℕ) (token : Token) (parts : List (List Token)) → A
 onto_found text token [] is are = (is, tt)
 onto_found text token (part ∷ parts) is are = ((is.0, are.0), are.1)
 
-split_found : (text : List ℕ) (tokens : List Token) → AreFound text tokens → AllFound text (slice_split (is_comma text) tokens)
-split_found text [] are = (tt, tt)
-split_found text (token ∷ tokens) are =
-    let rest = split_found text tokens are.1 in
-    elim (cases_Bool (is_comma text token)) [
-      | inl e ↦ subst (AllFound text) (sym (cond-true (is_comma text token) _ _ e)) (tt, rest)
-      | inr e ↦ subst (AllFound text) (sym (cond-false (is_comma text token) _ _ e)) (onto_found text token (slice_split (is_comma text) tokens) (are.0, tt) rest)
+split_found : (text : List ℕ) (depth : ℕ) (tokens : List Token) → AreFound text tokens → AllFound text (parts_of text depth tokens)
+split_found text depth [] are = (tt, tt)
+split_found text depth (token ∷ tokens) are =
+    elim (cases_Bool (divides text depth token)) [
+      | inl e ↦ subst (AllFound text) (sym (cond-true (divides text depth token) _ _ e)) (tt, split_found text 0 tokens are.1)
+      | inr e ↦ subst (AllFound text) (sym (cond-false (divides text depth token) _ _ e)) (onto_found text token (parts_of text (deeper text token depth) tokens) (are.0, tt) (split_found text (deeper text token depth) tokens are.1))
     ]
 
 with_tracked : (first : Option Change) (rest : Option (List Change)) (changes : List Change) → ((change : Change) → first ≡ Some change → IsTrackedChange change) → ((more : List Change) → rest ≡ Some more → AreTrackedChanges more) → with_change first rest ≡ Some changes → AreTrackedChanges changes
@@ -162,7 +168,7 @@ all_tracked text (part ∷ parts) changes are is = with_tracked (assignment text
 
 assignments_tracked : (text : List ℕ) (tokens : List Token) (changes : List Change) → AreFound text tokens → assignments text tokens ≡ Some changes → AreTrackedChanges changes
 unfolding assignments
-assignments_tracked text tokens changes are is = all_tracked text (slice_split (is_comma text) tokens) changes (split_found text tokens are) is
+assignments_tracked text tokens changes are is = all_tracked text (parts_of text 0 tokens) changes (split_found text 0 tokens are) is
 
 -- a mode gives a tracked value
 one_digit : IsNumberText (codes "1")
@@ -184,7 +190,7 @@ mode_assignable ReadWrite = inl (record { kind = Number; token = alone Number (c
 
 mode_tracked : (mode : Option Mode) (changes : List Change) → mode_changes mode ≡ Some changes → AreTrackedChanges changes
 mode_tracked None changes is = absurd (cc)
-mode_tracked (Some mode) changes is = let same : record { slot = slot_of mode; value = Text (mode_value mode) } ∷ [] ≡ changes = cc in subst AreTrackedChanges same (mode_assignable mode, tt)
+mode_tracked (Some mode) changes is = let same : record { slot = slot_of mode; value = Text (mode_value mode); adds = false } ∷ [] ≡ changes = cc in subst AreTrackedChanges same (inl (refl, mode_assignable mode), tt)
 
 -- letters of either case are as good
 lower_past : (b : ℕ) → 91 ≤ b → to_ascii_lowercase b ≡ b
@@ -285,8 +291,8 @@ names_tracked text (names ∷ set ∷ collate ∷ name ∷ more ∷ tokens) valu
 names_changes_tracked : (value : Option (List ℕ)) (changes : List Change) → ((name : List ℕ) → value ≡ Some name → IsTrackedValue Names (Text name)) → names_changes value ≡ Some changes → AreTrackedChanges changes
 names_changes_tracked None changes tracked is = absurd (cc)
 names_changes_tracked (Some value) changes tracked is =
-    let same : record { slot = Names; value = Text value } ∷ record { slot = CharacterSetResults; value = Default } ∷ [] ≡ changes = cc in
-    subst AreTrackedChanges same (tracked value refl, (tt, tt))
+    let same : record { slot = Names; value = Text value; adds = false } ∷ record { slot = CharacterSetResults; value = Default; adds = false } ∷ [] ≡ changes = cc in
+    subst AreTrackedChanges same (inl (refl, tracked value refl), (inl (refl, tt), tt))
 
 -- so all that a SET statement gives is tracked
 abbrev AllTracked : Option (List Change) → Type 0
@@ -329,15 +335,25 @@ within : (slot : Slot) → place_of slot < 21
 within Names = omega arith
 within _ = omega arith
 
-changed_tracked : (values : List SlotValue) (change : Change) → AreTracked values → IsTrackedChange change → AreTracked (changed values change)
-changed_tracked values change are is = (
-  length-set values (place_of change.slot) change.value ∙ are.0,
-  λ slot.
-      elim (cases_eq (place_of change.slot) (place_of slot)) [
-        | inl same ↦ subst (IsTrackedValue slot) (sym (get_or-set_at values (place_of change.slot) (place_of slot) change.value Default (sym same) (omega (arith, within change.slot, are.0)))) (subst (λ (s : Slot). IsTrackedValue s change.value) (one_slot change.slot slot same) is)
-        | inr other ↦ subst (IsTrackedValue slot) (sym (get_or-set_other values (place_of change.slot) (place_of slot) change.value Default (λ same. other (sym same)))) (are.1 slot)
+set_tracked : (values : List SlotValue) (slot : Slot) (value : SlotValue) → AreTracked values → IsTrackedValue slot value → AreTracked (slice_set values (place_of slot) value)
+set_tracked values slot value are is = (
+  length-set values (place_of slot) value ∙ are.0,
+  λ other.
+      elim (cases_eq (place_of slot) (place_of other)) [
+        | inl same ↦ subst (IsTrackedValue other) (sym (get_or-set_at values (place_of slot) (place_of other) value Default (sym same) (omega (arith, within slot, are.0)))) (subst (λ (s : Slot). IsTrackedValue s value) (one_slot slot other same) is)
+        | inr apart ↦ subst (IsTrackedValue other) (sym (get_or-set_other values (place_of slot) (place_of other) value Default (λ same. apart (sym same)))) (are.1 other)
       ],
 )
+
+after_tracked : (old : SlotValue) (change : Change) → IsTrackedValue change.slot old → IsTrackedChange change → IsTrackedValue change.slot (value_after old change)
+after_tracked old change tracked (inl new) = subst (IsTrackedValue change.slot) (sym (cond-false change.adds _ _ new.0)) new.1
+after_tracked old change tracked (inr adds) =
+    let slot : change.slot ≡ SqlMode = mode_slot change.slot adds.takes in
+    let before : IsAssignable SqlMode old = subst (λ (s : Slot). IsTrackedValue s old) slot tracked in
+    subst (IsTrackedValue change.slot) (sym (cond-true change.adds _ _ adds.adds)) (subst (λ (s : Slot). IsTrackedValue s (added_to old change.value)) (sym slot) (added_tracked old change before adds))
+
+changed_tracked : (values : List SlotValue) (change : Change) → AreTracked values → IsTrackedChange change → AreTracked (changed values change)
+changed_tracked values change are is = set_tracked values change.slot (value_after (value_at values change.slot) change) are (after_tracked (value_at values change.slot) change (are.1 change.slot) is)
 
 applied_tracked : (values : List SlotValue) (changes : List Change) → AreTracked values → AreTrackedChanges changes → AreTracked (applied values changes)
 applied_tracked values [] are all = are

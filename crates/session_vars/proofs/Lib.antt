@@ -1,4 +1,6 @@
-pub mod Again
+pub mod Added
+pub mod Adding
+mod Again
 pub mod Assigned
 pub mod BothLead
 pub mod Dispatch

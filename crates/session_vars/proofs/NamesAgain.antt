@@ -97,7 +97,7 @@ names_read text rest is =
 
 -- the changes that SET NAMES makes
 abbrev pub changes_to : List ℕ → List Change
-changes_to value = record { slot = Names; value = Text value } ∷ record { slot = CharacterSetResults; value = Default } ∷ []
+changes_to value = record { slot = Names; value = Text value; adds = false } ∷ record { slot = CharacterSetResults; value = Default; adds = false } ∷ []
 
 -- a statement of which SET NAMES reads a value
 names_shape : (text rest value : List ℕ) (tokens : List Token) → IsNamesRead text rest → statement_of text ≡ token_of Word 0 (codes "SET") ∷ token_of Word 4 (codes "NAMES") ∷ tokens → sets_server text 0 false tokens ≡ false → names_value text (token_of Word 4 (codes "NAMES") ∷ tokens) ≡ Some value → set_shape text ≡ Tracked (changes_to value)

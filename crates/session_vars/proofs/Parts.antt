@@ -1,31 +1,37 @@
 -- Assignments, one after the other.
-use Rattle.std.proofs.Common.{◌≡◌, ℕ, Bool, true, false, List, [], ◌∷◌, ◌++◌, take, cond, Option, Some, None, option_map, refl, sym, ◌∙◌, ap, inl, inr, append_assoc}
-use Rattle.std.specs.List.{slice_split, onto_first}
-use Rattle.std.proofs.lemmas.Bool.{cond-true, cond-false, cases_Bool}
+use Rattle.std.proofs.Common.{◌≡◌, ◌≤◌, ℕ, Bool, true, false, ◌&&◌, nat_eq, nat_le, length, arith, List, [], ◌∷◌, ◌++◌, take, cond, Option, Some, None, option_map, refl, sym, ◌∙◌, ap, inl, inr, append_assoc}
+use Rattle.std.specs.List.{onto_first}
+use Rattle.std.proofs.lemmas.Bool.{cond-true, cond-false, cases_Bool, cases_lt, and_right, lt-leb}
+use Rattle.std.proofs.lemmas.List.{take_all, length-take-le}
 use Rattle.sql_tokens.specs.declared.token.Token.{Token}
-use Rattle.sql_tokens.specs.Words.{bytes_of}
+use Rattle.sql_tokens.specs.Words.{bytes_of, is_symbol}
 use Rattle.session_vars.specs.Assignments.{assigned, assignment, assignments, all_assigned, assigned_behind, behind_colon, slot_by, slot_of_name, with_change, written}
-use Rattle.session_vars.specs.Statement.{is_comma, is_session_word, before_comma, behind_comma}
+use Rattle.session_vars.specs.Modes.{joined, takes_modes}
+use Rattle.session_vars.specs.Scopes.{before_comma, behind_comma, deeper, divides, parts_of}
+use Rattle.session_vars.specs.Statement.{is_session_word}
 use Rattle.session_vars.specs.declared.change.Change.{Change}
 use Rattle.session_vars.specs.declared.slot.Slot.{Slot}
 
 -- the parts behind a comma
 abbrev pub parts_behind : (text : List ℕ) → Option (List Token) → List (List Token)
 parts_behind text None = []
-parts_behind text (Some tokens) = slice_split (is_comma text) tokens
+parts_behind text (Some tokens) = parts_of text 0 tokens
 
--- the first part ends at the first comma
-parts_from : (text : List ℕ) (tokens : List Token) → slice_split (is_comma text) tokens ≡ before_comma text tokens ∷ parts_behind text (behind_comma text tokens)
-parts_from text [] = refl
-parts_from text (token ∷ tokens) =
-    elim (cases_Bool (is_comma text token)) [
+-- the first part ends at the first comma outside brackets
+parts_from : (text : List ℕ) (depth : ℕ) (tokens : List Token) → parts_of text depth tokens ≡ before_comma text depth tokens ∷ parts_behind text (behind_comma text depth tokens)
+parts_from text depth [] = refl
+parts_from text depth (token ∷ tokens) =
+    let here = divides text depth token in
+    let inner = deeper text token depth in
+    let parts : List Token → Option (List Token) → List (List Token) = λ part rest. part ∷ parts_behind text rest in
+    elim (cases_Bool here) [
       | inl e ↦
-          cond-true (is_comma text token) _ _ e
-          ∙ sym (ap (λ (part : List Token). part ∷ parts_behind text (behind_comma text (token ∷ tokens))) (cond-true (is_comma text token) _ _ e) ∙ ap (λ (rest : Option (List Token)). [] ∷ parts_behind text rest) (cond-true (is_comma text token) _ _ e))
+          cond-true here _ _ e
+          ∙ sym (ap (λ (part : List Token). parts part (behind_comma text depth (token ∷ tokens))) (cond-true here _ _ e) ∙ ap (λ (rest : Option (List Token)). parts [] rest) (cond-true here _ _ e))
       | inr e ↦
-          cond-false (is_comma text token) _ _ e
-          ∙ ap (onto_first token) (parts_from text tokens)
-          ∙ sym (ap (λ (part : List Token). part ∷ parts_behind text (behind_comma text (token ∷ tokens))) (cond-false (is_comma text token) _ _ e) ∙ ap (λ (rest : Option (List Token)). (token ∷ before_comma text tokens) ∷ parts_behind text rest) (cond-false (is_comma text token) _ _ e))
+          cond-false here _ _ e
+          ∙ ap (onto_first token) (parts_from text inner tokens)
+          ∙ sym (ap (λ (part : List Token). parts part (behind_comma text depth (token ∷ tokens))) (cond-false here _ _ e) ∙ ap (λ (rest : Option (List Token)). parts (token ∷ before_comma text inner tokens) rest) (cond-false here _ _ e))
     ]
 
 behind : (text : List ℕ) (part : List Token) (rest : Option (List Token)) → all_assigned text (part ∷ parts_behind text rest) ≡ with_change (assignment text part) (assigned_behind text rest)
@@ -34,25 +40,25 @@ behind text part None = refl
 behind text part (Some more) = refl
 
 -- the first assignment, and the others
-pub assignments_from : (text : List ℕ) (tokens : List Token) → assignments text tokens ≡ with_change (assignment text (before_comma text tokens)) (assigned_behind text (behind_comma text tokens))
+pub assignments_from : (text : List ℕ) (tokens : List Token) → assignments text tokens ≡ with_change (assignment text (before_comma text 0 tokens)) (assigned_behind text (behind_comma text 0 tokens))
 unfolding assignments
-assignments_from text tokens = ap (all_assigned text) (parts_from text tokens) ∙ behind text (before_comma text tokens) (behind_comma text tokens)
+assignments_from text tokens = ap (all_assigned text) (parts_from text 0 tokens) ∙ behind text (before_comma text 0 tokens) (behind_comma text 0 tokens)
 
 -- none, where the first is none
-pub none_assigned : (text : List ℕ) (tokens : List Token) → assignment text (before_comma text tokens) ≡ None → assignments text tokens ≡ None
-none_assigned text tokens first = assignments_from text tokens ∙ ap (λ (change : Option Change). with_change change (assigned_behind text (behind_comma text tokens))) first
+pub none_assigned : (text : List ℕ) (tokens : List Token) → assignment text (before_comma text 0 tokens) ≡ None → assignments text tokens ≡ None
+none_assigned text tokens first = assignments_from text tokens ∙ ap (λ (change : Option Change). with_change change (assigned_behind text (behind_comma text 0 tokens))) first
 
 -- the last one, and one with others behind it
-pub last_assigned : (text : List ℕ) (tokens : List Token) (change : Change) → assignment text (before_comma text tokens) ≡ Some change → behind_comma text tokens ≡ None → assignments text tokens ≡ Some (change ∷ [])
+pub last_assigned : (text : List ℕ) (tokens : List Token) (change : Change) → assignment text (before_comma text 0 tokens) ≡ Some change → behind_comma text 0 tokens ≡ None → assignments text tokens ≡ Some (change ∷ [])
 last_assigned text tokens change first end =
     assignments_from text tokens
-    ∙ ap (λ (one : Option Change). with_change one (assigned_behind text (behind_comma text tokens))) first
+    ∙ ap (λ (one : Option Change). with_change one (assigned_behind text (behind_comma text 0 tokens))) first
     ∙ ap (λ (rest : Option (List Token)). with_change (Some change) (assigned_behind text rest)) end
 
-pub next_assigned : (text : List ℕ) (tokens rest : List Token) (change : Change) → assignment text (before_comma text tokens) ≡ Some change → behind_comma text tokens ≡ Some rest → assignments text tokens ≡ with_change (Some change) (assignments text rest)
+pub next_assigned : (text : List ℕ) (tokens rest : List Token) (change : Change) → assignment text (before_comma text 0 tokens) ≡ Some change → behind_comma text 0 tokens ≡ Some rest → assignments text tokens ≡ with_change (Some change) (assignments text rest)
 next_assigned text tokens rest change first more =
     assignments_from text tokens
-    ∙ ap (λ (one : Option Change). with_change one (assigned_behind text (behind_comma text tokens))) first
+    ∙ ap (λ (one : Option Change). with_change one (assigned_behind text (behind_comma text 0 tokens))) first
     ∙ ap (λ (others : Option (List Token)). with_change (Some change) (assigned_behind text others)) more
 
 -- a change before others, behind those that were there
@@ -65,27 +71,57 @@ pub behind_by : (text : List ℕ) (more : Bool) (tokens : List Token) → assign
 behind_by text true tokens = refl
 behind_by text false tokens = refl
 
--- more tokens behind five make no difference, and so neither do more than seven in an assignment
-same_long : (text : List ℕ) (slot : Option Slot) (a b c d e : Token) (xs ys : List Token) → assigned text slot (a ∷ b ∷ c ∷ d ∷ e ∷ xs) ≡ assigned text slot (a ∷ b ∷ c ∷ d ∷ e ∷ ys)
-unfolding assigned behind_colon written
-same_long text None a b c d e xs ys = refl
-same_long text (Some slot) a b c d e xs ys = refl
+-- more than sixty tokens are no value, and so sixty-five or more are no assignment
+long_written : (text : List ℕ) (slot : Slot) (tokens : List Token) → 61 ≤ length tokens → written text slot tokens ≡ None
+unfolding written joined
+long_written text slot [] long = absurd (omega arith)
+long_written text slot (a ∷ []) long = absurd (omega arith)
+long_written text slot (a ∷ b ∷ []) long = absurd (omega arith)
+long_written text slot (a ∷ b ∷ c ∷ tokens) long =
+    let all = a ∷ b ∷ c ∷ tokens in
+    cond-false (takes_modes slot && nat_le (length all) 60) _ _ (and_right (takes_modes slot) _ (lt-leb (length all) 60 (omega arith)))
 
-pub assignment_front : (text : List ℕ) (tokens : List Token) → assignment text (take 7 tokens) ≡ assignment text tokens
+long_colon : (text : List ℕ) (slot : Slot) (colon : Token) (tokens : List Token) → 62 ≤ length tokens → behind_colon text slot colon tokens ≡ None
+unfolding behind_colon
+long_colon text slot colon [] long = refl
+long_colon text slot colon (equals ∷ tokens) long =
+    elim (cases_Bool (is_symbol text equals 61 && nat_eq colon.end equals.start)) [
+      | inl e ↦ cond-true _ _ _ e ∙ long_written text slot tokens (omega arith)
+      | inr e ↦ cond-false _ _ _ e
+    ]
+
+long_assigned : (text : List ℕ) (slot : Option Slot) (tokens : List Token) → 63 ≤ length tokens → assigned text slot tokens ≡ None
+unfolding assigned
+long_assigned text None tokens long = refl
+long_assigned text (Some slot) [] long = refl
+long_assigned text (Some slot) (equals ∷ tokens) long =
+    elim (cases_Bool (is_symbol text equals 61)) [
+      | inl e ↦ cond-true (is_symbol text equals 61) _ _ e ∙ long_written text slot tokens (omega arith)
+      | inr e ↦
+          cond-false (is_symbol text equals 61) _ _ e
+          ∙ elim (cases_Bool (is_symbol text equals 58)) [
+            | inl f ↦ cond-true (is_symbol text equals 58) _ _ f ∙ long_colon text slot equals tokens (omega arith)
+            | inr f ↦ cond-false (is_symbol text equals 58) _ _ f
+          ]
+    ]
+
+long_assignment : (text : List ℕ) (tokens : List Token) → 65 ≤ length tokens → assignment text tokens ≡ None
 unfolding assignment
-assignment_front text [] = refl
-assignment_front text (a ∷ []) = refl
-assignment_front text (a ∷ b ∷ []) = refl
-assignment_front text (a ∷ b ∷ c ∷ []) = refl
-assignment_front text (a ∷ b ∷ c ∷ d ∷ []) = refl
-assignment_front text (a ∷ b ∷ c ∷ d ∷ e ∷ []) = refl
-assignment_front text (a ∷ b ∷ c ∷ d ∷ e ∷ f ∷ []) = refl
-assignment_front text (a ∷ b ∷ c ∷ d ∷ e ∷ f ∷ g ∷ tokens) =
-    let session = is_session_word text a in
-    let scoped = assigned text (slot_of_name text b) (c ∷ d ∷ e ∷ f ∷ g ∷ tokens) in
-    let bare : List Token → Option Change = λ rest. assigned text (slot_by a.kind (bytes_of text a)) (b ∷ c ∷ d ∷ e ∷ f ∷ g ∷ rest) in
-    ap (λ (change : Option Change). cond session change (bare [])) (same_long text (slot_of_name text b) c d e f g [] tokens)
-    ∙ ap (λ (change : Option Change). cond session scoped change) (same_long text (slot_by a.kind (bytes_of text a)) b c d e f (g ∷ []) (g ∷ tokens))
+long_assignment text [] long = refl
+long_assignment text (a ∷ []) long = refl
+long_assignment text (a ∷ b ∷ tokens) long =
+    elim (cases_Bool (is_session_word text a)) [
+      | inl e ↦ cond-true (is_session_word text a) _ _ e ∙ long_assigned text (slot_of_name text b) tokens (omega arith)
+      | inr e ↦ cond-false (is_session_word text a) _ _ e ∙ long_assigned text (slot_by a.kind (bytes_of text a)) (b ∷ tokens) (omega arith)
+    ]
+
+-- so those behind the first sixty-five make no difference
+pub assignment_front : (text : List ℕ) (tokens : List Token) → assignment text (take 65 tokens) ≡ assignment text tokens
+assignment_front text tokens =
+    elim (cases_lt (length tokens) 65) [
+      | inl short ↦ ap (assignment text) (take_all 65 tokens (omega arith))
+      | inr long ↦ long_assignment text (take 65 tokens) (omega (arith, length-take-le 65 tokens long)) ∙ sym (long_assignment text tokens long)
+    ]
 
 pub nothing : {A : Type 0} (o : Option A) → ((x : A) → o ≡ Some x → ⊥) → o ≡ None
 nothing None none = refl

@@ -11,15 +11,21 @@ use Rattle.sql_tokens.specs.declared.token.TokenKind.{TokenKind}
 use Rattle.sql_tokens.proofs.Runs.{run_all, run_ends}
 use Rattle.sql_tokens.proofs.Scan.{token_first}
 
--- behind a piece the text ends, or a blank or a comma stands
+-- behind a piece the text ends, or a blank, a comma or a bracket stands
 abbrev pub Stops : List ℕ → Type 0
 Stops [] = Unit {0}
-Stops (b ∷ rest) = (b ≡ 32) ⊎ (b ≡ 44)
+Stops (b ∷ rest) = (b ≡ 32) ⊎ ((b ≡ 44) ⊎ ((b ≡ 40) ⊎ (b ≡ 41)))
+
+pub stops_at : (p : ℕ → Bool) (b : ℕ) (rest : List ℕ) → Stops (b ∷ rest) → p 32 ≡ false → p 44 ≡ false → p 40 ≡ false → p 41 ≡ false → p b ≡ false
+stops_at p b rest (inl same) blank comma opening closing = ap p same ∙ blank
+stops_at p b rest (inr (inl same)) blank comma opening closing = ap p same ∙ comma
+stops_at p b rest (inr (inr (inl same))) blank comma opening closing = ap p same ∙ opening
+stops_at p b rest (inr (inr (inr same))) blank comma opening closing = ap p same ∙ closing
 
 -- a run ends there
-pub run_stops : (p : ℕ → Bool) (xs rest : List ℕ) → list_all p xs ≡ true → p 32 ≡ false → p 44 ≡ false → Stops rest → prefix_len p (xs ++ rest) ≡ length xs
-run_stops p xs [] all blank comma stops = ap (prefix_len p) (append-nil xs) ∙ run_all p xs all
-run_stops p xs (b ∷ rest) all blank comma stops = run_ends p xs b rest all (elim stops [ inl e ↦ ap p e ∙ blank | inr e ↦ ap p e ∙ comma ])
+pub run_stops : (p : ℕ → Bool) (xs rest : List ℕ) → list_all p xs ≡ true → p 32 ≡ false → p 44 ≡ false → p 40 ≡ false → p 41 ≡ false → Stops rest → prefix_len p (xs ++ rest) ≡ length xs
+run_stops p xs [] all blank comma opening closing stops = ap (prefix_len p) (append-nil xs) ∙ run_all p xs all
+run_stops p xs (b ∷ rest) all blank comma opening closing stops = run_ends p xs b rest all (stops_at p b rest stops blank comma opening closing)
 
 -- these bytes stand at this place, to the end
 abbrev pub At : (text : List ℕ) → (place : ℕ) → List ℕ → Type 0

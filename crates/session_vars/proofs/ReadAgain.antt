@@ -21,7 +21,7 @@ use Rattle.session_vars.proofs.Assigned.{AreAssignable}
 use Rattle.session_vars.proofs.NamesAgain.{names_again}
 
 abbrev pub change_of : Slot → SlotValue → Change
-change_of slot value = record { slot = slot; value = value }
+change_of slot value = record { slot = slot; value = value; adds = false }
 
 -- what SET SESSION makes of tracked settings can be assigned
 tracked_assignable : (slot : Slot) (value : SlotValue) → IsTrackedValue slot value → is_assigned (change_of slot value) ≡ true → (is_names slot ≡ false) × IsAssignable slot value
@@ -39,7 +39,7 @@ assignable from to (slot ∷ slots) tracked =
       | inl e ↦
           let first = ap (filter is_assigned) (cond-true (has_to_change from to slot) _ _ e) in
           elim (cases_Bool (is_assigned change)) [
-            | inl f ↦ subst AreAssignable (sym (first ∙ cond-true (is_assigned change) _ _ f)) (tracked_assignable slot (value_at to slot) (tracked.1 slot) f, rest)
+            | inl f ↦ let is = tracked_assignable slot (value_at to slot) (tracked.1 slot) f in subst AreAssignable (sym (first ∙ cond-true (is_assigned change) _ _ f)) ((is.0, (is.1, refl)), rest)
             | inr f ↦ subst AreAssignable (sym (first ∙ cond-false (is_assigned change) _ _ f)) rest
           ]
       | inr e ↦ subst AreAssignable (sym (ap (filter is_assigned) (cond-false (has_to_change from to slot) _ _ e))) rest

@@ -4,23 +4,24 @@ use Rattle.std.specs.Char.{is_ascii_digit, is_ascii_hexdigit}
 use Rattle.std.specs.List.{prefix_len, list_all}
 use Rattle.std.proofs.lemmas.Bool.{cond-true, cond-false, cases_lt, cases_Bool, both_ways, and_parts, and_from, and_left, and_right, or_cases, or_left, or_from, eqb-true, leb-true, ne_eqb, lt-ltb, not_from_false, agree_below, agree_below_at}
 use Rattle.std.proofs.lemmas.List.Folds.{list_all-append}
-use Rattle.std.proofs.Math.Seq.{take-append-add, take-length}
-use Rattle.sql_tokens.specs.Bytes.{has_byte, is_white, is_word_byte, later}
+use Rattle.std.proofs.Math.Seq.{take-append-add, take-append_seam, take-length}
+use Rattle.sql_tokens.specs.Bytes.{followed_by, has_byte, is_name_byte, is_white, is_word_byte, later}
 use Rattle.sql_tokens.specs.Comments.{begins_line_comment, begins_block}
 use Rattle.sql_tokens.specs.Marks.{IsPlain, IsInside}
 use Rattle.sql_tokens.specs.Numbers.{number_length}
 use Rattle.sql_tokens.specs.Numerals.{IsFraction, AreSigned, IsExponent, IsNumeral}
 use Rattle.sql_tokens.specs.Quotes.{begins_quoted, begins_name, quoted_length, to_closing}
 use Rattle.sql_tokens.specs.Tokens.{closed, plain_token_at, token_at}
+use Rattle.sql_tokens.specs.Words.{inside}
 use Rattle.sql_tokens.specs.Variables.{system_variable_length}
 use Rattle.sql_tokens.specs.declared.token.TokenKind.{TokenKind}
-use Rattle.sql_tokens.specs.declared.token.TokenKind.TheVariants.{Word, Quoted, Number, Symbol}
+use Rattle.sql_tokens.specs.declared.token.TokenKind.TheVariants.{Word, Quoted, Number, SysVar, Symbol}
 use Rattle.sql_tokens.proofs.Insides.{closes_closing}
 use Rattle.sql_tokens.proofs.Lengths.{number_length-le}
 use Rattle.sql_tokens.proofs.LongestNumbers.{number_found, longest_number}
 use Rattle.sql_tokens.proofs.WordStarts.{other, not_first, no_number, word_first}
 use Rattle.session_vars.specs.Values.{is_plain_byte}
-use Rattle.session_vars.proofs.Pieces.{Stops, IsPiece, run_stops}
+use Rattle.session_vars.proofs.Pieces.{Stops, IsPiece, run_stops, stops_at}
 
 -- a byte that begins no comment, quoted text, name or variable
 pub record IsOrdinary (b : ℕ) : Type 0 where
@@ -107,7 +108,7 @@ word_piece [] rest is stops = absurd is
 word_piece (b ∷ bytes) rest is stops =
     let part = b ∷ bytes in
     let word : is_word_byte b ≡ true = (and_parts (is_word_byte b) (list_all is_word_byte bytes) is.1).0 in
-    let run : prefix_len is_word_byte (part ++ rest) ≡ length part = run_stops is_word_byte part rest is.1 refl refl stops in
+    let run : prefix_len is_word_byte (part ++ rest) ≡ length part = run_stops is_word_byte part rest is.1 refl refl refl refl stops in
     record {
       some = omega arith;
       dark = dark_by is_word_byte b word refl;
@@ -191,7 +192,7 @@ no_longer bytes (b ∷ rest) n is within stops =
           let front : take n (bytes ++ b ∷ rest) ≡ bytes ++ b ∷ take (n - length bytes - 1) rest = ap (λ k. take k (bytes ++ b ∷ rest)) more ∙ take-append-add bytes (b ∷ rest) (suc (n - length bytes - 1)) in
           let all : list_all is_numeral_byte bytes && (is_numeral_byte b && list_all is_numeral_byte (take (n - length bytes - 1) rest)) ≡ true = sym (list_all-append is_numeral_byte bytes (b ∷ take (n - length bytes - 1) rest)) ∙ sym (ap (list_all is_numeral_byte) front) ∙ numeral_bytes _ is in
           let numeral : is_numeral_byte b ≡ true = (and_parts _ _ (and_parts (list_all is_numeral_byte bytes) _ all).1).0 in
-          let stop : is_numeral_byte b ≡ false = elim stops [ inl blank ↦ ap is_numeral_byte blank | inr comma ↦ ap is_numeral_byte comma ] in
+          let stop : is_numeral_byte b ≡ false = stops_at is_numeral_byte b rest stops refl refl refl refl in
           absurd (both_ways (is_numeral_byte b) stop numeral)
       | inr short ↦ short
     ]
@@ -260,7 +261,7 @@ plain_inside (b ∷ c ∷ bytes) all =
 
 no_quote : (rest : List ℕ) → Stops rest → has_byte rest 0 39 ≡ false
 no_quote [] stops = refl
-no_quote (b ∷ rest) stops = not_first b 39 rest (elim stops [ inl blank ↦ ap (λ n. nat_eq n 39) blank | inr comma ↦ ap (λ n. nat_eq n 39) comma ])
+no_quote (b ∷ rest) stops = not_first b 39 rest (stops_at (λ n. nat_eq n 39) b rest stops refl refl refl refl)
 
 abbrev pub in_quotes : List ℕ → List ℕ
 in_quotes bytes = 39 ∷ (bytes ++ 39 ∷ [])
@@ -282,3 +283,34 @@ quoted_piece bytes rest all stops =
           ∙ ap (λ end. closed Quoted end whole) (ap (later 1) closes)
           ∙ ap (λ (n : ℕ). (Quoted, n)) size;
     }
+
+-- a system variable: `@@`, and bytes of its name
+pub variable_piece : (name rest : List ℕ) → list_all is_name_byte name ≡ true → 0 < length name → Stops rest → IsPiece SysVar (64 ∷ 64 ∷ name) rest
+unfolding token_at begins_line_comment begins_block begins_quoted begins_name plain_token_at system_variable_length
+variable_piece name rest all some stops =
+    let behind = 64 ∷ (name ++ rest) in
+    let whole = 64 ∷ behind in
+    let run : prefix_len is_name_byte (name ++ rest) ≡ length name = run_stops is_name_byte name rest all refl refl refl refl stops in
+    let marks = and_from (has_byte whole 0 64) (has_byte whole 1 64) (is_first 64 behind) (and_from (nat_lt 1 (length whole)) true (lt-ltb 1 (length whole) (omega arith)) refl) in
+    let size : system_variable_length whole ≡ length (64 ∷ 64 ∷ name) =
+    cond-true (has_byte whole 0 64 && has_byte whole 1 64) _ 0 marks
+    ∙ ap (followed_by 2) run
+    ∙ cond-false (nat_eq (length name) 0) 0 _ (ne_eqb (length name) 0 (λ none. omega arith))
+    ∙ omega arith in
+    record {
+      some = omega arith;
+      dark = refl;
+      rule =
+          cond-false (begins_line_comment whole) _ _ (or_from _ _ (not_first 64 35 behind refl) (and_left _ _ (and_left _ _ (not_first 64 45 behind refl))))
+          ∙ cond-false (begins_block whole) _ _ (and_left _ _ (not_first 64 47 behind refl))
+          ∙ cond-false (begins_quoted whole) _ _ (or_from _ _ (not_first 64 39 behind refl) (not_first 64 34 behind refl))
+          ∙ cond-false (begins_name whole) _ _ (not_first 64 96 behind refl)
+          ∙ cond-true (not (nat_eq (system_variable_length whole) 0)) _ _ (not_from_false _ (ne_eqb (system_variable_length whole) 0 (λ none. omega (arith, size, none))))
+          ∙ ap (λ (n : ℕ). (SysVar, n)) size;
+    }
+
+-- a quoted text, by what stands inside
+pub inside_quotes : (bytes : List ℕ) → inside (in_quotes bytes) ≡ bytes
+inside_quotes bytes =
+    let size : length (in_quotes bytes) - 1 - 1 ≡ length bytes = omega (arith, length-append bytes (39 ∷ [])) in
+    ap (λ n. take n (bytes ++ 39 ∷ [])) size ∙ take-append_seam bytes (39 ∷ [])

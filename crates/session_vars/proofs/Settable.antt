@@ -15,7 +15,7 @@ text_is_no_default : (value : SlotValue) → is_text value ≡ true → is_defau
 text_is_no_default Default h = absurd (cc)
 text_is_no_default (Text bytes) h = refl
 
-right_change : (to : List SlotValue) (slot : Slot) → is_text (value_at to Names) ≡ true → takes_names_back (record { slot = slot; value = value_at to slot }) ≡ false
+right_change : (to : List SlotValue) (slot : Slot) → is_text (value_at to Names) ≡ true → takes_names_back (record { slot = slot; value = value_at to slot; adds = false }) ≡ false
 right_change to Names h = text_is_no_default (value_at to Names) h
 right_change to _ h = refl
 

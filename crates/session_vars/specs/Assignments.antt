@@ -1,12 +1,13 @@
 -- Assignments of a SET statement, behind its SET.
-use Rattle.std.specs.Prelude.{ℕ, ◌&&◌, nat_eq, List, [], ◌∷◌, take, drop, codes, Option, Some, None, option_and_then, if◌then◌else◌}
-use Rattle.std.specs.List.{slice_split}
+use Rattle.std.specs.Prelude.{ℕ, false, ◌&&◌, nat_eq, List, [], ◌∷◌, take, drop, codes, Option, Some, None, option_and_then, if◌then◌else◌}
 use Rattle.sql_tokens.specs.Words.{bytes_of, inside, word_of, same_text, is_symbol}
 use Rattle.sql_tokens.specs.declared.token.Token.{Token}
 use Rattle.sql_tokens.specs.declared.token.TokenKind.{TokenKind}
 use Rattle.sql_tokens.specs.declared.token.TokenKind.TheVariants.{Word, Name, SysVar}
+use Rattle.session_vars.specs.Modes.{joined}
+use Rattle.session_vars.specs.Scopes.{parts_of}
 use Rattle.session_vars.specs.Slots.{slot_named, unless_transaction}
-use Rattle.session_vars.specs.Statement.{is_comma, is_session_word}
+use Rattle.session_vars.specs.Statement.{is_session_word}
 use Rattle.session_vars.specs.Values.{value_of, negative_value}
 use Rattle.session_vars.specs.declared.change.Change.{Change}
 use Rattle.session_vars.specs.declared.change.SlotValue.{SlotValue}
@@ -32,14 +33,15 @@ slot_by _ bytes = None
 
 abbrev pub change_to : Slot → Option SlotValue → Option Change
 change_to slot None = None
-change_to slot (Some value) = Some (record { slot = slot; value = value })
+change_to slot (Some value) = Some (record { slot = slot; value = value; adds = false })
 
 -- the value, to the end
 unfoldable pub written : (text : List ℕ) → Slot → List Token → Option Change
+written text slot [] = None
 written text slot (value ∷ []) = change_to slot (value_of slot value.kind (bytes_of text value))
 written text slot (minus ∷ value ∷ []) =
     if is_symbol text minus 45 then change_to slot (negative_value slot value.kind (bytes_of text value)) else None
-written text slot _ = None
+written text slot tokens = joined text slot tokens
 
 -- the `=` of a `:=`, between whose bytes nothing stands
 unfoldable pub behind_colon : (text : List ℕ) → Slot → (colon : Token) → List Token → Option Change
@@ -73,9 +75,9 @@ abbrev pub all_assigned : (text : List ℕ) → List (List Token) → Option (Li
 all_assigned text [] = Some []
 all_assigned text (part ∷ parts) = with_change (assignment text part) (all_assigned text parts)
 
--- assignments with commas between them
+-- assignments with commas between them, outside brackets
 unfoldable pub assignments : (text : List ℕ) → List Token → Option (List Change)
-assignments text tokens = all_assigned text (slice_split (is_comma text) tokens)
+assignments text tokens = all_assigned text (parts_of text 0 tokens)
 
 -- and those behind a comma, where there is one
 abbrev pub assigned_behind : (text : List ℕ) → Option (List Token) → Option (List Change)

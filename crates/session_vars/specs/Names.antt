@@ -49,4 +49,4 @@ names_value text _ = None
 -- SET NAMES sets character_set_results too
 abbrev pub names_changes : Option (List ℕ) → Option (List Change)
 names_changes None = None
-names_changes (Some value) = Some (record { slot = Names; value = Text value } ∷ record { slot = CharacterSetResults; value = Default } ∷ [])
+names_changes (Some value) = Some (record { slot = Names; value = Text value; adds = false } ∷ record { slot = CharacterSetResults; value = Default; adds = false } ∷ [])

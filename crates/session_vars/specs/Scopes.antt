@@ -1,6 +1,6 @@
--- Whether a SET statement sets anything of the whole server.
-use Rattle.std.specs.Prelude.{ℕ, ◌+◌, ◌-◌, Bool, false, not, ◌&&◌, ◌||◌, nat_eq, List, [], ◌∷◌, take, drop, codes, if◌then◌else◌}
-use Rattle.std.specs.List.{list_any, prefix_len}
+-- The parts of a SET statement, and whether one sets anything of the whole server.
+use Rattle.std.specs.Prelude.{ℕ, ◌+◌, ◌-◌, Bool, false, not, ◌&&◌, ◌||◌, nat_eq, List, [], ◌∷◌, take, drop, codes, Option, Some, None, if◌then◌else◌}
+use Rattle.std.specs.List.{list_any, onto_first, prefix_len}
 use Rattle.sql_tokens.specs.Words.{bytes_of, inside, same_text, is_symbol}
 use Rattle.sql_tokens.specs.declared.token.Token.{Token}
 use Rattle.sql_tokens.specs.declared.token.TokenKind.{TokenKind}
@@ -29,11 +29,29 @@ names_server _ bytes = false
 abbrev pub deeper : (text : List ℕ) → Token → (depth : ℕ) → ℕ
 deeper text token depth = if is_symbol text token 40 then depth + 1 else if is_symbol text token 41 then depth - 1 else depth
 
--- such a token is the first, where `first` says that one is due, or stands right behind a comma outside brackets
+-- a comma outside brackets
+abbrev pub divides : (text : List ℕ) → (depth : ℕ) → Token → Bool
+divides text depth token = is_symbol text token 44 && nat_eq depth 0
+
+-- the tokens before the first such comma, and those behind it, where there is one
+abbrev pub before_comma : (text : List ℕ) → (depth : ℕ) → List Token → List Token
+before_comma text depth [] = []
+before_comma text depth (token ∷ tokens) = if divides text depth token then [] else token ∷ before_comma text (deeper text token depth) tokens
+
+abbrev pub behind_comma : (text : List ℕ) → (depth : ℕ) → List Token → Option (List Token)
+behind_comma text depth [] = None
+behind_comma text depth (token ∷ tokens) = if divides text depth token then Some tokens else behind_comma text (deeper text token depth) tokens
+
+-- the parts that such commas divide
+abbrev pub parts_of : (text : List ℕ) → (depth : ℕ) → List Token → List (List Token)
+parts_of text depth [] = [] ∷ []
+parts_of text depth (token ∷ tokens) = if divides text depth token then [] ∷ parts_of text 0 tokens else onto_first token (parts_of text (deeper text token depth) tokens)
+
+-- a token that names the server is the first, where `first` says that one is due, or stands right behind a comma outside brackets
 abbrev pub sets_server : (text : List ℕ) → (depth : ℕ) → (first : Bool) → List Token → Bool
 sets_server text depth first [] = false
 sets_server text depth first (token ∷ tokens) =
-    (first && names_server token.kind (bytes_of text token)) || sets_server text (deeper text token depth) (is_symbol text token 44 && nat_eq depth 0) tokens
+    (first && names_server token.kind (bytes_of text token)) || sets_server text (deeper text token depth) (divides text depth token) tokens
 
 -- whether one of these tokens does, of which some were taken
 abbrev pub server_set : (text : List ℕ) → SetTokens → Bool

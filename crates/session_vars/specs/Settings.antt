@@ -1,5 +1,6 @@
 -- The settings of a session: one value for each of the twenty-one, in their order.
 use Rattle.std.specs.Prelude.{◌≡◌, ℕ, Bool, true, false, not, ◌&&◌, ◌||◌, nat_eq, bytes_eq, List, [], ◌∷◌, length, slice_index_or, slice_set, replicate, codes, if◌then◌else◌}
+use Rattle.session_vars.specs.Modes.{added_to}
 use Rattle.session_vars.specs.Slots.{place_of, all_slots}
 use Rattle.session_vars.specs.declared.change.Change.{Change}
 use Rattle.session_vars.specs.declared.change.SlotValue.{SlotValue}
@@ -15,9 +16,13 @@ AreSettings values = length values ≡ 21
 abbrev pub value_at : List SlotValue → Slot → SlotValue
 value_at values slot = slice_index_or values (place_of slot) Default
 
+-- what a change makes of a value
+abbrev pub value_after : SlotValue → Change → SlotValue
+value_after old change = if change.adds then added_to old change.value else change.value
+
 -- what a change leaves
 abbrev pub changed : List SlotValue → Change → List SlotValue
-changed values change = slice_set values (place_of change.slot) change.value
+changed values change = slice_set values (place_of change.slot) (value_after (value_at values change.slot) change)
 
 -- what changes leave, one after the other
 abbrev pub applied : List SlotValue → List Change → List SlotValue
@@ -41,7 +46,7 @@ collation_names number =
 
 -- the settings of a client that logged in with this collation
 abbrev pub collation_settings : ℕ → List SlotValue
-collation_settings number = changed defaults (record { slot = Names; value = Text (collation_names number) })
+collation_settings number = changed defaults (record { slot = Names; value = Text (collation_names number); adds = false })
 
 abbrev pub same_value : SlotValue → SlotValue → Bool
 same_value Default Default = true
@@ -73,7 +78,7 @@ has_to_change from to slot = differs from to slot
 abbrev pub changes_of : (from to : List SlotValue) → List Slot → List Change
 changes_of from to [] = []
 changes_of from to (slot ∷ slots) =
-    if has_to_change from to slot then record { slot = slot; value = value_at to slot } ∷ changes_of from to slots
+    if has_to_change from to slot then record { slot = slot; value = value_at to slot; adds = false } ∷ changes_of from to slots
     else changes_of from to slots
 
 -- the changes that lead from settings to others

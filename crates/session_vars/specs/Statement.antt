@@ -32,15 +32,6 @@ says_first text (token ∷ tokens) word = says text token word
 abbrev pub begins_with_session : (text : List ℕ) → List Token → Bool
 begins_with_session text tokens = says_first text tokens (codes "SESSION") || says_first text tokens (codes "LOCAL")
 
--- the tokens before the first comma, and those behind it, where there is one
-abbrev pub before_comma : (text : List ℕ) → List Token → List Token
-before_comma text [] = []
-before_comma text (token ∷ tokens) = if is_comma text token then [] else token ∷ before_comma text tokens
-
-abbrev pub behind_comma : (text : List ℕ) → List Token → Option (List Token)
-behind_comma text [] = None
-behind_comma text (token ∷ tokens) = if is_comma text token then Some tokens else behind_comma text tokens
-
 abbrev pub without_comments : List Token → List Token
 without_comments tokens = filter (λ token. not (is_comment token.kind)) tokens
 

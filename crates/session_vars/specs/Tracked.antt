@@ -1,8 +1,9 @@
 -- Values that SET statements give settings.
-use Rattle.std.specs.Prelude.{◌≡◌, ◌⊎◌, ◌<◌, ℕ, true, List, ◌∷◌, ◌++◌, length, codes, Some}
+use Rattle.std.specs.Prelude.{◌≡◌, ◌⊎◌, ◌<◌, ℕ, true, List, [], ◌∷◌, ◌++◌, length, codes, Some}
 use Rattle.sql_tokens.specs.Tokens.{token_at}
 use Rattle.sql_tokens.specs.declared.token.TokenKind.{TokenKind}
 use Rattle.sql_tokens.specs.declared.token.TokenKind.TheVariants.{Number}
+use Rattle.session_vars.specs.Modes.{is_mode_list, is_added_list, joined_text, server_mode, takes_modes}
 use Rattle.session_vars.specs.Names.{is_one_word, lower_case}
 use Rattle.session_vars.specs.Settings.{AreSettings, value_at}
 use Rattle.session_vars.specs.Texts.{value_text}
@@ -29,9 +30,22 @@ pub record IsNegative (slot : Slot) (value : SlotValue) : Type 0 where
   pub token : IsOneToken Number number
   pub gives : negative_value slot Number number ≡ Some value
 
+-- a mode that is no session's own: the server's, or a list in quotes
+abbrev pub IsBase : List ℕ → Type 0
+IsBase base = (base ≡ server_mode) ⊎ ((list : List ℕ) × ((base ≡ 39 ∷ [] ++ list ++ 39 ∷ []) × (is_mode_list list ≡ true)))
+
+-- it is such a mode to which lists are added
+pub record IsJoined (slot : Slot) (value : SlotValue) : Type 0 where
+  pub base : List ℕ
+  pub lists : List ℕ
+  pub takes : takes_modes slot ≡ true
+  pub is : value ≡ Text (joined_text base lists)
+  pub of_base : IsBase base
+  pub are_lists : is_added_list lists ≡ true
+
 -- an assignment gives this setting this value
 abbrev pub IsAssignable : Slot → SlotValue → Type 0
-IsAssignable slot value = IsOneValue slot value ⊎ IsNegative slot value
+IsAssignable slot value = IsOneValue slot value ⊎ (IsNegative slot value ⊎ IsJoined slot value)
 
 -- the name of a character set, in lower case
 abbrev pub IsCharacterSet : List ℕ → Type 0

@@ -1,5 +1,5 @@
 -- SET SESSION TRANSACTION, behind its SET.
-use Rattle.std.specs.Prelude.{ℕ, ◌&&◌, List, [], ◌∷◌, codes, Option, Some, None, if◌then◌else◌}
+use Rattle.std.specs.Prelude.{ℕ, false, ◌&&◌, List, [], ◌∷◌, codes, Option, Some, None, if◌then◌else◌}
 use Rattle.sql_tokens.specs.declared.token.Token.{Token}
 use Rattle.session_vars.specs.Statement.{is_session_word}
 use Rattle.sql_tokens.specs.Words.{says}
@@ -56,4 +56,4 @@ transaction_mode text _ = None
 
 abbrev pub mode_changes : Option Mode → Option (List Change)
 mode_changes None = None
-mode_changes (Some mode) = Some (record { slot = slot_of mode; value = Text (value_of mode) } ∷ [])
+mode_changes (Some mode) = Some (record { slot = slot_of mode; value = Text (value_of mode); adds = false } ∷ [])

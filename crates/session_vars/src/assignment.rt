@@ -2,10 +2,11 @@
 ghost use Rattle.std.specs.Prelude.{◌≡◌, ◌≤◌, ◌<◌, true, false, [], ◌++◌, take, length, Some, None, IfOk, OnOk, if◌then◌else◌};
 ghost use Rattle.std.specs.Option.{ForSome, option_to_list};
 ghost use Rattle.session_vars.specs.Assignments.{slot_of_variable, slot_of_name, slot_by, change_to, written, assigned, assignment, assignments};
-ghost use Rattle.session_vars.specs.Statement.{is_comma, before_comma, behind_comma};
-ghost use Rattle.session_vars.specs.Scopes.{server_set};
+ghost use Rattle.sql_tokens.specs.Words.{is_symbol_kind};
+ghost use Rattle.session_vars.specs.Scopes.{before_comma, behind_comma, server_set};
 
-use crate::set_tokens::{MOST_KEPT, SetTokens};
+use crate::modes::joined;
+use crate::set_tokens::SetTokens;
 use crate::statement::is_session_word;
 use crate::value::{negative_value, value_of};
 use crate::{Change, Changes, Slot, SlotValue};
@@ -14,6 +15,9 @@ use sql_tokens::{
     Token, TokenKind, behind, bytes_of, front, inside, is_symbol, same_text, word_of,
 };
 use std::alloc::Global;
+
+// The tokens of most assignments.
+const FEW: usize = 6;
 
 // The setting of `@@session.name`, `@@local.name` or `@@name`.
 #[tactic(auto, unfolding(crate::specs::Assignments::slot_of_variable))]
@@ -52,13 +56,17 @@ fn change_to(slot: Slot, value: Option<SlotValue>) -> Option<Change>
     ensures { result ≡ change_to slot value }
 {
     match value {
-        Some(value) => Some(Change { slot, value }),
+        Some(value) => Some(Change {
+            slot,
+            value,
+            adds: false,
+        }),
         None => None,
     }
 }
 
 // The value.
-#[tactic(auto, unfolding(crate::specs::Assignments::written))]
+#[tactic(auto, using(crate::proofs::Adding::joined_of), unfolding(crate::specs::Assignments::written))]
 fn written(
     alloc: Global,
     text: &[u8],
@@ -67,14 +75,19 @@ fn written(
 ) -> Result<Option<Change>, OutOfMemory>
     ensures { IfOk result (λ change. change ≡ written text.now slot tokens.now) }
 {
-    let value = match tokens {
-        [value] => value_of(alloc, slot, value.kind, bytes_of(text, value))?,
-        [minus, value] if is_symbol(text, minus, b'-') => {
-            negative_value(alloc, slot, value.kind, bytes_of(text, value))?
+    match tokens {
+        [] => Ok(None),
+        [value] => {
+            let value = value_of(alloc, slot, value.kind, bytes_of(text, value))?;
+            Ok(change_to(slot, value))
         }
-        _ => None,
-    };
-    Ok(change_to(slot, value))
+        [minus, value] if is_symbol(text, minus, b'-') => {
+            let value = negative_value(alloc, slot, value.kind, bytes_of(text, value))?;
+            Ok(change_to(slot, value))
+        }
+        [_, _] => Ok(None),
+        _ => joined(alloc, text, slot, tokens),
+    }
 }
 
 // `=`, or `:=`, between whose bytes nothing stands, and the value.
@@ -120,7 +133,7 @@ fn assignment(alloc: Global, text: &[u8], tokens: &[Token]) -> Result<Option<Cha
 fn begun(alloc: Global, taken: Option<Token>) -> Result<Vec<Token>, OutOfMemory>
     ensures { IfOk result (λ part. part.items ≡ option_to_list taken) }
 {
-    let mut part = Vec::with_capacity(alloc, MOST_KEPT)?;
+    let mut part = Vec::with_capacity(alloc, FEW)?;
     if let Some(token) = taken {
         part.push(token)?;
     }
@@ -135,10 +148,11 @@ fn next_change(
     part: &mut Vec<Token>,
     tokens: &mut SetTokens,
 ) -> Result<(Option<Change>, bool), OutOfMemory>
-    requires { length part.old.items ≤ 7 }
-    ensures change { IfOk result (λ next. next.0 ≡ assignment text.now (part.old.items ++ before_comma text.now tokens.old.left)) }
-    ensures rest { IfOk result (λ next. behind_comma text.now tokens.old.left ≡ (if next.1 then Some tokens.new.left else None)) }
+    requires { length part.old.items ≤ 65 }
+    ensures change { IfOk result (λ next. next.0 ≡ assignment text.now (part.old.items ++ before_comma text.now tokens.old.depth tokens.old.left)) }
+    ensures rest { IfOk result (λ next. behind_comma text.now tokens.old.depth tokens.old.left ≡ (if next.1 then Some tokens.new.left else None)) }
     ensures shorter { IfOk result (λ next. next.1 ≡ true → length tokens.new.left < length tokens.old.left) }
+    ensures outside { IfOk result (λ next. next.1 ≡ true → tokens.new.depth ≡ 0) }
     ensures empty { OnOk result (part.new.items ≡ []) }
     ensures scope { server_set text.now tokens.new ≡ server_set text.now tokens.old }
 {
@@ -148,14 +162,15 @@ fn next_change(
     Ok((change, more))
 }
 
-// Assignments with commas between them, to the end. Of the first one a token may have been taken, which is no comma.
+// Assignments with commas between them, to the end. Of the first one a token may have been taken, which is no symbol.
 pub(crate) fn assignments(
     alloc: Global,
     text: &[u8],
     taken: Option<Token>,
     tokens: &mut SetTokens,
 ) -> Result<Option<Changes>, OutOfMemory>
-    requires { ForSome taken (λ token. is_comma text.now token ≡ false) }
+    requires taken { ForSome taken (λ token. is_symbol_kind token.kind ≡ false) }
+    requires outside { tokens.old.depth ≡ 0 }
     ensures changes { IfOk result (λ changes. changes ≡ assignments text.now (option_to_list taken ++ tokens.old.left)) }
     ensures scope { server_set text.now tokens.new ≡ server_set text.now tokens.old }
 {

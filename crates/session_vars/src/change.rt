@@ -1,8 +1,9 @@
 // Changes of settings.
 ghost use Rattle.std.specs.Prelude.{◌≡◌, [], ◌∷◌, ◌++◌, OnOk, OnErr, IfOk};
-ghost use Rattle.session_vars.specs.Settings.{is_text};
+ghost use Rattle.session_vars.specs.Settings.{is_text, value_after};
 
 use crate::Slot;
+use crate::modes::added_to;
 use mx_base::{Bytes, OutOfMemory};
 use std::alloc::Global;
 use std::marker::Model;
@@ -46,6 +47,21 @@ impl SlotValue {
 pub struct Change {
     pub slot: Slot,
     pub value: SlotValue,
+    /// Whether the value is an expression over the setting's value before it, of which `CONCAT(@@sql_mode` stands in it.
+    pub adds: bool,
+}
+
+impl Change {
+    // What it makes of its setting's value.
+    pub(crate) fn after(&self, alloc: Global, old: &SlotValue) -> Result<SlotValue, OutOfMemory>
+        ensures { IfOk result (λ value. value ≡ value_after old.now self.now) }
+    {
+        if self.adds {
+            added_to(alloc, old, &self.value)
+        } else {
+            self.value.copy(alloc)
+        }
+    }
 }
 
 /// Changes in order, which a contract sees as a list.

@@ -66,6 +66,7 @@ fn push_change(
         changes.push(Change {
             slot,
             value: to.value(slot).copy(alloc)?,
+            adds: false,
         })?;
     }
     Ok(())

@@ -7,6 +7,7 @@ mod change;
 mod differences;
 mod laws;
 mod long_part;
+mod modes;
 mod names;
 mod read;
 mod scope;

@@ -25,10 +25,12 @@ fn names_changes(alloc: Global, value: Option<Bytes>) -> Result<Option<Changes>,
     changes.push(Change {
         slot: Slot::Names,
         value: SlotValue::Text(value),
+        adds: false,
     })?;
     changes.push(Change {
         slot: Slot::CharacterSetResults,
         value: SlotValue::Default,
+        adds: false,
     })?;
     Ok(Some(changes))
 }
@@ -43,6 +45,7 @@ fn mode_changes(alloc: Global, mode: Option<Mode>) -> Result<Option<Changes>, Ou
     changes.push(Change {
         slot: mode.slot(),
         value: SlotValue::Text(Bytes::from_slice(alloc, mode.value())?),
+        adds: false,
     })?;
     Ok(Some(changes))
 }
@@ -53,7 +56,8 @@ fn scoped_changes(
     text: &[u8],
     tokens: &mut SetTokens,
 ) -> Result<Option<Changes>, OutOfMemory>
-    requires { begins_with_session text.now tokens.old.left ≡ true }
+    requires scope { begins_with_session text.now tokens.old.left ≡ true }
+    requires outside { tokens.old.depth ≡ 0 }
     ensures changes { IfOk result (λ changes. changes ≡ own_changes text.now tokens.old.left) }
     ensures scope { server_set text.now tokens.new ≡ server_set text.now tokens.old }
 {
@@ -72,6 +76,7 @@ fn own_changes(
     text: &[u8],
     tokens: &mut SetTokens,
 ) -> Result<Option<Changes>, OutOfMemory>
+    requires { tokens.old.depth ≡ 0 }
     ensures changes { IfOk result (λ changes. changes ≡ own_changes text.now tokens.old.left) }
     ensures scope { server_set text.now tokens.new ≡ server_set text.now tokens.old }
 {
@@ -87,6 +92,7 @@ fn own_changes(
 
 // The shape, by the tokens behind SET, where nothing is set of the whole server.
 fn own_shape(alloc: Global, text: &[u8], tokens: &mut SetTokens) -> Result<SetShape, OutOfMemory>
+    requires { tokens.old.depth ≡ 0 }
     ensures shape { IfOk result (λ shape. shape ≡ own_shape text.now tokens.old.left) }
     ensures scope { server_set text.now tokens.new ≡ server_set text.now tokens.old }
 {

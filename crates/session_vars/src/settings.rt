@@ -1,5 +1,5 @@
 // The settings of a session.
-ghost use Rattle.std.specs.Prelude.{◌≡◌, IfOk, OnOk, OnErr};
+ghost use Rattle.std.specs.Prelude.{◌≡◌, false, IfOk, OnOk, OnErr};
 ghost use Rattle.session_vars.specs.Settings.{AreSettings, value_at, changed, applied, defaults, collation_names, collation_settings};
 
 use crate::{Change, Slot, SlotValue};
@@ -98,7 +98,8 @@ impl Settings {
         let alloc = *self.values.allocator();
         let mut next = self.copy()?;
         for change in changes {
-            next.set(change.slot, change.value.copy(alloc)?);
+            let value = change.after(alloc, next.value(change.slot))?;
+            next.set(change.slot, value);
         }
         *self = next;
         Ok(())
@@ -106,7 +107,7 @@ impl Settings {
 
     // Gives a setting a value.
     fn set(&mut self, slot: Slot, value: SlotValue)
-        ensures value { self.new ≡ changed self.old (record { slot = slot; value = value }) }
+        ensures value { self.new ≡ changed self.old (record { slot = slot; value = value; adds = false }) }
         ensures settings { AreSettings self.new }
     {
         self.values[slot.place()] = value;

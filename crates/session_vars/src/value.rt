@@ -10,7 +10,7 @@ use sql_tokens::{TokenKind, behind, inside, is_one_of, same_text};
 use std::alloc::Global;
 
 // The bytes of the longest value that is kept.
-const LONGEST_VALUE: usize = 1024;
+pub(crate) const LONGEST_VALUE: usize = 1024;
 
 // A value in three parts, where it isn't too long.
 fn kept(
@@ -40,7 +40,7 @@ fn is_plain_byte(byte: u8) -> bool
     32 <= byte && byte <= 126 && !(byte == b'\'' || byte == b'"' || byte == b'\\')
 }
 
-fn is_plain_text(bytes: &[u8]) -> bool
+pub(crate) fn is_plain_text(bytes: &[u8]) -> bool
     ensures { result ≡ list_all is_plain_byte bytes.now }
 {
     bytes.iter().all(|byte| is_plain_byte(*byte))
@@ -127,7 +127,7 @@ fn without_blanks(bytes: &[u8]) -> &[u8]
 
 // Whether a list of modes has one that changes where tokens begin and end.
 #[tactic(auto, unfolding(crate::specs::Values::has_reading_mode))]
-fn has_reading_mode(modes: &[u8]) -> bool
+pub(crate) fn has_reading_mode(modes: &[u8]) -> bool
     ensures { result ≡ has_reading_mode modes.now }
 {
     modes

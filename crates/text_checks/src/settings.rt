@@ -91,7 +91,11 @@ fn change_of(alloc: Global, text: &str) -> Result<Change, CaseFault> {
         return Err(CaseFault::Bad);
     };
     let value = value_of(alloc, value)?;
-    Ok(Change { slot, value })
+    Ok(Change {
+        slot,
+        value,
+        adds: false,
+    })
 }
 
 fn slot_named(name: &str) -> Option<Slot> {
