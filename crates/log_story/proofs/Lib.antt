@@ -1,0 +1,7 @@
+pub mod Forms
+pub mod Bytes
+pub mod Keeping
+pub mod Due
+pub mod Moments
+pub mod Computed
+pub mod Truth

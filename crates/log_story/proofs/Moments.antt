@@ -1,0 +1,79 @@
+-- The law at each moment of a log, and at each read.
+use Rattle.std.specs.Prelude.{[], ◌∷◌, fold}
+use Rattle.std.proofs.Common.{refl}
+use Rattle.mx_base.specs.declared.names.LinkId.{LinkId}
+use Rattle.mx_wire.specs.Log.{Log}
+use Rattle.mx_wire.specs.declared.entry.Entry.{Entry}
+use Rattle.mx_wire.specs.declared.entry.Entry.TheVariants as entry
+use Rattle.private_model.specs.Commands.{runs}
+use Rattle.private_model.specs.Headline.{MeetsPrivate}
+use Rattle.private_model.specs.Honest.{IsHonest}
+use Rattle.private_model.specs.Lawful.{IsLawful}
+use Rattle.private_model.specs.Story.{Story}
+use Rattle.private_model.specs.View.{Answered, Asked, Quiet, Setup, Stage, view_after}
+use Rattle.private_model.specs.Worlds.{private_after, real_after}
+use Rattle.server_rule.specs.Servers.{Step}
+use Rattle.log_story.specs.Plan.{Plan}
+use Rattle.log_story.specs.Tale.{Tale, Wire, link_in, view_of}
+use Rattle.log_story.specs.Servers.{runs_first, with_run}
+use Rattle.log_story.specs.Telling.{tale_step, wire_with}
+use Rattle.log_story.specs.Honest.{IsHonestFrom, IsTrue, IsTrueRead, real_of}
+use Rattle.log_story.specs.Headline.{IsPrivateEntry, IsPrivateFrom, IsPrivateMoment, IsPrivateRead, private_of}
+use Rattle.log_story.proofs.Due.{due_bytes_front}
+use Rattle.log_story.proofs.Keeping.{honesty, lawful_before, running_keeps, step_keeps}
+
+-- the law of private worlds, of one server
+abbrev pub Law : Setup → Step → Type 0
+Law setup server = (story : Story) → IsLawful setup story → IsHonest setup (runs server) story → MeetsPrivate setup.reads (view_after setup story) (real_after setup (runs server) story) (private_after setup (runs server) story)
+
+moment : (setup : Setup) (plan : Plan) (server : Step) (tale : Tale) → Law setup server → IsLawful setup tale.story → IsHonest setup (runs server) tale.story → IsPrivateMoment setup plan server tale
+moment setup plan server tale law lawful honest =
+    let meets = law tale.story lawful honest in
+    record { replies = meets.replies; due = λ client. due_bytes_front (view_of setup tale).replies (private_of setup server tale).answers plan client meets.replies }
+
+read_there : (setup : Setup) (server : Step) (link : LinkId) (wire : Wire) (tale : Tale) → Law setup server → IsLawful setup tale.story → IsHonest setup (runs server) tale.story → IsTrueRead setup server link wire tale → IsPrivateRead setup server link wire tale
+read_there setup server link wire tale law lawful honest read n due ran =
+    let before : Tale = with_run setup link tale in
+    let honest_there : IsHonest setup (runs server) before.story = running_keeps setup server (honesty setup server) link wire tale (link_in setup tale link).stage read refl honest in
+    let lawful_there : IsLawful setup before.story = running_lawful (link_in setup tale link).stage in
+    let meets = law before.story lawful_there honest_there in
+    record { reply = ((real_of setup server before).peers link).answer; answer = meets.answers link n due ran; front = read.reply.front }
+  where
+    running_lawful : (stage : Stage) → IsLawful setup (runs_first stage link tale).story
+    running_lawful Quiet = lawful
+    running_lawful (Asked question) = (lawful, tt)
+    running_lawful (Answered question) = lawful
+
+entry_there : (setup : Setup) (plan : Plan) (server : Step) (tale : Tale) (e : Entry) → Law setup server → IsLawful setup tale.story → IsHonest setup (runs server) tale.story → IsTrue setup plan server tale e → IsPrivateEntry setup server tale e
+entry_there setup plan server tale (entry.Got link bytes) law lawful honest is = λ there entered. read_there setup server link (wire_with tale link bytes) tale law lawful honest ((is there).read entered)
+entry_there setup plan server tale (entry.Accepted port link salt) law lawful honest is = tt
+entry_there setup plan server tale (entry.Opened at address link) law lawful honest is = tt
+entry_there setup plan server tale (entry.Wrote link for bytes) law lawful honest is = tt
+entry_there setup plan server tale (entry.Exec link) law lawful honest is = tt
+entry_there setup plan server tale (entry.Drop link) law lawful honest is = tt
+entry_there setup plan server tale (entry.Ended link) law lawful honest is = tt
+entry_there setup plan server tale (entry.ReadFailed link) law lawful honest is = tt
+entry_there setup plan server tale (entry.WriteFailed link) law lawful honest is = tt
+entry_there setup plan server tale (entry.Closed link) law lawful honest is = tt
+entry_there setup plan server tale (entry.Listening port address) law lawful honest is = tt
+entry_there setup plan server tale (entry.ListenFailed port) law lawful honest is = tt
+entry_there setup plan server tale (entry.Woke until_ms now_ms) law lawful honest is = tt
+entry_there setup plan server tale entry.WaitFailed law lawful honest is = tt
+entry_there setup plan server tale entry.Over law lawful honest is = tt
+entry_there setup plan server tale (entry.Named link) law lawful honest is = tt
+entry_there setup plan server tale entry.NoneNamed law lawful honest is = tt
+entry_there setup plan server tale (entry.AcceptNothing port) law lawful honest is = tt
+entry_there setup plan server tale (entry.AcceptFailed port) law lawful honest is = tt
+entry_there setup plan server tale (entry.OpenFailed at address) law lawful honest is = tt
+entry_there setup plan server tale (entry.ReadNothing link) law lawful honest is = tt
+entry_there setup plan server tale (entry.WriteNothing link) law lawful honest is = tt
+
+pub private_from : (setup : Setup) (plan : Plan) (server : Step) (log : Log) (tale : Tale) → Law setup server → IsLawful setup (fold (tale_step setup plan) tale log).story → IsHonest setup (runs server) tale.story → IsHonestFrom setup plan server tale log
+    → IsPrivateFrom setup plan server tale log
+private_from setup plan server [] tale law lawful honest all = moment setup plan server tale law lawful honest
+private_from setup plan server (e ∷ log) tale law lawful honest all =
+    let here = lawful_before setup plan server (e ∷ log) tale all lawful in (
+      moment setup plan server tale law here honest,
+      entry_there setup plan server tale e law here honest all.0,
+      private_from setup plan server log (tale_step setup plan tale e) law lawful (step_keeps setup plan server (honesty setup server) tale e all.0 honest) all.1,
+    )

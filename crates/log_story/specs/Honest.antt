@@ -1,0 +1,90 @@
+-- What servers keep to, told of a log's bytes: a link's command is run as its bytes spell it, and what is read there is the
+-- answer of the run, as far as it is read.
+use Rattle.std.specs.Prelude.{◌≡◌, ℕ, true, false, List, [], ◌∷◌, ◌++◌, Option, None}
+use Rattle.mx_base.specs.declared.names.LinkId.{LinkId}
+use Rattle.mx_wire.specs.Log.{Log}
+use Rattle.mx_wire.specs.declared.entry.Entry.{Entry}
+use Rattle.mx_wire.specs.declared.entry.Entry.TheVariants.{Got, Exec}
+use Rattle.packet_frame.specs.Packets.{Framed, spelling, spellings}
+use Rattle.reply_track.specs.declared.reply.ReplyEnd.{ReplyEnd}
+use Rattle.reply_track.specs.Runs.{Ended, run}
+use Rattle.reply_track.specs.Tracking.{started}
+use Rattle.server_side.specs.Login.{LogsIn, opening}
+use Rattle.server_rule.specs.Servers.{Step}
+use Rattle.private_model.specs.Commands.{Command, Reply, Run, runs}
+use Rattle.private_model.specs.Honest.{IsTrueOf}
+use Rattle.private_model.specs.Story.{Question, Ran, Statement, command_of}
+use Rattle.private_model.specs.View.{Answered, Asked, Setup}
+use Rattle.private_model.specs.Worlds.{Real, real_after}
+use Rattle.log_story.specs.Plan.{Plan, execute_front, text_payload}
+use Rattle.log_story.specs.Tale.{Tale, Wire, first_tale, is_entered, is_to_server, link_in, view_of}
+use Rattle.log_story.specs.Servers.{reply_id, sought, with_run, written_in}
+use Rattle.log_story.specs.Telling.{tale_step, wire_with}
+
+pub record IsFront (front whole : List ℕ) : Type 0 where
+  pub rest : List ℕ
+  pub is : front ++ rest ≡ whole
+
+-- an execute, and the long data before it, are whole; it names the number that the server gave
+pub record IsExecute (number : Option ℕ) (written : List ℕ) : Type 0 where
+  pub long_data : List Framed
+  pub message : Framed
+  pub messages : (written_in written).messages ≡ long_data ++ message ∷ []
+  pub whole : (written_in written).rest ≡ []
+  pub named : IsFront (execute_front number) message.payload
+
+-- the bytes are this command, whole
+abbrev pub IsWritten : Command → (number : Option ℕ) → (written : List ℕ) → Type 0
+IsWritten (Run text schema settings args) number written = IsExecute number written
+IsWritten command number written = written ≡ spelling 0 (text_payload command)
+
+abbrev pub number_for : Question → (live : ℕ → Option ℕ) → Option ℕ
+number_for (Statement n due) live = live due.key
+number_for _ live = None
+
+abbrev pub real_of : Setup → Step → Tale → Real
+real_of setup server tale = real_after setup (runs server) tale.story
+
+-- A run is of what was written.
+pub record IsTrueRun (setup : Setup) (server : Step) (tale : Tale) (link : LinkId) : Type 0 where
+  pub written : (question : Question) → (link_in setup tale link).alive ≡ true → (link_in setup tale link).stage ≡ Asked question
+      → IsWritten (command_of question) (number_for question (link_in setup tale link).live) (tale.wires link).written
+  pub fresh : IsTrueOf (runs server) (view_of setup tale) (real_of setup server tale) (Ran link)
+
+-- An answer is a reply of the protocol, and the bytes that are read are a front of its spelling.
+abbrev pub spelled : Wire → Reply → List ℕ
+spelled wire reply = spellings (reply_id wire) reply.payloads
+
+pub record IsTrueReply (wire : Wire) (question : Question) (answer : Reply) : Type 0 where
+  pub front : IsFront wire.unread (spelled wire answer)
+  pub end : ReplyEnd
+  pub whole : run (started (sought wire question)) (spelled wire answer) ≡ Ended end []
+
+-- so it is where bytes are read, before a reply is made of them; and none are read but an answer
+pub record IsTrueRead (setup : Setup) (server : Step) (link : LinkId) (wire : Wire) (tale : Tale) : Type 0 where
+  pub ran : (question : Question) → (link_in setup tale link).stage ≡ Asked question → IsTrueRun setup server tale link
+  pub question : Question
+  pub answered : (link_in setup (with_run setup link tale) link).stage ≡ Answered question
+  pub reply : IsTrueReply wire question ((real_of setup server (with_run setup link tale)).peers link).answer
+
+-- The router logs in as the plan says, and behind the OK that ends its login nothing is read before a command is sent.
+pub record IsTrueLogin (plan : Plan) (link : LinkId) (wire : Wire) : Type 0 where
+  pub said : (said rest : List ℕ) → opening (plan.logins link) wire.unread ≡ LogsIn said rest → wire.written ≡ said
+  pub ends : (said rest : List ℕ) → opening (plan.logins link) wire.unread ≡ LogsIn said rest → rest ≡ []
+
+pub record IsTrueGot (setup : Setup) (plan : Plan) (server : Step) (tale : Tale) (link : LinkId) (wire : Wire) : Type 0 where
+  pub login : is_entered tale link ≡ false → IsTrueLogin plan link wire
+  pub read : is_entered tale link ≡ true → IsTrueRead setup server link wire tale
+
+abbrev pub IsTrue : Setup → Plan → Step → Tale → Entry → Type 0
+IsTrue setup plan server tale (Exec link) = is_entered tale link ≡ true → (tale.wires link).quits ≡ false → IsTrueRun setup server tale link
+IsTrue setup plan server tale (Got link bytes) = is_to_server tale link ≡ true → IsTrueGot setup plan server tale link (wire_with tale link bytes)
+IsTrue setup plan server tale _ = Unit {0}
+
+abbrev pub IsHonestFrom : Setup → Plan → Step → Tale → Log → Type 0
+IsHonestFrom setup plan server tale [] = Unit {0}
+IsHonestFrom setup plan server tale (e ∷ log) = IsTrue setup plan server tale e × IsHonestFrom setup plan server (tale_step setup plan tale e) log
+
+-- each entry of the log is true
+abbrev pub IsHonestLog : Setup → Plan → Step → Log → Type 0
+IsHonestLog setup plan server log = IsHonestFrom setup plan server first_tale log

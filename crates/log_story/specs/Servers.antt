@@ -1,0 +1,207 @@
+-- What passes on links to servers: which question begins there, whose run it is, and which reply was read.
+use Rattle.std.specs.Prelude.{ℕ, zero, suc, ◌-◌, Bool, true, false, not, ◌&&◌, ◌||◌, is_some, nat_eq, List, [], ◌∷◌, ◌++◌, fold, length, take, Option, Some, None, if◌then◌else◌}
+use Rattle.mx_base.specs.declared.names.ClientNo.{ClientNo}
+use Rattle.mx_base.specs.declared.names.LinkId.{LinkId}
+use Rattle.mx_base.specs.declared.tag.Tag.{Tag}
+use Rattle.mx_base.specs.declared.tag.Tag.TheVariants as tag
+use Rattle.packet_frame.specs.Packets.{Framed, Found, Nothing, Whole, Faulty, Split, first_message, next_id, split}
+use Rattle.reply_track.specs.declared.reply.ReplyKind.{ReplyKind}
+use Rattle.reply_track.specs.declared.reply.ReplyKind.TheVariants as kind
+use Rattle.reply_track.specs.Runs.{Ending, Ended, run}
+use Rattle.reply_track.specs.Tracking.{Sought, started}
+use Rattle.server_side.specs.Account.{Account as Login}
+use Rattle.server_side.specs.Login.{Opening, LogsIn, opening}
+use Rattle.session_state.specs.Pins.{is_pinned, needs_reset}
+use Rattle.session_state.specs.declared.names.SessionName.{SessionName}
+use Rattle.server_rule.specs.Classes.{is_prepare}
+use Rattle.private_model.specs.Commands.{Account, Command, FieldList, Prepare, Quit, Reply, cmd_of}
+use Rattle.private_model.specs.Story.{Capture, Due, Dropped, End, Freed, Happening, Heard, LoggedIn, Own, Prep, Question, Ran, Sent, Statement, Sync, Unprepared, command_of, is_name}
+use Rattle.private_model.specs.View.{Asked, Answered, Carried, Held, Joined, Lent, Link, Nobody, Quiet, Setup, Stage, View, is_quit, present}
+use Rattle.log_story.specs.Plan.{Asks, Closes, Plan, Route, StepText}
+use Rattle.log_story.specs.Tale.{Tale, Wire, link_in, tell, view_of, with_wire}
+
+-- The login.
+
+abbrev pub account_by : Login → Account
+account_by login = record { user = login.user; found_rows = login.found_rows }
+
+abbrev pub entered_by : Plan → LinkId → Wire → Opening → Tale → Tale
+entered_by plan link wire (LogsIn said rest) tale =
+    tell (LoggedIn link wire.server (account_by (plan.logins link))) (with_wire link (record wire { entered = true; unread = rest; written = [] }) tale)
+entered_by plan link wire _ tale = with_wire link wire tale
+
+abbrev pub enters : Plan → LinkId → Wire → Tale → Tale
+enters plan link wire tale = entered_by plan link wire (opening (plan.logins link) wire.unread) tale
+
+-- The question that begins with a byte of this tag.
+
+-- no message became due so: a rule of sending is broken
+abbrev pub no_due : View → ClientNo → (ordinal : ℕ) → Due
+no_due view client ordinal = record { ordinal = ordinal; place = view.places client; anew = true; command = Quit; key = 0; multiplex = None }
+
+abbrev pub due_or : View → ClientNo → (ordinal : ℕ) → Option Due → Due
+due_or view client ordinal None = no_due view client ordinal
+due_or view client ordinal (Some due) = if nat_eq due.ordinal ordinal then due else no_due view client ordinal
+
+abbrev pub statement_of : View → (ordinal : ℕ) → SessionName → Question
+statement_of view ordinal n = Statement n (due_or view n.client ordinal (view.dues n))
+
+abbrev pub routed : (Route → Question) → Option Route → Option Happening → (LinkId) → Option Happening
+routed question None other link = other
+routed question (Some route) other link = Some (Sent link (question route))
+
+-- the session that the link carries, else the present one
+abbrev pub carried_or : Carried → SessionName → SessionName
+carried_or Nobody n = n
+carried_or (Lent who) n = who
+carried_or (Joined who) n = who
+
+-- a session that was left is ended; of another the insert id is asked
+abbrev pub ended_by : View → SessionName → Question
+ended_by view n = if is_name n (present view n.client n.hostgroup) then Capture n else End n
+
+abbrev pub own_step : LinkId → StepText → Option Happening
+own_step link (Asks command) = if is_quit command then None else Some (Sent link (Own command))
+own_step link (Closes number) = Some (Unprepared link number)
+
+abbrev pub sync_step : LinkId → SessionName → StepText → Option Happening
+sync_step link n (Asks command) = Some (Sent link (Sync n command))
+sync_step link n (Closes number) = Some (Unprepared link number)
+
+abbrev pub begun_by : Setup → Plan → View → LinkId → (begun : ℕ) → Tag → Option Happening
+begun_by setup plan view link begun (tag.For client ordinal) =
+    routed (λ route. statement_of view ordinal (present view client route.hostgroup)) (plan.routes (record { client = client; ordinal = ordinal }))
+    (Some (Sent link (Own Quit))) link
+begun_by setup plan view link begun (tag.Prep client ordinal) =
+    routed (λ route. Prep (present view client route.hostgroup) route.key (setup.keys route.key).text) (plan.routes
+    (record { client = client; ordinal = ordinal })) (Some (Sent link (Own Quit))) link
+begun_by setup plan view link begun (tag.Sync client hostgroup) = sync_step link (present view client hostgroup) (plan.steps link begun)
+begun_by setup plan view link begun (tag.End client hostgroup) =
+    Some (Sent link (ended_by view (carried_or (view.links link).carries (present view client hostgroup))))
+begun_by setup plan view link begun tag.Own = own_step link (plan.steps link begun)
+begun_by setup plan view link begun _ = None
+
+-- Bytes go on with a question, or begin one; in a login they are what the router says there.
+
+-- the messages that were written, and whether none is written in part
+abbrev pub most_command : ℕ
+most_command = 1073741824
+
+abbrev pub written_in : List ℕ → Split
+written_in written = split most_command 0 written
+
+abbrev pub is_empty : List ℕ → Bool
+is_empty [] = true
+is_empty (x ∷ xs) = false
+
+abbrev pub is_whole : List ℕ → Bool
+is_whole written = is_empty (written_in written).rest
+
+abbrev pub is_quiet : Stage → Bool
+is_quiet Quiet = true
+is_quiet _ = false
+
+abbrev pub told_if : Option Happening → Tale → Tale
+told_if None tale = tale
+told_if (Some e) tale = tell e tale
+
+abbrev pub quits_by : StepText → Bool
+quits_by (Asks command) = is_quit command
+quits_by (Closes number) = false
+
+abbrev pub is_own : Tag → Bool
+is_own tag.Own = true
+is_own _ = false
+
+abbrev pub begins : Setup → Plan → LinkId → Tag → List ℕ → Wire → Tale → Tale
+begins setup plan link for bytes wire tale =
+    told_if (begun_by setup plan (view_of setup tale) link wire.begun for)
+    (with_wire link (record wire { written = bytes; begun = suc wire.begun; quits = wire.quits || (is_own for && quits_by (plan.steps link wire.begun)) }) tale)
+
+abbrev pub writes : Setup → Plan → LinkId → Tag → List ℕ → Wire → Tale → Tale
+writes setup plan link for bytes wire tale =
+    if wire.entered && (is_quiet (link_in setup tale link).stage && is_whole wire.written) then begins setup plan link for bytes wire tale
+    else with_wire link (record wire { written = wire.written ++ bytes }) tale
+
+-- The server runs what stands there; a QUIT ends the link.
+abbrev pub runs_on : Wire → LinkId → Tale → Tale
+runs_on wire link tale = if wire.quits then tell (Dropped link) tale else tell (Ran link) tale
+
+-- what hasn't run as the first byte of its reply is read runs then
+abbrev pub runs_first : Stage → LinkId → Tale → Tale
+runs_first (Asked question) link tale = tell (Ran link) tale
+runs_first _ link tale = tale
+
+-- Replies.
+
+abbrev pub kind_by : Command → ReplyKind
+kind_by (Prepare text) = kind.Prepare
+kind_by (FieldList rest) = kind.Fields
+kind_by _ = kind.Command
+
+abbrev pub last_id : List Framed → ℕ
+last_id [] = 0
+last_id (message ∷ []) = message.last
+last_id (message ∷ other ∷ messages) = last_id (other ∷ messages)
+
+-- the id of a reply's first packet: behind that of the question's last
+abbrev pub reply_id : Wire → ℕ
+reply_id wire = next_id (last_id (written_in wire.written).messages)
+
+abbrev pub sought : Wire → Question → Sought
+sought wire question = record { kind = kind_by (command_of question); server = reply_id wire; client = 0; number = 0 }
+
+-- the payloads of so many messages at most, with ids that run on
+abbrev pub payload_and : Found → (ℕ → List ℕ → List (List ℕ)) → List (List ℕ)
+payload_and Nothing others = []
+payload_and (Whole message rest) others = message.payload ∷ others (next_id message.last) rest
+payload_and (Faulty fault) others = []
+
+abbrev pub payloads_within : (most id : ℕ) → List ℕ → List (List ℕ)
+payloads_within zero id bytes = []
+payloads_within (suc most) id bytes = payload_and (first_message (length bytes) id bytes) (payloads_within most)
+
+abbrev pub payloads_in : (id : ℕ) → List ℕ → List (List ℕ)
+payloads_in id bytes = payloads_within (length bytes) id bytes
+
+abbrev pub reply_in : Wire → Question → List ℕ → Reply
+reply_in wire question bytes = record { to_prepare = is_prepare (cmd_of (command_of question)); payloads = payloads_in (reply_id wire) bytes }
+
+abbrev pub heard_by : LinkId → Question → Wire → Ending → Tale → Tale
+heard_by link question wire (Ended end rest) tale =
+    tell (Heard link (reply_in wire question (take (length wire.unread - length rest) wire.unread))) (with_wire link
+    (record wire { unread = rest; written = [] }) tale)
+heard_by link question wire _ tale = with_wire link wire tale
+
+abbrev pub hears : LinkId → Wire → Stage → Tale → Tale
+hears link wire (Answered question) tale = heard_by link question wire (run (started (sought wire question)) wire.unread) tale
+hears link wire _ tale = with_wire link wire tale
+
+-- bytes are read there
+abbrev pub with_run : Setup → LinkId → Tale → Tale
+with_run setup link tale = runs_first (link_in setup tale link).stage link tale
+
+abbrev pub reads_on : Setup → LinkId → Wire → Tale → Tale
+reads_on setup link wire tale = hears link wire (link_in setup (with_run setup link tale) link).stage (with_run setup link tale)
+
+-- A link is given back: its statement is answered and nothing is left there, or its session was left and needs no reset.
+
+abbrev pub is_settled : Held → Bool
+is_settled held = not (is_pinned held.pin) && is_some held.id
+
+abbrev pub is_left : View → SessionName → Bool
+is_left view n = not (is_name n (present view n.client n.hostgroup))
+
+abbrev pub is_done_by : View → Carried → Bool
+is_done_by view Nobody = false
+is_done_by view (Lent n) = is_left view n && not (needs_reset (view.held n).pin)
+is_done_by view (Joined n) = not (needs_reset (view.held n).pin) && (is_settled (view.held n) || is_left view n)
+
+abbrev pub is_done : View → Link → Bool
+is_done view link = link.usable && (is_quiet link.stage && is_done_by view link.carries)
+
+abbrev pub freed_if_done : Setup → Tale → LinkId → Tale
+freed_if_done setup tale link = if is_done (view_of setup tale) (link_in setup tale link) then tell (Freed link) tale else tale
+
+abbrev pub links_are_freed : Setup → Tale → Tale
+links_are_freed setup tale = fold (freed_if_done setup) tale tale.links

@@ -1,0 +1,65 @@
+-- What is known of a log as it is read: its story, and the bytes that no happening stands for yet.
+use Rattle.std.specs.Prelude.{ℕ, Bool, false, List, [], ◌∷◌, ◌++◌, map, if◌then◌else◌}
+use Rattle.std.specs.List.{list_any}
+use Rattle.mx_base.specs.declared.names.ClientNo.{ClientNo}
+use Rattle.mx_base.specs.declared.names.LinkId.{LinkId}
+use Rattle.mx_base.specs.declared.names.ServerId.{ServerId}
+use Rattle.private_model.specs.Story.{Happening, Story, is_client, is_link_id, put}
+use Rattle.private_model.specs.View.{Link, Setup, View, view_after}
+
+-- A link to a server: whether the router is logged in there and sent a QUIT; the bytes read that no reply was made of, those
+-- written in the login or of the question that was begun last, and how many questions were begun.
+pub record Wire : Type 0 where
+  pub server : ServerId
+  pub entered : Bool
+  pub quits : Bool
+  pub unread : List ℕ
+  pub written : List ℕ
+  pub begun : ℕ
+
+-- A client: the bytes read of it, and how many of its messages were taken up.
+pub record Client : Type 0 where
+  pub number : ClientNo
+  pub link : LinkId
+  pub salt : List ℕ
+  pub read : List ℕ
+  pub taken : ℕ
+
+-- clients, and links to servers, in the order in which they came
+pub record Tale : Type 0 where
+  pub story : Story
+  pub clients : List Client
+  pub links : List LinkId
+  pub wires : LinkId → Wire
+
+abbrev pub new_wire : ServerId → Wire
+new_wire server = record { server = server; entered = false; quits = false; unread = []; written = []; begun = 0 }
+
+abbrev pub first_tale : Tale
+first_tale = record { story = []; clients = []; links = []; wires = λ link. new_wire (record { 0 = 0 }) }
+
+abbrev pub tell : Happening → Tale → Tale
+tell e tale = record tale { story = e ∷ tale.story }
+
+abbrev pub view_of : Setup → Tale → View
+view_of setup tale = view_after setup tale.story
+
+abbrev pub link_in : Setup → Tale → LinkId → Link
+link_in setup tale link = (view_of setup tale).links link
+
+abbrev pub with_wire : LinkId → Wire → Tale → Tale
+with_wire link wire tale = record tale { wires = put is_link_id tale.wires link wire }
+
+abbrev pub is_to_server : Tale → LinkId → Bool
+is_to_server tale link = list_any (is_link_id link) tale.links
+
+-- the router is logged in there
+abbrev pub is_entered : Tale → LinkId → Bool
+is_entered tale link = (tale.wires link).entered
+
+abbrev pub with_client : Client → Tale → Tale
+with_client client tale = record tale { clients = map (λ (other : Client). if is_client other.number client.number then client else other) tale.clients }
+
+-- bytes were read of a client
+abbrev pub client_hears : LinkId → List ℕ → Client → Client
+client_hears link bytes client = if is_link_id client.link link then record client { read = client.read ++ bytes } else client
