@@ -59,11 +59,14 @@ pub record IsWholeReply (command : Handed) (part kept piece : List ℕ) (reply :
 
 pub whole-reply : (command : Handed) (part kept piece : List ℕ) (end : ReplyEnd) (rest : List ℕ) → IsHearing command part kept → AreBytes piece → run command.tracker.state piece ≡ Ended end rest
     → (reply : Answer) × IsWholeReply command part kept piece reply rest
-whole-reply command part kept piece end rest hears are is = (reply, record {
-  said = λ c. ap (heard_by bytes) (same-ended (run start bytes) (replied bytes) end rest (same-end command.first 1 bytes) ends);
-  handed = sym (take-append-add kept made used) ∙ ap (λ l. take (length kept + used) l) both ∙ ap (λ n. take n (spelt command.first reply ++ rest)) size ∙ take-append_seam (spelt command.first reply) rest;
-  shorter = short;
-}) where
+whole-reply command part kept piece end rest hears are is = (
+  reply,
+  record {
+    said = λ c. ap (heard_by bytes) (same-ended (run start bytes) (replied bytes) end rest (same-end command.first 1 bytes) ends);
+    handed = sym (take-append-add kept made used) ∙ ap (λ l. take (length kept + used) l) both ∙ ap (λ n. take n (spelt command.first reply ++ rest)) size ∙ take-append_seam (spelt command.first reply) rest;
+    shorter = short;
+  },
+) where
   bytes : List ℕ
   bytes = part ++ piece
 
