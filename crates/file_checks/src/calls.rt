@@ -16,7 +16,7 @@ const ADDRESS: Address = Address {
 };
 
 /// What the tape answers to a call: `listen`, `wait <until>`, `next`, `accept`, `accept_admin`, `open <server>`,
-/// `read <link> <size>`, `write <link> <bytes>` or `close <link>`, of a link that is open. The address is always the same.
+/// `read <link>`, `write <link> <bytes>` or `close <link>`, of a link that is open. The address is always the same.
 pub(crate) fn called(
     alloc: Global,
     tape: &mut Tape,
@@ -40,7 +40,7 @@ fn call_link(alloc: Global, tape: &mut Tape, call: &mut Case<'_>) -> Result<Stri
         return Err(CaseFault::Bad);
     }
     match call.reader {
-        "read" => read(alloc, tape, link, call),
+        "read" => read(alloc, tape, link),
         "write" => write(alloc, tape, link, call),
         _ => {
             tape.close(link);
@@ -49,19 +49,10 @@ fn call_link(alloc: Global, tape: &mut Tape, call: &mut Case<'_>) -> Result<Stri
     }
 }
 
-fn read(
-    alloc: Global,
-    tape: &mut Tape,
-    link: LinkId,
-    call: &mut Case<'_>,
-) -> Result<String, CaseFault>
+fn read(alloc: Global, tape: &mut Tape, link: LinkId) -> Result<String, CaseFault>
     requires { OpenFor tape.old.told link }
 {
-    let size = usize::from(small(call)?);
-    if size == 0 {
-        return Err(CaseFault::Bad);
-    }
-    let mut into = vec![in alloc; 0u8; size]?;
+    let mut into = vec![in alloc; 0u8; 65_536]?;
     debug(alloc, &tape.read(link, &mut into))
 }
 

@@ -1,8 +1,8 @@
 -- The stage follows the log, entry by entry.
 use Rattle.std.proofs.Common.{◌≡◌, ◌⊎◌, ℕ, zero, suc, ◌<◌, ◌≤◌, ◌+◌, ◌-◌, ◌==◌, Bool, true, false, nat_lt, List, [], ◌∷◌, ◌++◌, length, take, drop, if◌then◌else◌, Option, Some, None, refl, sym, ◌∙◌, ap, subst, arith, inl, inr, get_or}
-use Rattle.std.specs.Prelude.{IfSome, slice_get, is_some, not, ◌&&◌, ◌||◌}
+use Rattle.std.specs.Prelude.{IfSome, min, slice_get, is_some, not, ◌&&◌, ◌||◌}
 use Rattle.std.proofs.lemmas.Option.{slice_get-get_or, slice_get_within}
-use Rattle.std.proofs.lemmas.List.{take-append-drop, length-take-le}
+use Rattle.std.proofs.lemmas.List.{take_min, take-append-drop, length-take-le}
 use Rattle.mx_base.specs.declared.names.LinkId.{LinkId}
 use Rattle.mx_base.specs.declared.names.ServerId.{ServerId}
 use Rattle.mx_base.specs.declared.names.Address.{Address}
@@ -31,6 +31,7 @@ use Rattle.mem_wire.specs.Lines.{bytes_for, ending_for, is_refused}
 use Rattle.mem_wire.specs.Came.{is_open_call, room_left, known, with_link, known_ending, known_room}
 use Rattle.mem_wire.specs.CameLaws.{opens-more}
 use Rattle.mem_wire.specs.Play.{is_ready, has_room, has_failed, FitsRoom, IsBehind, MayWrite, named_step, Answers}
+use Rattle.mem_wire.specs.Fitting.{fitting, takes}
 use Rattle.mem_wire.specs.Below.{link_below}
 use Rattle.mem_wire.specs.Tracks.{track_at, room_in, read_change, spent, write_change, ChangesTrack}
 use Rattle.mem_wire.specs.Steps.{place_in, EndsBy, ReadsTrack, WritesTrack, Moves, MovesAt, IsWithin}
@@ -38,6 +39,7 @@ use Rattle.mem_wire.specs.Naming.{is_named, named_at, may_turn_ready}
 use Rattle.mem_wire.specs.Turns.{Searches, AllInTurn}
 use Rattle.mem_wire.specs.Stands.{read_by, Fits, Stands}
 use Rattle.mem_wire.specs.Follows.{Follows, IsTape}
+use Rattle.mem_wire.proofs.Fitting.{fit-most, fit-room, fit-take, wrote-bytes}
 use Rattle.mem_wire.proofs.Links.{is_below, open-below}
 use Rattle.mem_wire.proofs.Scenes.{IsIdle, alike-idle, opens-same}
 use Rattle.mem_wire.proofs.Sound.{KeepsCourse, sound-call, sound-late}
@@ -279,7 +281,7 @@ not_true so = cc
 mine-wrote : (lines : List RecordEntry) (last cut : ℕ) (log : Log) (link : LinkId) (tag : Tag) (piece : List ℕ) (k : Took) (name : RecordLink) (t : Track) → t.link ≡ Some link → WritesTrack last t (length piece) k → Fits lines last cut log name t → Fits lines last cut (log ++ took_entry link tag piece k ∷ []) name (write_change k t)
 mine-wrote lines last cut log link tag piece (took.Took n) name t owner writes fits =
     mine-changes lines last cut log link (entry.Wrote link tag (take n piece)) name t t.unread t.told false (spent n t.room) owner (leaves-wrote link tag piece (took.Took n)) refl refl refl
-    (spent-left last n t.room ∙ ap (room_left (room_in last t.room)) (sym (length-take-le n piece writes.most))) (spent-dated n cut t.room fits.dated) (λ so. absurd (not_true so)) fits
+    (spent-left last n t.room ∙ ap (room_left (room_in last t.room)) (sym (length-take-le n piece (fit-most (room_in last t.room) (length piece) n writes.fits)))) (spent-dated n cut t.room fits.dated) (λ so. absurd (not_true so)) fits
 mine-wrote lines last cut log link tag piece took.NotReady name t owner writes fits =
     mine-changes lines last cut log link (entry.WriteNothing link) name t t.unread t.told true t.room owner (leaves-wrote link tag piece took.NotReady) refl refl refl (sym (left-whole (room_in last t.room))) fits.dated (λ so. full-woken last cut t.room writes.full fits.dated) fits
 mine-wrote lines last cut log link tag piece took.Failed name t owner writes fits =
@@ -289,14 +291,14 @@ mine-wrote lines last cut log link tag piece took.Failed name t owner writes fit
 behind : (recording : List RecordEntry) (last : ℕ) (log : Log) (link : LinkId) (t : Track) (how : Option Ending) → Has recording last log link t → EndsBy how t → IsBehind recording log link how
 behind recording last log link t how has ends = record { read = has.unread ∙ ends.read; ends = has.ending ∙ ends.ends }
 
-read-answers : (recording : List RecordEntry) (last : ℕ) (log : Log) (link : LinkId) (before into : List ℕ) (g : Got) (t : Track) → Has recording last log link t → ReadsAtMost (length into) g → ReadsTrack t before into g → Answers recording log (got_entry link into g)
-read-answers recording last log link before into (got.Got n) t has most reads =
+read-answers : (recording : List RecordEntry) (last : ℕ) (log : Log) (link : LinkId) (before into : List ℕ) (g : Got) (t : Track) → Has recording last log link t → length before ≡ 65536 → ReadsAtMost (length into) g → ReadsTrack t before into g → Answers recording log (got_entry link into g)
+read-answers recording last log link before into (got.Got n) t has room most reads =
     let size : length (take n into) ≡ n = length-take-le n into most.fits in
     let some : 0 < n = reads.some in
-    record { some = omega arith; later = drop n t.unread; is = has.unread ∙ sym (take-append-drop n t.unread) ∙ ap (λ bs. bs ++ drop n t.unread) (sym reads.bytes) }
-read-answers recording last log link before into got.NotReady t has most reads = behind recording last log link t None has reads
-read-answers recording last log link before into got.End t has most reads = behind recording last log link t (Some ending.End) has reads
-read-answers recording last log link before into got.Failed t has most reads = behind recording last log link t (Some ending.Fail) has reads
+    record { some = omega arith; is = reads.bytes ∙ ap (λ (k : ℕ). take k t.unread) (reads.size_is ∙ ap (λ (room : ℕ). min room (length t.unread)) room) ∙ take_min 65536 t.unread ∙ ap (take 65536) (sym has.unread) }
+read-answers recording last log link before into got.NotReady t has room most reads = behind recording last log link t None has reads
+read-answers recording last log link before into got.End t has room most reads = behind recording last log link t (Some ending.End) has reads
+read-answers recording last log link before into got.Failed t has room most reads = behind recording last log link t (Some ending.Fail) has reads
 
 unfailed : (recording : List RecordEntry) (last : ℕ) (log : Log) (link : LinkId) (t : Track) → Has recording last log link t → has_failed t.unread t.ending ≡ false → MayWrite recording log link
 unfailed recording last log link t has may = record {
@@ -305,18 +307,18 @@ unfailed recording last log link t has may = record {
 
 write-answers : (recording : List RecordEntry) (last : ℕ) (log : Log) (link : LinkId) (tag : Tag) (piece : List ℕ) (k : Took) (t : Track) → Has recording last log link t → WritesTrack last t (length piece) k → Answers recording log (took_entry link tag piece k)
 write-answers recording last log link tag piece (took.Took n) t has writes =
-    let size : length (take n piece) ≡ n = length-take-le n piece writes.most in
+    let size : length (take n piece) ≡ n = length-take-le n piece (fit-most (room_in last t.room) (length piece) n writes.fits) in
     let some : 0 < n = writes.some in
     record {
       may = unfailed recording last log link t has writes.may;
       some = omega arith;
-      fits = subst (FitsRoom (known_room recording log (with_link link (known recording log)))) (sym size) (subst (λ o. FitsRoom o n) (sym has.room) writes.fits);
+      fits = subst (FitsRoom (known_room recording log (with_link link (known recording log)))) (sym size) (subst (λ o. FitsRoom o n) (sym has.room) (fit-room (room_in last t.room) (length piece) n writes.fits));
     }
 write-answers recording last log link tag piece took.NotReady t has writes = record { may = unfailed recording last log link t has writes.may; full = has.room ∙ writes.full }
 write-answers recording last log link tag piece took.Failed t has writes = behind recording last log link t (Some ending.Fail) has writes
 
-pub follows-read : (recording : List RecordEntry) (old new : Stage) (log : Log) (link : LinkId) (before into : List ℕ) (g : Got) → IsWithin recording old → Follows recording old log → IsOpen link log → Moves link (read_change g) old new → ReadsAtMost (length into) g → ((at : ℕ) → place_in old link ≡ Some at → at < length old.tracks.items → ReadsTrack (track_at old.tracks.items at) before into g) → Follows recording new ((log ++ late_entries old.late) ++ got_entry link into g ∷ [])
-follows-read recording old new log link before into g within follows opened moves most reads =
+pub follows-read : (recording : List RecordEntry) (old new : Stage) (log : Log) (link : LinkId) (before into : List ℕ) (g : Got) → IsWithin recording old → Follows recording old log → IsOpen link log → Moves link (read_change g) old new → length before ≡ 65536 → ReadsAtMost (length into) g → ((at : ℕ) → place_in old link ≡ Some at → at < length old.tracks.items → ReadsTrack (track_at old.tracks.items at) before into g) → Follows recording new ((log ++ late_entries old.late) ++ got_entry link into g ∷ [])
+follows-read recording old new log link before into g within follows opened moves room most reads =
     let it = is-at recording old log link follows opened in
     let log1 = log ++ late_entries old.late in
     let t = track_at old.tracks.items it.at in
@@ -324,7 +326,7 @@ follows-read recording old new log link before into g within follows opened move
     let calm = calm-read recording link into g in
     follows-moves recording old new log (got_entry link into g) link it.at (read_change g) follows (moved-of link (read_change g) old new moves) (moves.track it.at it.here it.within) it.here calm.leaves.of it.low calm.moment
     calm.brings (λ links. inl (calm.leaves.named links)) calm.plain calm.unopened
-    (read-answers recording old.last log1 link before into g t (has-is recording old log1 link it.at within (stands-marked recording old log follows) it.here) most read)
+    (read-answers recording old.last log1 link before into g t (has-is recording old log1 link it.at within (stands-marked recording old log follows) it.here) room most read)
     (λ name. mine-read (take old.cut recording) old.last old.cut log1 link before into g name t it.owner read)
     (in-change recording old new it.at (read_change g) follows.turns moves.frame (moves.track it.at it.here it.within) (read-calms old.last g t))
 
@@ -340,6 +342,21 @@ follows-wrote recording old new log link tag piece k within follows opened moves
     (write-answers recording old.last log1 link tag piece k t (has-is recording old log1 link it.at within (stands-marked recording old log follows) it.here) wrote)
     (λ name. mine-wrote (take old.cut recording) old.last old.cut log1 link tag piece k name t it.owner wrote)
     (in-change recording old new it.at (write_change k) follows.turns moves.frame (moves.track it.at it.here it.within) (write-calms old.last (length piece) k t wrote))
+
+-- and it takes what there is room for
+pub wrote-fitting : (recording : List RecordEntry) (old : Stage) (log : Log) (link : LinkId) (tag other : Tag) (piece : List ℕ) (k : Took) (bytes : List ℕ) → IsWithin recording old → Follows recording old log → IsOpen link log
+    → ((at : ℕ) → place_in old link ≡ Some at → at < length old.tracks.items → WritesTrack old.last (track_at old.tracks.items at) (length piece) k) → took_entry link tag piece k ≡ entry.Wrote link other bytes → takes recording (log ++ late_entries old.late) link piece bytes
+wrote-fitting recording old log link tag other piece k bytes within follows opened writes is = by k (writes it.at it.here it.within) is where
+  it : IsAt old link
+  it = is-at recording old log link follows opened
+
+  has : Has recording old.last (log ++ late_entries old.late) link (track_at old.tracks.items it.at)
+  has = has-is recording old (log ++ late_entries old.late) link it.at within (stands-marked recording old log follows) it.here
+
+  by : (k : Took) → WritesTrack old.last (track_at old.tracks.items it.at) (length piece) k → took_entry link tag piece k ≡ entry.Wrote link other bytes → takes recording (log ++ late_entries old.late) link piece bytes
+  by (took.Took n) wrote is = sym (wrote-bytes link tag other (take n piece) bytes is) ∙ fit-take (room_in old.last (track_at old.tracks.items it.at).room) piece n wrote.fits ∙ ap (λ o. fitting o piece) (sym has.room)
+  by took.NotReady wrote is = cc
+  by took.Failed wrote is = cc
 
 pub follows-closed : (recording : List RecordEntry) (old new : Stage) (log : Log) (link : LinkId) → Follows recording old log → IsOpen link log → Moves link (λ t. record t { closed = true }) old new → Follows recording new ((log ++ late_entries old.late) ++ entry.Closed link ∷ [])
 follows-closed recording old new log link follows opened moves =

@@ -20,5 +20,6 @@ pub mod StandEnters
 pub mod StandWakes
 pub mod Distinct
 pub mod Nameable
+pub mod Fitting
 pub mod Entries
 pub mod Arrivals

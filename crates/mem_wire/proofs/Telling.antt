@@ -1,5 +1,5 @@
 -- What a call adds to a log that is told.
-use Rattle.std.proofs.Common.{◌≡◌, ◌<◌, ◌+◌, List, [], ◌∷◌, ◌++◌, length, Option, Some, None, sym, ◌∙◌, ap, subst, append_assoc, arith, length-append}
+use Rattle.std.proofs.Common.{◌≡◌, ◌<◌, ◌+◌, List, [], ◌∷◌, ◌++◌, length, Option, Some, None, refl, sym, ◌∙◌, ap, subst, append_assoc, arith, length-append}
 use Rattle.std.specs.Prelude.{IfSome}
 use Rattle.mx_wire.specs.Log.{Log, AreMarks}
 use Rattle.mx_wire.specs.Tells.{Tells, Fits}
@@ -66,3 +66,40 @@ calls_after told mid new marks e first last bounded = record { adds = adds-appen
 pub calls_after_if : (told mid new : Option Log) (marks : Log) (given : Option Entry) → Adds told marks mid → AddsIf mid given new → CallsIf told marks given new
 calls_after_if told mid new marks (Some e) first last = calls_after told mid new marks e first last.0 last.1
 calls_after_if told mid new marks None first last = last
+
+-- the log before the last entry, and which entry it is
+pub record IsLast (old : Option Log) (marks : Log) (e : Entry) (before : Log) (last : Entry) : Type 0 where
+  pub log : Log
+  pub told : old ≡ Some log
+  pub front : before ≡ log ++ marks
+  pub same : e ≡ last
+
+abbrev init : Log → Log
+init [] = []
+init (e ∷ []) = []
+init (e ∷ f ∷ log) = e ∷ init (f ∷ log)
+
+init-more : (log : Log) (e : Entry) → init (log ++ e ∷ []) ≡ log
+init-more [] e = refl
+init-more (x ∷ []) e = refl
+init-more (x ∷ y ∷ log) e = ap (λ (l : Log). x ∷ l) (init-more (y ∷ log) e)
+
+abbrev last-of : Entry → Log → Entry
+last-of none [] = none
+last-of none (e ∷ log) = last-of e log
+
+last-more : (none : Entry) (log : Log) (e : Entry) → last-of none (log ++ e ∷ []) ≡ e
+last-more none [] e = refl
+last-more none (x ∷ log) e = last-more x log e
+
+pub told-if : (old : Option Log) (marks : Log) (told : Option Entry) (e : Entry) (new : Option Log) (before : Log) (last : Entry) → CallsIf old marks told new → IfSome told (λ x. x ≡ e) → new ≡ Some (before ++ last ∷ []) → IsLast old marks e before last
+told-if old marks None e new before last call same is = absurd (let h : None ≡ Some (before ++ last ∷ []) = sym call ∙ is in cc)
+told-if old marks (Some x) e new before last call same is =
+    let added = call.adds.told (before ++ last ∷ []) is in
+    let parts : before ++ last ∷ [] ≡ (added.0 ++ marks) ++ x ∷ [] = added.2 ∙ sym (append_assoc added.0 marks (x ∷ [])) in
+    record {
+      log = added.0;
+      told = added.1;
+      front = sym (init-more before last) ∙ ap init parts ∙ init-more (added.0 ++ marks) x;
+      same = sym same ∙ sym (last-more x (added.0 ++ marks) x) ∙ ap (last-of x) (sym parts) ∙ last-more x before last;
+    }

@@ -16,3 +16,4 @@ pub mod Follows
 pub mod Told
 pub mod Held
 pub mod Stands
+pub mod Fitting

@@ -1,5 +1,5 @@
 -- What a play of a recording is.
-use Rattle.std.specs.Prelude.{◌≡◌, ℕ, ◌+◌, ◌-◌, ◌<◌, ◌≤◌, ◌&&◌, ◌||◌, not, Bool, true, false, nat_eq, nat_lt, is_some, if◌then◌else◌, List, [], ◌∷◌, ◌++◌, length, fold, slice_get, Option, Some, None}
+use Rattle.std.specs.Prelude.{◌≡◌, ℕ, ◌+◌, ◌-◌, ◌<◌, ◌≤◌, ◌&&◌, ◌||◌, not, Bool, true, false, nat_eq, nat_lt, is_some, if◌then◌else◌, List, [], ◌∷◌, ◌++◌, length, fold, take, slice_get, Option, Some, None}
 use Rattle.std.specs.List.{filter_map, find, list_any}
 use Rattle.mx_base.specs.declared.names.LinkId.{LinkId}
 use Rattle.mx_wire.specs.Log.{Log, opened_link, opened_links, is_open}
@@ -96,10 +96,10 @@ due_marks recording log _ = late_marks recording log
 
 -- What each call answers.
 
+-- all that is ready, as far as there is room for it
 pub record Reads (ready bytes : List ℕ) : Type 0 where
   pub some : 0 < length bytes
-  pub later : List ℕ
-  pub is : ready ≡ bytes ++ later
+  pub is : bytes ≡ take 65536 ready
 
 -- the bytes were read, and behind them stands this ending
 pub record IsBehind (recording : List RecordEntry) (log : Log) (link : LinkId) (how : Option Ending) : Type 0 where

@@ -1,5 +1,5 @@
 -- What a play has taken of its recording.
-use Rattle.std.specs.Prelude.{◌≡◌, ◌⊎◌, ℕ, zero, suc, ◌+◌, ◌-◌, ◌<◌, ◌≤◌, ◌==◌, ◌&&◌, Bool, true, false, nat_eq, if◌then◌else◌, List, [], ◌∷◌, ◌++◌, length, drop, slice_get, Option, Some, None, refl}
+use Rattle.std.specs.Prelude.{◌≡◌, ◌⊎◌, ℕ, zero, suc, ◌+◌, ◌-◌, ◌<◌, ◌≤◌, ◌==◌, ◌&&◌, Bool, true, false, nat_eq, if◌then◌else◌, List, [], ◌∷◌, ◌++◌, length, take, drop, slice_get, Option, Some, None, refl}
 use Rattle.std.specs.Option.{option_or}
 use Rattle.std.proofs.Common.{sym, ◌∙◌, ap, subst, append-nil, append_assoc, inl, inr, arith, length-append}
 use Rattle.std.proofs.lemmas.List.Folds.{find-append}
@@ -7,6 +7,7 @@ use Rattle.std.proofs.lemmas.List.Elements.{filter_map-append}
 use Rattle.std.proofs.lemmas.Grind.{flat_map-append}
 use Rattle.std.proofs.lemmas.Option.{slice_get_cases}
 use Rattle.std.proofs.lemmas.Bool.{eqb-true}
+use Rattle.std.proofs.lemmas.List.{take-append-drop}
 use Rattle.std.proofs.Math.Seq.{drop-append_seam}
 use Rattle.mx_base.specs.declared.names.LinkId.{LinkId}
 use Rattle.mx_base.specs.declared.names.Port.{Port}
@@ -175,9 +176,17 @@ reads-next recording log (entry.Got to bytes) link call = elim (bool_cases (nat_
 ]
 reads-next recording log _ link call = Same (bytes-idle got_bytes link log _ refl)
 
+take-empty : (n : ℕ) → ◌≡◌ {A = List ℕ} (take n []) []
+take-empty zero = refl
+take-empty (suc n) = refl
+
 nothing-read : (bytes : List ℕ) → Reads [] bytes → ⊥
 nothing-read [] reads = let some : 0 < 0 = reads.some in absurd (omega arith)
-nothing-read (b ∷ bytes) reads = (let no : [] ≡ b ∷ (bytes ++ reads.later) = reads.is in absurd (cc))
+nothing-read (b ∷ bytes) reads = (let no : b ∷ bytes ≡ [] = reads.is ∙ take-empty 65536 in absurd (cc))
+
+-- what was read, and what is left
+split-ready : (ready bytes : List ℕ) → Reads ready bytes → ready ≡ bytes ++ drop 65536 ready
+split-ready ready bytes reads = sym (take-append-drop 65536 ready) ∙ ap (λ bs. bs ++ drop 65536 ready) (sym reads.is)
 
 taken-strange : (recording : List RecordEntry) (log : Log) (e : Entry) (link : LinkId) → IsAnswerOf recording log e → with_link link (known recording log) ≡ None → read_of link log ≡ [] → read_of link (log ++ e ∷ []) ≡ []
 taken-strange recording log e link call none nothing = of (reads-next recording log e link call) where
@@ -204,16 +213,17 @@ taken-read recording log e link k call was is = elim (known-before recording log
       is = ap (λ xs. xs ++ (front.later ++ bytes_for k.name more.more)) same ∙ sym (append_assoc (read_of link log) front.later (bytes_for k.name more.more)) ∙ ap (λ xs. xs ++ bytes_for k.name more.more) front.is ∙ sym grown;
     }
     of (More bytes is_read reads) found front =
+        let behind : List ℕ = drop 65536 (unread_of recording log k) in
         let here : k.link ≡ link = with-link link k (known recording log) found in
         let left : unread_of recording log k ≡ front.later =
         ap (λ (l : LinkId). drop (length (read_of l log)) (bytes_for k.name (released (wakes log) recording))) here
         ∙ ap (λ xs. drop (length (read_of link log)) xs) (sym front.is) ∙ drop-append_seam (read_of link log) front.later in
-        let ready : unread_of recording log k ≡ bytes ++ (rw found at reads).later = (rw found at reads).is in
-        let split : front.later ≡ bytes ++ (rw found at reads).later = sym left ∙ ready in
+        let ready : unread_of recording log k ≡ bytes ++ behind = split-ready (unread_of recording log k) bytes (rw found at reads) in
+        let split : front.later ≡ bytes ++ behind = sym left ∙ ready in
         record {
-          later = (rw found at reads).later ++ bytes_for k.name more.more;
-          is = ap (λ xs. xs ++ ((rw found at reads).later ++ bytes_for k.name more.more)) is_read
-              ∙ joined (read_of link log) bytes (rw found at reads).later (bytes_for k.name more.more)
+          later = behind ++ bytes_for k.name more.more;
+          is = ap (λ xs. xs ++ (behind ++ bytes_for k.name more.more)) is_read
+              ∙ joined (read_of link log) bytes behind (bytes_for k.name more.more)
               ∙ ap (λ xs. (read_of link log ++ xs) ++ bytes_for k.name more.more) (sym split) ∙ ap (λ xs. xs ++ bytes_for k.name more.more) front.is ∙ sym grown;
         }
 

@@ -15,7 +15,8 @@ use Rattle.mem_wire.specs.declared.track.Track.{Track}
 use Rattle.mem_wire.specs.declared.stage.Stage.{Stage}
 use Rattle.mem_wire.specs.Refusals.{Knows}
 use Rattle.mem_wire.specs.Lines.{clients_at, is_port, is_refused}
-use Rattle.mem_wire.specs.Play.{has_failed, FitsRoom}
+use Rattle.mem_wire.specs.Play.{has_failed}
+use Rattle.mem_wire.specs.Fitting.{fit}
 use Rattle.mem_wire.specs.Tracks.{track_at, room_in, SameLinks, ChangesTrack, Released}
 use Rattle.mem_wire.specs.Turns.{HasNone, Seen, Joins}
 
@@ -91,8 +92,7 @@ ReadsTrack t old new got.Failed = EndsBy (Some ending.Fail) t
 pub record TakesFrom (last : ℕ) (t : Track) (size n : ℕ) : Type 0 where
   pub may : has_failed t.unread t.ending ≡ false
   pub some : 0 < n
-  pub most : n ≤ size
-  pub fits : FitsRoom (room_in last t.room) n
+  pub fits : n ≡ fit (room_in last t.room) size
 
 pub record LetsNothing (last : ℕ) (t : Track) : Type 0 where
   pub may : has_failed t.unread t.ending ≡ false

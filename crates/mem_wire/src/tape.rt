@@ -1,10 +1,12 @@
 // A wire that plays a recording.
-ghost use Rattle.std.specs.Prelude.{◌≡◌, [], length, Some, IfSome, option_map};
+ghost use Rattle.std.specs.Prelude.{◌≡◌, List, [], length, Some, IfSome, option_map};
 ghost use Rattle.mx_wire.specs.Answers.{got_entry, took_entry, ReadsAtMost, TakesAtMost};
 ghost use Rattle.mx_wire.specs.Log.{Log as Told};
 ghost use Rattle.mx_wire.specs.Tells.{HasCause};
 ghost use Rattle.recording.specs.Playable.{IsPlayable};
+ghost use Rattle.recording.specs.declared.entry.RecordEntry.{RecordEntry};
 ghost use Rattle.mem_wire.specs.Play.{IsPlay};
+ghost use Rattle.mem_wire.specs.Fitting.{takes};
 
 use crate::lines::{first_moment, lines_of_moment, put_marks};
 use crate::naming::next_to_name;
@@ -72,7 +74,11 @@ impl Wire for Tape {
 
     ghost faults = { λ tape. tape.faults };
 
-    ghost rule = { λ tape log. IsPlay tape.recording log };
+    ghost Rules = { List RecordEntry };
+
+    ghost ruled_by = { λ tape. tape.recording };
+
+    ghost takes = { takes };
 
     fn reserve(&mut self, _links: u32) -> Result<(), OutOfMemory> {
         Ok(())

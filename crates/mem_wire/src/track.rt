@@ -1,6 +1,7 @@
 // The lines of one link of a recording.
 ghost use Rattle.std.specs.Prelude.{◌≡◌, ◌<◌, ◌≤◌, length, Some};
-ghost use Rattle.mem_wire.specs.Play.{is_ready, has_failed, FitsRoom};
+ghost use Rattle.mem_wire.specs.Play.{is_ready, has_failed};
+ghost use Rattle.mem_wire.specs.Fitting.{fit};
 ghost use Rattle.mem_wire.specs.Tracks.{blank, room_in, read_change, write_change};
 ghost use Rattle.mem_wire.specs.Steps.{ReadsTrack, WritesTrack};
 ghost use Rattle.mem_wire.specs.Naming.{may_be_ready};
@@ -143,7 +144,7 @@ impl Track {
 fn fitting(room: Option<u64>, size: usize) -> usize
     requires { 0 < size }
     ensures most { result ≤ size }
-    ensures fits { FitsRoom room result }
+    ensures fits { result ≡ fit room size }
     ensures none { result ≡ 0 → room ≡ Some 0 }
 {
     match room {

@@ -55,6 +55,12 @@ impl<R: Net + Clock + RandomSource> Wire for MioWire<'_, R> {
 
     ghost faults = { λ wire. length wire.failed.items };
 
+    ghost Rules = { Unit {0} };
+
+    ghost ruled_by = { λ _. tt };
+
+    ghost takes = { λ _ _ _ _ _. Unit {0} };
+
     fn reserve(&mut self, links: u32) -> Result<(), OutOfMemory> {
         self.sockets.reserve(links)
     }

@@ -73,7 +73,3 @@ pub record OpenFor (told : Option Log) (link : LinkId) : Type 0 where
 pub record HasCause (failed : Type 0) (before now : ℕ) : Type 0 where
   pub later : before ≤ now
   pub rose : failed → before < now
-
--- What the wire's rule says of a log after the call it said before.
-pub record KeepsRule {W : Type 0} (rule : W → Log → Type 0) (old new : W) : Type 0 where
-  pub kept : (log : Log) → rule new log → rule old log

@@ -24,6 +24,12 @@ impl Wire for TakenPorts {
 
     ghost faults = { λ wire. length wire.failed.items };
 
+    ghost Rules = { Unit {0} };
+
+    ghost ruled_by = { λ _. tt };
+
+    ghost takes = { λ _ _ _ _ _. Unit {0} };
+
     fn reserve(&mut self, _: u32) -> Result<(), OutOfMemory> {
         Ok(())
     }

@@ -38,6 +38,10 @@ impl Machine for Reader {
 
     ghost serves_by = { λ _. tt };
 
+    ghost owes = { λ _ _ _ _. Unit {0} };
+
+    ghost lends = { λ machine log link sent held acted some. tt };
+
     fn take(&mut self, _: Event, _: &mut [u8]) -> Result<(), OutOfMemory> {
         Ok(())
     }
@@ -102,6 +106,12 @@ impl Wire for Flood {
     ghost port_faults = { λ _. 0 };
 
     ghost faults = { λ _. 0 };
+
+    ghost Rules = { Unit {0} };
+
+    ghost ruled_by = { λ _. tt };
+
+    ghost takes = { λ _ _ _ _ _. Unit {0} };
 
     fn reserve(&mut self, _: u32) -> Result<(), OutOfMemory> {
         Ok(())

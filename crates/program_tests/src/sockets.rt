@@ -37,6 +37,11 @@ fn come(wire: &mut MioWire<'_, HostRuntime>) -> io::Result<(LinkId, bool)> {
     }
 }
 
+// The bytes that a read may have put there, as all that is sent has fewer.
+fn beginning(buffer: &[u8]) -> &[u8] {
+    buffer.get(..8).unwrap_or(buffer)
+}
+
 // What the calls of a link answer, as its client says abc, is told hi and goes.
 fn talk(
     rt: &HostRuntime,
@@ -44,7 +49,7 @@ fn talk(
     link: LinkId,
     mut client: TcpStream,
 ) -> io::Result<String> {
-    let mut buffer = [0u8; 8];
+    let mut buffer = vec![in rt.alloc(); 0u8; 65_536]?;
     let silent = wire.read(link, &mut buffer);
     let took = wire.write(link, Tag::Reply, b"hi");
     let mut heard = [0u8; 2];
@@ -58,9 +63,10 @@ fn talk(
     let _ = wire.wait(u64::MAX);
     let named_again = wire.next_ready() == Some(link);
     let end = wire.read(link, &mut buffer);
+    let heard_first = beginning(&buffer);
     wire.close(link);
     Ok(format!(in rt.alloc();
-        "{silent:?} {took:?} {heard:?}; {named} {got:?} {buffer:?} {dry:?}; {named_again} {end:?}"
+        "{silent:?} {took:?} {heard:?}; {named} {got:?} {heard_first:?} {dry:?}; {named_again} {end:?}"
     )?)
 }
 

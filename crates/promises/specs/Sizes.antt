@@ -8,6 +8,7 @@ use Rattle.mx_wire.specs.declared.entry.Entry.TheVariants.{Got, Wrote}
 use Rattle.packet_frame.specs.Packets.{spelling}
 use Rattle.recording.specs.declared.entry.RecordEntry.{RecordEntry}
 use Rattle.mem_wire.specs.Lines.{bytes_for}
+use Rattle.mem_wire.specs.Fitting.{fitting}
 use Rattle.mem_wire.specs.Came.{Known, known, with_link, unread, known_room}
 use Rattle.server_side.specs.Account.{Account}
 use Rattle.server_side.specs.Login.{said_of}
@@ -63,10 +64,6 @@ abbrev pub owed : Service → LinkId → Log → List ℕ
 owed service link log = owed_by service link log (client_at link 1 (arrivals log))
 
 -- A write takes all that is owed, as far as there is room; and a read all that is there, up to 65,536 bytes.
-abbrev pub fitting : Option ℕ → List ℕ → List ℕ
-fitting None bytes = bytes
-fitting (Some room) bytes = take room bytes
-
 abbrev pub IsSized : Service → List RecordEntry → Log → Entry → Type 0
 IsSized service recording log (Got link bytes) = bytes ≡ take 65536 (unread recording log (with_link link (known recording log)))
 IsSized service recording log (Wrote link tag bytes) = bytes ≡ fitting (known_room recording log (with_link link (known recording log))) (owed service link log)

@@ -29,7 +29,7 @@ use Rattle.mem_wire.specs.Plays.{HasTaken, play-taken, released-all, with-link, 
 use Rattle.ready_loop.specs.Drained.{accept_step, name_step, read_step, all_accepted, all_named, read_dry}
 use Rattle.promises.specs.Service.{Service}
 use Rattle.promises.specs.Rest.{IsAtRest, RestsAt}
-use Rattle.proxy_run.specs.Replay.{IsPlayedOut}
+use Rattle.promises.specs.Sizes.{IsReadOut}
 
 -- the link wasn't named since the last wake, and not all ready links were
 pub record IsUnnamed (link : LinkId) (log : Log) : Type 0 where
@@ -261,6 +261,13 @@ all-read recording log link k taken all found nothing =
     sym (drop-append_seam (read_of link log) front.later) ∙ ap (drop (length (read_of link log))) front.is
     ∙ ap (λ (l : LinkId). drop (length (read_of l log)) (bytes_for k.name (released (wakes log) recording))) (sym here) ∙ nothing in
     sym (append-nil (read_of link log)) ∙ ap (λ xs. read_of link log ++ xs) (sym later) ∙ front.is ∙ ap (bytes_for k.name) all
+
+-- each moment of the recording came, each of its clients was accepted, and each link that is open was read to its end, but that of a client at its
+-- end which takes no more
+pub record IsPlayedOut (service : Service) (recording : List RecordEntry) (log : Log) : Type 0 where
+  pub woke : wakes log ≡ length (moments recording)
+  pub accepted : (port : Port) → accepted_at port log ≡ length (clients_at port recording)
+  pub read : IsReadOut service recording log
 
 pub played-out : (service : Service) (recording : List RecordEntry) (log before : Log) → IsPlayable recording → IsPlay recording log → AllLawful (RestsAt service) log → log ≡ before ++ entry.Over ∷ [] → IsPlayedOut service recording before
 played-out service recording log before playable play rests over =

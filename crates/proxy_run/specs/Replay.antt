@@ -1,6 +1,5 @@
 -- What a replay puts, and why it stops short.
 use Rattle.std.specs.Prelude.{◌≡◌, ℕ, ◌<◌, ◌≤◌, Bool, List, [], ◌∷◌, ◌++◌, length, Option, Some, None, Ok, Err}
-use Rattle.mx_base.specs.declared.names.Port.{Port}
 use Rattle.mx_wire.specs.Log.{Log}
 use Rattle.mx_wire.specs.Outside.{HasUnder, Takes, TakesFront}
 use Rattle.mx_wire.specs.declared.entry.Entry.TheVariants.{Over}
@@ -8,15 +7,11 @@ use Rattle.recording.specs.declared.entry.RecordEntry.{RecordEntry}
 use Rattle.recording.specs.declared.fault.RecordFault.{RecordFault}
 use Rattle.recording.specs.Recording.{recording_of}
 use Rattle.recording.specs.Transcript.{transcript_of}
-use Rattle.mem_wire.specs.Lines.{moments, clients_at}
-use Rattle.mem_wire.specs.Came.{wakes, accepted_at}
 use Rattle.mem_wire.specs.Play.{IsPlay}
 use Rattle.mem_wire.specs.Told.{Played}
 use Rattle.ready_loop.specs.Round.{calls_since_wake}
 use Rattle.client_session.specs.Setups.{Setup}
-use Rattle.promises.specs.Service.{Service}
-use Rattle.promises.specs.Headline.{Serves}
-use Rattle.promises.specs.Sizes.{IsReadOut}
+use Rattle.promises.specs.Replay.{KeepsSized, ReplaysTo}
 use Rattle.session_core.specs.Cores.{setup_of}
 use Rattle.mx_config.specs.declared.config.Config.{Config}
 use Rattle.mx_config.specs.declared.fault.ConfigFault.{ConfigFault}
@@ -59,35 +54,22 @@ pub record IsFaulty (name : List ℕ) (held : Held) (fault : RecordFault) : Type
   pub under : HasUnder name bytes held
   pub said : recording_of bytes ≡ Err fault
 
--- The router serves, by one service: at each moment what was written to each client is a beginning of what it is due, each entry is lawful, and each
--- wait comes at rest. So did the last, after which the wire has nothing more.
-pub record ServesToEnd (setup : Setup) (log : Log) : Type 0 where
-  pub serves : Serves setup log
+-- The promises are kept by one service, and each read and write took as much as it could. The last wait came at rest, after which the wire has
+-- nothing more.
+pub record ServesToEnd (setup : Setup) (entries : List RecordEntry) (log : Log) : Type 0 where
+  pub keeps : KeepsSized setup entries log
   pub before : Log
   pub over : log ≡ before ++ Over ∷ []
 
--- Each moment of the recording came, each of its clients was accepted, and each link that is open was read to its end, but that of a client at its
--- end which takes no more.
-pub record IsPlayedOut (service : Service) (entries : List RecordEntry) (log : Log) : Type 0 where
-  pub woke : wakes log ≡ length (moments entries)
-  pub accepted : (port : Port) → accepted_at port log ≡ length (clients_at port entries)
-  pub read : IsReadOut service entries log
-
--- the wire answered as the recording says, until it was played out
-pub record ReplaysTo (setup : Setup) (entries : List RecordEntry) (log : Log) : Type 0 where
-  pub play : IsPlay entries log
-  pub serves : ServesToEnd setup log
-  pub ends : IsPlayedOut (record { setup = setup; opens = serves.serves.opens }) entries serves.before
-
 -- what a tape tells that has played these entries
 pub record HasPlayed (setup : Setup) (entries : List RecordEntry) (tape : Played) : Type 0 where
-  pub keeps : (log : Log) → IsPlay tape.recording log → IsPlay entries log
-  pub serves : (log : Log) → tape.told ≡ Some log → ServesToEnd setup log
+  pub plays : (log : Log) → IsPlay tape.recording log → IsPlay entries log
+  pub serves : (log : Log) → tape.told ≡ Some log → IsPlay entries log → ServesToEnd setup entries log
 
 -- a play of which the same holds, in which one wake took as many calls as it may
 pub record IsSpent (setup : Setup) (entries : List RecordEntry) (log : Log) : Type 0 where
   pub play : IsPlay entries log
-  pub serves : Serves setup log
+  pub keeps : KeepsSized setup entries log
   pub spent : 4294967296 ≤ calls_since_wake log
 
 abbrev pub ConfigStops : Stop → List ℕ → Held → (before now : ℕ) → Type 0

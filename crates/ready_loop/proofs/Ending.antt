@@ -1,12 +1,15 @@
 -- How a loop ends.
-use Rattle.std.proofs.Common.{◌≡◌, ◌++◌, ℕ, Bool, Option, None, Result, Ok, Err, is_ok, arith, refl, sym, subst, ◌∙◌, inl, inr}
+use Rattle.std.proofs.Common.{◌≡◌, ◌≤◌, ◌++◌, ℕ, Bool, false, Option, Some, None, Result, Ok, Err, is_ok, arith, refl, sym, subst, ◌∙◌, inl, inr}
 use Rattle.mx_wire.specs.Log.{Log, link_of}
 use Rattle.mx_wire.specs.Tells.{Tells}
 use Rattle.mx_wire.specs.declared.entry.Entry.{Entry}
 use Rattle.ready_loop.specs.Round.{wake_step, wakes_of, round_step}
 use Rattle.ready_loop.proofs.Counting.{unnamed}
+use Rattle.mx_base.specs.declared.names.LinkId.{LinkId}
+use Rattle.ready_loop.specs.Drained.{DrainedFor}
+use Rattle.ready_loop.specs.Sent.{Sent}
 use Rattle.ready_loop.specs.Machine.{StandsFor}
-use Rattle.ready_loop.specs.Serving.{TracksFor, WokeFor, EndsWith, IsUnwritten, StoodFor, Breaks}
+use Rattle.ready_loop.specs.Serving.{TracksFor, WokeFor, EndsWith, IsUnwritten, StoodFor, BusyFor, SpentFor, EndsSo, Ends, Breaks}
 use Rattle.ready_loop.specs.declared.table.Table.{Table}
 use Rattle.ready_loop.specs.declared.ends.ServeEnd.{ServeEnd}
 use Rattle.ready_loop.specs.declared.ends.ServeEnd.TheVariants as ended
@@ -64,3 +67,28 @@ refused stands is_stopped wakes core told before now (Err end) is stood = subst 
 pub broke : {M A : Type 0} (stands : M → Log → Type 0) (is_stopped : M → Bool) (wakes : ℕ) (core : M) (told : Option Log) (before now : ℕ) (r : Result A ServeEnd) → IsErrAnd r (λ end. end ≡ ended.OutOfMemory) → StoodFor stands told → IfErr r (Breaks stands is_stopped wakes core told before now)
 broke stands is_stopped wakes core told before now (Ok a) is stood = tt
 broke stands is_stopped wakes core told before now (Err end) is stood = subst (Breaks stands is_stopped wakes core told before now) (sym is) (record { ends = stood; rose = λ fault. cc })
+
+-- A loop ends as its last step ended, and no more waits woke than were asked for.
+
+woke-most : (fewer most : ℕ) (told : Option Log) → fewer ≤ most → WokeFor fewer told → WokeFor most told
+woke-most fewer most told less woke = record { holds = λ log is. let few = woke.holds log is in omega arith }
+
+pub ends_so : {M : Type 0} (stands : M → Log → Type 0) (is_stopped : M → Bool) (wakes turns : ℕ) (reads : LinkId → Bool) (sends : LinkId → Option Sent) (core : M) (told : Option Log) (end : ServeEnd)
+    → wakes ≤ turns → Ends stands is_stopped wakes BusyFor core told end → Ends stands is_stopped turns (SpentFor turns reads sends) core told end
+ends_so stands is_stopped wakes turns reads sends core told ended.Stopped less ends = record { standing = ends.standing; halted = ends.halted; woke = woke-most wakes turns told less ends.woke; so = tt }
+ends_so stands is_stopped wakes turns reads sends core told ended.Over less ends = record { standing = ends.standing; halted = ends.halted; woke = woke-most wakes turns told less ends.woke; so = ends.so }
+ends_so stands is_stopped wakes turns reads sends core told ended.ListenFault less ends = record { standing = ends.standing; halted = ends.halted; woke = woke-most wakes turns told less ends.woke; so = ends.so }
+ends_so stands is_stopped wakes turns reads sends core told ended.TurnsSpent less ends = record { standing = ends.standing; halted = ends.halted; woke = woke-most wakes turns told less ends.woke; so = record { holds = λ log is. inr (ends.so.holds log is) } }
+ends_so stands is_stopped wakes turns reads sends core told ended.OutOfMemory less ends = ends
+
+-- a loop that made all its turns
+pub turns_made : {M : Type 0} (stands : M → Log → Type 0) (is : Bool) (turns : ℕ) (reads : LinkId → Bool) (sends : LinkId → Option Sent) (core : M) (told : Option Log) (table : Table)
+    → StandsFor stands core told → TracksFor table told → is ≡ false → DrainedFor reads sends told → table.round.wakes ≡ turns → EndsSo stands turns core told is false (SpentFor turns reads sends)
+turns_made stands is turns reads sends core told table held tracks going drained made = record {
+  standing = held;
+  halted = going;
+  woke = record { holds = λ log at. let same = counted log at in omega arith };
+  so = record { holds = λ log at. inl (record { woke = counted log at; drained = drained.holds log at }) };
+} where
+  counted : (log : Log) → told ≡ Some log → wakes_of log ≡ turns
+  counted log at = sym (tracks.holds log at).round.wakes ∙ made

@@ -6,3 +6,4 @@ pub mod Marking
 pub mod Opening
 pub mod Steps
 pub mod Watching
+pub mod Offering

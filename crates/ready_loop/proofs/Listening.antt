@@ -69,7 +69,7 @@ lawful_listening traffic admin before (e ∷ later) tail is = (
 )
 
 -- a loop that listened goes on so
-pub listens_grown : {W : Type 0} (told : W → Option Log) (rule : W → Log → Type 0) (port_faults faults : W → ℕ) (traffic admin : Address) (old new : W) → ListeningFor traffic admin (told old) → Advances told rule port_faults faults old new → ListensFirst traffic admin (told new)
+pub listens_grown : {W R : Type 0} (told : W → Option Log) (rule : W → R) (port_faults faults : W → ℕ) (traffic admin : Address) (old new : W) → ListeningFor traffic admin (told old) → Advances told rule port_faults faults old new → ListensFirst traffic admin (told new)
 listens_grown told rule port_faults faults traffic admin old new began advances = record {
   holds = λ log is.
       let grew = advances.grew log is in

@@ -2,14 +2,14 @@
 use Rattle.std.proofs.Common.{◌≡◌, ℕ, ◌+◌, ◌<◌, ◌≤◌, Bool, false, refl, subst, sym, ap, ◌∙◌, [], ◌∷◌, ◌++◌, length, take, Option, Some, None, append_assoc, append-nil, length-append, arith}
 use Rattle.mx_base.specs.declared.names.LinkId.{LinkId}
 use Rattle.mx_wire.specs.Log.{Log, IsMark, AreMarks}
-use Rattle.mx_wire.specs.Tells.{MayFollow, Tells, KeepsRule}
+use Rattle.mx_wire.specs.Tells.{MayFollow, Tells}
 use Rattle.mx_wire.specs.declared.entry.Entry.{Entry}
 use Rattle.mx_wire.specs.declared.entry.Entry.TheVariants as entry
 use Rattle.ready_loop.specs.declared.machines.Piece.{Piece}
 use Rattle.ready_loop.specs.Machine.{StandsFor, CarriesOver, Keeps, IsQuiet, IsLent, MayTake, Closes}
 use Rattle.ready_loop.specs.Sent.{Sent}
 use Rattle.ready_loop.specs.Drained.{IsDue, MayWait, DrainedFor}
-use Rattle.ready_loop.specs.Serving.{Parts, Advances}
+use Rattle.ready_loop.specs.Serving.{Parts}
 use Rattle.ready_loop.proofs.Counting.{drained-marks}
 
 -- a mark is told to no machine
@@ -32,7 +32,7 @@ abbrev pub IsStill : {M : Type 0} → (M → Log → Type 0) → (M → LinkId �
 IsStill {M} stands reads sends asks = (machine : M) (e : Entry) → IsQuiet e → CarriesOver stands (IsDue reads sends asks) machine machine e
 
 -- a machine stands for a log with more marks
-after_marks : {M : Type 0} (stands : M → Log → Type 0) (reads : M → LinkId → Bool) (sends : M → LinkId → Option Sent) (asks : M → Bool) → IsStill stands reads sends asks → (machine : M) (log marks : Log) → AreMarks marks → length (log ++ marks) < 281474976710656 → stands machine log → stands machine (log ++ marks)
+pub after_marks : {M : Type 0} (stands : M → Log → Type 0) (reads : M → LinkId → Bool) (sends : M → LinkId → Option Sent) (asks : M → Bool) → IsStill stands reads sends asks → (machine : M) (log marks : Log) → AreMarks marks → length (log ++ marks) < 281474976710656 → stands machine log → stands machine (log ++ marks)
 after_marks stands reads sends asks still machine log [] all few held = subst (λ (l : Log). stands machine l) (sym (append-nil log)) held
 after_marks stands reads sends asks still machine log (e ∷ marks) all few held =
     let long : length (log ++ e ∷ marks) ≡ length log + length (e ∷ marks) = length-append log (e ∷ marks) in
@@ -99,13 +99,4 @@ closes stands reads sends asks still old new told now (Some sent) link held clos
       let before : stands old (write.0 ++ write.2.marks) = after_marks stands reads sends asks still old write.0 write.2.marks write.2.only_marks (few_before (write.0 ++ write.2.marks) offer.0 write.2.lawful) (held.holds write.0 write.1) in
       subst (λ (l : Log). stands new l) (ap (λ (l : Log). l ++ close.2.marks ++ entry.Closed link ∷ []) (sym write.2.is) ∙ sym close.2.is)
       (closing.offered refl (write.0 ++ write.2.marks) offer.0 close.2.marks offer.1 close.2.only_marks write.2.lawful (subst (λ (l : Log). MayFollow (l ++ close.2.marks) (entry.Closed link)) write.2.is close.2.lawful) before);
-}
-
--- one call of the wire, of which no failure is forgotten
-pub advanced : {W : Type 0} (told : W → Option Log) (rule : W → Log → Type 0) (port_faults faults : W → ℕ) (old new : W) (e : Entry) → Tells (told old) e (told new) → KeepsRule rule old new → port_faults old ≤ port_faults new → faults old ≤ faults new → Advances told rule port_faults faults old new
-advanced told rule port_faults faults old new e tells ruled ports links = record {
-  ruled = ruled;
-  grew = λ log is. let call = tells.appended log is in (call.0, call.1, (call.2.marks ++ e ∷ [], call.2.is ∙ append_assoc call.0 call.2.marks (e ∷ [])));
-  ports_failed = ports;
-  links_failed = links;
 }

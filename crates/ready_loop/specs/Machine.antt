@@ -84,6 +84,11 @@ Acts stands due sends old new (Some (act.Close link)) = Closes stands due old ne
 Acts stands due sends old new (Some (act.Open server address)) = Keeps stands old new
 Acts stands due sends old new None = Keeps stands old new
 
+-- what is lent for the one write before a close is owed
+abbrev pub OwesFarewell : {M : Type 0} → (M → Log → Type 0) → (Log → LinkId → (piece : List ℕ) → Type 0) → (M → LinkId → Option Sent) → M → M → Option Act → Type 0
+OwesFarewell stands owes sends old new (Some (act.Close link)) = (log : Log) (sent : Sent) → stands old log → sends new link ≡ Some sent → owes log link sent.bytes
+OwesFarewell stands owes sends old new _ = Unit {0}
+
 -- one call that adds such an entry, or none
 pub record MayTell (P : Entry → Type 0) (old new : Option Log) : Type 0 where
   pub either : (new ≡ old) ⊎ ((e : Entry) × P e × Tells old e new)

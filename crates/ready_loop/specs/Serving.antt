@@ -1,11 +1,12 @@
 -- What a serving loop keeps, and how it ends.
-use Rattle.std.specs.Prelude.{◌≡◌, ◌⊎◌, ℕ, ◌+◌, ◌<◌, ◌≤◌, Bool, true, false, [], ◌∷◌, ◌++◌, filter, drop, Option, Some, None, IsSome, Result, OnOk, IfErr}
+use Rattle.std.specs.Prelude.{◌≡◌, ◌⊎◌, ℕ, ◌+◌, ◌<◌, ◌≤◌, Bool, true, false, List, [], ◌∷◌, ◌++◌, length, filter, drop, Option, Some, None, IsSome, Result, OnOk, IfErr}
 use Rattle.mx_base.specs.declared.names.LinkId.{LinkId}
 use Rattle.mx_base.specs.declared.names.Port.TheVariants as port
 use Rattle.mx_base.specs.declared.names.Address.{Address}
-use Rattle.mx_wire.specs.Log.{Log}
+use Rattle.mx_wire.specs.Log.{Log, AreMarks}
 use Rattle.mx_wire.specs.Moments.{AllLawful}
-use Rattle.mx_wire.specs.Tells.{Appends, Tells, KeepsRule}
+use Rattle.mx_wire.specs.Tells.{Appends, Tells}
+use Rattle.mx_wire.specs.Offers.{HasOffered}
 use Rattle.mx_wire.specs.declared.entry.Entry.{Entry}
 use Rattle.mx_wire.specs.declared.entry.Entry.TheVariants as entry
 use Rattle.ready_loop.specs.Sent.{Sent}
@@ -43,16 +44,18 @@ pub record IsGoing {M : Type 0} (stands : M → Log → Type 0) (reads : M → L
   pub acted : asks core ≡ false
 
 -- the log only grows, and failures are only added to
-pub record Advances {W : Type 0} (told : W → Option Log) (rule : W → Log → Type 0) (port_faults faults : W → ℕ) (old new : W) : Type 0 where
-  pub ruled : KeepsRule rule old new
+pub record Advances {W R : Type 0} (told : W → Option Log) (ruled_by : W → R) (port_faults faults : W → ℕ) (old new : W) : Type 0 where
+  pub ruled : ruled_by new ≡ ruled_by old
   pub grew : (log : Log) → told new ≡ Some log → (before : Log) × (told old ≡ Some before) × ((more : Log) × (log ≡ before ++ more))
   pub ports_failed : port_faults old ≤ port_faults new
   pub links_failed : faults old ≤ faults new
 
--- the wire advances, and the machine serves by what it served by
-pub record Proceeds {M W S : Type 0} (service : M → S) (told : W → Option Log) (rule : W → Log → Type 0) (port_faults faults : W → ℕ) (core next : M) (old new : W) : Type 0 where
-  pub advances : Advances told rule port_faults faults old new
+-- The wire advances, and the machine serves by what it served by; each write was offered all that is owed.
+pub record Proceeds {M W R S : Type 0} (service : M → S) (owes : S → Log → LinkId → (piece : List ℕ) → Type 0) (told : W → Option Log) (ruled_by : W → R) (takes : R → Log → LinkId → (piece taken : List ℕ) → Type 0) (port_faults faults : W → ℕ)
+    (core next : M) (old new : W) : Type 0 where
+  pub advances : Advances told ruled_by port_faults faults old new
   pub serves_by : service next ≡ service core
+  pub offered : HasOffered (owes (service core)) (takes (ruled_by old)) (told old) → HasOffered (owes (service next)) (takes (ruled_by new)) (told new)
 
 -- the call of which the entry is the answer, where a wake may owe it
 abbrev pub call_of : Entry → Option Call
@@ -121,6 +124,10 @@ pub record IsDone (reads : LinkId → Bool) (sends : LinkId → Option Sent) (ch
 abbrev pub IsOffered : Option Sent → LinkId → Option Log → Option Log → Type 0
 IsOffered None link old new = new ≡ old
 IsOffered (Some sent) link old new = (e : Entry) × IsFarewell (Some sent) link e × Tells old e new
+
+-- what is lent for a link is owed to it, also behind marks that its write tells of
+pub record OwedFor (owes : Log → LinkId → (piece : List ℕ) → Type 0) (lent : Option Sent) (link : LinkId) (told : Option Log) : Type 0 where
+  pub holds : (log marks : Log) (sent : Sent) → told ≡ Some log → AreMarks marks → length (log ++ marks) < 281474976710656 → lent ≡ Some sent → owes (log ++ marks) link sent.bytes
 
 -- an offer is counted
 abbrev pub offered_round : Option Sent → Round → Round
@@ -201,13 +208,13 @@ pub record Breaks {M : Type 0} (stands : M → Log → Type 0) (is_stopped : M �
   pub rose : end ≡ ListenFault → faults_before < faults_now
 
 -- the call was made, and no other, and is counted; the loop goes on, or ends by what the call answered
-pub record HasMade {M W S A : Type 0} (stands : M → Log → Type 0) (is_stopped : M → Bool) (service : M → S) (told : W → Option Log) (rule : W → Log → Type 0) (port_faults faults : W → ℕ) (made : Call)
-    (core next : M) (old new : W) (before now : Round) (result : Result A ServeEnd) : Type 0 where
+pub record HasMade {M W R S A : Type 0} (stands : M → Log → Type 0) (is_stopped : M → Bool) (service : M → S) (owes : S → Log → LinkId → (piece : List ℕ) → Type 0) (told : W → Option Log) (ruled_by : W → R)
+    (takes : R → Log → LinkId → (piece taken : List ℕ) → Type 0) (port_faults faults : W → ℕ) (made : Call) (core next : M) (old new : W) (before now : Round) (result : Result A ServeEnd) : Type 0 where
   pub made_it : Makes made (told old) (told new)
   pub more : OnOk result (before.calls < now.calls)
   pub wakes : now.wakes ≡ before.wakes
   pub ends : IfErr result (Breaks stands is_stopped now.wakes next (told new) (port_faults old) (port_faults new))
-  pub proceeds : Proceeds service told rule port_faults faults core next old new
+  pub proceeds : Proceeds service owes told ruled_by takes port_faults faults core next old new
 
 -- the calls of a log, without the marks
 abbrev pub is_call : Entry → Bool

@@ -5,7 +5,7 @@ ghost use Rattle.mx_wire.specs.declared.entry.Entry.{Entry};
 ghost use Rattle.ready_loop.specs.Changes.{ChangesOnly};
 ghost use Rattle.ready_loop.specs.Drained.{IsDue};
 ghost use Rattle.ready_loop.specs.Machine.{Target, IsHeard, HasActed, IsToldOf, CarriesOver};
-ghost use Rattle.ready_loop.specs.Serving.{Serves, Breaks, StoodFor, Advances, Proceeds, TracksFor, IsOffered, Parts, offered_round};
+ghost use Rattle.ready_loop.specs.Serving.{Serves, Breaks, StoodFor, Proceeds, TracksFor, IsOffered, OwedFor, Parts, offered_round};
 ghost use Rattle.ready_loop.specs.Links.{Marks};
 
 use crate::table::Table;
@@ -51,7 +51,7 @@ fn open_link<M: Machine, W: Wire>(
     ensures more { OnOk result (table.old.round.calls < table.new.round.calls) }
     ensures wakes { table.new.round.wakes ≡ table.old.round.wakes }
     ensures broke { OnErr result (StoodFor M.stands (W.told wire.new)) }
-    ensures proceeds { Proceeds M.serves_by W.told W.rule W.port_faults W.faults core.old core.new wire.old wire.new }
+    ensures proceeds { Proceeds M.serves_by M.owes W.told W.ruled_by W.takes W.port_faults W.faults core.old core.new wire.old wire.new }
 {
     table.round.calls += 1;
     match wire.open(server, address) {
@@ -64,10 +64,11 @@ fn open_link<M: Machine, W: Wire>(
 fn offer<M: Machine, W: Wire>(core: &M, wire: &mut W, table: &mut Table, link: LinkId)
     requires room { table.old.round.calls < 4294967296 }
     requires opened { OpenFor (W.told wire.old) link }
+    requires owed { OwedFor (M.owes (M.serves_by core.now)) (M.sends core.now link) link (W.told wire.old) }
     ensures offered { IsOffered (M.sends core.now link) link (W.told wire.old) (W.told wire.new) }
     ensures links { table.new.links ≡ table.old.links }
     ensures round { table.new.round ≡ offered_round (M.sends core.now link) table.old.round }
-    ensures advances { Advances W.told W.rule W.port_faults W.faults wire.old wire.new }
+    ensures proceeds { Proceeds M.serves_by M.owes W.told W.ruled_by W.takes W.port_faults W.faults core.now core.now wire.old wire.new }
 {
     let Some(piece) = core.outgoing(link) else {
         return;
@@ -80,6 +81,7 @@ fn offer<M: Machine, W: Wire>(core: &M, wire: &mut W, table: &mut Table, link: L
 fn close_link<M: Machine, W: Wire>(core: &M, wire: &mut W, table: &mut Table, link: LinkId)
     requires room { table.old.round.calls < 4294967296 }
     requires opened { OpenFor (W.told wire.old) link }
+    requires owed { OwedFor (M.owes (M.serves_by core.now)) (M.sends core.now link) link (W.told wire.old) }
     requires tracks { TracksFor table.old (W.told wire.old) }
     ensures parts { Parts (M.sends core.now link) link (W.told wire.old) (W.told wire.new) }
     ensures tracks { TracksFor table.new (W.told wire.new) }
@@ -87,7 +89,7 @@ fn close_link<M: Machine, W: Wire>(core: &M, wire: &mut W, table: &mut Table, li
     ensures queue { table.new.links.queue.items ≡ table.old.links.queue.items }
     ensures more { table.old.round.calls < table.new.round.calls }
     ensures wakes { table.new.round.wakes ≡ table.old.round.wakes }
-    ensures advances { Advances W.told W.rule W.port_faults W.faults wire.old wire.new }
+    ensures proceeds { Proceeds M.serves_by M.owes W.told W.ruled_by W.takes W.port_faults W.faults core.now core.now wire.old wire.new }
 {
     offer(core, wire, table, link);
     table.round.calls += 1;
@@ -109,7 +111,7 @@ fn act_once<M: Machine, W: Wire>(
     ensures acted { IfOk result (λ went. went ≡ false → M.asks core.new ≡ false) }
     ensures wakes { table.new.round.wakes ≡ table.old.round.wakes }
     ensures broke { OnErr result (StoodFor M.stands (W.told wire.new)) }
-    ensures proceeds { Proceeds M.serves_by W.told W.rule W.port_faults W.faults core.old core.new wire.old wire.new }
+    ensures proceeds { Proceeds M.serves_by M.owes W.told W.ruled_by W.takes W.port_faults W.faults core.old core.new wire.old wire.new }
 {
     match core.next_act() {
         None => Ok(false),
@@ -138,7 +140,7 @@ pub fn do_acts<M: Machine, W: Wire>(
     ensures more { OnOk result (table.old.round.calls ≤ table.new.round.calls) }
     ensures wakes { table.new.round.wakes ≡ table.old.round.wakes }
     ensures ends { IfErr result (Breaks M.stands M.is_stopped table.new.round.wakes core.new (W.told wire.new) (W.port_faults wire.old) (W.port_faults wire.new)) }
-    ensures proceeds { Proceeds M.serves_by W.told W.rule W.port_faults W.faults core.old core.new wire.old wire.new }
+    ensures proceeds { Proceeds M.serves_by M.owes W.told W.ruled_by W.takes W.port_faults W.faults core.old core.new wire.old wire.new }
 {
     while table.round.calls < CALLS_PER_WAKE {
         if !act_once(core, wire, table)? {

@@ -4,7 +4,7 @@ ghost use Rattle.mx_wire.specs.Tells.{Tells};
 ghost use Rattle.mx_wire.specs.declared.entry.Entry.TheVariants as entry;
 ghost use Rattle.ready_loop.specs.Drained.{DrainedFor};
 ghost use Rattle.ready_loop.specs.Links.{is_read_dry, is_write_dry};
-ghost use Rattle.ready_loop.specs.Serving.{Serves, IsGoing, Breaks, Advances, Proceeds, HasMade};
+ghost use Rattle.ready_loop.specs.Serving.{Serves, IsGoing, Breaks, Proceeds, HasMade};
 
 use crate::acts::come;
 use crate::ends::unless_refused;
@@ -30,7 +30,7 @@ pub fn listen_once<M: Machine, W: Wire>(
     ensures round { OnOk result (table.new.round ≡ record table.old.round { calls = table.old.round.calls + 1 }) }
     ensures wakes { table.new.round.wakes ≡ table.old.round.wakes }
     ensures ends { IfErr result (Breaks M.stands M.is_stopped table.new.round.wakes core.now (W.told wire.new) (W.port_faults wire.old) (W.port_faults wire.new)) }
-    ensures advances { Advances W.told W.rule W.port_faults W.faults wire.old wire.new }
+    ensures proceeds { Proceeds M.serves_by M.owes W.told W.ruled_by W.takes W.port_faults W.faults core.now core.now wire.old wire.new }
 {
     table.round.calls += 1;
     match wire.listen(port, core.address(port)) {
@@ -53,7 +53,7 @@ pub fn wait_once<M: Machine, W: Wire>(
     ensures wakes { OnOk result (table.new.round.wakes ≡ table.old.round.wakes + 1) }
     ensures slept { OnErr result (table.new.round.wakes ≡ table.old.round.wakes) }
     ensures ends { IfErr result (Breaks M.stands M.is_stopped table.new.round.wakes core.new (W.told wire.new) (W.port_faults wire.old) (W.port_faults wire.new)) }
-    ensures proceeds { Proceeds M.serves_by W.told W.rule W.port_faults W.faults core.old core.new wire.old wire.new }
+    ensures proceeds { Proceeds M.serves_by M.owes W.told W.ruled_by W.takes W.port_faults W.faults core.old core.new wire.old wire.new }
 {
     match wire.wait(core.until_ms()) {
         Woke::Woke { now_ms } => {
@@ -76,7 +76,7 @@ pub fn accept_once<M: Machine, W: Wire>(
     requires room { table.old.round.calls < 4294967296 }
     requires going { IsGoing M.stands M.reads M.sends M.changed M.is_stopped M.asks core.old table.old (W.told wire.old) }
     ensures serves { OnOk result (Serves M.stands M.reads M.sends M.changed core.new table.new (W.told wire.new)) }
-    ensures made { HasMade M.stands M.is_stopped M.serves_by W.told W.rule W.port_faults W.faults (Call.Accept port) core.old core.new wire.old wire.new table.old.round table.new.round result }
+    ensures made { HasMade M.stands M.is_stopped M.serves_by M.owes W.told W.ruled_by W.takes W.port_faults W.faults (Call.Accept port) core.old core.new wire.old wire.new table.old.round table.new.round result }
 {
     table.round.calls += 1;
     match wire.accept(port) {
@@ -101,7 +101,7 @@ pub fn name_once<M: Machine, W: Wire>(
     requires room { table.old.round.calls < 4294967296 }
     requires going { IsGoing M.stands M.reads M.sends M.changed M.is_stopped M.asks core.now table.old (W.told wire.old) }
     ensures serves { OnOk result (Serves M.stands M.reads M.sends M.changed core.now table.new (W.told wire.new)) }
-    ensures made { HasMade M.stands M.is_stopped M.serves_by W.told W.rule W.port_faults W.faults (Call.Name) core.now core.now wire.old wire.new table.old.round table.new.round result }
+    ensures made { HasMade M.stands M.is_stopped M.serves_by M.owes W.told W.ruled_by W.takes W.port_faults W.faults (Call.Name) core.now core.now wire.old wire.new table.old.round table.new.round result }
 {
     table.round.calls += 1;
     match wire.next_ready() {
@@ -121,13 +121,12 @@ pub fn read_once<M: Machine, W: Wire>(
     link: LinkId,
     buffer: &mut [u8],
 ) -> Result<(), ServeEnd>
-    requires some { 0 < length buffer.old }
-    requires most { length buffer.old ≤ 65536 }
+    requires whole { length buffer.old ≡ 65536 }
     requires room { table.old.round.calls < 4294967296 }
     requires wet { is_read_dry table.old.links link ≡ Some false }
     requires going { IsGoing M.stands M.reads M.sends M.changed M.is_stopped M.asks core.old table.old (W.told wire.old) }
     ensures serves { OnOk result (Serves M.stands M.reads M.sends M.changed core.new table.new (W.told wire.new)) }
-    ensures made { HasMade M.stands M.is_stopped M.serves_by W.told W.rule W.port_faults W.faults (Call.Read link) core.old core.new wire.old wire.new table.old.round table.new.round result }
+    ensures made { HasMade M.stands M.is_stopped M.serves_by M.owes W.told W.ruled_by W.takes W.port_faults W.faults (Call.Read link) core.old core.new wire.old wire.new table.old.round table.new.round result }
 {
     table.round.calls += 1;
     let Some(told) = hear(link, wire.read(link, buffer)) else {
@@ -149,7 +148,7 @@ pub fn write_once<M: Machine, W: Wire>(
     requires wet { is_write_dry table.old.links link ≡ Some false }
     requires going { IsGoing M.stands M.reads M.sends M.changed M.is_stopped M.asks core.old table.old (W.told wire.old) }
     ensures serves { OnOk result (Serves M.stands M.reads M.sends M.changed core.new table.new (W.told wire.new)) }
-    ensures made { HasMade M.stands M.is_stopped M.serves_by W.told W.rule W.port_faults W.faults (Call.Write link) core.old core.new wire.old wire.new table.old.round table.new.round result }
+    ensures made { HasMade M.stands M.is_stopped M.serves_by M.owes W.told W.ruled_by W.takes W.port_faults W.faults (Call.Write link) core.old core.new wire.old wire.new table.old.round table.new.round result }
 {
     let Some(piece) = core.outgoing(link) else {
         unreachable!()

@@ -6,7 +6,7 @@ ghost use Rattle.mx_base.specs.declared.names.Address.{Address};
 ghost use Rattle.mx_wire.specs.Log.{Log};
 ghost use Rattle.mx_wire.specs.declared.entry.Entry.{Entry};
 ghost use Rattle.mx_wire.specs.declared.entry.Entry.TheVariants as entry;
-ghost use Rattle.ready_loop.specs.Machine.{Target, IsHeard, HasActed, IsAwaited, CarriesOver, Keeps, IsToldOf, Acts, IsQuiet, IsLent, MayTake};
+ghost use Rattle.ready_loop.specs.Machine.{Target, IsHeard, HasActed, IsAwaited, CarriesOver, Keeps, IsToldOf, Acts, OwesFarewell, IsQuiet, IsLent, MayTake};
 ghost use Rattle.ready_loop.specs.Changes.{ChangesOnly, SaysSame, TakesChange};
 ghost use Rattle.ready_loop.specs.Sent.{Sent};
 ghost use Rattle.ready_loop.specs.Drained.{IsDue};
@@ -96,6 +96,9 @@ pub trait Machine {
 
     ghost serves_by: { Self → Service };
 
+    /// What is owed to a link behind a log. All of it is lent, in one piece.
+    ghost owes: { Service → Log → LinkId → (piece : List ℕ) → Type 0 };
+
     /// Tells of an event. `bytes` are those read for a `Got`, and else none. What the machine asked for is done by then, but
     /// for the open whose answer the event is.
     fn take(&mut self, event: Event, bytes: &mut [u8]) -> Result<(), OutOfMemory>
@@ -110,6 +113,7 @@ pub trait Machine {
     fn next_act(&mut self) -> Option<Act>
         ensures awaits { IfSome result (IsAwaited (awaits self.new)) }
         ensures act { Acts stands (IsDue reads sends asks) sends self.old self.new result }
+        ensures owed { OwesFarewell stands (owes (serves_by self.old)) sends self.old self.new result }
         ensures changes { ChangesOnly changed reads sends self.old self.new }
         ensures none { IfNone result (asks self.new ≡ false) }
         ensures serves_by { serves_by self.new ≡ serves_by self.old };
@@ -159,4 +163,7 @@ pub trait Machine {
 
     /// A machine stands still where it is told of nothing.
     ghost quiet: { (machine : Self) (e : Entry) → IsQuiet e → CarriesOver stands (IsDue reads sends asks) machine machine e };
+
+    /// What it lends is owed, once what it asked for is done.
+    ghost lends: { (machine : Self) (log : Log) (link : LinkId) (sent : Sent) → stands machine log → asks machine ≡ false → sends machine link ≡ Some sent → owes (serves_by machine) log link sent.bytes };
 }

@@ -2,12 +2,12 @@
 ghost use Rattle.std.specs.Prelude.{◌≡◌, ◌≢◌, ◌<◌, ◌≤◌, ◌+◌, [], length, false, true, Some, OnOk, OnErr, IfErr, IfOk, None};
 ghost use Rattle.mx_base.specs.declared.names.LinkId.{LinkId};
 ghost use Rattle.mx_wire.specs.Log.{Log};
-ghost use Rattle.mx_wire.specs.Tells.{KeepsRule};
+ghost use Rattle.mx_wire.specs.Offers.{HasOffered};
 ghost use Rattle.ready_loop.specs.Drained.{DrainedFor};
 ghost use Rattle.ready_loop.specs.Links.{mark_of};
 ghost use Rattle.ready_loop.specs.Machine.{StandsFor};
 ghost use Rattle.ready_loop.specs.Round.{CountsOf};
-ghost use Rattle.ready_loop.specs.Serving.{Serves, IsGoing, Breaks, Ends, StoodFor, EndsWith, IsOver, IsPortFault, SpentFor, WokeFor, ListensFirst, ListeningFor, Advances, Proceeds, HasMade, IsOwed};
+ghost use Rattle.ready_loop.specs.Serving.{Serves, IsGoing, Breaks, Ends, StoodFor, EndsWith, IsOver, IsPortFault, SpentFor, WokeFor, ListensFirst, ListeningFor, Proceeds, HasMade, IsOwed};
 
 use crate::acts::do_acts;
 use crate::calls::{accept_once, listen_once, name_once, read_once, wait_once, write_once};
@@ -57,7 +57,7 @@ fn follow<M: Machine, W: Wire>(
     ensures more { OnOk result (table.old.round.calls ≤ table.new.round.calls) }
     ensures wakes { table.new.round.wakes ≡ table.old.round.wakes }
     ensures ends { IfErr result (Breaks M.stands M.is_stopped table.new.round.wakes core.new (W.told wire.new) (W.port_faults wire.old) (W.port_faults wire.new)) }
-    ensures proceeds { Proceeds M.serves_by W.told W.rule W.port_faults W.faults core.old core.new wire.old wire.new }
+    ensures proceeds { Proceeds M.serves_by M.owes W.told W.ruled_by W.takes W.port_faults W.faults core.old core.new wire.old wire.new }
 {
     do_acts(core, wire, table)?;
     if core.stopped() {
@@ -73,13 +73,12 @@ fn make_call<M: Machine, W: Wire>(
     buffer: &mut [u8],
     call: Call,
 ) -> Result<(), ServeEnd>
-    requires some { 0 < length buffer.old }
-    requires most { length buffer.old ≤ 65536 }
+    requires whole { length buffer.old ≡ 65536 }
     requires room { table.old.round.calls < 4294967296 }
     requires going { IsGoing M.stands M.reads M.sends M.changed M.is_stopped M.asks core.old table.old (W.told wire.old) }
     requires owed { IsOwed (M.reads core.old) (M.sends core.old) table.old call }
     ensures serves { OnOk result (Serves M.stands M.reads M.sends M.changed core.new table.new (W.told wire.new)) }
-    ensures made { HasMade M.stands M.is_stopped M.serves_by W.told W.rule W.port_faults W.faults call core.old core.new wire.old wire.new table.old.round table.new.round result }
+    ensures made { HasMade M.stands M.is_stopped M.serves_by M.owes W.told W.ruled_by W.takes W.port_faults W.faults call core.old core.new wire.old wire.new table.old.round table.new.round result }
 {
     match call {
         Call::Accept { port } => accept_once(core, wire, table, port),
@@ -96,14 +95,13 @@ fn settle<M: Machine, W: Wire>(
     table: &mut Table,
     buffer: &mut [u8],
 ) -> Result<(), ServeEnd>
-    requires some { 0 < length buffer.old }
-    requires most { length buffer.old ≤ 65536 }
+    requires whole { length buffer.old ≡ 65536 }
     requires serves { Serves M.stands M.reads M.sends M.changed core.old table.old (W.told wire.old) }
     ensures going { OnOk result (IsGoing M.stands M.reads M.sends M.changed M.is_stopped M.asks core.new table.new (W.told wire.new)) }
     ensures drained { OnOk result (DrainedFor (M.reads core.new) (M.sends core.new) (W.told wire.new)) }
     ensures wakes { table.new.round.wakes ≡ table.old.round.wakes }
     ensures ends { IfErr result (Breaks M.stands M.is_stopped table.new.round.wakes core.new (W.told wire.new) (W.port_faults wire.old) (W.port_faults wire.new)) }
-    ensures proceeds { Proceeds M.serves_by W.told W.rule W.port_faults W.faults core.old core.new wire.old wire.new }
+    ensures proceeds { Proceeds M.serves_by M.owes W.told W.ruled_by W.takes W.port_faults W.faults core.old core.new wire.old wire.new }
 {
     loop {
         follow(core, wire, table)?;
@@ -121,13 +119,12 @@ fn serve_turns<M: Machine, W: Wire>(
     buffer: &mut [u8],
     turns: u64,
 ) -> ServeEnd
-    requires some { 0 < length buffer.old }
-    requires most { length buffer.old ≤ 65536 }
+    requires whole { length buffer.old ≡ 65536 }
     requires wakes { table.old.round.wakes ≡ 0 }
     requires serves { Serves M.stands M.reads M.sends M.changed core.old table.old (W.told wire.old) }
     ensures ends { Ends M.stands M.is_stopped turns (SpentFor turns (M.reads core.new) (M.sends core.new)) core.new (W.told wire.new) result }
     ensures rose { result ≡ ServeEnd.ListenFault → W.port_faults wire.old < W.port_faults wire.new }
-    ensures proceeds { Proceeds M.serves_by W.told W.rule W.port_faults W.faults core.old core.new wire.old wire.new }
+    ensures proceeds { Proceeds M.serves_by M.owes W.told W.ruled_by W.takes W.port_faults W.faults core.old core.new wire.old wire.new }
 {
     if let Err(end) = settle(core, wire, table, buffer) {
         return end;
@@ -154,7 +151,7 @@ fn start<M: Machine, W: Wire>(core: &M, wire: &mut W, table: &mut Table) -> Resu
     ensures listening { OnOk result (ListeningFor (M.address_of core.now Port.Traffic) (M.address_of core.now Port.Admin) (W.told wire.new)) }
     ensures listens { OnErr result (ListensFirst (M.address_of core.now Port.Traffic) (M.address_of core.now Port.Admin) (W.told wire.new)) }
     ensures ends { IfErr result (Breaks M.stands M.is_stopped table.new.round.wakes core.now (W.told wire.new) (W.port_faults wire.old) (W.port_faults wire.new)) }
-    ensures advances { Advances W.told W.rule W.port_faults W.faults wire.old wire.new }
+    ensures proceeds { Proceeds M.serves_by M.owes W.told W.ruled_by W.takes W.port_faults W.faults core.now core.now wire.old wire.new }
 {
     wire.reserve(core.most_links())?;
     listen_once(core, wire, table, Port::Traffic)?;
@@ -200,7 +197,8 @@ pub fn serve<M: Machine, W: Wire>(alloc: Global, core: &mut M, wire: &mut W, tur
     ensures spent { result ≡ ServeEnd.TurnsSpent → SpentFor turns (M.reads core.new) (M.sends core.new) (W.told wire.new) }
     ensures wakes { result ≢ ServeEnd.OutOfMemory → WokeFor turns (W.told wire.new) }
     ensures listens { ListensFirst (M.address_of core.old Port.Traffic) (M.address_of core.old Port.Admin) (W.told wire.new) }
-    ensures rule { KeepsRule W.rule wire.old wire.new }
+    ensures offered { HasOffered (M.owes (M.serves_by core.old)) (W.takes (W.ruled_by wire.old)) (W.told wire.new) }
+    ensures ruled_by { W.ruled_by wire.new ≡ W.ruled_by wire.old }
     ensures port_faults { W.port_faults wire.old ≤ W.port_faults wire.new }
     ensures faults { W.faults wire.old ≤ W.faults wire.new }
     ensures serves_by { M.serves_by core.new ≡ M.serves_by core.old }

@@ -48,7 +48,7 @@ pub record StandsFor (service : Service) (log : Log) : Type 0 where
 abbrev pub GoesOn : Service → Type 0
 GoesOn service = (log : Log) (e : Entry) → StandsFor service log → MayFollow log e → IsOurs service.setup log e → Covers service (log ++ e ∷ []) → Keeps service (log ++ e ∷ []) → Sound service (log ++ e ∷ []) None (tables_after service.setup (log ++ e ∷ []))
 
-one-more : (service : Service) (log more : Log) (e : Entry) → GoesOn service → service.opens ≡ turns service.setup (log ++ e ∷ more) → StandsFor service log → MayFollow log e → IsOurs service.setup log e → StandsFor service (log ++ e ∷ [])
+pub one-more : (service : Service) (log more : Log) (e : Entry) → GoesOn service → service.opens ≡ turns service.setup (log ++ e ∷ more) → StandsFor service log → MayFollow log e → IsOurs service.setup log e → StandsFor service (log ++ e ∷ [])
 one-more service log more e goes opens stands follows ours = (let counts = counts-more service log e stands.sound ours stands.counts in
     let covers = covers-front service (log ++ e ∷ []) more (opens ∙ ap (turns service.setup) (sym (append_assoc log (e ∷ []) more))) counts in
     let keeps = keeps-more service log e stands.told follows.fits stands.sound covers ours stands.keeps in

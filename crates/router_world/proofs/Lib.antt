@@ -75,3 +75,5 @@ pub mod Comings
 pub mod Nothings
 pub mod Happenings
 pub mod Promises
+pub mod Owing
+pub mod Sizing

@@ -122,7 +122,7 @@ entry-step service log (entry.Drop link) tables short are happens covers ours = 
     (record { still = record { got = refl; wrote = refl; piece = refl; loss = refl; failure = refl; stays = λ was. refl; try = refl }; carries_none = λ n i. refl; refuses = λ s l. refl; breaks = λ u k l. refl; plain = record { arrives = λ before. refl; stays = λ links. refl } })
 
 -- Before the first entry nothing stands.
-starts : (service : Service) → Sound service [] None no_tables
+pub starts : (service : Service) → Sound service [] None no_tables
 starts service = record {
   came = refl;
   here = refl;
@@ -150,7 +150,7 @@ starts service = record {
   served = moment-last (IsServed service) [] (keeps-none service).served;
 }
 
-goes-on : (service : Service) → service.setup.limit < longest → GoesOn service
+pub goes-on : (service : Service) → service.setup.limit < longest → GoesOn service
 goes-on service short log e stands follows ours covers keeps = subst (Sound service (log ++ e ∷ []) None) (sym (fold-append (step service.setup) no_tables log (e ∷ [])))
     (entry-step service log e (tables_after service.setup log) short refl (record {
       told = stands.told;

@@ -4,3 +4,4 @@ pub mod Seats
 pub mod Tables
 pub mod World
 pub mod Acts
+pub mod Owed

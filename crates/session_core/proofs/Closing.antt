@@ -13,7 +13,8 @@ use Rattle.mx_wire.specs.Moments.{AllLawful, lawful-more}
 use Rattle.mx_wire.specs.declared.entry.Entry.{Entry}
 use Rattle.mx_wire.specs.declared.entry.Entry.TheVariants as entry
 use Rattle.ready_loop.specs.declared.machines.Act.{Act}
-use Rattle.ready_loop.specs.Machine.{Keeps, Closes, Acts, IsFarewell}
+use Rattle.router_world.specs.Owed.{IsWhole, lends}
+use Rattle.ready_loop.specs.Machine.{Keeps, Closes, Acts, OwesFarewell, IsFarewell}
 use Rattle.ready_loop.specs.Sent.{Sent}
 use Rattle.client_session.specs.Setups.{Setup}
 use Rattle.client_session.specs.declared.setup.ServerAt.{ServerAt}
@@ -257,3 +258,35 @@ acts-by old known None at is leaver result asked = subst (λ (r : Option Act). A
 
 pub acts-carry : (old new : Core) (result : Option Act) → Asked old new result → Acts Stands due_in sends old new result
 acts-carry old new result asked = subst (λ (c : Core). Acts Stands due_in sends old c result) (sym asked.same) (acts-by old new.known (acts.next_close (tables_of old.known)) refl asked.tables asked.leaver result asked.is)
+
+-- What is lent for the one write before a close is the whole of the farewell.
+farewell-whole : (old : Core) (known : Known) (link : LinkId) → acts.next_close (tables_of old.known) ≡ Some link → tables_of known ≡ closed_by (tables_of old.known).parting (tables_of old.known) → known.leaver ≡ next_leaver old.known.leaver
+    → (log : Log) (sent : Sent) → Stands old log → sends (record old { known = known }) link ≡ Some sent → lends old.setup log link sent.bytes
+farewell-whole old known link next is leaver log sent held some = by (lent-of old known link next leaver) where
+  silent : sends_in (tables_of known) link ≡ None
+  silent = ap (λ (t : Tables). sends_in t link) is ∙ closed-says (tables_of old.known).parting (tables_of old.known) link ∙ none-said (tables_of old.known) log link ((tidy-of old log held).closes link next)
+
+  or-nothing : (o : Option Sent) → or_sent o None ≡ o
+  or-nothing None = refl
+  or-nothing (Some sent) = refl
+
+  said : farewell link known.leaver ≡ Some sent
+  said = sym (ap (λ (o : Option Sent). or_sent (farewell link known.leaver) o) silent ∙ or-nothing (farewell link known.leaver)) ∙ some
+
+  by : LentBy old known link → lends old.setup log link sent.bytes
+  by (Nothing no_farewell gone) = absurd (let no : ◌≡◌ {A = Option Sent} None (Some sent) = sym (ap (farewell link) gone) ∙ said in cc)
+  by (Bytes o says lent) = (let bytes : acts.farewell_of (tables_of old.known).parting ≡ Some sent = says ∙ sym lent ∙ said in
+      inr (subst (λ (t : Tables). acts.IsFarewell t link × IsWhole (acts.farewell_of t.parting) sent.bytes) held.tables
+      (record { is_next = next; some = ap (λ (o : Option Sent). is_some o) bytes }, record { sent = sent; is = bytes; bytes = refl })))
+
+owes-by : (old : Core) (known : Known) (next : Option LinkId) → acts.next_close (tables_of old.known) ≡ next → tables_of known ≡ closed_by (tables_of old.known).parting (tables_of old.known) → known.leaver ≡ next_leaver old.known.leaver
+    → (result : Option Act) → result ≡ acting next old.setup.target (tables_of old.known).lends.waiting → OwesFarewell Stands (lends old.setup) sends old (record old { known = known }) result
+owes-by old known (Some link) at is leaver result asked = subst (λ (r : Option Act). OwesFarewell Stands (lends old.setup) sends old (record old { known = known }) r) (sym asked) (farewell-whole old known link at is leaver)
+owes-by old known None at is leaver result asked = subst (λ (r : Option Act). OwesFarewell Stands (lends old.setup) sends old (record old { known = known }) r) (sym asked) (by old.setup.target (is_waiting (tables_of old.known).lends.waiting)) where
+  by : (target : Option ServerAt) (waits : Bool) → OwesFarewell Stands (lends old.setup) sends old (record old { known = known }) (opening_if target waits)
+  by None waits = tt
+  by (Some server) true = tt
+  by (Some server) false = tt
+
+pub owes-farewell : (old new : Core) (result : Option Act) → Asked old new result → OwesFarewell Stands (lends old.setup) sends old new result
+owes-farewell old new result asked = subst (λ (c : Core). OwesFarewell Stands (lends old.setup) sends old c result) (sym asked.same) (owes-by old new.known (acts.next_close (tables_of old.known)) refl asked.tables asked.leaver result asked.is)

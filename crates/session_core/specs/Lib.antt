@@ -9,3 +9,4 @@ pub mod Stands
 pub mod Addresses
 pub mod Carrying
 pub mod Quiet
+pub mod Lending

@@ -11,6 +11,8 @@ ghost use Rattle.session_core.specs.Says.{reads, sends, asks, awaits};
 ghost use Rattle.session_core.specs.Acting.{changed};
 ghost use Rattle.session_core.specs.Addresses.{address_of, most_of};
 ghost use Rattle.session_core.specs.Quiet.{quiet};
+ghost use Rattle.session_core.specs.Lending.{lent-whole};
+ghost use Rattle.router_world.specs.Owed.{lends};
 
 use crate::router::Core;
 use mx_base::{Address, LinkId, OutOfMemory, Port};
@@ -83,6 +85,10 @@ impl Machine for Core {
     ghost Service = { Setup };
 
     ghost serves_by = { λ core. core.setup };
+
+    ghost owes = { lends };
+
+    ghost lends = { lent-whole };
 
     ghost quiet = { quiet };
 

@@ -44,16 +44,6 @@ fn is_ending(session: &Session) -> bool
     matches!(session.phase, Phase::Ending)
 }
 
-// Who asks, once it is logged in.
-fn asker(alloc: Global, seat: &Seat) -> Result<Option<Account>, OutOfMemory>
-    ensures { IfOk result (λ asker. asker ≡ account_in seat.now.session.phase) }
-{
-    match account(&seat.session) {
-        Some(account) => Ok(Some(same_account(alloc, account)?)),
-        None => Ok(None),
-    }
-}
-
 impl Known {
     ghost use Rattle.std.specs.Prelude.{◌≡◌, ◌≤◌, length, [], None, Some, OnOk};
     ghost use Rattle.ready_loop.specs.Changes.{ChangesOnly};
@@ -81,14 +71,15 @@ impl Known {
     fn ask_if(
         &mut self,
         client: ClientNo,
-        asker: Option<Account>,
+        seat: &Seat,
         query: Option<Query>,
     ) -> Result<(), OutOfMemory>
-        ensures tables { OnOk result (tables_of self.new ≡ with_lends (asking client asker query (tables_of self.old).lends) (tables_of self.old)) }
+        ensures tables { OnOk result (tables_of self.new ≡ with_lends (asking client (account_in seat.now.session.phase) query (tables_of self.old).lends) (tables_of self.old)) }
         ensures changes { OnOk result (ChangesOnly is_changed known_reads known_sends self.old self.new) }
     {
-        match (asker, query) {
+        match (account(&seat.session), query) {
             (Some(account), Some(query)) => {
+                let account = same_account(self.alloc, account)?;
                 self.ask(client, ask_of(query, account))?;
                 Ok(())
             }
@@ -150,8 +141,7 @@ impl Known {
         ensures tables { OnOk result (tables_of self.new ≡ with_lends (leaving (is_ending seat.now.session.phase) client (asking client (account_in seat.now.session.phase) query (tables_of self.old).lends)) (tables_of self.old)) }
         ensures changes { OnOk result (ChangesOnly is_changed known_reads known_sends self.old self.new) }
     {
-        let asker = asker(self.alloc, seat)?;
-        self.ask_if(client, asker, query)?;
+        self.ask_if(client, seat, query)?;
         self.go_if(is_ending(&seat.session), client)?;
         Ok(())
     }

@@ -7,9 +7,7 @@ use Rattle.ready_loop.specs.declared.ends.ServeEnd.TheVariants as ended
 use Rattle.mem_wire.specs.Play.{IsPlay}
 use Rattle.ready_loop.specs.Round.{calls_since_wake, wakes_of}
 use Rattle.ready_loop.specs.Serving.{IsOver, IsOut, IsBusy}
-use Rattle.client_session.specs.Setups.{Setup}
-use Rattle.promises.specs.Headline.{Serves}
-use Rattle.proxy_run.proofs.Keeping.{serves-so}
+use Rattle.proxy_run.proofs.Keeping.{sized-so}
 use Rattle.proxy_run.proofs.Turns.{spent-busy}
 use Rattle.proxy_run.proofs.replay.play.Goals as goal
 
@@ -21,17 +19,13 @@ spends : (turns : ℕ) (reads : _) (sends : _) (log : Log) → IsOut turns reads
 spends turns reads sends log (inl out) = inl out.woke
 spends turns reads sends log (inr busy) = inr busy
 
--- what holds by the setup that the core ends with holds by the one it began with
-by-setup : (P : Setup → Type 0) (old new begun : Setup) → new ≡ old → old ≡ begun → P new → P begun
-by-setup P old new begun kept from held = subst P (kept ∙ from) held
-
 pub returns-in-Over-clause-ok : goal.returns-in-Over-clause-ok
 returns-in-Over-clause-ok c = record {
-  keeps = λ log play. subst (λ lines. IsPlay lines log) (ap (λ tape. tape.recording) c.new-tape.ensures) (c.serve.ensures.rule.kept log play);
-  serves = λ log is.
+  plays = λ log play. subst (λ lines. IsPlay lines log) (c.serve.ensures.ruled_by ∙ ap (λ tape. tape.recording) c.new-tape.ensures) play;
+  serves = λ log is play.
       let stands = (c.serve.ensures.stands (λ ran_out. let h : ended.Over ≡ ended.OutOfMemory = sym c.in-Over.is ∙ ran_out in cc)).holds log is in
       record {
-        serves = by-setup (λ setup. Serves setup log) _ _ _ c.serve.ensures.serves_by c.in_ok-core.ensures.setup (serves-so _ log stands);
+        keeps = sized-so _ _ _ _ _ log c.serve.ensures.serves_by c.in_ok-core.ensures.setup (ap (λ tape. tape.recording) c.new-tape.ensures) stands play (c.serve.ensures.offered.holds log is);
         before = (ends log ((c.serve.ensures.over c.in-Over.is).last log is)).0;
         over = (ends log ((c.serve.ensures.over c.in-Over.is).last log is)).1;
       };
@@ -42,12 +36,12 @@ returns-in-Some-clause-err c =
     let log : Log = c.in-Some.field-0.now in
     let is = sym c.in-Some.ensures.told in
     let stands = (c.serve.ensures.stands (λ ran_out. let h : ended.TurnsSpent ≡ ended.OutOfMemory = sym c.in-TurnsSpent.is ∙ ran_out in cc)).holds log is in
-    let play : IsPlay c.args.entries.items log = subst (λ lines. IsPlay lines log) (ap (λ tape. tape.recording) c.new-tape.ensures) (c.serve.ensures.rule.kept log (c.in-Some.ensures.plays log is)) in
+    let play : IsPlay c.args.entries.items log = subst (λ lines. IsPlay lines log) (c.serve.ensures.ruled_by ∙ ap (λ tape. tape.recording) c.new-tape.ensures) (c.in-Some.ensures.plays log is) in
     let spent = spends _ _ _ log ((c.serve.ensures.spent c.in-TurnsSpent.is).holds log is) in (
       log,
       record {
         play = play;
-        serves = by-setup (λ setup. Serves setup log) _ _ _ c.serve.ensures.serves_by c.in_ok-core.ensures.setup (serves-so _ log stands);
+        keeps = sized-so _ _ _ _ _ log c.serve.ensures.serves_by c.in_ok-core.ensures.setup (ap (λ tape. tape.recording) c.new-tape.ensures) stands play (c.serve.ensures.offered.holds log is);
         spent = spent-busy c.args.entries.items log play (subst (λ n. (wakes_of log ≡ 2 * n + 16) ⊎ (4294967296 ≤ calls_since_wake log)) (c.len.ensures ∙ c.args.entries.ok.0) spent);
       },
     )

@@ -23,8 +23,13 @@ replay-of words held names entries tape log named configured under playable play
   entries = entries;
   under = under;
   replays =
-      let serves = played.serves log is in
-      record { play = played.keeps log play; serves = serves; ends = played-out _ entries log serves.before playable (played.keeps log play) serves.serves.keeps.rests serves.over };
+      let plays = played.plays log play in
+      let serves = played.serves log is plays in
+      let out = played-out _ entries log serves.before playable plays serves.keeps.keeps.rests serves.over in
+      record {
+        opens = serves.keeps.opens;
+        so = record { play = plays; keeps = serves.keeps.keeps; sized = serves.keeps.sized; before = serves.before; over = serves.over; woke = out.woke; accepted = out.accepted; read = out.read };
+      };
 }
 
 stopped : (given : Stop) (words : List (List ℕ)) (held : Held) (read_before read_now : ℕ) (names : Named) (entries : List RecordEntry) (tape : Played) (old : Option (List ℕ)) (before : ℕ) (new : Option (List ℕ)) (now : ℕ) → replay_words words ≡ Some names → (configured : IsConfigured names.config held) → IsUnder names.recording held entries → IsPlayable entries → HasPlayed (setup_of configured.config) entries tape → PutStops given tape old before new now → Stops given words held read_before read_now old before new now

@@ -7,7 +7,7 @@ invariant-loop-table g l = record {
   serves : Serves g.M.Machine.stands g.M.Machine.reads g.M.Machine.sends g.M.Machine.changed l.core l.table (g.W.Wire.told l.wire);
   more : l.fn.table.round.calls ≤ l.table.round.calls;
   wakes : l.table.round.wakes ≡ l.fn.table.round.wakes;
-  proceeds : Proceeds g.M.Machine.serves_by g.W.Wire.told g.W.Wire.rule g.W.Wire.port_faults g.W.Wire.faults l.fn.core l.core l.fn.wire l.wire;
+  proceeds : Proceeds g.M.Machine.serves_by g.M.Machine.owes g.W.Wire.told g.W.Wire.ruled_by g.W.Wire.takes g.W.Wire.port_faults g.W.Wire.faults l.fn.core l.core l.fn.wire l.wire;
 }
 
 abbrev pub decreases-loop-table : goal.decreases-loop-table

@@ -6,6 +6,7 @@ use Rattle.ready_loop.proofs.Marking as marking
 use Rattle.ready_loop.proofs.Watching as watching
 use Rattle.std.specs.Option.{option_map}
 use Rattle.ready_loop.specs.Links.{dry_mark}
+use Rattle.ready_loop.proofs.Offering.{proceeded}
 use Rattle.ready_loop.proofs.acts.open_link.Goals as goal
 
 pub returns-in-Link-clause-serves : goal.returns-in-Link-clause-serves
@@ -30,3 +31,9 @@ returns-in-Failed-clause-serves g c = on_ok c.take.result _ _ _ refl (both c.tak
 
 pub returns-in-Failed-clause-broke : goal.returns-in-Failed-clause-broke
 returns-in-Failed-clause-broke g c = on_err c.take.result _ (stood_before _ _ _ _ _ tt c.requires.serves.standing c.in-Failed.ensures.told)
+
+pub returns-in-Link-clause-proceeds : goal.returns-in-Link-clause-proceeds
+returns-in-Link-clause-proceeds g c = proceeded _ _ _ _ _ _ _ _ _ _ _ _ c.in-Link.ensures.told tt c.in-Link.ensures.rule c.in-Link.ensures.port_faults c.in-Link.ensures.cause.later c.come.ensures.serves_by
+
+pub returns-in-Failed-clause-proceeds : goal.returns-in-Failed-clause-proceeds
+returns-in-Failed-clause-proceeds g c = proceeded _ _ _ _ _ _ _ _ _ _ _ _ c.in-Failed.ensures.told tt c.in-Failed.ensures.rule c.in-Failed.ensures.port_faults c.in-Failed.ensures.cause.later c.take.ensures.serves_by

@@ -1,5 +1,6 @@
 use Rattle.std.proofs.Common.{rules, refl, ap, ◌∙◌}
-use Rattle.ready_loop.proofs.Steps.{advanced, goes_on, stays}
+use Rattle.ready_loop.proofs.Offering.{proceeded}
+use Rattle.ready_loop.proofs.Steps.{goes_on, stays}
 use Rattle.ready_loop.proofs.Counting.{unnamed, named}
 use Rattle.ready_loop.proofs.Marking as marking
 use Rattle.ready_loop.proofs.Watching as watching
@@ -25,7 +26,7 @@ returns-in-Link-clause-made g c = record {
   more = search rules;
   wakes = search rules;
   ends = refused _ _ _ _ _ _ _ _ c.unless_refused.ensures.err (stood_before _ _ _ _ _ tt c.requires.going.serves.standing c.in-Link.ensures.told);
-  proceeds = record { advances = advanced _ _ _ _ _ _ _ c.in-Link.ensures.told c.in-Link.ensures.rule c.in-Link.ensures.cause.later c.in-Link.ensures.faults; serves_by = search rules };
+  proceeds = proceeded _ _ _ _ _ _ _ _ _ _ _ _ c.in-Link.ensures.told tt c.in-Link.ensures.rule c.in-Link.ensures.cause.later c.in-Link.ensures.faults (search rules);
 }
 
 pub returns-in-NotReady-clause-serves : goal.returns-in-NotReady-clause-serves
@@ -49,5 +50,14 @@ returns-in-Failed-clause-made g c = record {
     };
     rose = λ fault. c.in-Failed.ensures.cause.rose refl;
   };
-  proceeds = record { advances = advanced _ _ _ _ _ _ _ c.in-Failed.ensures.told c.in-Failed.ensures.rule c.in-Failed.ensures.cause.later c.in-Failed.ensures.faults; serves_by = search rules };
+  proceeds = proceeded _ _ _ _ _ _ _ _ _ _ _ _ c.in-Failed.ensures.told tt c.in-Failed.ensures.rule c.in-Failed.ensures.cause.later c.in-Failed.ensures.faults (search rules);
+}
+
+pub returns-in-NotReady-clause-made : goal.returns-in-NotReady-clause-made
+returns-in-NotReady-clause-made g c = record {
+  made_it = search rules;
+  more = search rules;
+  wakes = search rules;
+  ends = search rules;
+  proceeds = proceeded _ _ _ _ _ _ _ _ _ _ _ _ c.in-NotReady.ensures.told tt c.in-NotReady.ensures.rule c.in-NotReady.ensures.cause.later c.in-NotReady.ensures.faults refl;
 }

@@ -1,6 +1,7 @@
 use Rattle.ready_loop.proofs.Ending.{stood_before, refused, both, on_ok}
 use Rattle.std.proofs.Common.{rules, refl}
-use Rattle.ready_loop.proofs.Steps.{advanced, stays}
+use Rattle.ready_loop.proofs.Offering.{proceeded}
+use Rattle.ready_loop.proofs.Steps.{stays}
 use Rattle.ready_loop.proofs.Counting.{unnamed, named}
 use Rattle.ready_loop.proofs.Marking as marking
 use Rattle.ready_loop.proofs.Watching as watching
@@ -26,5 +27,14 @@ returns-in-Some-clause-made g c = record {
   more = search rules;
   wakes = search rules;
   ends = refused _ _ _ _ _ _ _ _ c.unless_refused.ensures.err (stood_before _ _ _ _ _ tt c.requires.going.serves.standing c.in-Some.ensures.told);
-  proceeds = record { advances = advanced _ _ _ _ _ _ _ c.in-Some.ensures.told c.in-Some.ensures.rule c.in-Some.ensures.port_faults c.in-Some.ensures.faults; serves_by = search rules };
+  proceeds = proceeded _ _ _ _ _ _ _ _ _ _ _ _ c.in-Some.ensures.told tt c.in-Some.ensures.rule c.in-Some.ensures.port_faults c.in-Some.ensures.faults (search rules);
+}
+
+pub returns-in-None-clause-made : goal.returns-in-None-clause-made
+returns-in-None-clause-made g c = record {
+  made_it = search rules;
+  more = search rules;
+  wakes = search rules;
+  ends = search rules;
+  proceeds = proceeded _ _ _ _ _ _ _ _ _ _ _ _ c.in-None.ensures.told tt c.in-None.ensures.rule c.in-None.ensures.port_faults c.in-None.ensures.faults refl;
 }

@@ -1,7 +1,8 @@
 use Rattle.std.proofs.Common.{rules, refl, sym, ◌∙◌, subst}
 use Rattle.mx_wire.specs.Tells.{Tells}
 use Rattle.mx_wire.specs.declared.entry.Entry.{Entry}
-use Rattle.ready_loop.proofs.Steps.{advanced, goes_on, stays}
+use Rattle.ready_loop.proofs.Offering.{proceeded}
+use Rattle.ready_loop.proofs.Steps.{goes_on, stays}
 use Rattle.ready_loop.proofs.Counting.{named}
 use Rattle.ready_loop.proofs.Ending.{stood_before, refused, both, on_ok}
 use Rattle.ready_loop.proofs.Hearing as hearing
@@ -28,7 +29,7 @@ returns-in_default-clause-made g c = record {
   more = search rules;
   wakes = search rules;
   ends = search rules;
-  proceeds = record { advances = advanced _ _ _ _ _ _ _ c.read.ensures.told c.read.ensures.rule c.read.ensures.port_faults c.read.ensures.cause.later; serves_by = search rules };
+  proceeds = proceeded _ _ _ _ _ _ _ _ _ _ _ _ c.read.ensures.told (hearing.unwritten _ _ c.read.result) c.read.ensures.rule c.read.ensures.port_faults c.read.ensures.cause.later (search rules);
 }
 
 pub returns-clause-serves : goal.returns-clause-serves
@@ -46,5 +47,5 @@ returns-clause-made g c = record {
   more = search rules;
   wakes = search rules;
   ends = refused _ _ _ _ _ _ _ _ c.unless_refused.ensures.err (stood_before _ _ _ _ _ (hearing.unwritten _ _ c.read.result) c.requires.going.serves.standing c.read.ensures.told);
-  proceeds = record { advances = advanced _ _ _ _ _ _ _ c.read.ensures.told c.read.ensures.rule c.read.ensures.port_faults c.read.ensures.cause.later; serves_by = search rules };
+  proceeds = proceeded _ _ _ _ _ _ _ _ _ _ _ _ c.read.ensures.told (hearing.unwritten _ _ c.read.result) c.read.ensures.rule c.read.ensures.port_faults c.read.ensures.cause.later (search rules);
 }

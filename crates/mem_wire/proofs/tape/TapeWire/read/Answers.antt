@@ -1,4 +1,4 @@
-use Rattle.std.proofs.Common.{◌≡◌, ◌++◌, length, ap, sym, subst}
+use Rattle.std.proofs.Common.{◌≡◌, ◌++◌, length, ap, sym, subst, arith}
 use Rattle.std.specs.Prelude.{ℕ}
 use Rattle.mx_wire.specs.Answers.{ReadsAtMost, got_entry}
 use Rattle.mem_wire.specs.Adds.{late_entries}
@@ -20,7 +20,7 @@ invariant_of-self c =
     (within-moves _ s _ c.self.invariant.within c.read-got.ensures.moves.frame)
     (calls_after_if _ _ _ (late_entries s.late) c.read_entry.result c.add_marks.ensures c.add_if.ensures) c.read_entry.ensures
     (λ log is follows. follows-read _ s c.read-got.new.stage log c.args.link c.args.into.now into got c.self.invariant.within follows
-    (open-in told _ c.args.link log (ap (λ v. v.told) c.self.view_is) c.requires.open is) c.read-got.ensures.moves (subst (λ (k : ℕ). ReadsAtMost k got) (sym same) c.read-got.ensures.bound) c.read-got.ensures.reads)
+    (open-in told _ c.args.link log (ap (λ v. v.told) c.self.view_is) c.requires.open is) c.read-got.ensures.moves c.requires.room (subst (λ (k : ℕ). ReadsAtMost k got) (sym same) c.read-got.ensures.bound) c.read-got.ensures.reads)
 
 pub returns-clause-told : goal.returns-clause-told
 returns-clause-told c =
@@ -32,5 +32,5 @@ returns-clause-told c =
     rw (← c.self.view_is)
     (tells_if told (late_entries s.late) c.read_entry.result (got_entry c.args.link into got) _
     (calls_after_if _ _ _ (late_entries s.late) c.read_entry.result c.add_marks.ensures c.add_if.ensures) c.read_entry.ensures (late_are s.late)
-    (λ log is. read-fits (log ++ late_entries s.late) c.args.link into got (subst (λ (k : ℕ). ReadsAtMost k got) (sym same) c.read-got.ensures.bound) (rw same c.requires.most)
+    (λ log is. read-fits (log ++ late_entries s.late) c.args.link into got (subst (λ (k : ℕ). ReadsAtMost k got) (sym same) c.read-got.ensures.bound) (omega (arith, same, c.requires.room))
     (open-if-open told _ c.args.link s.late (ap (λ v. v.told) c.self.view_is) c.requires.open log is)))

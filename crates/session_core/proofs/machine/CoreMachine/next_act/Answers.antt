@@ -1,4 +1,4 @@
-use Rattle.session_core.proofs.Closing.{acts-carry}
+use Rattle.session_core.proofs.Closing.{acts-carry, owes-farewell}
 use Rattle.session_core.proofs.Shrinking.{acts-only}
 use Rattle.session_core.proofs.machine.CoreMachine.next_act.Goals as goal
 
@@ -7,3 +7,6 @@ returns-clause-act c = acts-carry _ _ _ c.act.ensures
 
 pub returns-clause-changes : goal.returns-clause-changes
 returns-clause-changes c = acts-only _ _ _ c.act.ensures
+
+pub returns-clause-owed : goal.returns-clause-owed
+returns-clause-owed c = owes-farewell _ _ _ c.act.ensures
