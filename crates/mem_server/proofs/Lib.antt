@@ -1,0 +1,11 @@
+mod Accounts
+mod Bindings
+mod Choosing
+mod Fitting
+mod Flagging
+mod Keeping
+mod Preparing
+mod Reading
+mod Resets
+mod Storing
+mod Tracking

@@ -1,0 +1,9 @@
+pub mod Answers
+pub mod Commands
+pub mod Forms
+pub mod Notes
+pub mod Scenes
+pub mod Statements
+pub mod Steps
+pub mod Stored
+pub mod Tables

@@ -1,0 +1,48 @@
+// The laws of a tame server, of the step of this one.
+ghost use Rattle.server_rule.specs.Classes.{router_reads};
+ghost use Rattle.server_rule.specs.Laws.{AccountLaw, FlagsLaw, KeepsTests, PrepareLaw, ResetLaw, SchemaLaw, TrackedLaw};
+ghost use Rattle.std.specs.Prelude.{◌≡◌, List};
+ghost use Rattle.mem_server.specs.Stored.{step, stored_after, tables_in, tables_out, tests};
+ghost use Rattle.mem_server.specs.Tables.{Tables, after_all};
+ghost use Rattle.mem_server.specs.declared.note.Note.{Note};
+
+/// The data that are written out as a list are read again, and so the step on lists is what `MemServer::run` does.
+pub fn stored_again()
+    ensures read { (t : Tables) → tables_in (tables_out t) ≡ t }
+    ensures done { (t : Tables) (notes : List Note) → stored_after (tables_out t) notes ≡ tables_out (after_all t notes) }
+{}
+
+/// The account of a session stays.
+pub fn account_law()
+    ensures { AccountLaw tests step }
+{}
+
+/// Resets and the ends of connections.
+pub fn reset_law()
+    ensures { ResetLaw tests step }
+{}
+
+/// Tracked settings.
+pub fn tracked_law()
+    ensures { TrackedLaw router_reads tests step }
+{}
+
+/// Schemas.
+pub fn schema_law()
+    ensures { SchemaLaw router_reads tests step }
+{}
+
+/// Preparations.
+pub fn prepare_law()
+    ensures { PrepareLaw tests step }
+{}
+
+/// A step of a session that the server takes leaves such a one.
+pub fn keeps_tests_law()
+    ensures { KeepsTests tests step }
+{}
+
+/// Status flags.
+pub fn flags_law()
+    ensures { FlagsLaw tests step }
+{}

@@ -1,0 +1,24 @@
+//! A small SQL server in memory that keeps the ten laws of a tame server.
+#![tactic(auto)]
+
+mod answer;
+mod did;
+mod form;
+mod laws;
+mod note;
+mod said;
+mod scene;
+mod server;
+mod store;
+mod table;
+
+pub use answer::{Answer, Fault};
+pub use did::{Did, Said};
+pub use form::{Captured, Form, Values, form_of};
+pub use laws::{
+    account_law, flags_law, keeps_tests_law, prepare_law, reset_law, schema_law, stored_again,
+    tracked_law,
+};
+pub use note::{Note, NoteKind, Notes};
+pub use scene::Place;
+pub use server::{MemServer, Ran};
