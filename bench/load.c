@@ -48,6 +48,27 @@ static int packet(int s) {
     return bytes[4];
 }
 
+/* Reads a reply of at most 64 KB: an OK or an ERR, or a result set, which ends with its second EOF. Gives 255 for an ERR. */
+static int reply(int s) {
+    unsigned char bytes[65536];
+    size_t have = 0, at = 0, length;
+    int eofs = 0;
+    for (;;) {
+        length = have < at + 4 ? 0 : bytes[at] | bytes[at + 1] << 8 | bytes[at + 2] << 16;
+        if (have < at + 4 + length || have == at) {
+            if (have == sizeof bytes) exit(2);
+            ssize_t n = recv(s, bytes + have, sizeof bytes - have, 0);
+            if (n <= 0) fail("recv");
+            have += n;
+            continue;
+        }
+        int kind = bytes[at + 4];
+        if (kind == 255 || (at == 0 && kind == 0)) return kind;
+        if (kind == 254 && length < 9 && ++eofs == 2) return 0;
+        at += 4 + length;
+    }
+}
+
 static void put(int s, unsigned char id, const unsigned char *body, size_t n) {
     unsigned char bytes[1024] = {n & 255, n >> 8, 0, id};
     memcpy(bytes + 4, body, n);
@@ -97,7 +118,7 @@ int main(int count, char **words) {
     /* Each client's first statement opens its link to the server, and isn't counted. */
     for (int i = 0; n > 1 && i < clients; i++) put(sockets[i], 0, body, n);
     for (int i = 0; n > 1 && i < clients; i++)
-        if (packet(sockets[i]) == 255) {
+        if (reply(sockets[i]) == 255) {
             fprintf(stderr, "statement refused\n");
             return 1;
         }
@@ -117,7 +138,7 @@ int main(int count, char **words) {
         int k = epoll_wait(poll, ready, 256, 1000);
         for (int j = 0; j < k; j++) {
             int i = ready[j].data.u32;
-            if (packet(sockets[i]) == 255) return 1;
+            if (reply(sockets[i]) == 255) return 1;
             uint64_t t = now();
             took[answered++ % SLOTS] = t - sent_at[i];
             sent_at[i] = t;

@@ -5,7 +5,7 @@ import subprocess
 
 from world import PORT, World, check, code_of, connect, end
 
-NUMBERS = "SELECT n, REPEAT(CHAR(65 + n % 26), n % 40) FROM d.numbers ORDER BY n"
+NUMBERS = "SELECT n, REPEAT(CHAR(65 + n % 26 USING utf8mb4), n % 40) FROM d.numbers ORDER BY n"
 
 
 def rows_of(cursor, statement):
@@ -50,5 +50,6 @@ with World() as world:
     link.close()
     check("the command line client", command_line("SELECT COUNT(*), SUM(n) FROM d.numbers", "-N"), "100000\t5000050000\n")
     check("its tables", command_line("USE d;\nSHOW TABLES;", "-N", "-A"), "empty_table\nnumbers\n")
-    check("and errors", command_line("SELECT * FROM d.none", "-N"), "ERROR 1146 (42S02) at line 1: Table 'd.none' doesn't exist\n")
+    check("the same rows as on the server's own socket", command_line(NUMBERS, "-N") == world.directly(NUMBERS), True)
+    check("and errors", command_line("SELECT * FROM d.none", "-N").splitlines()[-1:], ["ERROR 1146 (42S02) at line 1: Table 'd.none' doesn't exist"])
 end()

@@ -54,6 +54,7 @@ def have_packages():
         missing.append("python3-pymysql")
     if missing:
         environment = dict(os.environ, DEBIAN_FRONTEND="noninteractive")
+        subprocess.run(["apt-get", "update", "-qq"], check=True, stdout=subprocess.DEVNULL)
         subprocess.run(["apt-get", "install", "-y", "-qq", "--no-install-recommends", *missing], env=environment, check=True,
                        stdout=subprocess.DEVNULL)
 
