@@ -12,6 +12,7 @@ use Rattle.server_side.specs.Login.{opening as server_opening, response_said, an
 use Rattle.client_session.specs.Accounts.{account_of}
 use Rattle.client_session.specs.Errors.{own_ok}
 use Rattle.server_rule.specs.Replies.{one_number, reply_end}
+use Rattle.reply_track.specs.Replying.{payloads_in}
 use Rattle.log_story.specs.Telling.{story_of}
 use Rattle.log_story.specs.Worked.{account, first_comes, later_ok, log, plan, second_client, server, setup, told_story}
 use Rattle.session_vars.specs.Settings.{defaults}
@@ -25,11 +26,11 @@ use Rattle.private_model.specs.Worlds.{private_after}
 use Rattle.log_story.specs.Headline.{due_bytes}
 
 pub first_told : story_of setup plan first_comes ≡ BecameDue (client 1) group 1 0 insert None ∷ []
-unfolding client_opening server_opening first_message split spelling account_of response_fields head_fields response_of greeting_fields protocol_field offer_fields back_field greeting_of switch_of number_field bytes_field text_field counted_field optional_text last_text own_ok response_said answer_said reply_end one_number digits
+unfolding client_opening server_opening payloads_in first_message split spelling account_of response_fields head_fields response_of greeting_fields protocol_field offer_fields back_field greeting_of switch_of number_field bytes_field text_field counted_field optional_text last_text own_ok response_said answer_said reply_end one_number digits
 first_told = refl
 
 pub all_told : story_of setup plan log ≡ told_story
-unfolding client_opening server_opening first_message split spelling account_of response_fields head_fields response_of greeting_fields protocol_field offer_fields back_field greeting_of switch_of number_field bytes_field text_field counted_field optional_text last_text own_ok response_said answer_said reply_end one_number digits
+unfolding client_opening server_opening payloads_in first_message split spelling account_of response_fields head_fields response_of greeting_fields protocol_field offer_fields back_field greeting_of switch_of number_field bytes_field text_field counted_field optional_text last_text own_ok response_said answer_said reply_end one_number digits
 all_told = refl
 
 abbrev place : Told
@@ -88,5 +89,5 @@ pub log_lawful : IsLawful setup (story_of setup plan log)
 log_lawful = subst (IsLawful setup) (sym all_told) told_lawful
 
 pub second_owed : due_bytes (private_after setup (runs server) told_story).answers plan second_client ≡ later_ok
-unfolding client_opening server_opening first_message split spelling account_of response_fields head_fields response_of greeting_fields protocol_field offer_fields back_field greeting_of switch_of number_field bytes_field text_field counted_field optional_text last_text own_ok response_said answer_said reply_end one_number digits
+unfolding client_opening server_opening payloads_in first_message split spelling account_of response_fields head_fields response_of greeting_fields protocol_field offer_fields back_field greeting_of switch_of number_field bytes_field text_field counted_field optional_text last_text own_ok response_said answer_said reply_end one_number digits
 second_owed = refl

@@ -25,11 +25,13 @@ use Rattle.private_model.specs.View.{Answered, Asked, Quiet, Setup, Stage, View,
 use Rattle.log_story.specs.Plan.{Asks, Closes, Plan, Route, StepText, asked_in, com_reset}
 use Rattle.log_story.specs.Tale.{Client, Tale, Wire, first_tale, is_entered, is_to_server, link_in, tell, view_of, with_client, with_wire}
 use Rattle.log_story.specs.Clients.{and_on, captures_first, client_goes_on, client_leaves, clients_go_on, is_answered, messages, name_of, next_taken, taken_by, taken_up}
-use Rattle.log_story.specs.Servers.{begins, begun_by, entered_by, freed_if_done, heard_by, hears, is_done, is_own, is_quiet, is_whole, links_are_freed, own_step, payloads_in, quits_by, reads_on, reply_id, reply_in, routed, runs_first, sought, sync_step, told_if, with_run, writes}
+use Rattle.log_story.specs.Servers.{begins, begun_by, entered_by, freed_if_done, heard_by, hears, is_done, is_own, is_quiet, is_whole, links_are_freed, own_step, quits_by, reads_on, reply_id, reply_in, routed, runs_first, sought, sync_step, told_if, with_run, writes}
 use Rattle.log_story.specs.Telling.{is_lost_or_left, server_says, story_of, tale_step, told, wire_with}
 use Rattle.log_story.specs.Honest.{IsHonestFrom, IsHonestLog, IsTrue, IsTrueGot, IsTrueRead, IsTrueReply, real_of, spelled}
 use Rattle.log_story.proofs.Forms.{HasForm, story_formed}
-use Rattle.log_story.proofs.Bytes.{all_of, payloads_again}
+use Rattle.reply_track.specs.Replying.{payloads_in}
+use Rattle.reply_track.proofs.Replying.{payloads-again}
+use Rattle.log_story.proofs.Bytes.{all_of, ends-so}
 
 if_either : {A : Type 0} (P : A → Type 0) (b : Bool) (x y : A) → (b ≡ true → P x) → (b ≡ false → P y) → P (if b then x else y)
 if_either P true x y first second = first refl
@@ -124,10 +126,10 @@ as_reply to_prepare payloads answer form same = rw (form, same) refl
 same_reply : (wire : Wire) (question : Question) (answer : Reply) (end : _) (rest : List ℕ) → IsTrueReply wire question answer → answer.to_prepare ≡ is_prepare (cmd_of (command_of question)) → run (started (sought wire question)) wire.unread ≡ Ended end rest
     → reply_in wire question (take (length wire.unread - length rest) wire.unread) ≡ answer
 same_reply wire question answer end rest true_reply form found =
-    let all = all_of (started (sought wire question)) wire.unread (spelled wire answer) rest end true_reply.end true_reply.front true_reply.whole found in
+    let all = all_of (started (sought wire question)) wire.unread (spelled wire answer) rest end true_reply.end true_reply.front (ends-so (sought wire question) answer.payloads true_reply.end true_reply.is) found in
     let none : length rest ≡ 0 = ap length all.none in
     let taken : take (length wire.unread - length rest) wire.unread ≡ wire.unread = take_all (length wire.unread - length rest) wire.unread (omega (arith, none)) in
-    let payloads = payloads_again (reply_id wire) answer.payloads (omega arith) in
+    let payloads = payloads-again (reply_id wire) answer.payloads (omega arith) in
     let bytes : take (length wire.unread - length rest) wire.unread ≡ spelled wire answer = taken ∙ all.is in
     let same : payloads_in (reply_id wire) (take (length wire.unread - length rest) wire.unread) ≡ answer.payloads = ap (payloads_in (reply_id wire)) bytes ∙ payloads in
     as_reply (is_prepare (cmd_of (command_of question))) (payloads_in (reply_id wire) (take (length wire.unread - length rest) wire.unread)) answer (sym form) same

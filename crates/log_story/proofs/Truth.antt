@@ -1,7 +1,7 @@
 -- The worked log is honest: part by part, from tales written out.
 use Rattle.std.specs.Prelude.{◌≡◌, refl, ℕ, true, false, List, [], ◌∷◌, ◌++◌, None, drop, fold, take}
 use Rattle.std.specs.Fmt.{digits}
-use Rattle.std.proofs.Common.{sym, ap, subst}
+use Rattle.std.proofs.Common.{sym, ap, subst, lit<}
 use Rattle.mx_base.specs.declared.names.LinkId.{LinkId}
 use Rattle.mx_wire.specs.Log.{Log}
 use Rattle.packet_frame.specs.Packets.{first_message, split, spelling}
@@ -21,6 +21,9 @@ use Rattle.private_model.specs.Story.{BecameDue, Capture, Freed, LoggedIn, Own, 
 use Rattle.private_model.specs.View.{Answered, Asked, Quiet, Stage}
 use Rattle.small_server.specs.Stories.{client, due_at, group, heard, insert, link, nowhere, session, zero_id}
 use Rattle.small_server.specs.Tally.{FirstId, NoId, ok, row}
+use Rattle.reply_track.specs.declared.reply.ReplyKind.TheVariants as kind
+use Rattle.reply_track.specs.Replying.{payloads_in}
+use Rattle.log_story.proofs.Bytes.{replies-so}
 use Rattle.log_story.specs.Honest.{IsHonestFrom, IsHonestLog, IsWritten, number_for}
 use Rattle.log_story.specs.Tale.{Client, Tale, Wire, first_tale, new_wire}
 use Rattle.log_story.specs.Telling.{tale_step}
@@ -183,108 +186,108 @@ joined tale next [] others honest is later = subst (λ (t : Tale). IsHonestFrom 
 joined tale next (e ∷ part) others honest is later = (honest.0, joined (tale_step setup plan tale e) next part others honest.1 is later)
 
 honest_1 : IsHonestFrom setup plan server first_tale first_comes
-unfolding client_opening server_opening first_message split spelling account_of response_fields head_fields response_of greeting_fields protocol_field offer_fields back_field greeting_of switch_of number_field bytes_field text_field counted_field optional_text last_text own_ok response_said answer_said reply_end one_number digits
+unfolding client_opening server_opening payloads_in first_message split spelling account_of response_fields head_fields response_of greeting_fields protocol_field offer_fields back_field greeting_of switch_of number_field bytes_field text_field counted_field optional_text last_text own_ok response_said answer_said reply_end one_number digits
 honest_1 =
     (tt, (tt, (λ there. is_not there, (tt, (λ there. is_not there, tt)))))
 
 leads_1 : fold (tale_step setup plan) first_tale first_comes ≡ tale_came
-unfolding client_opening server_opening first_message split spelling account_of response_fields head_fields response_of greeting_fields protocol_field offer_fields back_field greeting_of switch_of number_field bytes_field text_field counted_field optional_text last_text own_ok response_said answer_said reply_end one_number digits
+unfolding client_opening server_opening payloads_in first_message split spelling account_of response_fields head_fields response_of greeting_fields protocol_field offer_fields back_field greeting_of switch_of number_field bytes_field text_field counted_field optional_text last_text own_ok response_said answer_said reply_end one_number digits
 leads_1 = refl
 
 honest_2 : IsHonestFrom setup plan server tale_came router_enters
-unfolding client_opening server_opening first_message split spelling account_of response_fields head_fields response_of greeting_fields protocol_field offer_fields back_field greeting_of switch_of number_field bytes_field text_field counted_field optional_text last_text own_ok response_said answer_said reply_end one_number digits
+unfolding client_opening server_opening payloads_in first_message split spelling account_of response_fields head_fields response_of greeting_fields protocol_field offer_fields back_field greeting_of switch_of number_field bytes_field text_field counted_field optional_text last_text own_ok response_said answer_said reply_end one_number digits
 honest_2 =
     (tt, (λ there. record { login = λ e. record { said = λ said rest at. goes_not _ said rest at; ends = λ said rest at. goes_not _ said rest at }; read = λ e. is_not e }, (tt, (λ there. record { login = λ e. record { said = λ said rest at. same_said _ said rest at; ends = λ said rest at. none_behind _ said rest at }; read = λ e. is_not e }, tt))))
 
 leads_2 : fold (tale_step setup plan) tale_came router_enters ≡ tale_entered
-unfolding client_opening server_opening first_message split spelling account_of response_fields head_fields response_of greeting_fields protocol_field offer_fields back_field greeting_of switch_of number_field bytes_field text_field counted_field optional_text last_text own_ok response_said answer_said reply_end one_number digits
+unfolding client_opening server_opening payloads_in first_message split spelling account_of response_fields head_fields response_of greeting_fields protocol_field offer_fields back_field greeting_of switch_of number_field bytes_field text_field counted_field optional_text last_text own_ok response_said answer_said reply_end one_number digits
 leads_2 = refl
 
 honest_3 : IsHonestFrom setup plan server tale_entered first_runs
-unfolding client_opening server_opening first_message split spelling account_of response_fields head_fields response_of greeting_fields protocol_field offer_fields back_field greeting_of switch_of number_field bytes_field text_field counted_field optional_text last_text own_ok response_said answer_said reply_end one_number digits
+unfolding client_opening server_opening payloads_in first_message split spelling account_of response_fields head_fields response_of greeting_fields protocol_field offer_fields back_field greeting_of switch_of number_field bytes_field text_field counted_field optional_text last_text own_ok response_said answer_said reply_end one_number digits
 honest_3 =
     (tt, (λ there goes. record { written = λ question alive asked. asked_is (λ q. IsWritten (command_of q) (number_for q (λ key. None)) query) first question refl asked; fresh = record { unused = λ p m. is_not p } }, tt))
 
 leads_3 : fold (tale_step setup plan) tale_entered first_runs ≡ tale_ran
-unfolding client_opening server_opening first_message split spelling account_of response_fields head_fields response_of greeting_fields protocol_field offer_fields back_field greeting_of switch_of number_field bytes_field text_field counted_field optional_text last_text own_ok response_said answer_said reply_end one_number digits
+unfolding client_opening server_opening payloads_in first_message split spelling account_of response_fields head_fields response_of greeting_fields protocol_field offer_fields back_field greeting_of switch_of number_field bytes_field text_field counted_field optional_text last_text own_ok response_said answer_said reply_end one_number digits
 leads_3 = refl
 
 honest_4 : IsHonestFrom setup plan server tale_ran first_is_read
-unfolding client_opening server_opening first_message split spelling account_of response_fields head_fields response_of greeting_fields protocol_field offer_fields back_field greeting_of switch_of number_field bytes_field text_field counted_field optional_text last_text own_ok response_said answer_said reply_end one_number digits
+unfolding client_opening server_opening payloads_in first_message split spelling account_of response_fields head_fields response_of greeting_fields protocol_field offer_fields back_field greeting_of switch_of number_field bytes_field text_field counted_field optional_text last_text own_ok response_said answer_said reply_end one_number digits
 honest_4 =
-    (λ there. record { login = λ e. is_so e; read = λ e. record { ran = λ question asked. ran_not first question asked; question = first; answered = refl; reply = record { front = record { rest = drop 3 first_ok; is = refl }; end = ok_end 0 0 1; whole = refl } } }, tt)
+    (λ there. record { login = λ e. is_so e; read = λ e. record { ran = λ question asked. ran_not first question asked; question = first; answered = refl; reply = record { front = record { rest = drop 3 first_ok; is = refl }; end = ok_end 0 0 1; is = replies-so kind.Command 1 _ _ (lit< tt) refl refl } } }, tt)
 
 leads_4 : fold (tale_step setup plan) tale_ran first_is_read ≡ tale_partly
-unfolding client_opening server_opening first_message split spelling account_of response_fields head_fields response_of greeting_fields protocol_field offer_fields back_field greeting_of switch_of number_field bytes_field text_field counted_field optional_text last_text own_ok response_said answer_said reply_end one_number digits
+unfolding client_opening server_opening payloads_in first_message split spelling account_of response_fields head_fields response_of greeting_fields protocol_field offer_fields back_field greeting_of switch_of number_field bytes_field text_field counted_field optional_text last_text own_ok response_said answer_said reply_end one_number digits
 leads_4 = refl
 
 honest_5 : IsHonestFrom setup plan server tale_partly first_is_heard
-unfolding client_opening server_opening first_message split spelling account_of response_fields head_fields response_of greeting_fields protocol_field offer_fields back_field greeting_of switch_of number_field bytes_field text_field counted_field optional_text last_text own_ok response_said answer_said reply_end one_number digits
+unfolding client_opening server_opening payloads_in first_message split spelling account_of response_fields head_fields response_of greeting_fields protocol_field offer_fields back_field greeting_of switch_of number_field bytes_field text_field counted_field optional_text last_text own_ok response_said answer_said reply_end one_number digits
 honest_5 =
-    (λ there. record { login = λ e. is_so e; read = λ e. record { ran = λ question asked. ran_not first question asked; question = first; answered = refl; reply = record { front = record { rest = []; is = refl }; end = ok_end 0 0 1; whole = refl } } }, (tt, tt))
+    (λ there. record { login = λ e. is_so e; read = λ e. record { ran = λ question asked. ran_not first question asked; question = first; answered = refl; reply = record { front = record { rest = []; is = refl }; end = ok_end 0 0 1; is = replies-so kind.Command 1 _ _ (lit< tt) refl refl } } }, (tt, tt))
 
 leads_5 : fold (tale_step setup plan) tale_partly first_is_heard ≡ tale_heard
-unfolding client_opening server_opening first_message split spelling account_of response_fields head_fields response_of greeting_fields protocol_field offer_fields back_field greeting_of switch_of number_field bytes_field text_field counted_field optional_text last_text own_ok response_said answer_said reply_end one_number digits
+unfolding client_opening server_opening payloads_in first_message split spelling account_of response_fields head_fields response_of greeting_fields protocol_field offer_fields back_field greeting_of switch_of number_field bytes_field text_field counted_field optional_text last_text own_ok response_said answer_said reply_end one_number digits
 leads_5 = refl
 
 honest_6 : IsHonestFrom setup plan server tale_heard id_is_asked
-unfolding client_opening server_opening first_message split spelling account_of response_fields head_fields response_of greeting_fields protocol_field offer_fields back_field greeting_of switch_of number_field bytes_field text_field counted_field optional_text last_text own_ok response_said answer_said reply_end one_number digits
+unfolding client_opening server_opening payloads_in first_message split spelling account_of response_fields head_fields response_of greeting_fields protocol_field offer_fields back_field greeting_of switch_of number_field bytes_field text_field counted_field optional_text last_text own_ok response_said answer_said reply_end one_number digits
 honest_6 =
     (tt, tt)
 
 leads_6 : fold (tale_step setup plan) tale_heard id_is_asked ≡ tale_asked
-unfolding client_opening server_opening first_message split spelling account_of response_fields head_fields response_of greeting_fields protocol_field offer_fields back_field greeting_of switch_of number_field bytes_field text_field counted_field optional_text last_text own_ok response_said answer_said reply_end one_number digits
+unfolding client_opening server_opening payloads_in first_message split spelling account_of response_fields head_fields response_of greeting_fields protocol_field offer_fields back_field greeting_of switch_of number_field bytes_field text_field counted_field optional_text last_text own_ok response_said answer_said reply_end one_number digits
 leads_6 = refl
 
 honest_7 : IsHonestFrom setup plan server tale_asked id_is_heard
-unfolding client_opening server_opening first_message split spelling account_of response_fields head_fields response_of greeting_fields protocol_field offer_fields back_field greeting_of switch_of number_field bytes_field text_field counted_field optional_text last_text own_ok response_said answer_said reply_end one_number digits
+unfolding client_opening server_opening payloads_in first_message split spelling account_of response_fields head_fields response_of greeting_fields protocol_field offer_fields back_field greeting_of switch_of number_field bytes_field text_field counted_field optional_text last_text own_ok response_said answer_said reply_end one_number digits
 honest_7 =
-    (λ there. record { login = λ e. is_so e; read = λ e. record { ran = λ question asked. record { written = λ other alive is. asked_is (λ q. IsWritten (command_of q) (number_for q (λ key. None)) capture) captures other refl is; fresh = record { unused = λ p m. is_not p } }; question = captures; answered = refl; reply = record { front = record { rest = []; is = refl }; end = rows_end 0 0; whole = refl } } }, tt)
+    (λ there. record { login = λ e. is_so e; read = λ e. record { ran = λ question asked. record { written = λ other alive is. asked_is (λ q. IsWritten (command_of q) (number_for q (λ key. None)) capture) captures other refl is; fresh = record { unused = λ p m. is_not p } }; question = captures; answered = refl; reply = record { front = record { rest = []; is = refl }; end = rows_end 0 0; is = replies-so kind.Command 1 _ _ (lit< tt) refl refl } } }, tt)
 
 leads_7 : fold (tale_step setup plan) tale_asked id_is_heard ≡ tale_freed
-unfolding client_opening server_opening first_message split spelling account_of response_fields head_fields response_of greeting_fields protocol_field offer_fields back_field greeting_of switch_of number_field bytes_field text_field counted_field optional_text last_text own_ok response_said answer_said reply_end one_number digits
+unfolding client_opening server_opening payloads_in first_message split spelling account_of response_fields head_fields response_of greeting_fields protocol_field offer_fields back_field greeting_of switch_of number_field bytes_field text_field counted_field optional_text last_text own_ok response_said answer_said reply_end one_number digits
 leads_7 = refl
 
 honest_8 : IsHonestFrom setup plan server tale_freed second_comes
-unfolding client_opening server_opening first_message split spelling account_of response_fields head_fields response_of greeting_fields protocol_field offer_fields back_field greeting_of switch_of number_field bytes_field text_field counted_field optional_text last_text own_ok response_said answer_said reply_end one_number digits
+unfolding client_opening server_opening payloads_in first_message split spelling account_of response_fields head_fields response_of greeting_fields protocol_field offer_fields back_field greeting_of switch_of number_field bytes_field text_field counted_field optional_text last_text own_ok response_said answer_said reply_end one_number digits
 honest_8 =
     (tt, (λ there. is_not there, (λ there. is_not there, tt)))
 
 leads_8 : fold (tale_step setup plan) tale_freed second_comes ≡ tale_next
-unfolding client_opening server_opening first_message split spelling account_of response_fields head_fields response_of greeting_fields protocol_field offer_fields back_field greeting_of switch_of number_field bytes_field text_field counted_field optional_text last_text own_ok response_said answer_said reply_end one_number digits
+unfolding client_opening server_opening payloads_in first_message split spelling account_of response_fields head_fields response_of greeting_fields protocol_field offer_fields back_field greeting_of switch_of number_field bytes_field text_field counted_field optional_text last_text own_ok response_said answer_said reply_end one_number digits
 leads_8 = refl
 
 honest_9 : IsHonestFrom setup plan server tale_next id_is_sent
-unfolding client_opening server_opening first_message split spelling account_of response_fields head_fields response_of greeting_fields protocol_field offer_fields back_field greeting_of switch_of number_field bytes_field text_field counted_field optional_text last_text own_ok response_said answer_said reply_end one_number digits
+unfolding client_opening server_opening payloads_in first_message split spelling account_of response_fields head_fields response_of greeting_fields protocol_field offer_fields back_field greeting_of switch_of number_field bytes_field text_field counted_field optional_text last_text own_ok response_said answer_said reply_end one_number digits
 honest_9 =
     (tt, tt)
 
 leads_9 : fold (tale_step setup plan) tale_next id_is_sent ≡ tale_step_sent
-unfolding client_opening server_opening first_message split spelling account_of response_fields head_fields response_of greeting_fields protocol_field offer_fields back_field greeting_of switch_of number_field bytes_field text_field counted_field optional_text last_text own_ok response_said answer_said reply_end one_number digits
+unfolding client_opening server_opening payloads_in first_message split spelling account_of response_fields head_fields response_of greeting_fields protocol_field offer_fields back_field greeting_of switch_of number_field bytes_field text_field counted_field optional_text last_text own_ok response_said answer_said reply_end one_number digits
 leads_9 = refl
 
 honest_10 : IsHonestFrom setup plan server tale_step_sent id_is_set
-unfolding client_opening server_opening first_message split spelling account_of response_fields head_fields response_of greeting_fields protocol_field offer_fields back_field greeting_of switch_of number_field bytes_field text_field counted_field optional_text last_text own_ok response_said answer_said reply_end one_number digits
+unfolding client_opening server_opening payloads_in first_message split spelling account_of response_fields head_fields response_of greeting_fields protocol_field offer_fields back_field greeting_of switch_of number_field bytes_field text_field counted_field optional_text last_text own_ok response_said answer_said reply_end one_number digits
 honest_10 =
-    (λ there. record { login = λ e. is_so e; read = λ e. record { ran = λ question asked. record { written = λ other alive is. asked_is (λ q. IsWritten (command_of q) (number_for q (λ key. None)) id_step) takes_id other refl is; fresh = record { unused = λ p m. is_not p } }; question = takes_id; answered = refl; reply = record { front = record { rest = []; is = refl }; end = ok_end 0 0 0; whole = refl } } }, tt)
+    (λ there. record { login = λ e. is_so e; read = λ e. record { ran = λ question asked. record { written = λ other alive is. asked_is (λ q. IsWritten (command_of q) (number_for q (λ key. None)) id_step) takes_id other refl is; fresh = record { unused = λ p m. is_not p } }; question = takes_id; answered = refl; reply = record { front = record { rest = []; is = refl }; end = ok_end 0 0 0; is = replies-so kind.Command 1 _ _ (lit< tt) refl refl } } }, tt)
 
 leads_10 : fold (tale_step setup plan) tale_step_sent id_is_set ≡ tale_set
-unfolding client_opening server_opening first_message split spelling account_of response_fields head_fields response_of greeting_fields protocol_field offer_fields back_field greeting_of switch_of number_field bytes_field text_field counted_field optional_text last_text own_ok response_said answer_said reply_end one_number digits
+unfolding client_opening server_opening payloads_in first_message split spelling account_of response_fields head_fields response_of greeting_fields protocol_field offer_fields back_field greeting_of switch_of number_field bytes_field text_field counted_field optional_text last_text own_ok response_said answer_said reply_end one_number digits
 leads_10 = refl
 
 honest_11 : IsHonestFrom setup plan server tale_set second_runs
-unfolding client_opening server_opening first_message split spelling account_of response_fields head_fields response_of greeting_fields protocol_field offer_fields back_field greeting_of switch_of number_field bytes_field text_field counted_field optional_text last_text own_ok response_said answer_said reply_end one_number digits
+unfolding client_opening server_opening payloads_in first_message split spelling account_of response_fields head_fields response_of greeting_fields protocol_field offer_fields back_field greeting_of switch_of number_field bytes_field text_field counted_field optional_text last_text own_ok response_said answer_said reply_end one_number digits
 honest_11 =
     (tt, (λ there goes. record { written = λ question alive asked. asked_is (λ q. IsWritten (command_of q) (number_for q (λ key. None)) query) second question refl asked; fresh = record { unused = λ p m. is_not p } }, tt))
 
 leads_11 : fold (tale_step setup plan) tale_set second_runs ≡ tale_last
-unfolding client_opening server_opening first_message split spelling account_of response_fields head_fields response_of greeting_fields protocol_field offer_fields back_field greeting_of switch_of number_field bytes_field text_field counted_field optional_text last_text own_ok response_said answer_said reply_end one_number digits
+unfolding client_opening server_opening payloads_in first_message split spelling account_of response_fields head_fields response_of greeting_fields protocol_field offer_fields back_field greeting_of switch_of number_field bytes_field text_field counted_field optional_text last_text own_ok response_said answer_said reply_end one_number digits
 leads_11 = refl
 
 honest_12 : IsHonestFrom setup plan server tale_last second_is_heard
-unfolding client_opening server_opening first_message split spelling account_of response_fields head_fields response_of greeting_fields protocol_field offer_fields back_field greeting_of switch_of number_field bytes_field text_field counted_field optional_text last_text own_ok response_said answer_said reply_end one_number digits
+unfolding client_opening server_opening payloads_in first_message split spelling account_of response_fields head_fields response_of greeting_fields protocol_field offer_fields back_field greeting_of switch_of number_field bytes_field text_field counted_field optional_text last_text own_ok response_said answer_said reply_end one_number digits
 honest_12 =
-    (λ there. record { login = λ e. is_so e; read = λ e. record { ran = λ question asked. ran_not second question asked; question = second; answered = refl; reply = record { front = record { rest = []; is = refl }; end = ok_end 0 0 2; whole = refl } } }, tt)
+    (λ there. record { login = λ e. is_so e; read = λ e. record { ran = λ question asked. ran_not second question asked; question = second; answered = refl; reply = record { front = record { rest = []; is = refl }; end = ok_end 0 0 2; is = replies-so kind.Command 1 _ _ (lit< tt) refl refl } } }, tt)
 
 from_11 : IsHonestFrom setup plan server tale_set (second_runs ++ (second_is_heard))
 from_11 = joined tale_set tale_last second_runs (second_is_heard) honest_11 leads_11 honest_12

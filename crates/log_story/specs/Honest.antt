@@ -7,8 +7,7 @@ use Rattle.mx_wire.specs.declared.entry.Entry.{Entry}
 use Rattle.mx_wire.specs.declared.entry.Entry.TheVariants.{Got, Exec}
 use Rattle.packet_frame.specs.Packets.{Framed, spelling, spellings}
 use Rattle.reply_track.specs.declared.reply.ReplyEnd.{ReplyEnd}
-use Rattle.reply_track.specs.Runs.{Ended, run}
-use Rattle.reply_track.specs.Tracking.{started}
+use Rattle.reply_track.specs.Grammar.{IsReply}
 use Rattle.server_side.specs.Login.{LogsIn, opening}
 use Rattle.server_rule.specs.Servers.{Step}
 use Rattle.private_model.specs.Commands.{Command, Reply, Run, runs}
@@ -18,7 +17,7 @@ use Rattle.private_model.specs.View.{Answered, Asked, Setup}
 use Rattle.private_model.specs.Worlds.{Real, real_after}
 use Rattle.log_story.specs.Plan.{Plan, execute_front, text_payload}
 use Rattle.log_story.specs.Tale.{Tale, Wire, first_tale, is_entered, is_to_server, link_in, view_of}
-use Rattle.log_story.specs.Servers.{reply_id, sought, with_run, written_in}
+use Rattle.log_story.specs.Servers.{kind_by, reply_id, with_run, written_in}
 use Rattle.log_story.specs.Telling.{tale_step, wire_with}
 
 pub record IsFront (front whole : List ℕ) : Type 0 where
@@ -58,7 +57,7 @@ spelled wire reply = spellings (reply_id wire) reply.payloads
 pub record IsTrueReply (wire : Wire) (question : Question) (answer : Reply) : Type 0 where
   pub front : IsFront wire.unread (spelled wire answer)
   pub end : ReplyEnd
-  pub whole : run (started (sought wire question)) (spelled wire answer) ≡ Ended end []
+  pub is : IsReply (kind_by (command_of question)) answer.payloads end
 
 -- so it is where bytes are read, before a reply is made of them; and none are read but an answer
 pub record IsTrueRead (setup : Setup) (server : Step) (link : LinkId) (wire : Wire) (tale : Tale) : Type 0 where

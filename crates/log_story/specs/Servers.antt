@@ -8,6 +8,7 @@ use Rattle.packet_frame.specs.Packets.{Framed, Found, Nothing, Whole, Faulty, Sp
 use Rattle.reply_track.specs.declared.reply.ReplyKind.{ReplyKind}
 use Rattle.reply_track.specs.declared.reply.ReplyKind.TheVariants as kind
 use Rattle.reply_track.specs.Runs.{Ending, Ended, run}
+use Rattle.reply_track.specs.Replying.{payloads_in}
 use Rattle.reply_track.specs.Tracking.{Sought, started}
 use Rattle.server_side.specs.Account.{Account as Login}
 use Rattle.server_side.specs.Login.{Opening, LogsIn, opening}
@@ -150,19 +151,6 @@ reply_id wire = next_id (last_id (written_in wire.written).messages)
 
 abbrev pub sought : Wire → Question → Sought
 sought wire question = record { kind = kind_by (command_of question); server = reply_id wire; client = 0; number = 0 }
-
--- the payloads of so many messages at most, with ids that run on
-abbrev pub payload_and : Found → (ℕ → List ℕ → List (List ℕ)) → List (List ℕ)
-payload_and Nothing others = []
-payload_and (Whole message rest) others = message.payload ∷ others (next_id message.last) rest
-payload_and (Faulty fault) others = []
-
-abbrev pub payloads_within : (most id : ℕ) → List ℕ → List (List ℕ)
-payloads_within zero id bytes = []
-payloads_within (suc most) id bytes = payload_and (first_message (length bytes) id bytes) (payloads_within most)
-
-abbrev pub payloads_in : (id : ℕ) → List ℕ → List (List ℕ)
-payloads_in id bytes = payloads_within (length bytes) id bytes
 
 abbrev pub reply_in : Wire → Question → List ℕ → Reply
 reply_in wire question bytes = record { to_prepare = is_prepare (cmd_of (command_of question)); payloads = payloads_in (reply_id wire) bytes }
