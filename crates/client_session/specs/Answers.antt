@@ -4,7 +4,7 @@ use Rattle.packet_frame.specs.declared.fault.FrameFault.{FrameFault}
 use Rattle.packet_frame.specs.declared.fault.FrameFault.TheVariants.{OutOfOrder, TooLarge}
 use Rattle.packet_frame.specs.Packets.{Framed, Split, next_id, split, spelling}
 use Rattle.command_parse.specs.Meaning.{Meaning, parsed}
-use Rattle.command_parse.specs.Meaning.Meaning.{Query, InitDb, Ping, Quit}
+use Rattle.command_parse.specs.Meaning.Meaning.{Query, InitDb, FieldList, Ping, Quit}
 use Rattle.command_parse.specs.declared.fault.CommandFault.{CommandFault}
 use Rattle.handshake.specs.declared.response.Response.{Response}
 use Rattle.client_side.specs.declared.step.ClientFault.{ClientFault}
@@ -87,10 +87,11 @@ front talk = front_in talk (opening_of talk)
 
 -- The answers to its commands.
 
--- a query is what a server answers: a text, or the choice of a schema
+-- a query is what a server answers: a text, the choice of a schema, or the question for a table's columns
 abbrev pub query_by : Result Meaning CommandFault → Bool
 query_by (Ok (Query text)) = true
 query_by (Ok (InitDb schema)) = true
+query_by (Ok (FieldList rest)) = true
 query_by _ = false
 
 abbrev pub is_query : List ℕ → Bool
@@ -108,6 +109,7 @@ abbrev pub answer_by : Option (List ℕ) → Result Meaning CommandFault → Opt
 answer_by reply (Err fault) = Some malformed_command
 answer_by reply (Ok (Query text)) = reply
 answer_by reply (Ok (InitDb schema)) = reply
+answer_by reply (Ok (FieldList rest)) = reply
 answer_by reply (Ok Ping) = Some own_ok
 answer_by reply (Ok Quit) = None
 answer_by reply (Ok _) = Some unknown_command

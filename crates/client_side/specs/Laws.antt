@@ -1,8 +1,8 @@
 -- How a client's login goes on as bytes are kept and steps are taken.
-use Rattle.std.specs.Prelude.{◌≡◌, ◌<◌, ℕ, Bool, true, false, List, [], ◌++◌, None, Result, Ok, Err, if◌then◌else◌, refl}
+use Rattle.std.specs.Prelude.{◌≡◌, ℕ, Bool, true, false, List, [], ◌++◌, None, Result, Ok, Err, if◌then◌else◌, refl}
 use Rattle.std.proofs.Common.{sym, ◌∙◌, ap, subst, append-nil, append_assoc}
 use Rattle.mx_base.specs.declared.names.ClientNo.{ClientNo}
-use Rattle.packet_frame.specs.Packets.{Framed, Found, longest, next_id, first_message}
+use Rattle.packet_frame.specs.Packets.{Framed, Found, next_id, first_message}
 use Rattle.packet_frame.specs.Packets.Found.{Nothing, Whole, Faulty}
 use Rattle.packet_frame.specs.FramerState.{FramerState, look, look_by}
 use Rattle.packet_frame.specs.Laws.{first_message-whole-more, first_message-faulty-more}
@@ -20,13 +20,13 @@ use Rattle.client_side.specs.Steps.{next_of, looked, answer_found, response_foun
 use Rattle.client_side.specs.Reading.{said_to, IsReading, IsLoggingIn, HasStepped}
 
 -- nothing was read yet
-pub logging-new : (number : ClientNo) (salt version : List ℕ) (limit : ℕ) → limit < longest
+pub logging-new : (number : ClientNo) (salt version : List ℕ) (limit : ℕ)
     → IsLoggingIn stage.Response (new_client number salt limit version) version [] (new_client number salt limit version).outgoing
-logging-new number salt version limit short = (record { short = short; unfound = refl; faultless = refl }, refl, sym (append-nil (greeting_said number.0 salt version)))
+logging-new number salt version limit = (record { unfound = refl; faultless = refl }, refl, sym (append-nil (greeting_said number.0 salt version)))
 
 -- more bytes are kept
 reading-fed : (client : ClientState) (piece : List ℕ) → IsReading client.framer → IsReading (fed client piece).framer
-reading-fed client piece at = record { short = at.short; unfound = at.unfound; faultless = at.faultless }
+reading-fed client piece at = record { unfound = at.unfound; faultless = at.faultless }
 
 whatever-fed : {A : Type 0} (f g : List ℕ → A) (read kept piece : List ℕ) → ((more : List ℕ) → f (read ++ more) ≡ g (kept ++ more)) → (more : List ℕ) → f ((read ++ piece) ++ more) ≡ g ((kept ++ piece) ++ more)
 whatever-fed f g read kept piece whatever more = ap f (append_assoc read piece more) ∙ whatever (piece ++ more) ∙ ap g (sym (append_assoc kept piece more))
@@ -56,10 +56,10 @@ taken first framer message rest more whole =
     ∙ ap (λ behind. Whole message (behind ++ more)) (first_message-goes framer.limit first framer.kept message rest whole)
 
 reading-past : (message : Framed) (framer : FramerState) → IsReading framer → IsReading (past_message message framer)
-reading-past message framer at = record { short = at.short; unfound = refl; faultless = at.faultless }
+reading-past message framer at = record { unfound = refl; faultless = at.faultless }
 
 reading-looked : (client : ClientState) → IsReading client.framer → IsReading (looked client Nothing).framer
-reading-looked client at = record { short = at.short; unfound = refl; faultless = at.faultless }
+reading-looked client at = record { unfound = refl; faultless = at.faultless }
 
 -- nothing that is whole was found
 still_due : (at : Stage) (client : ClientState) (version read bytes : List ℕ) → client.stage ≡ at → IsLoggingIn at (looked client Nothing) version read bytes → IsLoggingIn client.stage (looked client Nothing) version read bytes

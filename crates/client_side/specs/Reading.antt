@@ -1,7 +1,6 @@
 -- Where a client stands after the bytes that were read of it, for any cut of these.
-use Rattle.std.specs.Prelude.{◌≡◌, ℕ, ◌<◌, Bool, true, false, List, [], ◌++◌, None, if◌then◌else◌}
+use Rattle.std.specs.Prelude.{◌≡◌, ℕ, Bool, true, false, List, [], ◌++◌, None, if◌then◌else◌}
 use Rattle.packet_frame.specs.FramerState.{FramerState}
-use Rattle.packet_frame.specs.Packets.{longest}
 use Rattle.handshake.specs.declared.response.Response.{Response}
 use Rattle.client_side.specs.declared.stage.Stage.{Stage}
 use Rattle.client_side.specs.declared.stage.Stage.TheVariants as stage
@@ -20,7 +19,6 @@ said_to client version switched = said client.number.0 client.salt version switc
 
 -- nothing was found, and no fault
 pub record IsReading (framer : FramerState) : Type 0 where
-  pub short : framer.limit < longest
   pub unfound : framer.found ≡ None
   pub faultless : framer.fault ≡ None
 

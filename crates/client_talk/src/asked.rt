@@ -8,7 +8,7 @@ use command_parse::{Command, parse};
 /// What a client's message asks for (client/server protocol, "Command Phase").
 #[derive(Clone, Copy)]
 pub enum Asked {
-    /// An answer of a server: to a text, or to the choice of a schema.
+    /// An answer of a server: to a text, to the choice of a schema, or to the question for a table's columns.
     Query,
     /// A sign of life.
     Ping,
@@ -36,6 +36,7 @@ pub fn asked_of(payload: &[u8], has_server: bool) -> Asked
     match parse(payload, None) {
         Ok(Command::Query { .. }) => query_if(has_server),
         Ok(Command::InitDb { .. }) => query_if(has_server),
+        Ok(Command::FieldList { .. }) => query_if(has_server),
         Ok(Command::Ping) => Asked::Ping,
         Ok(Command::Quit) => Asked::Quit,
         Ok(_) => Asked::Refused(Refusal::UnknownCommand),

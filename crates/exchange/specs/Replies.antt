@@ -1,10 +1,12 @@
 -- The replies of a server, each at the place of its command, and how a link stands by them.
-use Rattle.std.specs.Prelude.{ℕ, ◌-◌, Bool, ◌&&◌, if◌then◌else◌, List, [], ◌∷◌, length, take, drop, slice_get, Option, Some, None}
+use Rattle.std.specs.Prelude.{ℕ, ◌+◌, ◌-◌, Bool, ◌&&◌, if◌then◌else◌, List, [], ◌∷◌, length, take, drop, slice_get, Option, Some, None}
 use Rattle.std.specs.List.{list_all}
 use Rattle.mx_base.specs.declared.names.LinkId.{LinkId}
+use Rattle.mx_base.specs.declared.tag.Tag.{Tag}
 use Rattle.mx_wire.specs.Log.{Log}
 use Rattle.packet_frame.specs.Packets.{spellings}
 use Rattle.reply_track.specs.Runs.{Ending, Going, Ended, Failed}
+use Rattle.reply_track.specs.declared.reply.ReplyKind.{ReplyKind}
 use Rattle.reply_track.specs.Replying.{replied, payloads_in}
 use Rattle.server_side.specs.Account.{Account}
 use Rattle.server_side.specs.Login.{Opening, Goes, LogsIn, Fails}
@@ -30,15 +32,27 @@ pub data Heard : Type 0 where
 abbrev pub Grammar : Type 0
 Grammar = Command → List ℕ → Heard
 
--- the replies to a command of one packet, whose first id is 1: results, the last of which is the one that says that no other follows. That
--- this is what the manual says is a law (Manual).
-abbrev pub heard_by : (bytes : List ℕ) → Ending → Heard
-heard_by bytes (Going state) = Partly
-heard_by bytes (Ended end rest) = Wholly (payloads_in 1 (take (length bytes - length rest) bytes)) rest
-heard_by bytes (Failed behind) = Never (length bytes - length behind)
+-- what the reply to a command is like: its kind, and the id of its first packet
+pub record Form : Type 0 where
+  pub kind : ReplyKind
+  pub first : ℕ
 
-abbrev pub command_reply : Grammar
-command_reply command bytes = heard_by bytes (replied bytes)
+-- what the replies to all commands are like, by what each is for
+abbrev pub Forms : Type 0
+Forms = Tag → Form
+
+-- The replies: results, the last of which is the one that says that no other follows, or what COM_FIELD_LIST asks for. That this is what the
+-- manual says is a law (Manual).
+abbrev pub heard_by : (first : ℕ) → (bytes : List ℕ) → Ending → Heard
+heard_by first bytes (Going state) = Partly
+heard_by first bytes (Ended end rest) = Wholly (payloads_in first (take (length bytes - length rest) bytes)) rest
+heard_by first bytes (Failed behind) = Never (length bytes - length behind)
+
+abbrev pub heard_as : Form → List ℕ → Heard
+heard_as form bytes = heard_by form.first bytes (replied form.kind form.first bytes)
+
+abbrev pub command_reply : Forms → Grammar
+command_reply forms command bytes = heard_as (forms command.tag) bytes
 
 -- the whole replies in order, the bytes behind them, and the place of bad bytes there
 pub record Replies : Type 0 where
@@ -68,8 +82,8 @@ rest_of (Fails said fault) = []
 abbrev pub behind_login : Account → LinkId → Log → List ℕ
 behind_login user link log = rest_of (login_on user link log)
 
-abbrev pub replies_on : Account → LinkId → Log → Replies
-replies_on user link log = replies_by command_reply (commands_on user link log) (behind_login user link log)
+abbrev pub replies_on : Forms → Account → LinkId → Log → Replies
+replies_on forms user link log = replies_by (command_reply forms) (commands_on user link log) (behind_login user link log)
 
 -- How a link stands: the login goes on; every command is whole and answered, and nothing stands behind; the last command is written in part,
 -- and unanswered; it is whole, and its reply runs; or the link can't be used again: it was lost, its login failed, or bytes came that no
@@ -95,8 +109,8 @@ standing_in (Goes said) commands replies = Enters
 standing_in (LogsIn said rest) commands replies = stands commands replies
 standing_in (Fails said fault) commands replies = Spoilt
 
-abbrev pub standing_on : Account → LinkId → Log → Standing
-standing_on user link log = if was_lost link log then Spoilt else standing_in (login_on user link log) (commands_on user link log) (replies_on user link log)
+abbrev pub standing_on : Forms → Account → LinkId → Log → Standing
+standing_on forms user link log = if was_lost link log then Spoilt else standing_in (login_on user link log) (commands_on user link log) (replies_on forms user link log)
 
 -- the reply at a place, or the error where none can come any more
 abbrev pub error_by : Option ℕ → (lost : Bool) → Option Answer

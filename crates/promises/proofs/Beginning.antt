@@ -107,8 +107,8 @@ last-of-any n i others sent = list_any-append (is_of n i) others (record { tag =
   here = ap (λ b. b && nat_eq i i) (same_number n) ∙ same_number i
 
 -- A command begins where all before it on the link are whole and answered, and nothing stands behind: so no two overlap.
-pub begins-clean : (service : Service) (n i : ℕ) (link : LinkId) (bytes : List ℕ) (user : Account) (log : Log) → user_of service n log ≡ Some user → carrier_of n i log ≡ None → MaySend service n i link bytes log → standing_on user link log ≡ Clean
-begins-clean service n i link bytes user log is none may = subst (λ (u : Account). standing_on u link log ≡ Clean) (some-same may.user user (sym may.is_user ∙ is)) (by may.follows) where
-  by : Continues (For (record { 0 = n }) i) bytes (spelling may.message.first may.message.payload) (is_here n log) (commands_on may.user link log) (standing_on may.user link log) → standing_on may.user link log ≡ Clean
+pub begins-clean : (service : Service) (n i : ℕ) (link : LinkId) (bytes : List ℕ) (user : Account) (log : Log) → user_of service n log ≡ Some user → carrier_of n i log ≡ None → MaySend service n i link bytes log → standing_on service.forms user link log ≡ Clean
+begins-clean service n i link bytes user log is none may = subst (λ (u : Account). standing_on service.forms u link log ≡ Clean) (some-same may.user user (sym may.is_user ∙ is)) (by may.follows) where
+  by : Continues (For (record { 0 = n }) i) bytes (spelling may.message.first may.message.payload) (is_here n log) (commands_on may.user link log) (standing_on service.forms may.user link log) → standing_on service.forms may.user link log ≡ Clean
   by (Begins here clean front) = clean
   by (GoesOn others sent sends last front) = absurd (uncarried n i link log none (no-commands n i (login_on may.user link log) (pieces_of link log) (ap (list_any (is_of n i)) last ∙ last-of-any n i others sent)))

@@ -10,15 +10,15 @@ use Rattle.mx_wire.specs.Log.{Log, link_of, is_link, of_link, got_bytes, wrote_b
 use Rattle.mx_wire.specs.declared.entry.Entry.{Entry}
 use Rattle.reply_track.specs.Runs.{Ending, Going, Ended, Failed}
 use Rattle.reply_track.specs.Tracking.{started}
-use Rattle.reply_track.specs.Replying.{to_command, replied, payloads_in}
+use Rattle.reply_track.specs.Replying.{sought, replied, payloads_in}
 use Rattle.reply_track.proofs.Replying.{ended-more, failed-more}
 use Rattle.server_side.specs.Account.{Account}
 use Rattle.server_side.specs.Login.{Opening, Goes, LogsIn, Fails, opening}
 use Rattle.server_side.specs.Laws.{opening-logged_in}
 use Rattle.exchange.specs.Logins.{is_empty, is_loss, was_lost, until_loss, heard_of, login_on, IsLoggedIn}
 use Rattle.exchange.specs.Commands.{Command, piece, pieces_of, behind, joins, with_piece, commands_in, commands_behind, commands_on, is_whole}
-use Rattle.exchange.specs.Replies.{Answer, Heard, Partly, Wholly, Never, Grammar, heard_by, command_reply, Replies, with_reply, cut, replies_by, replies_on, rest_of, behind_login, Standing, Enters, Clean, Sends, Runs, Spoilt, stands_by, stands, standing_in, standing_on}
-use Rattle.promises.specs.Follows.{IsGrammar, behind_replies, Since}
+use Rattle.exchange.specs.Replies.{Answer, Heard, Partly, Wholly, Never, Grammar, Form, Forms, heard_by, heard_as, command_reply, Replies, with_reply, cut, replies_by, replies_on, rest_of, behind_login, Standing, Enters, Clean, Sends, Runs, Spoilt, stands_by, stands, standing_in, standing_on}
+use Rattle.promises.specs.Follows.{IsLonger, IsGrammar, behind_replies, Since}
 use Rattle.packet_frame.specs.PacketLaws.{nat_eq-true}
 use Rattle.mx_base.specs.declared.tag.Tag.{Tag}
 use Rattle.mx_base.specs.declared.tag.Tag.TheVariants.{For}
@@ -32,36 +32,47 @@ use Rattle.exchange.specs.Commands.{same_tag, is_command, place_in}
 less-same : (bytes left more : List ℕ) → length (bytes ++ more) - length (left ++ more) ≡ length bytes - length left
 less-same bytes left more = omega (arith, length-append bytes more, length-append left more)
 
--- A whole reply stays as more bytes come.
-command-stays : (c : Command) (bytes more : List ℕ) (reply : Answer) (rest : List ℕ) → command_reply c bytes ≡ Wholly reply rest → command_reply c (bytes ++ more) ≡ Wholly reply (rest ++ more)
-command-stays c bytes more reply rest is = by (replied bytes) refl is where
-  by : (ending : Ending) → replied bytes ≡ ending → heard_by bytes ending ≡ Wholly reply rest → command_reply c (bytes ++ more) ≡ Wholly reply (rest ++ more)
-  by (Going state) at same = absurd (let no : Partly ≡ Wholly reply rest = same in cc)
-  by (Failed behind) at same = absurd (let no : Never (length bytes - length behind) ≡ Wholly reply rest = same in cc)
-  by (Ended end left) at same =
-      (let one : payloads_in 1 (take (length bytes - length left) bytes) ≡ reply = cc in
-      let two : left ≡ rest = cc in
-      ap (heard_by (bytes ++ more)) (ended-more (started (to_command 1)) bytes more end left at)
-      ∙ ap (λ n. Wholly (payloads_in 1 (take n (bytes ++ more))) (left ++ more)) (less-same bytes left more)
-      ∙ ap (λ l. Wholly (payloads_in 1 l) (left ++ more)) (take-append-le (length bytes - length left) bytes more (omega arith))
-      ∙ ap (λ l. Wholly l (left ++ more)) one ∙ ap (λ l. Wholly reply (l ++ more)) two)
+module _ (forms : Forms) where
+  -- A whole reply stays as more bytes come.
+  command-stays : (c : Command) (bytes more : List ℕ) (reply : Answer) (rest : List ℕ) → command_reply forms c bytes ≡ Wholly reply rest → command_reply forms c (bytes ++ more) ≡ Wholly reply (rest ++ more)
+  command-stays c bytes more reply rest is = by (replied form.kind form.first bytes) refl is where
+    form : Form
+    form = forms c.tag
 
--- Bad bytes stay bad.
-pub never-more : (c : Command) (bytes more : List ℕ) (place : ℕ) → command_reply c bytes ≡ Never place → command_reply c (bytes ++ more) ≡ Never place
-never-more c bytes more place is = by (replied bytes) refl is where
-  by : (ending : Ending) → replied bytes ≡ ending → heard_by bytes ending ≡ Never place → command_reply c (bytes ++ more) ≡ Never place
-  by (Going state) at same = absurd (let no : Partly ≡ Never place = same in cc)
-  by (Ended end left) at same = absurd (let no : Wholly (payloads_in 1 (take (length bytes - length left) bytes)) left ≡ Never place = same in cc)
-  by (Failed behind) at same =
-      ap (heard_by (bytes ++ more)) (failed-more (started (to_command 1)) bytes more behind at) ∙ ap Never (less-same bytes behind more) ∙ same
+    by : (ending : Ending) → replied form.kind form.first bytes ≡ ending → heard_by form.first bytes ending ≡ Wholly reply rest → command_reply forms c (bytes ++ more) ≡ Wholly reply (rest ++ more)
+    by (Going state) at same = absurd (let no : Partly ≡ Wholly reply rest = same in cc)
+    by (Failed behind) at same = absurd (let no : Never (length bytes - length behind) ≡ Wholly reply rest = same in cc)
+    by (Ended end left) at same =
+        (let one : payloads_in form.first (take (length bytes - length left) bytes) ≡ reply = cc in
+        let two : left ≡ rest = cc in
+        ap (heard_by form.first (bytes ++ more)) (ended-more (started (sought form.kind form.first form.first)) bytes more end left at)
+        ∙ ap (λ n. Wholly (payloads_in form.first (take n (bytes ++ more))) (left ++ more)) (less-same bytes left more)
+        ∙ ap (λ l. Wholly (payloads_in form.first l) (left ++ more)) (take-append-le (length bytes - length left) bytes more (omega arith))
+        ∙ ap (λ l. Wholly l (left ++ more)) one ∙ ap (λ l. Wholly reply (l ++ more)) two)
 
-pub command-reply-grammar : IsGrammar command_reply
-command-reply-grammar = record {
-  stays = command-stays;
-  bad = never-more;
-  longer = λ command longer bytes reply rest more is. is;
-  bad_longer = λ command longer bytes place more is. is;
-}
+  -- Bad bytes stay bad.
+  pub never-more : (c : Command) (bytes more : List ℕ) (place : ℕ) → command_reply forms c bytes ≡ Never place → command_reply forms c (bytes ++ more) ≡ Never place
+  never-more c bytes more place is = by (replied form.kind form.first bytes) refl is where
+    form : Form
+    form = forms c.tag
+
+    by : (ending : Ending) → replied form.kind form.first bytes ≡ ending → heard_by form.first bytes ending ≡ Never place → command_reply forms c (bytes ++ more) ≡ Never place
+    by (Going state) at same = absurd (let no : Partly ≡ Never place = same in cc)
+    by (Ended end left) at same = absurd (let no : Wholly (payloads_in form.first (take (length bytes - length left) bytes)) left ≡ Never place = same in cc)
+    by (Failed behind) at same =
+        ap (heard_by form.first (bytes ++ more)) (failed-more (started (sought form.kind form.first form.first)) bytes more behind at) ∙ ap Never (less-same bytes behind more) ∙ same
+
+  -- what a command's bytes are doesn't matter, but for what it is
+  same-form : (command longer : Command) (bytes : List ℕ) → IsLonger command longer → command_reply forms longer bytes ≡ command_reply forms command bytes
+  same-form command longer bytes more = ap (λ (tag : Tag). heard_as (forms tag) bytes) more.same
+
+  pub command-reply-grammar : IsGrammar (command_reply forms)
+  command-reply-grammar = record {
+    stays = command-stays;
+    bad = never-more;
+    longer = λ command longer bytes reply rest more is. same-form command longer bytes more ∙ is;
+    bad_longer = λ command longer bytes place more is. same-form command longer bytes more ∙ is;
+  }
 
 -- As many replies as commands at most.
 pub replies-count : (grammar : Grammar) (commands : List Command) (bytes : List ℕ) → length (replies_by grammar commands bytes).whole ≤ length commands
@@ -88,14 +99,14 @@ replies-behind grammar grows (c ∷ commands) later bytes more sound none all = 
       ∙ ap (with_reply reply) (others rest sound none (let count : suc (length (replies_by grammar commands rest).whole) ≡ suc (length commands) = all in omega arith))
 
 -- What it says that a link is clean.
-pub record IsClean (user : Account) (link : LinkId) (log : Log) : Type 0 where
+pub record IsClean (forms : Forms) (user : Account) (link : LinkId) (log : Log) : Type 0 where
   pub unlost : was_lost link log ≡ false
   pub said : List ℕ
   pub rest : List ℕ
   pub within : login_on user link log ≡ LogsIn said rest
-  pub sound : (replies_on user link log).bad ≡ None
-  pub none : (replies_on user link log).rest ≡ []
-  pub all : length (replies_on user link log).whole ≡ length (commands_on user link log)
+  pub sound : (replies_on forms user link log).bad ≡ None
+  pub none : (replies_on forms user link log).rest ≡ []
+  pub all : length (replies_on forms user link log).whole ≡ length (commands_on user link log)
   pub wholes : list_all is_whole (commands_on user link log) ≡ true
 
 pub by-loss : (lost : Bool) (s : Standing) → cond lost Spoilt s ≡ Clean → (lost ≡ false) × (s ≡ Clean)
@@ -134,14 +145,14 @@ empty-is (x ∷ xs) is = absurd (let no : false ≡ true = is in cc)
 pub none-left : {A : Type 0} (n : ℕ) (xs : List A) → drop n xs ≡ [] → length xs ≤ n
 none-left n xs is = (let count : length (drop n xs) ≡ length xs - n = length-drop n xs in let zero_left : length (drop n xs) ≡ 0 = ap length is in omega arith)
 
-pub clean-means : (user : Account) (link : LinkId) (log : Log) → standing_on user link log ≡ Clean → IsClean user link log
-clean-means user link log is = (let one = by-loss (was_lost link log) (standing_in (login_on user link log) (commands_on user link log) (replies_on user link log)) is in
-    let two = by-login (login_on user link log) (commands_on user link log) (replies_on user link log) one.1 in
-    let three = by-stands (replies_on user link log).bad (is_empty (replies_on user link log).rest && list_all is_whole (commands_on user link log)) (drop (length (replies_on user link log).whole) (commands_on user link log)) two.so in
-    let four = both-true (is_empty (replies_on user link log).rest) (list_all is_whole (commands_on user link log)) three.1 in
-    let most : length (replies_on user link log).whole ≤ length (commands_on user link log) = replies-count command_reply (commands_on user link log) (behind_login user link log) in
-    let least : length (commands_on user link log) ≤ length (replies_on user link log).whole = none-left (length (replies_on user link log).whole) (commands_on user link log) three.2 in
-    record { unlost = one.0; said = two.said; rest = two.rest; within = two.is; sound = three.0; none = empty-is (replies_on user link log).rest four.0; all = omega arith; wholes = four.1 })
+pub clean-means : (forms : Forms) (user : Account) (link : LinkId) (log : Log) → standing_on forms user link log ≡ Clean → IsClean forms user link log
+clean-means forms user link log is = (let one = by-loss (was_lost link log) (standing_in (login_on user link log) (commands_on user link log) (replies_on forms user link log)) is in
+    let two = by-login (login_on user link log) (commands_on user link log) (replies_on forms user link log) one.1 in
+    let three = by-stands (replies_on forms user link log).bad (is_empty (replies_on forms user link log).rest && list_all is_whole (commands_on user link log)) (drop (length (replies_on forms user link log).whole) (commands_on user link log)) two.so in
+    let four = both-true (is_empty (replies_on forms user link log).rest) (list_all is_whole (commands_on user link log)) three.1 in
+    let most : length (replies_on forms user link log).whole ≤ length (commands_on user link log) = replies-count (command_reply forms) (commands_on user link log) (behind_login user link log) in
+    let least : length (commands_on user link log) ≤ length (replies_on forms user link log).whole = none-left (length (replies_on forms user link log).whole) (commands_on user link log) three.2 in
+    record { unlost = one.0; said = two.said; rest = two.rest; within = two.is; sound = three.0; none = empty-is (replies_on forms user link log).rest four.0; all = omega arith; wholes = four.1 })
 
 -- As the log grows.
 pub before-loss : (xs ys : Log) → list_any is_loss xs ≡ false → (until_loss xs ≡ xs) × (until_loss (xs ++ ys) ≡ xs ++ until_loss ys)
@@ -215,9 +226,9 @@ commands-behind [] commands others all = refl
 commands-behind (p ∷ pieces) commands others all = ap (λ l. fold with_piece l pieces) (with-piece-behind commands others p all) ∙ commands-behind pieces commands (with_piece others p) all
 
 -- So from then on the commands are those written since, and the replies those read since.
-pub since-clean : (user : Account) (link : LinkId) (log more : Log) → standing_on user link log ≡ Clean → IsLoggedIn user link log → Since user link log more
-since-clean user link log more is inside = by (clean-means user link log is) where
-  by : IsClean user link log → Since user link log more
+pub since-clean : (forms : Forms) (user : Account) (link : LinkId) (log more : Log) → standing_on forms user link log ≡ Clean → IsLoggedIn user link log → Since forms user link log more
+since-clean forms user link log more is inside = by (clean-means forms user link log is) where
+  by : IsClean forms user link log → Since forms user link log more
   by clean = record { commands = commands; replies = replies } where
     login : login_on user link (log ++ more) ≡ LogsIn clean.said (clean.rest ++ heard_of link more)
     login = ap (opening user) (heard-more link log more clean.unlost) ∙ opening-logged_in user (heard_of link log) (heard_of link more) clean.said clean.rest clean.within
@@ -242,11 +253,11 @@ since-clean user link log more is inside = by (clean-means user link log is) whe
         ∙ ap (λ l. fold with_piece l (pieces_of link more)) (sym was ∙ sym (append-nil (commands_on user link log)))
         ∙ commands-behind (pieces_of link more) (commands_on user link log) [] clean.wholes
 
-    replies : replies_on user link (log ++ more) ≡ behind_replies (replies_on user link log).whole (replies_by command_reply (commands_in (pieces_of link more)) (heard_of link more))
-    replies = ap (λ l. replies_by command_reply l (behind_login user link (log ++ more))) commands
-        ∙ ap (λ (o : Opening). replies_by command_reply (commands_on user link log ++ commands_in (pieces_of link more)) (rest_of o)) login
-        ∙ ap (λ (o : Opening). replies_by command_reply (commands_on user link log ++ commands_in (pieces_of link more)) (rest_of o ++ heard_of link more)) (sym clean.within)
-        ∙ replies-behind command_reply command-reply-grammar (commands_on user link log) (commands_in (pieces_of link more)) (behind_login user link log) (heard_of link more) clean.sound clean.none clean.all
+    replies : replies_on forms user link (log ++ more) ≡ behind_replies (replies_on forms user link log).whole (replies_by (command_reply forms) (commands_in (pieces_of link more)) (heard_of link more))
+    replies = ap (λ l. replies_by (command_reply forms) l (behind_login user link (log ++ more))) commands
+        ∙ ap (λ (o : Opening). replies_by (command_reply forms) (commands_on user link log ++ commands_in (pieces_of link more)) (rest_of o)) login
+        ∙ ap (λ (o : Opening). replies_by (command_reply forms) (commands_on user link log ++ commands_in (pieces_of link more)) (rest_of o ++ heard_of link more)) (sym clean.within)
+        ∙ replies-behind (command_reply forms) (command-reply-grammar forms) (commands_on user link log) (commands_in (pieces_of link more)) (behind_login user link log) (heard_of link more) clean.sound clean.none clean.all
 
 pub same-command : (n i m j : ℕ) (tag : Tag) → is_command n i tag ≡ true → is_command m j tag ≡ true → (n ≡ m) × (i ≡ j)
 same-command n i m j (For client ordinal) one two = (let a = both-true (nat_eq n client.0) (nat_eq i ordinal) one in let b = both-true (nat_eq m client.0) (nat_eq j ordinal) two in

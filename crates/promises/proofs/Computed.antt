@@ -12,7 +12,7 @@ use Rattle.client_side.specs.Login.{opening as client_opening}
 use Rattle.server_side.specs.Login.{opening as server_opening, response_said, answer_said}
 use Rattle.client_session.specs.Accounts.{account_of}
 use Rattle.client_session.specs.Errors.{own_ok, connection_refused, bad_server_bytes, connection_lost}
-use Rattle.promises.specs.Worked.{link, service, second_turn, ann, bob, query, reply, early, logging_in, logged_in, sending, denied, told, heard, answered, whole}
+use Rattle.promises.specs.Worked.{link, service, second_turn, forms, ann, bob, query, reply, early, logging_in, logged_in, sending, denied, told, heard, answered, whole}
 use Rattle.exchange.specs.Commands.{commands_on}
 use Rattle.exchange.specs.Replies.{Enters, Clean, Runs, Spoilt, standing_on}
 use Rattle.promises.specs.Sizes.{all_takes}
@@ -39,7 +39,7 @@ pub replies-there : (reply_to service 1 1 told ≡ None) × (reply_to service 1 
 unfolding client_opening server_opening payloads_in first_message split spelling account_of response_fields head_fields response_of greeting_fields protocol_field offer_fields back_field greeting_of switch_of number_field bytes_field text_field counted_field optional_text last_text own_ok connection_refused bad_server_bytes connection_lost response_said answer_said
 replies-there = (refl, refl)
 
-pub stands-so : (standing_on ann (link 3) logging_in ≡ Enters) × (standing_on ann (link 3) logged_in ≡ Clean) × (standing_on ann (link 3) sending ≡ Runs) × (standing_on ann (link 3) heard ≡ Clean) × (standing_on bob (link 4) denied ≡ Spoilt)
+pub stands-so : (standing_on forms ann (link 3) logging_in ≡ Enters) × (standing_on forms ann (link 3) logged_in ≡ Clean) × (standing_on forms ann (link 3) sending ≡ Runs) × (standing_on forms ann (link 3) heard ≡ Clean) × (standing_on forms bob (link 4) denied ≡ Spoilt)
 unfolding client_opening server_opening payloads_in first_message split spelling account_of response_fields head_fields response_of greeting_fields protocol_field offer_fields back_field greeting_of switch_of number_field bytes_field text_field counted_field optional_text last_text own_ok connection_refused bad_server_bytes connection_lost response_said answer_said
 stands-so = (refl, refl, refl, refl, refl)
 

@@ -20,7 +20,7 @@ use Rattle.promises.specs.Owners.{is_refused}
 use Rattle.promises.specs.Due.{Work, work_of}
 use Rattle.promises.specs.Sends.{MayOpen, MaySend, owner_for}
 use Rattle.promises.specs.Rest.{Waits, IsAtRest}
-use Rattle.promises.specs.Worked.{link, salt, at, setup, service, first_turn, query, drained, entering, denied}
+use Rattle.promises.specs.Worked.{link, salt, at, setup, service, forms, first_turn, query, drained, entering, denied}
 use Rattle.promises.proofs.InWork.{refused-unsent}
 
 bob-refused : is_refused service 2 1 denied ≡ true
@@ -47,7 +47,7 @@ unfolding ann_work
 no-rest rest = unowned ((rest.clients 1 (record { port = Traffic; link = link 1; salt = salt; others = 0 }) refl refl).waits refl ann_work ann-works refl)
 
 -- while the first client has a link no other is opened, whomever it would be for: there is no other client
-pub no-second : (opens : List Turn) → MayOpen (record { setup = setup; opens = first_turn ∷ opens }) at entering → ⊥
+pub no-second : (opens : List Turn) → MayOpen (record { setup = setup; opens = first_turn ∷ opens; forms = forms }) at entering → ⊥
 no-second opens may = by may.turn.client refl may.asks.is_came where
   by : (n : ℕ) → may.turn.client ≡ n → arrival_of n entering ≡ Some may.asks.came → ⊥
   by zero is came = (let no : None ≡ Some may.asks.came = came in cc)

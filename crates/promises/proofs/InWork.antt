@@ -9,7 +9,7 @@ use Rattle.mx_wire.specs.Log.{Log}
 use Rattle.mx_wire.specs.declared.entry.Entry.TheVariants.{OpenFailed}
 use Rattle.packet_frame.specs.Packets.{Framed}
 use Rattle.command_parse.specs.Meaning.{Meaning, parsed}
-use Rattle.command_parse.specs.Meaning.Meaning.{Query, InitDb}
+use Rattle.command_parse.specs.Meaning.Meaning.{Query, InitDb, FieldList}
 use Rattle.command_parse.specs.declared.fault.CommandFault.{CommandFault}
 use Rattle.client_session.specs.declared.setup.ServerAt.{ServerAt}
 use Rattle.client_session.specs.Answers.{Talk, messages_of, query_by}
@@ -57,6 +57,7 @@ in-work service n log work is = work-first service n log (talk_of service n log)
 pub query-answer : (reply : Option Answer) (meaning : Result Meaning CommandFault) → query_by meaning ≡ true → answer_by reply meaning ≡ reply
 query-answer reply (Ok (Query text)) is = refl
 query-answer reply (Ok (InitDb schema)) is = refl
+query-answer reply (Ok (FieldList rest)) is = refl
 query-answer reply (Err fault) is = absurd (let no : false ≡ true = is in cc)
 query-answer reply (Ok _) is = absurd (let no : false ≡ true = is in cc)
 

@@ -21,7 +21,7 @@ use Rattle.ready_loop.specs.Drained.{read_dry}
 use Rattle.server_side.specs.Account.{Account}
 use Rattle.exchange.specs.Commands.{Command, carries, first_some, carrier_of}
 use Rattle.exchange.specs.Logins.{was_lost, goes_on, login_on}
-use Rattle.exchange.specs.Replies.{Standing, Enters, Clean, Sends, Runs, Spoilt, standing_on}
+use Rattle.exchange.specs.Replies.{Forms, Standing, Enters, Clean, Sends, Runs, Spoilt, standing_on}
 use Rattle.promises.specs.Service.{Turn, Service, open_try, open_tries, turn_by, turn_of}
 use Rattle.promises.specs.Owners.{is_here_as, is_here, is_unsent, Owner, owner_of, user_of, refused_by, refused_behind, refused, is_turn, is_refused}
 use Rattle.promises.specs.Sends.{Asks, Continues, Begins, GoesOn, MaySend, owner_for}
@@ -39,17 +39,17 @@ and-true true b is = (refl, is)
 and-true false b is = absurd (let no : false ≡ true = is in cc)
 
 -- What is at work on a link isn't cut short.
-pub runs-kept : (service : Service) (owner : Owner) (user : Account) (link : LinkId) (log : Log) → standing_on user link log ≡ Runs → MayDrop service owner user link log → ⊥
+pub runs-kept : (service : Service) (owner : Owner) (user : Account) (link : LinkId) (log : Log) → standing_on service.forms user link log ≡ Runs → MayDrop service owner user link log → ⊥
 runs-kept service owner user link log runs (IsSpoilt is) = (let no : Spoilt ≡ Runs = sym is ∙ runs in cc)
 runs-kept service owner user link log runs (Gone gone other) = other runs
 runs-kept service owner user link log runs (Unneeded is idle) = (let no : Clean ≡ Runs = sym is ∙ runs in cc)
 
-pub sends-kept : (service : Service) (owner : Owner) (user : Account) (link : LinkId) (log : Log) → standing_on user link log ≡ Sends → is_here owner.client log ≡ true → MayDrop service owner user link log → ⊥
+pub sends-kept : (service : Service) (owner : Owner) (user : Account) (link : LinkId) (log : Log) → standing_on service.forms user link log ≡ Sends → is_here owner.client log ≡ true → MayDrop service owner user link log → ⊥
 sends-kept service owner user link log sends here (IsSpoilt is) = (let no : Spoilt ≡ Sends = sym is ∙ sends in cc)
 sends-kept service owner user link log sends here (Gone gone other) = (let no : false ≡ true = sym gone ∙ here in cc)
 sends-kept service owner user link log sends here (Unneeded is idle) = (let no : Clean ≡ Sends = sym is ∙ sends in cc)
 
-pub enters-kept : (service : Service) (owner : Owner) (user : Account) (link : LinkId) (log : Log) → standing_on user link log ≡ Enters → is_here owner.client log ≡ true → MayDrop service owner user link log → ⊥
+pub enters-kept : (service : Service) (owner : Owner) (user : Account) (link : LinkId) (log : Log) → standing_on service.forms user link log ≡ Enters → is_here owner.client log ≡ true → MayDrop service owner user link log → ⊥
 enters-kept service owner user link log enters here (IsSpoilt is) = (let no : Spoilt ≡ Enters = sym is ∙ enters in cc)
 enters-kept service owner user link log enters here (Gone gone other) = (let no : false ≡ true = sym gone ∙ here in cc)
 enters-kept service owner user link log enters here (Unneeded is idle) = (let no : Clean ≡ Enters = sym is ∙ enters in cc)
@@ -59,18 +59,18 @@ pub sends-on : {tag : Tag} {bytes whole : List ℕ} {here : Bool} {commands : Li
 sends-on standing (Begins here is front) = inl is
 sends-on standing (GoesOn others sent is last front) = inr is
 
-pub may-on : (service : Service) (n i : ℕ) (link : LinkId) (bytes : List ℕ) (user : Account) (log : Log) → user_of service n log ≡ Some user → MaySend service n i link bytes log → (standing_on user link log ≡ Clean) ⊎ (standing_on user link log ≡ Sends)
-may-on service n i link bytes user log is may = subst (λ (u : Account). (standing_on u link log ≡ Clean) ⊎ (standing_on u link log ≡ Sends)) (some-same may.user user (sym may.is_user ∙ is)) (sends-on (standing_on may.user link log) may.follows)
+pub may-on : (service : Service) (n i : ℕ) (link : LinkId) (bytes : List ℕ) (user : Account) (log : Log) → user_of service n log ≡ Some user → MaySend service n i link bytes log → (standing_on service.forms user link log ≡ Clean) ⊎ (standing_on service.forms user link log ≡ Sends)
+may-on service n i link bytes user log is may = subst (λ (u : Account). (standing_on service.forms u link log ≡ Clean) ⊎ (standing_on service.forms u link log ≡ Sends)) (some-same may.user user (sym may.is_user ∙ is)) (sends-on (standing_on service.forms may.user link log) may.follows)
 
-pub running-takes-none : (service : Service) (n i : ℕ) (link : LinkId) (bytes : List ℕ) (user : Account) (log : Log) → user_of service n log ≡ Some user → standing_on user link log ≡ Runs → MaySend service n i link bytes log → ⊥
+pub running-takes-none : (service : Service) (n i : ℕ) (link : LinkId) (bytes : List ℕ) (user : Account) (log : Log) → user_of service n log ≡ Some user → standing_on service.forms user link log ≡ Runs → MaySend service n i link bytes log → ⊥
 running-takes-none service n i link bytes user log is runs may = by (may-on service n i link bytes user log is may) where
-  by : (standing_on user link log ≡ Clean) ⊎ (standing_on user link log ≡ Sends) → ⊥
+  by : (standing_on service.forms user link log ≡ Clean) ⊎ (standing_on service.forms user link log ≡ Sends) → ⊥
   by (inl clean) = (let no : Clean ≡ Runs = sym clean ∙ runs in cc)
   by (inr sends) = (let no : Sends ≡ Runs = sym sends ∙ runs in cc)
 
-pub spoilt-takes-none : (service : Service) (n i : ℕ) (link : LinkId) (bytes : List ℕ) (user : Account) (log : Log) → user_of service n log ≡ Some user → standing_on user link log ≡ Spoilt → MaySend service n i link bytes log → ⊥
+pub spoilt-takes-none : (service : Service) (n i : ℕ) (link : LinkId) (bytes : List ℕ) (user : Account) (log : Log) → user_of service n log ≡ Some user → standing_on service.forms user link log ≡ Spoilt → MaySend service n i link bytes log → ⊥
 spoilt-takes-none service n i link bytes user log is spoilt may = by (may-on service n i link bytes user log is may) where
-  by : (standing_on user link log ≡ Clean) ⊎ (standing_on user link log ≡ Sends) → ⊥
+  by : (standing_on service.forms user link log ≡ Clean) ⊎ (standing_on service.forms user link log ≡ Sends) → ⊥
   by (inl clean) = (let no : Clean ≡ Spoilt = sym clean ∙ spoilt in cc)
   by (inr sends) = (let no : Sends ≡ Spoilt = sym sends ∙ spoilt in cc)
 
@@ -333,8 +333,8 @@ turn-covered link [] turns more covered = refl
 turn-covered link (t ∷ tries) [] more covered = absurd (let no : suc (length tries) ≤ 0 = covered in omega arith)
 turn-covered link (t ∷ tries) (turn ∷ turns) more covered = ap (cond (is_link link t) (Some turn)) (turn-covered link tries turns more (let count : suc (length tries) ≤ suc (length turns) = covered in omega arith))
 
-pub opens-covered : (setup : Setup) (opens more : List Turn) (link : LinkId) (log : Log) → length (open_tries log) ≤ length opens → turn_of (record { setup = setup; opens = opens ++ more }) link log ≡ turn_of (record { setup = setup; opens = opens }) link log
-opens-covered setup opens more link log covered = turn-covered link (open_tries log) opens more covered
+pub opens-covered : (setup : Setup) (opens more : List Turn) (forms : Forms) (link : LinkId) (log : Log) → length (open_tries log) ≤ length opens → turn_of (record { setup = setup; opens = opens ++ more; forms = forms }) link log ≡ turn_of (record { setup = setup; opens = opens; forms = forms }) link log
+opens-covered setup opens more forms link log covered = turn-covered link (open_tries log) opens more covered
 
 pub replay-serves : (setup : Setup) (recording : List RecordEntry) (log : Log) → ReplaysTo setup recording log → Serves setup log
-replay-serves setup recording log replays = record { opens = replays.opens; keeps = replays.so.keeps }
+replay-serves setup recording log replays = record { opens = replays.opens; forms = replays.forms; keeps = replays.so.keeps }

@@ -17,7 +17,7 @@ use Rattle.server_side.specs.Login.{Opening, Goes, LogsIn, Fails, opening}
 use Rattle.server_side.specs.Laws.{opening-logged_in}
 use Rattle.exchange.specs.Logins.{sound_of, is_loss, was_lost, until_loss, heard_of, login_on}
 use Rattle.exchange.specs.Commands.{Command, piece, commands_behind, pieces_of, behind, joins, with_piece, commands_in, commands_on, is_command, place_in, first_some, carries, carrier_of}
-use Rattle.exchange.specs.Replies.{Grammar, Answer, Heard, Partly, Wholly, Never, command_reply, cut, replies_by, replies_on, rest_of, behind_login, reply_at}
+use Rattle.exchange.specs.Replies.{Forms, Grammar, Answer, Heard, Partly, Wholly, Never, command_reply, cut, replies_by, replies_on, rest_of, behind_login, reply_at}
 use Rattle.std.specs.Prelude.{Result, Ok}
 use Rattle.std.proofs.lemmas.List.Elements.{filter_map-append}
 use Rattle.std.proofs.lemmas.Grind.{flat_map-append}
@@ -25,7 +25,7 @@ use Rattle.mx_wire.specs.Log.{read_of}
 use Rattle.packet_frame.specs.Packets.{Split, split, grown}
 use Rattle.packet_frame.specs.Laws.{split-grown, split-nothing}
 use Rattle.command_parse.specs.Meaning.{Meaning, parsed}
-use Rattle.command_parse.specs.Meaning.Meaning.{Query, InitDb}
+use Rattle.command_parse.specs.Meaning.Meaning.{Query, InitDb, FieldList}
 use Rattle.command_parse.specs.declared.fault.CommandFault.{CommandFault}
 use Rattle.client_side.specs.Login.{Opening as ClientOpening, Waits, Says, Fails as FailsToSay}
 use Rattle.client_side.specs.Laws.{opening-says-more}
@@ -273,50 +273,51 @@ longer-behind n i bytes pieces more place is = by (behind bytes pieces) refl whe
       (place-pieces n i (commands_in (behind bytes pieces)) more place is)
 
 -- what is said of a link by its entries before it was lost
-abbrev pub reply_by_sound : (n i : ℕ) → Account → Log → Bool → Option Answer
-reply_by_sound n i user sound lost = option_and_then (λ place. reply_at place (replies_by command_reply (commands_behind (opening user (flat_map got_bytes sound)) (filter_map piece sound)) (rest_of (opening user (flat_map got_bytes sound)))) lost)
+abbrev pub reply_by_sound : Forms → (n i : ℕ) → Account → Log → Bool → Option Answer
+reply_by_sound forms n i user sound lost = option_and_then (λ place. reply_at place (replies_by (command_reply forms) (commands_behind (opening user (flat_map got_bytes sound)) (filter_map piece sound)) (rest_of (opening user (flat_map got_bytes sound)))) lost)
     (place_in n i 0 (commands_behind (opening user (flat_map got_bytes sound)) (filter_map piece sound)))
 
-pub on-stays : (n i : ℕ) (link : LinkId) (log more : Log) (user : Account) (reply : Answer) → reply_on n i link log user ≡ Some reply → reply_on n i link (log ++ more) user ≡ Some reply
-on-stays n i link log more user reply is = by (bool_cases (was_lost link log)) where
-  heard-in : (o : Opening) → login_on user link log ≡ o → (place : ℕ) → was_lost link log ≡ false → place_in n i 0 (commands_on user link log) ≡ Some place → reply_at place (replies_on user link log) (was_lost link log) ≡ Some reply → reply_on n i link (log ++ more) user ≡ Some reply
+pub on-stays : (forms : Forms) (n i : ℕ) (link : LinkId) (log more : Log) (user : Account) (reply : Answer) → reply_on forms n i link log user ≡ Some reply → reply_on forms n i link (log ++ more) user ≡ Some reply
+on-stays forms n i link log more user reply is = by (bool_cases (was_lost link log)) where
+  heard-in : (o : Opening) → login_on user link log ≡ o → (place : ℕ) → was_lost link log ≡ false → place_in n i 0 (commands_on user link log) ≡ Some place → reply_at place (replies_on forms user link log) (was_lost link log) ≡ Some reply → reply_on forms n i link (log ++ more) user ≡ Some reply
   heard-in (LogsIn said rest) login place unlost at is = (let further : login_on user link (log ++ more) ≡ LogsIn said (rest ++ heard_of link more) = ap (opening user) (heard-more link log more unlost) ∙ opening-logged_in user (heard_of link log) (heard_of link more) said rest login in
       let was : commands_on user link log ≡ commands_in (behind (length said) (pieces_of link log)) = ap (λ (o : Opening). commands_behind o (pieces_of link log)) login in
       let now : commands_on user link (log ++ more) ≡ commands_in (behind (length said) (pieces_of link log ++ pieces_of link more)) = ap (λ (o : Opening). commands_behind o (pieces_of link (log ++ more))) further ∙ ap (λ l. commands_in (behind (length said) l)) (pieces-more link log more unlost) in
       let there : place_in n i 0 (commands_in (behind (length said) (pieces_of link log))) ≡ Some place = ap (place_in n i 0) (sym was) ∙ at in
       let longer = longer-behind n i (length said) (pieces_of link log) (pieces_of link more) place there in
       let within : place < 0 + length (commands_in (behind (length said) (pieces_of link log))) = place-within n i 0 (commands_in (behind (length said) (pieces_of link log))) place there in
-      ap (λ l. option_and_then (λ p. reply_at p (replies_by command_reply l (behind_login user link (log ++ more))) (was_lost link (log ++ more))) (place_in n i 0 l)) now
-      ∙ ap (option_and_then (λ p. reply_at p (replies_by command_reply (commands_in (behind (length said) (pieces_of link log ++ pieces_of link more))) (behind_login user link (log ++ more))) (was_lost link (log ++ more)))) longer.at
-      ∙ ap (λ (o : Opening). reply_at place (replies_by command_reply (commands_in (behind (length said) (pieces_of link log ++ pieces_of link more))) (rest_of o)) (was_lost link (log ++ more))) further
-      ∙ reply-longer command_reply command-reply-grammar place (commands_in (behind (length said) (pieces_of link log))) (commands_in (behind (length said) (pieces_of link log ++ pieces_of link more))) rest (heard_of link more) (was_lost link (log ++ more)) reply longer.extends
+      ap (λ l. option_and_then (λ p. reply_at p (replies_by (command_reply forms) l (behind_login user link (log ++ more))) (was_lost link (log ++ more))) (place_in n i 0 l)) now
+      ∙ ap (option_and_then (λ p. reply_at p (replies_by (command_reply forms) (commands_in (behind (length said) (pieces_of link log ++ pieces_of link more))) (behind_login user link (log ++ more))) (was_lost link (log ++ more)))) longer.at
+      ∙ ap (λ (o : Opening). reply_at place (replies_by (command_reply forms) (commands_in (behind (length said) (pieces_of link log ++ pieces_of link more))) (rest_of o)) (was_lost link (log ++ more))) further
+      ∙ reply-longer (command_reply forms) (command-reply-grammar forms) place (commands_in (behind (length said) (pieces_of link log))) (commands_in (behind (length said) (pieces_of link log ++ pieces_of link more))) rest (heard_of link more) (was_lost link (log ++ more)) reply longer.extends
       (let less : place < 0 + length (commands_in (behind (length said) (pieces_of link log))) = within in omega arith)
-      (ap (λ l. reply_at place (replies_by command_reply l rest) false) (sym was) ∙ ap (λ (o : Opening). reply_at place (replies_by command_reply (commands_on user link log) (rest_of o)) false) (sym login) ∙ ap (reply_at place (replies_on user link log)) (sym unlost) ∙ is))
+      (ap (λ l. reply_at place (replies_by (command_reply forms) l rest) false) (sym was) ∙ ap (λ (o : Opening). reply_at place (replies_by (command_reply forms) (commands_on user link log) (rest_of o)) false) (sym login) ∙ ap (reply_at place (replies_on forms user link log)) (sym unlost) ∙ is))
   heard-in (Goes said) login place unlost at is = absurd (let no : None ≡ Some place = sym (ap (λ (o : Opening). place_in n i 0 (commands_behind o (pieces_of link log))) login) ∙ at in cc)
   heard-in (Fails said fault) login place unlost at is = absurd (let no : None ≡ Some place = sym (ap (λ (o : Opening). place_in n i 0 (commands_behind o (pieces_of link log))) login) ∙ at in cc)
 
-  by : (was_lost link log ≡ true) ⊎ (was_lost link log ≡ false) → reply_on n i link (log ++ more) user ≡ Some reply
-  by (inl lost) = ap (λ l. reply_by_sound n i user l (was_lost link (log ++ more))) (sound-lost link log more lost) ∙ ap (reply_by_sound n i user (sound_of link log)) (lost-stays link log more lost ∙ sym lost) ∙ is
-  by (inr unlost) = (let parts = then-of (place_in n i 0 (commands_on user link log)) (λ place. reply_at place (replies_on user link log) (was_lost link log)) reply is in heard-in (login_on user link log) refl parts.x unlost parts.from parts.gives)
+  by : (was_lost link log ≡ true) ⊎ (was_lost link log ≡ false) → reply_on forms n i link (log ++ more) user ≡ Some reply
+  by (inl lost) = ap (λ l. reply_by_sound forms n i user l (was_lost link (log ++ more))) (sound-lost link log more lost) ∙ ap (reply_by_sound forms n i user (sound_of link log)) (lost-stays link log more lost ∙ sym lost) ∙ is
+  by (inr unlost) = (let parts = then-of (place_in n i 0 (commands_on user link log)) (λ place. reply_at place (replies_on forms user link log) (was_lost link log)) reply is in heard-in (login_on user link log) refl parts.x unlost parts.from parts.gives)
 
 pub reply-stays : (service : Service) (n i : ℕ) (log more : Log) (reply : Answer) → reply_to service n i log ≡ Some reply → reply_to service n i (log ++ more) ≡ Some reply
-reply-stays service n i log more reply is = (let one = then-of (carrier_of n i log) (λ link. option_and_then (reply_on n i link log) (user_on service link log)) reply is in
-    let two = then-of (user_on service one.x log) (reply_on n i one.x log) reply one.gives in
-    ap (option_and_then (λ link. option_and_then (reply_on n i link (log ++ more)) (user_on service link (log ++ more)))) (carrier-stays n i log more one.x one.from)
-    ∙ ap (option_and_then (reply_on n i one.x (log ++ more))) (user-on-stays service one.x log more two.x two.from)
-    ∙ on-stays n i one.x log more two.x reply two.gives)
+reply-stays service n i log more reply is = (let one = then-of (carrier_of n i log) (λ link. option_and_then (reply_on service.forms n i link log) (user_on service link log)) reply is in
+    let two = then-of (user_on service one.x log) (reply_on service.forms n i one.x log) reply one.gives in
+    ap (option_and_then (λ link. option_and_then (reply_on service.forms n i link (log ++ more)) (user_on service link (log ++ more)))) (carrier-stays n i log more one.x one.from)
+    ∙ ap (option_and_then (reply_on service.forms n i one.x (log ++ more))) (user-on-stays service one.x log more two.x two.from)
+    ∙ on-stays service.forms n i one.x log more two.x reply two.gives)
 
 -- So does the answer to a message.
 pub by-stays : (old new : Option Answer) (meaning : Result Meaning CommandFault) (reply : Answer) → (old ≡ Some reply → new ≡ Some reply) → answer_by old meaning ≡ Some reply → answer_by new meaning ≡ Some reply
 by-stays old new (Ok (Query text)) reply stays is = stays is
 by-stays old new (Ok (InitDb schema)) reply stays is = stays is
+by-stays old new (Ok (FieldList rest)) reply stays is = stays is
 by-stays old new _ reply stays is = is
 
 pub query-stays : (service : Service) (n i : ℕ) (message : Framed) (due log more : Log) (reply : Answer) → RefusedOrSent service (log ++ more) → query_answer service n i message due log ≡ Some reply → query_answer service n i message due (log ++ more) ≡ Some reply
 query-stays service n i message due log more reply never is = by (is_some (server_of service.setup (route service.setup message due) due)) is where
   replied : (b : Bool) → is_refused service n i (log ++ more) ≡ b → reply_to service n i log ≡ Some reply → cond b (Some (connection_refused ∷ [])) (reply_to service n i (log ++ more)) ≡ Some reply
   replied false at is = reply-stays service n i log more reply is
-  replied true at is = (let one = then-of (carrier_of n i log) (λ link. option_and_then (reply_on n i link log) (user_on service link log)) reply is in
+  replied true at is = (let one = then-of (carrier_of n i log) (λ link. option_and_then (reply_on service.forms n i link log) (user_on service link log)) reply is in
       absurd (let no : Some one.x ≡ None = sym (carrier-stays n i log more one.x one.from) ∙ never n i at in cc))
 
   refused-now : (b : Bool) → is_refused service n i log ≡ b → cond b (Some (connection_refused ∷ [])) (reply_to service n i log) ≡ Some reply → cond (is_refused service n i (log ++ more)) (Some (connection_refused ∷ [])) (reply_to service n i (log ++ more)) ≡ Some reply

@@ -39,7 +39,7 @@ use Rattle.promises.specs.Sends.{MayOpen, MaySend, MaySay, Begins, owner_for}
 use Rattle.promises.specs.Closes.{MayClose, IsSpoilt}
 use Rattle.promises.specs.Rest.{Sent, LogsIn, Waits, IsAnswered, IsKept, IsAtRest, RestsAt}
 use Rattle.promises.specs.Headline.{IsServed, IsLawful, Serves}
-use Rattle.promises.specs.Worked.{server_greeting, link, salt, at, setup, service, first_turn, second_turn, ann, bob, query, early, entering, logged_in, bob_asked, bob_asks, waiting, denied, answered, whole}
+use Rattle.promises.specs.Worked.{server_greeting, link, salt, at, setup, service, forms, first_turn, second_turn, ann, bob, query, early, entering, logged_in, bob_asked, bob_asks, waiting, denied, answered, whole}
 use Rattle.promises.proofs.InWork.{some-same}
 use Rattle.promises.proofs.Causes.{or-cases, opened_as, came_as, or-inl, or-inr}
 use Rattle.promises.proofs.Links.{open-was}
@@ -147,6 +147,7 @@ sends-first = record {
   message = query_message;
   due = early;
   asks = record { came = ann_at; is_came = refl; served = refl; work = refl; query = refl; is_due = refl };
+  form = refl;
   owner = refl;
   user = ann;
   is_user = refl;
@@ -194,7 +195,7 @@ parts-not (suc zero) came is on = (let same : ann_at ≡ came = some-same ann_at
 parts-not (suc (suc zero)) came is on = (let same : bob_at ≡ came = some-same bob_at came is in apart 2 4 refl (link-of 2 4 (ap (λ (c : Arrival). c.link) same ∙ on)))
 parts-not (suc (suc (suc n))) came is on = (let no : None ≡ Some came = is in cc)
 
-spoilt-second : standing_on bob (link 4) denied ≡ Spoilt
+spoilt-second : standing_on forms bob (link 4) denied ≡ Spoilt
 unfolding client_opening server_opening payloads_in first_message split spelling account_of response_fields head_fields response_of greeting_fields protocol_field offer_fields back_field greeting_of switch_of number_field bytes_field text_field counted_field optional_text last_text own_ok connection_refused bad_server_bytes connection_lost response_said answer_said
 spoilt-second = refl
 
@@ -205,7 +206,7 @@ bob-on = refl
 closes-second : MayClose service (link 4) denied
 closes-second = record {
   client = λ n came is on port. absurd (parts-not n came is on);
-  server = λ owner user owned is. IsSpoilt (ap (λ u. standing_on u (link 4) denied) (some-same user bob (sym is ∙ bob-on)) ∙ spoilt-second);
+  server = λ owner user owned is. IsSpoilt (ap (λ u. standing_on forms u (link 4) denied) (some-same user bob (sym is ∙ bob-on)) ∙ spoilt-second);
 }
 
 -- entries of which nothing is asked, before what is asked of the others
@@ -274,8 +275,8 @@ four-answered : (l : LinkId) → is_open l answered ≡ true → Four l
 four-answered l opened = four l (known-open l answered opened)
 
 -- what is said of one owner and user is said of the link's
-kept-by : (owner mine : Owner) (user me : Account) (l : LinkId) (log : Log) → owner_of service l log ≡ Some mine → user_on service l log ≡ Some me → IsKept mine me l log → owner_of service l log ≡ Some owner → user_on service l log ≡ Some user → IsKept owner user l log
-kept-by owner mine user me l log one two kept owned who = subst (λ (o : Owner). IsKept o user l log) (some-same mine owner (sym one ∙ owned)) (subst (λ (u : Account). IsKept mine u l log) (some-same me user (sym two ∙ who)) kept)
+kept-by : (owner mine : Owner) (user me : Account) (l : LinkId) (log : Log) → owner_of service l log ≡ Some mine → user_on service l log ≡ Some me → IsKept forms mine me l log → owner_of service l log ≡ Some owner → user_on service l log ≡ Some user → IsKept forms owner user l log
+kept-by owner mine user me l log one two kept owned who = subst (λ (o : Owner). IsKept forms o user l log) (some-same mine owner (sym one ∙ owned)) (subst (λ (u : Account). IsKept forms mine u l log) (some-same me user (sym two ∙ who)) kept)
 
 -- what is said of the two clients is said of each that came
 both-answered : (log : Log) → arrivals log ≡ ann_at ∷ bob_at ∷ [] → IsAnswered service 1 ann_at log → IsAnswered service 2 bob_at log → (n : ℕ) (came : Arrival) → arrival_of n log ≡ Some came → IsAnswered service n came log
@@ -324,11 +325,11 @@ bob-answered : IsAnswered service 2 bob_at waiting
 unfolding client_opening server_opening payloads_in first_message split spelling account_of response_fields head_fields response_of greeting_fields protocol_field offer_fields back_field greeting_of switch_of number_field bytes_field text_field counted_field optional_text last_text own_ok connection_refused bad_server_bytes connection_lost response_said answer_said
 bob-answered = record { served = refl; told = inl refl; lasts = inl refl; waits = λ here work is query. subst (λ (w : Work). Waits service 2 w waiting) (some-same ann_work work (sym bob-work ∙ is)) bob-waits }
 
-third-kept : IsKept (record { client = 1; hostgroup = 0 }) ann (link 3) waiting
+third-kept : IsKept forms (record { client = 1; hostgroup = 0 }) ann (link 3) waiting
 unfolding client_opening server_opening payloads_in first_message split spelling account_of response_fields head_fields response_of greeting_fields protocol_field offer_fields back_field greeting_of switch_of number_field bytes_field text_field counted_field optional_text last_text own_ok connection_refused bad_server_bytes connection_lost response_said answer_said
 third-kept = record { sound = λ same. (let no : Runs ≡ Spoilt = same in cc); needed = inl refl }
 
-fourth-kept : IsKept (record { client = 2; hostgroup = 0 }) bob (link 4) waiting
+fourth-kept : IsKept forms (record { client = 2; hostgroup = 0 }) bob (link 4) waiting
 unfolding client_opening server_opening payloads_in first_message split spelling account_of response_fields head_fields response_of greeting_fields protocol_field offer_fields back_field greeting_of switch_of number_field bytes_field text_field counted_field optional_text last_text own_ok connection_refused bad_server_bytes connection_lost response_said answer_said
 fourth-kept = record { sound = λ same. (let no : Enters ≡ Spoilt = same in cc); needed = inl refl }
 
@@ -352,11 +353,11 @@ rest-waiting = record { accepted = accepted; named = refl; read = λ l opened. i
   dry l (Third is) = subst (λ (k : LinkId). read_dry k waiting ≡ true) is refl
   dry l (Fourth is) = subst (λ (k : LinkId). read_dry k waiting ≡ true) is refl
 
-  servers : (l : LinkId) (owner : Owner) (user : Account) → Four l → owner_of service l waiting ≡ Some owner → user_on service l waiting ≡ Some user → IsKept owner user l waiting
+  servers : (l : LinkId) (owner : Owner) (user : Account) → Four l → owner_of service l waiting ≡ Some owner → user_on service l waiting ≡ Some user → IsKept forms owner user l waiting
   servers l owner user (First is) owned who = absurd (let no : None ≡ Some owner = ap (λ k. owner_of service k waiting) is ∙ owned in cc)
   servers l owner user (Second is) owned who = absurd (let no : None ≡ Some owner = ap (λ k. owner_of service k waiting) is ∙ owned in cc)
-  servers l owner user (Third is) owned who = subst (λ (k : LinkId). IsKept owner user k waiting) is (kept-by owner (record { client = 1; hostgroup = 0 }) user ann (link 3) waiting refl ann-there third-kept (ap (λ k. owner_of service k waiting) is ∙ owned) (ap (λ k. user_on service k waiting) is ∙ who))
-  servers l owner user (Fourth is) owned who = subst (λ (k : LinkId). IsKept owner user k waiting) is (kept-by owner (record { client = 2; hostgroup = 0 }) user bob (link 4) waiting refl bob-there fourth-kept (ap (λ k. owner_of service k waiting) is ∙ owned) (ap (λ k. user_on service k waiting) is ∙ who))
+  servers l owner user (Third is) owned who = subst (λ (k : LinkId). IsKept forms owner user k waiting) is (kept-by owner (record { client = 1; hostgroup = 0 }) user ann (link 3) waiting refl ann-there third-kept (ap (λ k. owner_of service k waiting) is ∙ owned) (ap (λ k. user_on service k waiting) is ∙ who))
+  servers l owner user (Fourth is) owned who = subst (λ (k : LinkId). IsKept forms owner user k waiting) is (kept-by owner (record { client = 2; hostgroup = 0 }) user bob (link 4) waiting refl bob-there fourth-kept (ap (λ k. owner_of service k waiting) is ∙ owned) (ap (λ k. user_on service k waiting) is ∙ who))
 
 -- and at the end
 ann-done : IsAnswered service 1 ann_at answered
@@ -367,7 +368,7 @@ bob-done : IsAnswered service 2 bob_at answered
 unfolding client_opening server_opening payloads_in first_message split spelling account_of response_fields head_fields response_of greeting_fields protocol_field offer_fields back_field greeting_of switch_of number_field bytes_field text_field counted_field optional_text last_text own_ok connection_refused bad_server_bytes connection_lost response_said answer_said
 bob-done = record { served = refl; told = inl refl; lasts = inl refl; waits = λ here work is query. absurd (let no : None ≡ Some work = is in cc) }
 
-third-clean : IsKept (record { client = 1; hostgroup = 0 }) ann (link 3) answered
+third-clean : IsKept forms (record { client = 1; hostgroup = 0 }) ann (link 3) answered
 unfolding client_opening server_opening payloads_in first_message split spelling account_of response_fields head_fields response_of greeting_fields protocol_field offer_fields back_field greeting_of switch_of number_field bytes_field text_field counted_field optional_text last_text own_ok connection_refused bad_server_bytes connection_lost response_said answer_said
 third-clean = record { sound = λ same. (let no : Clean ≡ Spoilt = same in cc); needed = inl refl }
 
@@ -387,10 +388,10 @@ rest-answered = record { accepted = accepted; named = refl; read = λ l opened. 
   dry l (Third is) opened = subst (λ (k : LinkId). read_dry k answered ≡ true) is refl
   dry l (Fourth is) opened = absurd (let no : false ≡ true = ap (λ k. is_open k answered) is ∙ opened in cc)
 
-  servers : (l : LinkId) (owner : Owner) (user : Account) → Four l → is_open l answered ≡ true → owner_of service l answered ≡ Some owner → user_on service l answered ≡ Some user → IsKept owner user l answered
+  servers : (l : LinkId) (owner : Owner) (user : Account) → Four l → is_open l answered ≡ true → owner_of service l answered ≡ Some owner → user_on service l answered ≡ Some user → IsKept forms owner user l answered
   servers l owner user (First is) opened owned who = absurd (let no : None ≡ Some owner = ap (λ k. owner_of service k answered) is ∙ owned in cc)
   servers l owner user (Second is) opened owned who = absurd (let no : None ≡ Some owner = ap (λ k. owner_of service k answered) is ∙ owned in cc)
-  servers l owner user (Third is) opened owned who = subst (λ (k : LinkId). IsKept owner user k answered) is (kept-by owner (record { client = 1; hostgroup = 0 }) user ann (link 3) answered refl ann-still third-clean (ap (λ k. owner_of service k answered) is ∙ owned) (ap (λ k. user_on service k answered) is ∙ who))
+  servers l owner user (Third is) opened owned who = subst (λ (k : LinkId). IsKept forms owner user k answered) is (kept-by owner (record { client = 1; hostgroup = 0 }) user ann (link 3) answered refl ann-still third-clean (ap (λ k. owner_of service k answered) is ∙ owned) (ap (λ k. user_on service k answered) is ∙ who))
   servers l owner user (Fourth is) opened owned who = absurd (let no : false ≡ true = ap (λ k. is_open k answered) is ∙ opened in cc)
 
 rests-whole : AllLawful (RestsAt service) whole
@@ -398,4 +399,4 @@ rests-whole = (rest-begun, skip 23 (rest-waiting, skip 11 (rest-answered, tt)))
 
 -- So the definitions can be met.
 pub keeps : Serves setup whole
-keeps = record { opens = first_turn ∷ second_turn ∷ []; keeps = record { served = served; lawful = lawful; rests = rests-whole } }
+keeps = record { opens = first_turn ∷ second_turn ∷ []; forms = forms; keeps = record { served = served; lawful = lawful; rests = rests-whole } }

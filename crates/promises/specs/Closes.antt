@@ -68,9 +68,9 @@ MayPart false service n came log = was_offered came.link log ≡ true
 -- A link to a server closes where it can't be used again; its client has gone and no reply runs there; or its client asks for nothing, and the
 -- link is clean.
 pub data MayDrop (service : Service) (owner : Owner) (user : Account) (link : LinkId) (log : Log) : Type 0 where
-  IsSpoilt : standing_on user link log ≡ Spoilt → MayDrop service owner user link log
-  Gone : is_here owner.client log ≡ false → standing_on user link log ≢ Runs → MayDrop service owner user link log
-  Unneeded : standing_on user link log ≡ Clean → ((work : Work) → work_of service owner.client log ≡ Some work → is_query work.message.payload ≡ false) → MayDrop service owner user link log
+  IsSpoilt : standing_on service.forms user link log ≡ Spoilt → MayDrop service owner user link log
+  Gone : is_here owner.client log ≡ false → standing_on service.forms user link log ≢ Runs → MayDrop service owner user link log
+  Unneeded : standing_on service.forms user link log ≡ Clean → ((work : Work) → work_of service owner.client log ≡ Some work → is_query work.message.payload ≡ false) → MayDrop service owner user link log
 
 pub record MayClose (service : Service) (link : LinkId) (log : Log) : Type 0 where
   pub client : (n : ℕ) (came : Arrival) → arrival_of n log ≡ Some came → came.link ≡ link → came.port ≡ Traffic → MayPart (is_served service.setup came) service n came log

@@ -7,7 +7,7 @@ use Rattle.mx_base.specs.declared.names.Port.TheVariants.{Traffic, Admin}
 use Rattle.mx_wire.specs.Log.{Log}
 use Rattle.packet_frame.specs.Packets.{Framed, next_id, spelling}
 use Rattle.command_parse.specs.Meaning.{Meaning, parsed}
-use Rattle.command_parse.specs.Meaning.Meaning.{Query, InitDb, Ping, Quit}
+use Rattle.command_parse.specs.Meaning.Meaning.{Query, InitDb, FieldList, Ping, Quit}
 use Rattle.command_parse.specs.declared.fault.CommandFault.{CommandFault}
 use Rattle.server_side.specs.Account.{Account}
 use Rattle.client_session.specs.declared.setup.ServerAt.{ServerAt}
@@ -16,19 +16,19 @@ use Rattle.client_session.specs.Arrivals.{Arrival, arrival_of, is_served}
 use Rattle.client_session.specs.Answers.{Talk, front, messages_of, fault_answer}
 use Rattle.client_session.specs.Errors.{own_ok, unknown_command, malformed_command, too_many_connections, no_server, connection_refused}
 use Rattle.exchange.specs.Commands.{commands_on, place_in, carrier_of}
-use Rattle.exchange.specs.Replies.{Answer, spelt, reply_at, replies_on}
+use Rattle.exchange.specs.Replies.{Answer, spelt, Forms, reply_at, replies_on}
 use Rattle.exchange.specs.Logins.{was_lost, before_loss}
 use Rattle.promises.specs.Service.{Service}
 use Rattle.promises.specs.Owners.{talk_with, talk_of, user_on, is_refused}
 
 -- The reply of the server.
 
-abbrev pub reply_on : (n i : ℕ) → LinkId → Log → Account → Option Answer
-reply_on n i link log user = option_and_then (λ place. reply_at place (replies_on user link log) (was_lost link log)) (place_in n i 0 (commands_on user link log))
+abbrev pub reply_on : Forms → (n i : ℕ) → LinkId → Log → Account → Option Answer
+reply_on forms n i link log user = option_and_then (λ place. reply_at place (replies_on forms user link log) (was_lost link log)) (place_in n i 0 (commands_on user link log))
 
 -- the reply at the place of the i-th command of client n on its link, or the error where that link was lost or has bad bytes
 abbrev pub reply_to : Service → (n i : ℕ) → Log → Option Answer
-reply_to service n i log = option_and_then (λ link. option_and_then (reply_on n i link log) (user_on service link log)) (carrier_of n i log)
+reply_to service n i log = option_and_then (λ link. option_and_then (reply_on service.forms n i link log) (user_on service link log)) (carrier_of n i log)
 
 -- What was decided as a message became due.
 
@@ -52,6 +52,7 @@ abbrev pub answer_by : Option Answer → Result Meaning CommandFault → Option 
 answer_by reply (Err fault) = Some (malformed_command ∷ [])
 answer_by reply (Ok (Query text)) = reply
 answer_by reply (Ok (InitDb schema)) = reply
+answer_by reply (Ok (FieldList rest)) = reply
 answer_by reply (Ok Ping) = Some (own_ok ∷ [])
 answer_by reply (Ok Quit) = None
 answer_by reply (Ok _) = Some (unknown_command ∷ [])

@@ -15,7 +15,7 @@ use Rattle.client_session.specs.Arrivals.{Arrival, arrival_of}
 use Rattle.promises.specs.Sends.{owner_for}
 use Rattle.exchange.specs.Logins.{heard_of, login_fails}
 use Rattle.exchange.specs.Commands.{is_command, carrier_of, Command, pieces_of, commands_in, commands_on}
-use Rattle.exchange.specs.Replies.{Answer, Grammar, Wholly, Never, Replies, command_reply, replies_by, replies_on}
+use Rattle.exchange.specs.Replies.{Answer, Forms, Grammar, Wholly, Never, Replies, command_reply, replies_by, replies_on}
 use Rattle.promises.specs.Service.{Turn, Service, next_turn, turn_of}
 use Rattle.promises.specs.Owners.{is_unsent, Owner, owner_of, user_of, refused, is_refused}
 
@@ -49,9 +49,9 @@ abbrev pub behind_replies : List Answer → Replies → Replies
 behind_replies front replies = record { whole = front ++ replies.whole; rest = replies.rest; bad = replies.bad }
 
 -- the commands on the link after more entries are those before and the ones written since, and its replies those before and the ones read since
-pub record Since (user : Account) (link : LinkId) (log more : Log) : Type 0 where
+pub record Since (forms : Forms) (user : Account) (link : LinkId) (log more : Log) : Type 0 where
   pub commands : commands_on user link (log ++ more) ≡ commands_on user link log ++ commands_in (pieces_of link more)
-  pub replies : replies_on user link (log ++ more) ≡ behind_replies (replies_on user link log).whole (replies_by command_reply (commands_in (pieces_of link more)) (heard_of link more))
+  pub replies : replies_on forms user link (log ++ more) ≡ behind_replies (replies_on forms user link log).whole (replies_by (command_reply forms) (commands_in (pieces_of link more)) (heard_of link more))
 
 -- The entry is a failed open, which was for this command, or ends the login on a link that was opened for it before a byte of it was written.
 pub record BreaksOff (service : Service) (log : Log) (e : Entry) (turn : Turn) : Type 0 where

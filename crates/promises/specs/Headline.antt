@@ -8,6 +8,7 @@ use Rattle.mx_wire.specs.declared.entry.Entry.TheVariants.{Opened, OpenFailed, W
 use Rattle.client_session.specs.Setups.{Setup}
 use Rattle.client_session.specs.Arrivals.{Arrival, arrival_of}
 use Rattle.exchange.specs.Logins.{IsPrefix}
+use Rattle.exchange.specs.Replies.{Forms}
 use Rattle.promises.specs.Service.{Turn, Service}
 use Rattle.promises.specs.Due.{due}
 use Rattle.promises.specs.Sends.{MayOpen, MaySend, MaySay}
@@ -36,7 +37,8 @@ pub record Keeps (service : Service) (log : Log) : Type 0 where
   pub lawful : AllLawful (IsLawful service) log
   pub rests : AllLawful (RestsAt service) log
 
--- the one thing that is left open: which command each open was for
+-- what no entry says is left open: which command each open was for, and, of commands that are never sent, what their replies would be like
 pub record Serves (setup : Setup) (log : Log) : Type 0 where
   pub opens : List Turn
-  pub keeps : Keeps (record { setup = setup; opens = opens }) log
+  pub forms : Forms
+  pub keeps : Keeps (record { setup = setup; opens = opens; forms = forms }) log

@@ -15,7 +15,7 @@ use Rattle.client_session.specs.Arrivals.{Arrival, arrival_of, is_served}
 use Rattle.client_session.specs.Answers.{is_query}
 use Rattle.exchange.specs.Logins.{login_on}
 use Rattle.exchange.specs.Commands.{Command, commands_on}
-use Rattle.exchange.specs.Replies.{Enters, Sends, Runs, Spoilt, standing_on}
+use Rattle.exchange.specs.Replies.{Forms, Enters, Sends, Runs, Spoilt, standing_on}
 use Rattle.promises.specs.Service.{Service}
 use Rattle.promises.specs.Owners.{is_here, Owner, owner_of, user_on}
 use Rattle.promises.specs.Due.{Work, due_at, work_of}
@@ -24,11 +24,11 @@ use Rattle.promises.specs.Closes.{has_ended, WasToldAll}
 
 -- The command stands whole on the link and its reply runs; or the login goes on there, and all was written that the router has to say in it, and
 -- nothing else; or the link takes no more.
-pub data Stays (n i : ℕ) (message : Framed) (user : Account) (link : LinkId) (log : Log) : Type 0 where
-  Sent : (others : List Command) → standing_on user link log ≡ Runs → commands_on user link log ≡ others ++ record { tag = For (record { 0 = n }) i; bytes = spelling message.first message.payload } ∷ []
-      → Stays n i message user link log
-  LogsIn : standing_on user link log ≡ Enters → login_on user link log ≡ Goes (written_of link log) → Stays n i message user link log
-  Full : write_dry link log ≡ true → Stays n i message user link log
+pub data Stays (forms : Forms) (n i : ℕ) (message : Framed) (user : Account) (link : LinkId) (log : Log) : Type 0 where
+  Sent : (others : List Command) → standing_on forms user link log ≡ Runs → commands_on user link log ≡ others ++ record { tag = For (record { 0 = n }) i; bytes = spelling message.first message.payload } ∷ []
+      → Stays forms n i message user link log
+  LogsIn : standing_on forms user link log ≡ Enters → login_on user link log ≡ Goes (written_of link log) → Stays forms n i message user link log
+  Full : write_dry link log ≡ true → Stays forms n i message user link log
 
 -- a query in work waits on an open link of its owner
 pub record Waits (service : Service) (n : ℕ) (work : Work) (log : Log) : Type 0 where
@@ -39,7 +39,7 @@ pub record Waits (service : Service) (n : ℕ) (work : Work) (log : Log) : Type 
   pub owner : owner_of service link log ≡ Some (owner_for service n work.message due)
   pub user : Account
   pub is_user : user_on service link log ≡ Some user
-  pub on : Stays n work.ordinal work.message user link log
+  pub on : Stays service.forms n work.ordinal work.message user link log
 
 -- A client whose link is open is served. What it is due is written, and it isn't at its end, or its link takes no more; and where it is connected its
 -- query in work waits.
@@ -50,14 +50,14 @@ pub record IsAnswered (service : Service) (n : ℕ) (came : Arrival) (log : Log)
   pub waits : is_here n log ≡ true → (work : Work) → work_of service n log ≡ Some work → is_query work.message.payload ≡ true → Waits service n work log
 
 -- a reply runs there, or a command is on its way and the link takes no more
-pub data IsBusy (user : Account) (link : LinkId) (log : Log) : Type 0 where
-  Replies : standing_on user link log ≡ Runs → IsBusy user link log
-  Blocked : standing_on user link log ≡ Sends → write_dry link log ≡ true → IsBusy user link log
+pub data IsBusy (forms : Forms) (user : Account) (link : LinkId) (log : Log) : Type 0 where
+  Replies : standing_on forms user link log ≡ Runs → IsBusy forms user link log
+  Blocked : standing_on forms user link log ≡ Sends → write_dry link log ≡ true → IsBusy forms user link log
 
 -- an open link to a server can be used again, and its client is connected or it is busy
-pub record IsKept (owner : Owner) (user : Account) (link : LinkId) (log : Log) : Type 0 where
-  pub sound : standing_on user link log ≢ Spoilt
-  pub needed : (is_here owner.client log ≡ true) ⊎ IsBusy user link log
+pub record IsKept (forms : Forms) (owner : Owner) (user : Account) (link : LinkId) (log : Log) : Type 0 where
+  pub sound : standing_on forms user link log ≢ Spoilt
+  pub needed : (is_here owner.client log ≡ true) ⊎ IsBusy forms user link log
 
 -- the link of a client at its end takes no more of what ends it
 pub record IsEnding (service : Service) (link : LinkId) (log : Log) : Type 0 where
@@ -75,7 +75,7 @@ pub record IsAtRest (service : Service) (log : Log) : Type 0 where
   pub named : all_named log ≡ true
   pub read : (link : LinkId) → IsOpen link log → (read_dry link log ≡ true) ⊎ IsEnding service link log
   pub clients : (n : ℕ) (came : Arrival) → arrival_of n log ≡ Some came → IsOpen came.link log → IsAnswered service n came log
-  pub servers : (link : LinkId) (owner : Owner) (user : Account) → IsOpen link log → owner_of service link log ≡ Some owner → user_on service link log ≡ Some user → IsKept owner user link log
+  pub servers : (link : LinkId) (owner : Owner) (user : Account) → IsOpen link log → owner_of service link log ≡ Some owner → user_on service link log ≡ Some user → IsKept service.forms owner user link log
 
 -- the loop waits at rest
 abbrev pub RestsAt : Service → Log → Entry → Type 0

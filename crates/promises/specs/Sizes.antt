@@ -53,7 +53,7 @@ login_first [] later = later
 login_first (byte ∷ bytes) later = byte ∷ bytes
 
 abbrev pub owed_as : Service → LinkId → Log → Option Turn → Option Account → List ℕ
-owed_as service link log (Some turn) (Some user) = login_first (unwritten link log (said_of (login_on user link log))) (owed_standing (standing_on user link log) (commands_on user link log) (query_in (work_of service turn.client log)))
+owed_as service link log (Some turn) (Some user) = login_first (unwritten link log (said_of (login_on user link log))) (owed_standing (standing_on service.forms user link log) (commands_on user link log) (query_in (work_of service turn.client log)))
 owed_as service link log _ _ = []
 
 abbrev pub owed_by : Service → LinkId → Log → Option ℕ → List ℕ

@@ -11,7 +11,7 @@ ghost use Rattle.promises.specs.Due.{due, Work, work_of, message_of, due_at, rou
 ghost use Rattle.client_session.specs.Setups.{Setup};
 ghost use Rattle.promises.specs.Service.{open_tries, Turn, turn_of, Service};
 ghost use Rattle.std.specs.Prelude.{◌<◌, is_some, ◌≡◌, ◌≢◌, ℕ, ◌≤◌, ◌⊎◌, Bool, true, false, List, [], ◌∷◌, ◌++◌, length, Option, Some, None};
-ghost use Rattle.exchange.specs.Replies.{reply_at, Spoilt, Runs, Sends, Enters, Clean, standing_on, Answer, Grammar, command_reply, replies_by};
+ghost use Rattle.exchange.specs.Replies.{reply_at, Spoilt, Runs, Sends, Enters, Clean, standing_on, Answer, Forms, Grammar, command_reply, replies_by};
 ghost use Rattle.promises.specs.Owners.{is_here, user_of, Owner, refused_by, refused, is_refused};
 ghost use Rattle.promises.specs.Closes.{MayDrop};
 ghost use Rattle.promises.specs.Rest.{IsAtRest};
@@ -55,7 +55,7 @@ pub fn open_refuses()
 
 /// Today's grammar of replies is one.
 pub fn command_reply_is_grammar()
-    ensures { IsGrammar command_reply }
+    ensures { (forms : Forms) → IsGrammar (command_reply forms) }
 {}
 
 /// Behind commands that are all answered, with nothing behind their replies, others are answered by what comes then, in any grammar.
@@ -65,7 +65,7 @@ pub fn later_replies()
 
 /// From a moment on at which a link is clean, its commands are those written since, and its replies those read since.
 pub fn since_clean()
-    ensures { (user : Account) (link : LinkId) (log more : Log) → standing_on user link log ≡ Clean → IsLoggedIn user link log → Since user link log more }
+    ensures { (forms : Forms) (user : Account) (link : LinkId) (log more : Log) → standing_on forms user link log ≡ Clean → IsLoggedIn user link log → Since forms user link log more }
 {}
 
 /// Two commands don't stand at one place, so no reply belongs to two.
@@ -95,17 +95,17 @@ pub fn clients_unowned()
 
 /// A link isn't closed on which a reply runs.
 pub fn running_is_kept()
-    ensures { (service : Service) (owner : Owner) (user : Account) (link : LinkId) (log : Log) → standing_on user link log ≡ Runs → MayDrop service owner user link log → ⊥ }
+    ensures { (service : Service) (owner : Owner) (user : Account) (link : LinkId) (log : Log) → standing_on service.forms user link log ≡ Runs → MayDrop service owner user link log → ⊥ }
 {}
 
 /// Nor in mid-command, while the client is connected.
 pub fn sending_is_kept()
-    ensures { (service : Service) (owner : Owner) (user : Account) (link : LinkId) (log : Log) → standing_on user link log ≡ Sends → is_here owner.client log ≡ true → MayDrop service owner user link log → ⊥ }
+    ensures { (service : Service) (owner : Owner) (user : Account) (link : LinkId) (log : Log) → standing_on service.forms user link log ≡ Sends → is_here owner.client log ≡ true → MayDrop service owner user link log → ⊥ }
 {}
 
 /// Nor in a login.
 pub fn entering_is_kept()
-    ensures { (service : Service) (owner : Owner) (user : Account) (link : LinkId) (log : Log) → standing_on user link log ≡ Enters → is_here owner.client log ≡ true → MayDrop service owner user link log → ⊥ }
+    ensures { (service : Service) (owner : Owner) (user : Account) (link : LinkId) (log : Log) → standing_on service.forms user link log ≡ Enters → is_here owner.client log ≡ true → MayDrop service owner user link log → ⊥ }
 {}
 
 /// At rest a query in work stands on an open link of its owner, which is no client's.
@@ -140,12 +140,12 @@ pub fn work_is_due()
 
 /// No command goes on a link on which a reply runs.
 pub fn running_takes_none()
-    ensures { (service : Service) (n i : ℕ) (link : LinkId) (bytes : List ℕ) (user : Account) (log : Log) → user_of service n log ≡ Some user → standing_on user link log ≡ Runs → MaySend service n i link bytes log → ⊥ }
+    ensures { (service : Service) (n i : ℕ) (link : LinkId) (bytes : List ℕ) (user : Account) (log : Log) → user_of service n log ≡ Some user → standing_on service.forms user link log ≡ Runs → MaySend service n i link bytes log → ⊥ }
 {}
 
 /// Nor on one that was lost, or has bytes that no command asked for.
 pub fn spoilt_takes_none()
-    ensures { (service : Service) (n i : ℕ) (link : LinkId) (bytes : List ℕ) (user : Account) (log : Log) → user_of service n log ≡ Some user → standing_on user link log ≡ Spoilt → MaySend service n i link bytes log → ⊥ }
+    ensures { (service : Service) (n i : ℕ) (link : LinkId) (bytes : List ℕ) (user : Account) (log : Log) → user_of service n log ≡ Some user → standing_on service.forms user link log ≡ Spoilt → MaySend service n i link bytes log → ⊥ }
 {}
 
 /// In a lawful log no command that was refused was sent, and none that was sent was refused.
@@ -170,7 +170,7 @@ pub fn answer_stays()
 
 /// A moment looks at the first opens alone: those that come behind change nothing of its links.
 pub fn opens_covered()
-    ensures { (setup : Setup) (opens more : List Turn) (link : LinkId) (log : Log) → length (open_tries log) ≤ length opens → turn_of (record { setup = setup; opens = opens ++ more }) link log ≡ turn_of (record { setup = setup; opens = opens }) link log }
+    ensures { (setup : Setup) (opens more : List Turn) (forms : Forms) (link : LinkId) (log : Log) → length (open_tries log) ≤ length opens → turn_of (record { setup = setup; opens = opens ++ more; forms = forms }) link log ≡ turn_of (record { setup = setup; opens = opens; forms = forms }) link log }
 {}
 
 /// In a lawful log what a client is due only grows.
@@ -190,5 +190,5 @@ pub fn replay_serves()
 
 /// A command begins where all before it on the link are whole and answered, and nothing stands behind: so no two overlap.
 pub fn begins_on_a_clean_link()
-    ensures { (service : Service) (n i : ℕ) (link : LinkId) (bytes : List ℕ) (user : Account) (log : Log) → user_of service n log ≡ Some user → carrier_of n i log ≡ None → MaySend service n i link bytes log → standing_on user link log ≡ Clean }
+    ensures { (service : Service) (n i : ℕ) (link : LinkId) (bytes : List ℕ) (user : Account) (log : Log) → user_of service n log ≡ Some user → carrier_of n i log ≡ None → MaySend service n i link bytes log → standing_on service.forms user link log ≡ Clean }
 {}

@@ -3,7 +3,7 @@ ghost use Rattle.std.specs.Prelude.{ℕ, ◌++◌, true, ◌≡◌, ◌+◌, Lis
 ghost use Rattle.promises.specs.Service.{Turn, Service};
 ghost use Rattle.promises.specs.Sends.{MayOpen, MaySend};
 ghost use Rattle.promises.specs.Rest.{IsAtRest};
-ghost use Rattle.promises.specs.Worked.{at, drained, whole, setup, link, service, first_turn, second_turn, ann, bob, query, reply, early, entering, logging_in, logged_in, sending, bob_asks, waiting, denied, told, heard, answered};
+ghost use Rattle.promises.specs.Worked.{at, drained, whole, setup, link, service, first_turn, second_turn, forms, ann, bob, query, reply, early, entering, logging_in, logged_in, sending, bob_asks, waiting, denied, told, heard, answered};
 ghost use Rattle.promises.specs.Sizes.{all_takes};
 ghost use Rattle.mx_wire.specs.Moments.{AtEachMoment, AllLawful};
 ghost use Rattle.promises.specs.Headline.{IsServed, IsLawful, Serves};
@@ -44,7 +44,7 @@ pub fn replies_there()
 
 /// How the links stand.
 pub fn stands_so()
-    ensures { (standing_on ann (link 3) logging_in ≡ Enters) × (standing_on ann (link 3) logged_in ≡ Clean) × (standing_on ann (link 3) sending ≡ Runs) × (standing_on ann (link 3) heard ≡ Clean) × (standing_on bob (link 4) denied ≡ Spoilt) }
+    ensures { (standing_on forms ann (link 3) logging_in ≡ Enters) × (standing_on forms ann (link 3) logged_in ≡ Clean) × (standing_on forms ann (link 3) sending ≡ Runs) × (standing_on forms ann (link 3) heard ≡ Clean) × (standing_on forms bob (link 4) denied ≡ Spoilt) }
 {}
 
 /// A message becomes due as it is whole.
@@ -99,5 +99,5 @@ pub fn no_rest()
 
 /// While the one client has a link no other is opened.
 pub fn no_second_link()
-    ensures { (opens : List Turn) → MayOpen (record { setup = setup; opens = first_turn ∷ opens }) at entering → ⊥ }
+    ensures { (opens : List Turn) → MayOpen (record { setup = setup; opens = first_turn ∷ opens; forms = forms }) at entering → ⊥ }
 {}

@@ -8,6 +8,7 @@ use Rattle.packet_frame.specs.Laws.{first_message-shorter, first_message-empty}
 use Rattle.packet_frame.specs.RoundTrip.{first_message-again}
 use Rattle.reply_track.specs.declared.due.Next.TheVariants.{Goes, Ends}
 use Rattle.reply_track.specs.declared.reply.ReplyEnd.{ReplyEnd}
+use Rattle.reply_track.specs.declared.reply.ReplyKind.{ReplyKind}
 use Rattle.reply_track.specs.declared.body.Body.{Body}
 use Rattle.reply_track.specs.declared.body.Body.TheVariants.{Due as DueBody, Cell as CellBody, Number as NumberBody, Rest}
 use Rattle.reply_track.specs.declared.place.Place.{Place}
@@ -19,7 +20,7 @@ use Rattle.reply_track.specs.Grammar.{IsReply, renamed}
 use Rattle.reply_track.specs.Steps.{next_id, numbered, step, packet_ended, empty_by, empty_body, payload_by, taken, body_takes_low, body_takes_length}
 use Rattle.reply_track.specs.Runs.{Ending, run, run_by, renumbered}
 use Rattle.reply_track.specs.Runs.Ending.{Going, Ended, Failed}
-use Rattle.reply_track.specs.Replying.{to_command, payloads_by, payloads_within, payloads_in}
+use Rattle.reply_track.specs.Replying.{sought, payloads_by, payloads_within, payloads_in}
 use Rattle.reply_track.specs.Tracking.{Sought, started}
 use Rattle.reply_track.proofs.Crossing.{mk}
 use Rattle.reply_track.proofs.Meaning.{reply-found}
@@ -157,8 +158,8 @@ run-same (b ∷ xs) s t same =
     same_by (step s b) (step t b) b xs (run-same xs) stepped
 
 -- the client's ids don't matter to how bytes end
-pub same-end : (a b : ℕ) (xs : List ℕ) → SameEnd (run (started (to_command a)) xs) (run (started (to_command b)) xs)
-same-end a b xs = run-same xs (started (to_command a)) (started (to_command b)) refl
+pub same-end : (kind : ReplyKind) (id a b : ℕ) (xs : List ℕ) → SameEnd (run (started (sought kind id a)) xs) (run (started (sought kind id b)) xs)
+same-end kind id a b xs = run-same xs (started (sought kind id a)) (started (sought kind id b)) refl
 
 -- payloads are found in their spellings again
 first_again : (limit first : ℕ) (p : List ℕ) (ps : List (List ℕ)) → first < 256 → length p ≤ limit

@@ -1,18 +1,32 @@
--- What bytes that are read behind a command of one packet begin with, and the payloads of a reply.
-use Rattle.std.specs.Prelude.{ℕ, zero, suc, List, [], ◌∷◌, length}
-use Rattle.packet_frame.specs.Packets.{Framed, Found, next_id, first_message}
+-- What bytes that are read behind a command begin with, and the payloads of a reply.
+use Rattle.std.specs.Prelude.{ℕ, zero, suc, ◌+◌, ◌/◌, ◌%◌, nat_eq, if◌then◌else◌, List, [], ◌∷◌, length, slice_index_or}
+use Rattle.packet_frame.specs.Packets.{Framed, Found, longest, next_id, first_message}
 use Rattle.packet_frame.specs.Packets.Found.{Nothing, Whole, Faulty}
-use Rattle.reply_track.specs.declared.reply.ReplyKind.TheVariants.{Command}
+use Rattle.reply_track.specs.declared.reply.ReplyKind.{ReplyKind}
+use Rattle.reply_track.specs.declared.reply.ReplyKind.TheVariants.{Command, Fields}
 use Rattle.reply_track.specs.Runs.{Ending, run}
 use Rattle.reply_track.specs.Tracking.{Sought, started}
 
--- the reply to a command of one packet has the id 1 at the server; the client gets it from this id on
-abbrev pub to_command : (first : ℕ) → Sought
-to_command first = record { kind = Command; server = 1; client = first; number = 0 }
+-- COM_FIELD_LIST, of which all bytes are there, has a reply of its own kind; its code is the first byte behind a header
+abbrev pub kind_to : (command : List ℕ) → ReplyKind
+kind_to command = if nat_eq (slice_index_or command 4 0) 4 then Fields else Command
 
--- how far these bytes bring it
-abbrev pub replied : List ℕ → Ending
-replied bytes = run (started (to_command 1)) bytes
+-- The id that follows those of a whole command's packets, which are 0 and on: each of them but the last has the longest body behind its header
+-- of 4 bytes.
+abbrev pub id_after : (command : List ℕ) → ℕ
+id_after command = (length command / (longest + 4) + 1) % 256
+
+-- a reply without a number in it: its kind, and the ids of its first packet at the server and for the client
+abbrev pub sought : ReplyKind → (server client : ℕ) → Sought
+sought kind server client = record { kind = kind; server = server; client = client; number = 0 }
+
+-- the reply to a whole command; the client gets it from this id on
+abbrev pub to_command : (command : List ℕ) → (first : ℕ) → Sought
+to_command command first = sought (kind_to command) (id_after command) first
+
+-- how far these bytes bring a reply of this kind, whose ids at the server go on from this one
+abbrev pub replied : ReplyKind → (id : ℕ) → List ℕ → Ending
+replied kind id bytes = run (started (sought kind id id)) bytes
 
 -- the payloads of messages whose ids run on
 abbrev pub payloads_by : Found → (Framed → List ℕ → List (List ℕ)) → List (List ℕ)

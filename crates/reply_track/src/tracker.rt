@@ -1,5 +1,6 @@
 // The end of a reply whose bytes come in pieces.
-ghost use Rattle.std.specs.Prelude.{ℕ, List, []};
+ghost use Rattle.std.specs.Prelude.{◌≡◌, ℕ, List, []};
+ghost use Rattle.reply_track.specs.Replying.{kind_to, id_after, to_command};
 ghost use Rattle.reply_track.specs.Runs.{Walked};
 ghost use Rattle.reply_track.specs.Tracking.{Sought, Took, Answers};
 
@@ -7,6 +8,12 @@ use crate::body::Body;
 use crate::due::first_due;
 use crate::place::{Outcome, Place, State, behind, passed, step, written};
 use crate::reply::{Progress, ReplyKind};
+
+/// The code of COM_FIELD_LIST.
+const FIELD_LIST: u8 = 4;
+
+/// The bytes of a packet with the longest body.
+const LONGEST_PACKET: usize = 16_777_219;
 
 /// Follows a reply to its end, over bytes that come in pieces of any lengths (client/server protocol, "Command
 /// Phase"), and renumbers its packets for the client. Nothing of the reply is kept, and of a row only the headers
@@ -46,6 +53,24 @@ pub(crate) fn walk(state: &mut State, piece: &mut [u8]) -> Progress
     Progress::More
 }
 
+// What a whole command is answered by.
+fn kind_to(command: &[u8]) -> ReplyKind
+    ensures { result ≡ kind_to command.now }
+{
+    if command.len() > 4 && command[4] == FIELD_LIST {
+        ReplyKind::Fields
+    } else {
+        ReplyKind::Command
+    }
+}
+
+// The sequence id that follows those of a whole command's packets.
+fn id_after(command: &[u8]) -> u8
+    ensures { result ≡ id_after command.now }
+{
+    ((command.len() / LONGEST_PACKET + 1) % 256) as u8
+}
+
 impl Tracker {
     /// A tracker of a reply of this kind, whose first packet has the sequence id `server_first`, and is to have
     /// `client_first`; `number` takes the place of the server's number of a prepared statement. Takes no memory.
@@ -62,6 +87,14 @@ impl Tracker {
                 body,
             },
         }
+    }
+
+    /// A tracker of the reply to a whole command, whose packets have the sequence ids from 0 on; the client is to get the
+    /// reply from `client_first` on. COM_FIELD_LIST has a reply of its own kind. Takes no memory.
+    pub fn to_command(command: &[u8], client_first: u8) -> Self
+        ensures { Took (to_command command.now client_first) [] [] result.state }
+    {
+        Tracker::start(kind_to(command), id_after(command), client_first, 0)
     }
 
     /// Takes the next piece of the reply, and rewrites in place the sequence ids, so that they run from

@@ -7,7 +7,7 @@ use Rattle.mx_wire.specs.Log.{Log, read_of, written_of}
 use Rattle.mx_wire.specs.Growth.{same_number}
 use Rattle.mx_wire.specs.declared.entry.Entry.{Entry}
 use Rattle.packet_frame.specs.PacketLaws.{nat_eq-true, nat_eq-false}
-use Rattle.packet_frame.specs.Packets.{Split, split, next_id}
+use Rattle.packet_frame.specs.Packets.{Framed, Split, split, next_id}
 use Rattle.server_side.specs.Account.{Account}
 use Rattle.client_session.specs.Arrivals.{Arrival, arrival_of, is_served}
 use Rattle.client_session.specs.Answers.{Talk, account_in, account, messages_of}
@@ -22,26 +22,27 @@ use Rattle.lend_core.specs.Lends.{Lends, Told, set}
 use Rattle.exchange.specs.Replies.{Answer, spelt}
 use Rattle.promises.specs.Service.{Service}
 use Rattle.promises.specs.Owners.{talk_with}
-use Rattle.promises.proofs.InWork.{some-same}
+use Rattle.promises.specs.Due.{message_of, work_of}
+use Rattle.promises.proofs.InWork.{some-same, in-work}
 use Rattle.promises.proofs.Links.{refused-or-sent}
-use Rattle.promises.proofs.Staying.{arrival-stays}
+use Rattle.promises.proofs.Staying.{arrival-stays, message-stays}
 use Rattle.router_world.specs.declared.seat.Seat.{Seat}
 use Rattle.router_world.specs.Replied.{replied, first_open}
-use Rattle.router_world.specs.Seats.{SeatAt, PhaseAt, IsWorking, Asks, Unanswered, unanswered_from}
+use Rattle.router_world.specs.Seats.{work_said, SeatAt, PhaseAt, IsWorking, Asks, Unanswered, unanswered_from}
 use Rattle.router_world.specs.Tables.{Tables, with_lends, without_seat}
 use Rattle.router_world.specs.World.{on_seat, goes_on, answering, told}
 use Rattle.router_world.proofs.Moves.{Comes, Quiet, Answers}
 use Rattle.router_world.proofs.SeatsAnswers.{at_place, query-open, query-served, open-none, open-within, IsOpen as IsOpenStill, now-done}
 use Rattle.router_world.proofs.SeatsTalks.{taken-messages}
 use Rattle.router_world.proofs.SeatsGoing.{SeatTurned}
-use Rattle.router_world.proofs.Seats.{Agrees, agree-seat, answered-seat}
+use Rattle.router_world.proofs.Seats.{Agrees, agree-work, agree-seat, answered-seat}
 use Rattle.router_world.proofs.Sets.{set-same, set-other}
 use Rattle.router_world.proofs.Calm.{Leaves, unsent-still, replied-stays}
-use Rattle.router_world.proofs.Sound.{IsAsked, LendsSound, SeatStands, IsHeard, IsEnded, Sound, Hand, InHand, Unsent, Free, Gone, Busy}
+use Rattle.router_world.proofs.Sound.{AreFormed, LendsSound, SeatStands, IsHeard, IsEnded, Sound, Hand, InHand, Unsent, Free, Gone, Busy}
 use Rattle.router_world.proofs.Hands.{none-some}
 use Rattle.router_world.proofs.Moving.{Mine, moved}
 use Rattle.router_world.proofs.Turning.{Next, goes-on}
-use Rattle.router_world.proofs.Working.{later-work}
+use Rattle.router_world.proofs.Working.{work-is, later-work}
 use Rattle.router_world.proofs.Counting.{turned-more, read-short}
 use Rattle.router_world.proofs.Clients.{next-turned}
 use Rattle.router_world.proofs.Ending.{finished-parted}
@@ -78,13 +79,14 @@ pub record Goes (service : Service) (log : Log) (n : ℕ) (came : Arrival) (writ
   pub next : Next service log n lends turned.session.phase turned.session.client.arrived turned.query
 
 pub answered-goes : (service : Service) (log : Log) (n : ℕ) (came : Arrival) (written : List ℕ) (session : Session) (user : Account) (lends : Lends) (answer : Answer) (packets : List ℕ) → arrival_of n log ≡ Some came → is_served service.setup came ≡ true → session.phase ≡ phase.Working user
-    → SeatAt (talk_with service n came log) (but_work (λ i. replied service n i log) session.client.arrived) written session → Unsent service n session.client.arrived log → replied service n session.client.arrived log ≡ Some answer → packets ≡ spelt 1 answer
-    → length (read_of came.link log) < 18446744073709551616 → LendsSound service log lends → Free lends n → lends.waiting ≡ [] → (lends.closing ≡ []) ⊎ (lends.owned n ≡ None) → Goes service log n came written lends (answered service.setup packets session)
-answered-goes service log n came written session user lends answer packets is served working seat unsent now spelled few sound free idle closable = record {
+    → SeatAt (talk_with service n came log) (but_work (λ i. replied service n i log) session.client.arrived) written session → Unsent service n session.client.arrived log → replied service n session.client.arrived log ≡ Some answer
+    → ((message : Framed) → work_said (but_work (λ i. replied service n i log) session.client.arrived) (talk_with service n came log) ≡ Some (at_place session.client.arrived message) → packets ≡ spelt (next_id message.last) answer)
+    → length (read_of came.link log) < 18446744073709551616 → LendsSound service log lends → Free lends n → lends.waiting ≡ [] → (lends.closing ≡ []) ⊎ (lends.owned n ≡ None) → AreFormed service log → Goes service log n came written lends (answered service.setup packets session)
+answered-goes service log n came written session user lends answer packets is served working seat unsent now spelled few sound free idle closable formed = record {
   seat = at.seat;
   unsent = λ i later. unsent i (let more : session.client.arrived ≤ (answered service.setup packets session).session.client.arrived = grows in omega arith);
   next = next-turned service log n came written old (answered service.setup packets session) lends sound closable (λ has. idle) is served free (λ enters. absurd (never-enters talk reply written (answered service.setup packets session).session user at-work.account at.seat enters))
-      (λ other same. (let no' : phase.Idle user ≡ phase.Working other = same in cc)) (λ some. (unsent (answered service.setup packets session).session.client.arrived (later some)).0) at;
+      (λ other same. (let no' : phase.Idle user ≡ phase.Working other = same in cc)) (λ some. (unsent (answered service.setup packets session).session.client.arrived (later some)).0) formed at;
 } where
   talk : Talk
   talk = talk_with service n came log
@@ -115,7 +117,7 @@ answered-goes service log n came written session user lends answer packets is se
         let parts = unsent i (omega arith) in unsent-still service n i log parts.0 parts.1)
 
   at : SeatTurned talk reply written old (answered service.setup packets session)
-  at = answered-seat talk before reply written session user at-work answer packets working seat unanswered now same (spelled ∙ ap (λ id. spelt (next_id id) answer) (sym at-work.ends)) few
+  at = answered-seat talk before reply written session user at-work answer packets working seat unanswered now same (spelled at-work.message at-work.work) few
 
   grows : session.client.arrived ≤ (answered service.setup packets session).session.client.arrived
   grows = subst (λ (p : Phase). session.client.arrived ≤ (answered_in p service.setup packets session).session.client.arrived) (sym working) (turned-more service.setup (rested user packets session))
@@ -130,10 +132,10 @@ answered-goes service log n came written session user lends answer packets is se
         let count : session.client.arrived ≡ length at-work.taken.past = at-work.taken.arrived in omega arith)
 
 -- A command is answered.
-pub answered-step : (service : Service) (log : Log) (e : Entry) (n : ℕ) (tables : Tables) (news : Told) (i : ℕ) (answer : Answer) (bytes : List ℕ) (id : ℕ) (before : Log) → Sound service log None tables → FromServer service log e n tables news → Busy tables.lends n i → IsAsked service n i bytes id before
+pub answered-step : (service : Service) (log : Log) (e : Entry) (n : ℕ) (tables : Tables) (news : Told) (i : ℕ) (answer : Answer) (message : Framed) → Sound service log None tables → FromServer service log e n tables news → Busy tables.lends n i → message_of service n i (log ++ e ∷ []) ≡ Some message
     → replied service n i (log ++ e ∷ []) ≡ Some answer → Free news.lends n → news.lends.waiting ≡ [] → (news.lends.closing ≡ []) ⊎ (news.lends.owned n ≡ None)
-    → Sound service (log ++ e ∷ []) None (answering service.setup (Some (record { client = record { 0 = n }; packets = spelt id answer })) (with_lends news.lends tables))
-answered-step service log e n tables news i answer bytes id before sound from busy asked now free idle closable = by (tables.seats n) refl where
+    → Sound service (log ++ e ∷ []) None (answering service.setup (Some (record { client = record { 0 = n }; packets = spelt (next_id message.last) answer })) (with_lends news.lends tables))
+answered-step service log e n tables news i answer message sound from busy there_is now free idle closable = by (tables.seats n) refl where
   then : Log
   then = log ++ e ∷ []
 
@@ -144,14 +146,14 @@ answered-step service log e n tables news i answer bytes id before sound from bu
   away (inl none) = none
   away (inr gone) = gone-busy tables.lends n i gone busy
 
-  seated : (seat : Seat) → tables.seats n ≡ Some seat → (user : Account) × (seat.session.phase ≡ phase.Working user) × (seat.session.client.arrived ≡ i) → Sound service then None (goes_on client seat.link (answered service.setup (spelt id answer) seat.session) (without_seat client (with_lends news.lends tables)))
+  seated : (seat : Seat) → tables.seats n ≡ Some seat → (user : Account) × (seat.session.phase ≡ phase.Working user) × (seat.session.client.arrived ≡ i) → Sound service then None (goes_on client seat.link (answered service.setup (spelt (next_id message.last) answer) seat.session) (without_seat client (with_lends news.lends tables)))
   seated seat is works = goes-on service then client seat.link turned (without_seat client (with_lends news.lends tables)) (moved service log e n hand tables (set tables.seats n None) news.lends sound (others-of service log e n tables news from) mine)
       (set-same tables.seats n None) (sound.numbered n seat is) from.quiet.unparted (stands was.state) (goes was.state).next (finished-parted service then n (record { link = seat.link; session = turned.session }) (stands was.state)) where
         hand : Option Hand
         hand = Some (record { client = n; link = seat.link })
 
         turned : Turned
-        turned = answered service.setup (spelt id answer) seat.session
+        turned = answered service.setup (spelt (next_id message.last) answer) seat.session
 
         was : SeatStands service log n seat
         was = sound.seats n seat is
@@ -177,9 +179,6 @@ answered-step service log e n tables news i answer bytes id before sound from bu
           apart = from.came.apart;
         }
 
-        one : id ≡ 1
-        one = asked.first ∙ ap next_id asked.ends
-
         unlost-ends : IsEnded service log n was.came seat.session → ⊥
         unlost-ends ended = (let no' : phase.Ending ≡ phase.Working works.0 = sym ended.ends ∙ works.1 in cc)
 
@@ -190,8 +189,8 @@ answered-step service log e n tables news i answer bytes id before sound from bu
         goes : IsHeard service log n was.came seat.session ⊎ IsEnded service log n was.came seat.session → Goes service then n was.came (written_of was.came.link log) news.lends turned
         goes state = by (heard-of state) where
           by : IsHeard service log n was.came seat.session → Goes service then n was.came (written_of was.came.link log) news.lends turned
-          by heard = answered-goes service then n was.came (written_of was.came.link log) seat.session works.0 news.lends answer (spelt id answer) came was.served works.1 seat-then (from.later seat is heard.unsent) (ap (λ k. replied service n k then) works.2 ∙ now) (ap (λ k. spelt k answer) one)
-              (let short = read-short was.came.link log from.told from.few in subst (λ r. length r < 18446744073709551616) (sym leaves.read) short) from.came.sound free idle closable where
+          by heard = answered-goes service then n was.came (written_of was.came.link log) seat.session works.0 news.lends answer (spelt (next_id message.last) answer) came was.served works.1 seat-then (from.later seat is heard.unsent) (ap (λ k. replied service n k then) works.2 ∙ now) (λ m work. ap (λ (f : Framed). spelt (next_id f.last) answer) (same-message m work))
+              (let short = read-short was.came.link log from.told from.few in subst (λ r. length r < 18446744073709551616) (sym leaves.read) short) from.came.sound free idle closable from.formed where
                 talk : Talk
                 talk = talk_with service n was.came log
 
@@ -216,6 +215,13 @@ answered-step service log e n tables news i answer bytes id before sound from bu
                   stays k a at true same = absurd (none-some (reply k) (ap reply (nat_eq-true k seat.session.client.arrived same) ∙ none) at)
                   stays k a at false same = replied-stays service n k log (e ∷ []) a (refused-or-sent service then from.lawful) at
 
+                same-message : (m : Framed) → work_said other (talk_with service n was.came then) ≡ Some (at_place seat.session.client.arrived m) → message ≡ m
+                same-message m work = some-same message m (sym there_is ∙ ap (λ k. message_of service n k then) (sym works.2)
+                    ∙ message-stays service n seat.session.client.arrived log (e ∷ []) m (in-work service n log (at_place seat.session.client.arrived m) was_work).0) where
+                      was_work : work_of service n log ≡ Some (at_place seat.session.client.arrived m)
+                      was_work = work-is service n was.came log was.is_came ∙ sym (agree-work talk reply other agrees)
+                          ∙ ap (λ r. work_said other (record { setup = service.setup; number = n; salt = was.came.salt; read = r })) (sym leaves.read) ∙ work
+
                 seat-then : SeatAt (talk_with service n was.came then) other (written_of was.came.link log) seat.session
                 seat-then = subst (λ r. SeatAt (record { setup = service.setup; number = n; salt = was.came.salt; read = r }) other (written_of was.came.link log) seat.session) (sym leaves.read) (agree-seat talk reply other (written_of was.came.link log) seat.session agrees heard.at)
 
@@ -234,7 +240,7 @@ answered-step service log e n tables news i answer bytes id before sound from bu
           });
         }
 
-  by : (o : Option Seat) → tables.seats n ≡ o → Sound service then None (on_seat (answered service.setup (spelt id answer)) client o (without_seat client (with_lends news.lends tables)))
+  by : (o : Option Seat) → tables.seats n ≡ o → Sound service then None (on_seat (answered service.setup (spelt (next_id message.last) answer)) client o (without_seat client (with_lends news.lends tables)))
   by None none = absurd (away (sound.away n none))
   by (Some seat) is = seated seat is (working-busy seat.session.phase tables.lends n seat.session.client.arrived i (sound.serves n seat is) busy)
 
@@ -243,5 +249,5 @@ pub server-step : (service : Service) (log : Log) (e : Entry) (n : ℕ) (tables 
 server-step service log e n tables news sound from = by news.answer refl from.came.comes where
   by : (o : Option Answered) → news.answer ≡ o → Comes service (log ++ e ∷ []) n tables.lends news.lends o → Sound service (log ++ e ∷ []) None (told service.setup news tables)
   by o same (Quiet busy free gone none) = subst (λ a. Sound service (log ++ e ∷ []) None (answering service.setup a (with_lends news.lends tables))) (sym same) (quiet-step service log e n tables news sound from busy free gone none)
-  by o same (Answers i answer bytes id before busy asked now free idle closable) = subst (λ a. Sound service (log ++ e ∷ []) None (answering service.setup a (with_lends news.lends tables))) (sym same)
-      (answered-step service log e n tables news i answer bytes id before sound from busy asked now free idle closable)
+  by o same (Answers i answer message busy there now free idle closable) = subst (λ a. Sound service (log ++ e ∷ []) None (answering service.setup a (with_lends news.lends tables))) (sym same)
+      (answered-step service log e n tables news i answer message sound from busy there now free idle closable)

@@ -1,5 +1,5 @@
 -- A client comes.
-use Rattle.std.specs.Prelude.{◌≡◌, ◌≢◌, ◌⊎◌, ◌<◌, ℕ, suc, ◌+◌, Bool, true, false, nat_eq, List, [], ◌∷◌, ◌++◌, length, slice_get, fold, Some, None, refl}
+use Rattle.std.specs.Prelude.{◌≡◌, ◌≢◌, ◌⊎◌, ◌≤◌, ◌<◌, ℕ, suc, ◌+◌, Bool, true, false, nat_eq, List, [], ◌∷◌, ◌++◌, length, slice_get, fold, Some, None, refl}
 use Rattle.std.specs.Option.{option_and_then}
 use Rattle.std.specs.List.{cons_option, list_any}
 use Rattle.std.proofs.Common.{sym, ◌∙◌, ap, subst, inl, inr, arith, length-append}
@@ -13,11 +13,11 @@ use Rattle.mx_wire.specs.Moments.{AllLawful, lawful-more}
 use Rattle.mx_wire.specs.Tells.{IsNew, IsOpen, Fits}
 use Rattle.mx_wire.specs.declared.entry.Entry.{Entry}
 use Rattle.mx_wire.specs.declared.entry.Entry.TheVariants.{Accepted}
-use Rattle.packet_frame.specs.Packets.{longest}
 use Rattle.client_session.specs.Arrivals.{Arrival, arrivals, arrival_of, connected, is_served, is_traffic}
 use Rattle.client_talk.specs.declared.session.Session.{Session}
 use Rattle.client_talk.specs.Sessions.{new_session}
 use Rattle.lend_core.specs.Lends.{set}
+use Rattle.exchange.specs.Commands.{most_command}
 use Rattle.exchange.specs.Logins.{is_loss, is_failure}
 use Rattle.promises.specs.Service.{Service}
 use Rattle.promises.specs.Owners.{talk_with}
@@ -163,7 +163,7 @@ turned-away-step service log port link salt tables came here bytes sound coming 
 
 -- It has a seat.
 pub admitted-step : (service : Service) (log : Log) (link : LinkId) (salt : List ℕ) (tables : Tables) (client : ClientNo) (here : ℕ) → Sound service log None tables → IsComing service log Traffic link salt tables → client.0 ≡ suc (length (arrivals log)) → here ≡ length (connected (log ++ Accepted Traffic link salt ∷ []))
-    → service.setup.limit < longest → is_served service.setup (arriving log Traffic link salt) ≡ true → Sound service (log ++ Accepted Traffic link salt ∷ []) None (admitted client link salt service.setup (record tables { came = client.0; here = here }))
+    → service.setup.limit ≤ most_command → is_served service.setup (arriving log Traffic link salt) ≡ true → Sound service (log ++ Accepted Traffic link salt ∷ []) None (admitted client link salt service.setup (record tables { came = client.0; here = here }))
 admitted-step service log link salt tables client here sound coming number counts-here short room = record {
   came = number ∙ sym (ap length (arrivals-now log Traffic link salt) ∙ (let sum : length (arrivals log ++ arriving log Traffic link salt ∷ []) ≡ length (arrivals log) + 1 = length-append (arrivals log) (arriving log Traffic link salt ∷ []) in let one : length (arrivals log) + 1 ≡ suc (length (arrivals log)) = omega arith in sum ∙ one));
   here = counts-here;

@@ -142,38 +142,38 @@ begun-some (Some command) begun = (command, refl, is-not (nat_eq command.sent 0)
   is-not true is = absurd (let none : false ≡ true = is in cc)
 
 row-busy : (service : Service) (log : Log) (tables : Tables) (link : LinkId) (lent : Lent) → IsDrained (reads tables) (sends tables) log → Sound service log None tables → tables.lends.links link.0 ≡ Some lent → RowStands service log tables.lends link lent → is_begun lent.backend.command ≡ true
-    → IsBusy lent.backend.account link log
+    → IsBusy service.forms lent.backend.account link log
 row-busy service log tables link lent drained sound is row begun = by (begun-some lent.backend.command begun) where
-  by : (command : Handed) × (lent.backend.command ≡ Some command) × (nat_eq command.sent 0 ≡ false) → IsBusy lent.backend.account link log
+  by : (command : Handed) × (lent.backend.command ≡ Some command) × (nat_eq command.sent 0 ≡ false) → IsBusy service.forms lent.backend.account link log
   by has = at (nat_lt has.0.sent (length has.0.bytes)) refl where
-    inside : IsInside lent.backend.account (heard_of link log) (pieces_of link log) lent.backend
-    inside = inside-with lent.backend.account (heard_of link log) (pieces_of link log) lent.backend has.0 row.at has.1
+    inside : IsInside service.forms lent.backend.account (heard_of link log) (pieces_of link log) lent.backend
+    inside = inside-with service.forms lent.backend.account (heard_of link log) (pieces_of link log) lent.backend has.0 row.at has.1
 
-    message : IsMessage has.0
-    message = subst IsHanded has.1 inside.command
+    message : IsMessage service.forms has.0
+    message = subst (IsHanded service.forms) has.1 inside.command
 
-    at : (b : Bool) → nat_lt has.0.sent (length has.0.bytes) ≡ b → IsBusy lent.backend.account link log
+    at : (b : Bool) → nat_lt has.0.sent (length has.0.bytes) ≡ b → IsBusy service.forms lent.backend.account link log
     at true less = (let l = left-some lent.backend has.0 has.1 less in let some : has.0.sent ≢ 0 = nat_eq-false has.0.sent 0 has.2 in
-        Blocked (row-standing service log tables.lends link lent row ∙ standing-sends lent.backend.account (heard_of link log) (pieces_of link log) lent.backend has.0 (record { inside = inside; is = has.1; some = omega arith }) (grind arith))
+        Blocked (row-standing service log tables.lends link lent row ∙ standing-sends service.forms lent.backend.account (heard_of link log) (pieces_of link log) lent.backend has.0 (record { inside = inside; is = has.1; some = omega arith }) (grind arith))
         (row-full service log tables link lent l.0 drained sound row.opened is l.1))
-    at false most = Replies (row-standing service log tables.lends link lent row ∙ standing-runs lent.backend.account (heard_of link log) (pieces_of link log) lent.backend has.0 inside has.1 (let fits : has.0.sent ≤ length has.0.bytes = message.sent in grind arith))
+    at false most = Replies (row-standing service log tables.lends link lent row ∙ standing-runs service.forms lent.backend.account (heard_of link log) (pieces_of link log) lent.backend has.0 inside has.1 (let fits : has.0.sent ≤ length has.0.bytes = message.sent in grind arith))
 
 server-kept : (service : Service) (log : Log) (tables : Tables) (link : LinkId) (owner : Owner) (user : Account) → AllLawful Fits log → IsDrained (reads tables) (sends tables) log → Sound service log None tables → asks service.setup tables ≡ false → IsOpen link log
-    → owner_of service link log ≡ Some owner → user_on service link log ≡ Some user → IsKept owner user link log
+    → owner_of service link log ≡ Some owner → user_on service link log ≡ Some user → IsKept service.forms owner user link log
 server-kept service log tables link owner user told drained sound acted opened owned known = by (owner-turn (turn_of service link log) owner owned) where
-  kept : (lent : Lent) → tables.lends.links link.0 ≡ Some lent → (row : RowStands service log tables.lends link lent) → row.turn.client ≡ owner.client → Owned service log tables.lends link row.turn.client lent → (is_here owner.client log ≡ true) ⊎ IsBusy lent.backend.account link log
+  kept : (lent : Lent) → tables.lends.links link.0 ≡ Some lent → (row : RowStands service log tables.lends link lent) → row.turn.client ≡ owner.client → Owned service log tables.lends link row.turn.client lent → (is_here owner.client log ≡ true) ⊎ IsBusy service.forms lent.backend.account link log
   kept lent is row mine (Own own owns) = inl (ap (λ n. is_here n log) (sym mine) ∙ (own-live service log tables link row.turn.client sound owns).here)
   kept lent is row mine (Left none gone begun) = inr (row-busy service log tables link lent drained sound is row begun)
 
-  with : (turn : Turn) → turn_of service link log ≡ Some turn → turn.client ≡ owner.client → (lent : Lent) → tables.lends.links link.0 ≡ Some lent → RowStands service log tables.lends link lent → IsKept owner user link log
+  with : (turn : Turn) → turn_of service link log ≡ Some turn → turn.client ≡ owner.client → (lent : Lent) → tables.lends.links link.0 ≡ Some lent → RowStands service log tables.lends link lent → IsKept service.forms owner user link log
   with turn opened_for client lent is row = (let same : row.turn ≡ turn = some-same row.turn turn (sym row.is_turn ∙ opened_for) in
       let who : lent.backend.account ≡ user = some-same lent.backend.account user (sym row.user ∙ sym (ap (option_and_then (λ (t : Turn). user_of service t.client log)) row.is_turn) ∙ known) in
-      subst (λ (u : Account). IsKept owner u link log) who (record {
-        sound = λ spoilt. unspoilt lent.backend.account (heard_of link log) (pieces_of link log) lent.backend row.at (sym (row-standing service log tables.lends link lent row) ∙ spoilt);
+      subst (λ (u : Account). IsKept service.forms owner u link log) who (record {
+        sound = λ spoilt. unspoilt service.forms lent.backend.account (heard_of link log) (pieces_of link log) lent.backend row.at (sym (row-standing service log tables.lends link lent row) ∙ spoilt);
         needed = kept lent is row (ap (λ (t : Turn). t.client) same ∙ client) row.owned;
       }))
 
-  by : (turn : Turn) × (turn_of service link log ≡ Some turn) × (record { client = turn.client; hostgroup = turn.hostgroup } ≡ owner) → IsKept owner user link log
+  by : (turn : Turn) × (turn_of service link log ≡ Some turn) × (record { client = turn.client; hostgroup = turn.hostgroup } ≡ owner) → IsKept service.forms owner user link log
   by turn = (let lent = server-row service log tables link turn.0 told sound (done service.setup tables acted) opened turn.1 in with turn.0 turn.1 (ap (λ (o : Owner). o.client) turn.2) lent.0 lent.1 (sound.lends.rows link lent.0 lent.1))
 
 pub rests-at : (service : Service) (log : Log) (tables : Tables) → AllLawful Fits log → Sound service log None tables → MayWait (reads tables) (sends tables) (asks service.setup tables) log → IsAtRest service log

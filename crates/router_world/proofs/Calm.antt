@@ -127,7 +127,7 @@ unrefused-more service n i log e was spares = ap (list_any (is_turn n i)) (refus
 
 -- A command that wasn't sent has no reply.
 pub unsent-unreplied : (service : Service) (n i : ℕ) (log : Log) → carrier_of n i log ≡ None → reply_to service n i log ≡ None
-unsent-unreplied service n i log none = ap (option_and_then (λ link. option_and_then (reply_on n i link log) (user_on service link log))) none
+unsent-unreplied service n i log none = ap (option_and_then (λ link. option_and_then (reply_on service.forms n i link log) (user_on service link log))) none
 
 pub unsent-still : (service : Service) (n i : ℕ) (log : Log) → carrier_of n i log ≡ None → is_refused service n i log ≡ false → replied service n i log ≡ None
 unsent-still service n i log none unrefused = ap (λ b. cond b (Some (connection_refused ∷ [])) (reply_to service n i log)) unrefused ∙ unsent-unreplied service n i log none
@@ -142,24 +142,24 @@ sent-unrefused service n i log link never at = by (bool_cases (is_refused servic
 -- One whose link is left has the reply that it had.
 pub reply-left : (service : Service) (n i : ℕ) (log : Log) (e : Entry) (link : LinkId) (user : Account) → carrier_of n i log ≡ Some link → user_on service link log ≡ Some user → Leaves link log e
     → reply_to service n i (log ++ e ∷ []) ≡ reply_to service n i log
-reply-left service n i log e link user at is leaves = ap (option_and_then (λ l. option_and_then (reply_on n i l (log ++ e ∷ [])) (user_on service l (log ++ e ∷ [])))) (carrier-stays n i log (e ∷ []) link at)
-    ∙ ap (option_and_then (reply_on n i link (log ++ e ∷ []))) (user-on-stays service link log (e ∷ []) user is)
+reply-left service n i log e link user at is leaves = ap (option_and_then (λ l. option_and_then (reply_on service.forms n i l (log ++ e ∷ [])) (user_on service l (log ++ e ∷ [])))) (carrier-stays n i log (e ∷ []) link at)
+    ∙ ap (option_and_then (reply_on service.forms n i link (log ++ e ∷ []))) (user-on-stays service link log (e ∷ []) user is)
     ∙ same
-    ∙ sym (ap (option_and_then (reply_on n i link log)) is)
-    ∙ sym (ap (option_and_then (λ l. option_and_then (reply_on n i l log) (user_on service l log))) at) where
-      same : reply_on n i link (log ++ e ∷ []) user ≡ reply_on n i link log user
+    ∙ sym (ap (option_and_then (reply_on service.forms n i link log)) is)
+    ∙ sym (ap (option_and_then (λ l. option_and_then (reply_on service.forms n i l log) (user_on service l log))) at) where
+      same : reply_on service.forms n i link (log ++ e ∷ []) user ≡ reply_on service.forms n i link log user
       same = ap (λ heard. reply_by heard (pieces_of link (log ++ e ∷ [])) (was_lost link (log ++ e ∷ []))) leaves.heard
           ∙ ap (λ pieces. reply_by (heard_of link log) pieces (was_lost link (log ++ e ∷ []))) leaves.pieces
           ∙ ap (reply_by (heard_of link log) (pieces_of link log)) leaves.lost where
             reply_by : List ℕ → List Command → Bool → Option Answer
-            reply_by heard pieces lost = reply_said n i user heard pieces lost
+            reply_by heard pieces lost = reply_said service.forms n i user heard pieces lost
 
 -- What came of a command stays.
 pub replied-stays : (service : Service) (n i : ℕ) (log more : Log) (answer : Answer) → RefusedOrSent service (log ++ more) → replied service n i log ≡ Some answer → replied service n i (log ++ more) ≡ Some answer
 replied-stays service n i log more answer never is = by (is_refused service n i log) refl is where
   sent : (b : Bool) → is_refused service n i (log ++ more) ≡ b → reply_to service n i log ≡ Some answer → cond b (Some (connection_refused ∷ [])) (reply_to service n i (log ++ more)) ≡ Some answer
   sent false at is = reply-stays service n i log more answer is
-  sent true at is = (let one = then-of (carrier_of n i log) (λ link. option_and_then (reply_on n i link log) (user_on service link log)) answer is in
+  sent true at is = (let one = then-of (carrier_of n i log) (λ link. option_and_then (reply_on service.forms n i link log) (user_on service link log)) answer is in
       absurd (let no : Some one.x ≡ None = sym (carrier-stays n i log more one.x one.from) ∙ never n i at in cc))
 
   by : (b : Bool) → is_refused service n i log ≡ b → cond b (Some (connection_refused ∷ [])) (reply_to service n i log) ≡ Some answer → replied service n i (log ++ more) ≡ Some answer

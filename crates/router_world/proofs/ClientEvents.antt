@@ -162,6 +162,7 @@ got-client service log client link bytes seat tables sound on is same idle few =
         sound = lends;
         unclosed = on.quiet.unclosed;
         idle = idle;
+        formed = on.formed;
       }
 
       replies : IsHeard service log client.0 was.came seat.session → Replies service log (Got link bytes) client.0 was.came seat.session

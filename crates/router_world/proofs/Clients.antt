@@ -21,7 +21,7 @@ use Rattle.router_world.specs.Replied.{replied}
 use Rattle.router_world.specs.Seats.{SeatAt, PhaseAt, Asks, work_said, over_said}
 use Rattle.router_world.proofs.SeatsGoing.{SeatTurned}
 use Rattle.router_world.proofs.Sitting.{over-no-query}
-use Rattle.router_world.proofs.Sound.{AskStands, LendsSound, Free, Gone}
+use Rattle.router_world.proofs.Sound.{AreFormed, AskStands, LendsSound, Free, Gone}
 use Rattle.router_world.proofs.Moves.{Idle, Went}
 use Rattle.router_world.proofs.Turning.{Next, Comes, Rests, LogsIn, Ends, ask_for}
 use Rattle.router_world.proofs.Working.{work-is, working-ask}
@@ -44,9 +44,9 @@ ends-so service log n came written session lends sound none is free ends seat = 
 -- What is next for a session that had no query in work.
 pub next-turned : (service : Service) (log : Log) (n : ℕ) (came : Arrival) (written : List ℕ) (old : Session) (turned : Turned) (lends : Lends) → LendsSound service log lends → (lends.closing ≡ []) ⊎ (lends.owned n ≡ None) → (is_some service.setup.target ≡ true → lends.waiting ≡ [])
     → arrival_of n log ≡ Some came → is_served service.setup came ≡ true → Free lends n → (turned.session.phase ≡ phase.LoggingIn → Gone lends n) → ((user : Account) → old.phase ≢ phase.Working user)
-    → (turned.query ≢ None → carrier_of n turned.session.client.arrived log ≡ None) → SeatTurned (talk_with service n came log) (λ i. replied service n i log) written old turned
+    → (turned.query ≢ None → carrier_of n turned.session.client.arrived log ≡ None) → AreFormed service log → SeatTurned (talk_with service n came log) (λ i. replied service n i log) written old turned
     → Next service log n lends turned.session.phase turned.session.client.arrived turned.query
-next-turned service log n came written old turned lends sound none idle is served free entering unworking unsent at = by turned.query refl at.asks turned.session.phase refl where
+next-turned service log n came written old turned lends sound none idle is served free entering unworking unsent formed at = by turned.query refl at.asks turned.session.phase refl where
   talk : Talk
   talk = talk_with service n came log
 
@@ -57,7 +57,7 @@ next-turned service log n came written old turned lends sound none idle is serve
   asks query same so p phase-is = subst (λ (q : Phase). Next service log n lends q turned.session.client.arrived (Some query)) (sym so.2 ∙ phase-is)
       (Comes so.0 query free (idle (Rattle.router_world.proofs.Asking.asks-server service n (ask_for so.0 query).ordinal stands.asked.message stands.asked.due log stands.asked.asks)) stands so.3) where
         stands : AskStands service log n (ask_for so.0 query)
-        stands = working-ask service n came log so.0 turned.session.client query is served at.seat.short so.1 so.3 so.4 so.5 (unsent (λ none. (let no' : None ≡ Some query = sym none ∙ same in cc)))
+        stands = working-ask service n came log so.0 turned.session.client query is served at.seat.short formed so.1 so.3 so.4 so.5 (unsent (λ none. (let no' : None ≡ Some query = sym none ∙ same in cc)))
 
   by : (q : Option Query) → turned.query ≡ q → Asks q talk reply old turned.session → (p : Phase) → turned.session.phase ≡ p → Next service log n lends p turned.session.client.arrived q
   by (Some query) same so p phase-is = asks query same so p phase-is

@@ -8,9 +8,9 @@ use Rattle.mx_base.specs.declared.names.Port.TheVariants.{Traffic, Admin}
 use Rattle.mx_wire.specs.Log.{Log, wrote_bytes, written_of, open_step}
 use Rattle.mx_wire.specs.Growth.{same_number, of_link-same}
 use Rattle.mx_wire.specs.declared.entry.Entry.TheVariants.{Accepted}
-use Rattle.packet_frame.specs.Packets.{longest}
 use Rattle.client_side.specs.Client.{counted}
 use Rattle.client_session.specs.Arrivals.{arrivals, connected}
+use Rattle.exchange.specs.Commands.{most_command}
 use Rattle.promises.specs.Service.{Service}
 use Rattle.router_world.specs.Tables.{Tables}
 use Rattle.router_world.specs.World.{comes, admitted_if}
@@ -51,7 +51,7 @@ among-admin service log link salt tables sound coming = ap (is_among link) (conn
 unwritten : (service : Service) (log : Log) (port : Port) (link : LinkId) (salt : List ℕ) (tables : Tables) → IsComing service log port link salt tables → written_of link (later log port link salt) ≡ []
 unwritten service log port link salt tables coming = ap (flat_map wrote_bytes) (of_link-same link log (Accepted port link salt) (same_number link.0) ∙ ap (λ l. l ++ Accepted port link salt ∷ []) coming.fits.fresh)
 
-pub coming-step : (service : Service) (log : Log) (port : Port) (link : LinkId) (salt : List ℕ) (tables : Tables) → Sound service log None tables → IsComing service log port link salt tables → service.setup.limit < longest → Sound service (later log port link salt) None (comes port service.setup link salt tables)
+pub coming-step : (service : Service) (log : Log) (port : Port) (link : LinkId) (salt : List ℕ) (tables : Tables) → Sound service log None tables → IsComing service log port link salt tables → service.setup.limit ≤ most_command → Sound service (later log port link salt) None (comes port service.setup link salt tables)
 coming-step service log Admin link salt tables sound coming short = turned-away-step service log Admin link salt tables (counted tables.came) tables.here [] sound coming (came-now service log Admin link salt tables sound coming.few ∙ sym (one-more log Admin link salt))
     (sound.here ∙ sym (ap length (connected-more log (Accepted Admin link salt)))) (Strange refl) (among-admin service log link salt tables sound coming)
 coming-step service log Traffic link salt tables sound coming short = by (nat_lt tables.here service.setup.max_clients) refl where

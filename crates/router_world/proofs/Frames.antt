@@ -64,7 +64,7 @@ asked-stays service log e n i packets first lawful asked none = record {
   due = asked.due;
   asks = asks-stay service n i asked.message asked.due log (e ∷ []) lawful (asks-server service n i asked.message asked.due log asked.asks) asked.asks none;
   begins = asked.begins;
-  ends = asked.ends;
+  form = asked.form;
   short = asked.short;
   packets = asked.packets;
   first = asked.first;
@@ -148,8 +148,8 @@ row-calm service log e lends link lent lawful fits stands calm leaves = record {
   hostgroup = stands.hostgroup;
   user = user-stays service stands.turn.client log (e ∷ []) lent.backend.account stands.user;
   some = ap (list_all has_bytes) leaves.pieces ∙ stands.some;
-  at = subst (λ heard. LinkAt lent.backend.account heard (pieces_of link (log ++ e ∷ [])) lent.backend) (sym leaves.heard)
-      (subst (λ pieces. LinkAt lent.backend.account (heard_of link log) pieces lent.backend) (sym leaves.pieces) stands.at);
+  at = subst (λ heard. LinkAt service.forms lent.backend.account heard (pieces_of link (log ++ e ∷ [])) lent.backend) (sym leaves.heard)
+      (subst (λ pieces. LinkAt service.forms lent.backend.account (heard_of link log) pieces lent.backend) (sym leaves.pieces) stands.at);
   command = λ command is. handed-calm service log e stands.turn.client link lent.backend.account command lawful (user-there service link stands.turn lent.backend.account log stands.is_turn stands.user) (stands.command command is) calm leaves;
   enters = stands.enters;
   owned = by stands.owned;

@@ -27,7 +27,7 @@ use Rattle.router_world.specs.Tables.{Tables, without_seat}
 use Rattle.router_world.specs.World.{on_seat, heard_on, got_on, lost_on, ended_on, failed_on, sent_on, wrote_on, offered_to}
 use Rattle.router_world.specs.Acts.{reply_sent, seat_sends, left_sent, sends_by, sends, close_of, farewell_of, asks, IsFront, IsFarewell}
 use Rattle.router_world.proofs.Hands.{none-some}
-use Rattle.router_world.proofs.Sound.{Sound, AtMostOne, Nobody, One}
+use Rattle.router_world.proofs.Sound.{AreFormed, Sound, AtMostOne, Nobody, One}
 use Rattle.router_world.proofs.Moving.{IsPlain}
 use Rattle.router_world.proofs.Stepping.{OnClient, done, nobody-waits}
 use Rattle.router_world.proofs.Owners.{IsOf, OfClient, OfServer, is-of}
@@ -44,6 +44,7 @@ pub record Happens (service : Service) (log : Log) (e : Entry) (tables : Tables)
   pub few : length log + 1 < 281474976710656
   pub lawful : AllLawful (IsLawful service) (log ++ e ∷ [])
   pub served : IsServed service (log ++ e ∷ [])
+  pub formed : AreFormed service (log ++ e ∷ [])
   pub sound : Sound service log None tables
 
 -- and all was done that the router asked for
@@ -70,6 +71,7 @@ on-client service log e link tables client on number silent = record {
   fits = on.happens.fits;
   lawful = on.happens.lawful;
   served = on.happens.served;
+  formed = on.happens.formed;
   quiet = done service.setup tables on.acted;
   number = number;
 }
@@ -81,6 +83,7 @@ on-row service log e link tables lent on there = record {
   few = few-of service log e tables on.happens;
   lawful = on.happens.lawful;
   served = on.happens.served;
+  formed = on.happens.formed;
   quiet = done service.setup tables on.acted;
   idle = nobody-left service log tables on.happens.sound on.acted;
   there = there;

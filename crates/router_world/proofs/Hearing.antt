@@ -23,7 +23,7 @@ use Rattle.router_world.proofs.SeatsAnswers.{open-from}
 use Rattle.router_world.proofs.SeatsTalks.{account-more, commands-more, taken-nothing}
 use Rattle.router_world.proofs.SeatsGoing.{SeatTurned}
 use Rattle.router_world.proofs.Seats.{said-seat}
-use Rattle.router_world.proofs.Sound.{LendsSound, Free, Gone, Serves}
+use Rattle.router_world.proofs.Sound.{AreFormed, LendsSound, Free, Gone, Serves}
 use Rattle.router_world.proofs.Turning.{Next, Works, Ends}
 use Rattle.router_world.proofs.Working.{later-work, ending-more}
 use Rattle.router_world.proofs.Counting.{turned-more}
@@ -44,6 +44,7 @@ pub record Coming (service : Service) (log : Log) (n : ℕ) (came : Arrival) (ta
   pub sound : LendsSound service log lends
   pub unclosed : lends.closing ≡ []
   pub idle : is_some service.setup.target ≡ true → lends.waiting ≡ []
+  pub formed : AreFormed service log
 
 says-turned : (service : Service) (log : Log) (n : ℕ) (came : Arrival) (talk : Talk) (bytes written : List ℕ) (session old : Session) (lends : Lends) (next : Turned) → Coming service log n came talk bytes lends → Free lends n → (next.session.phase ≡ phase.LoggingIn → Gone lends n)
     → ((user : Account) → old.phase ≢ phase.Working user) → session.client.arrived ≤ next.session.client.arrived → (next.query ≢ None → session.client.arrived < next.session.client.arrived)
@@ -51,7 +52,7 @@ says-turned : (service : Service) (log : Log) (n : ℕ) (came : Arrival) (talk :
 says-turned service log n came talk bytes written session old lends next coming free entering unworking grows later unsent at = record {
   seat = now.seat;
   grows = grows;
-  next = next-turned service log n came written old next lends coming.sound (inl coming.unclosed) coming.idle coming.is coming.served free entering unworking (λ some. unsent next.session.client.arrived (later some)) now;
+  next = next-turned service log n came written old next lends coming.sound (inl coming.unclosed) coming.idle coming.is coming.served free entering unworking (λ some. unsent next.session.client.arrived (later some)) coming.formed now;
 } where
   now : SeatTurned (talk_with service n came log) (λ i. replied service n i log) written old next
   now = subst (λ (t : Talk). SeatTurned t (λ i. replied service n i log) written old next) (sym coming.now) at

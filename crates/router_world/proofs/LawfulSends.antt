@@ -15,7 +15,7 @@ use Rattle.server_side.specs.declared.command.Command.{Command as Handed}
 use Rattle.lend_core.specs.declared.lent.Lent.{Lent}
 use Rattle.exchange.specs.Logins.{IsPrefix, heard_of}
 use Rattle.exchange.specs.Commands.{Command, pieces_of, commands_on}
-use Rattle.exchange.specs.Replies.{Enters, Clean, Sends, Runs, Spoilt, standing_on}
+use Rattle.exchange.specs.Replies.{Forms, Enters, Clean, Sends, Runs, Spoilt, standing_on}
 use Rattle.promises.specs.Service.{Service}
 use Rattle.promises.specs.Owners.{is_here}
 use Rattle.promises.specs.Sends.{Continues, Begins, GoesOn, MaySend, MaySay}
@@ -56,9 +56,9 @@ unspoilt-by (Some command) is = by (nat_eq command.sent 0) (nat_eq command.sent 
   by false true is = (let no : Runs ≡ Spoilt = is in cc)
   by false false is = (let no : Sends ≡ Spoilt = is in cc)
 
-pub unspoilt : (user : Account) (heard : List ℕ) (pieces : List Command) (backend : BackendState) → LinkAt user heard pieces backend → standing_said user heard pieces ≢ Spoilt
-unspoilt user heard pieces backend (Entering at) is = (let no : Enters ≡ Spoilt = sym (standing-entering user heard pieces backend at) ∙ is in cc)
-unspoilt user heard pieces backend (Inside at) is = unspoilt-by backend.command (sym (standing-inside user heard pieces backend at) ∙ is)
+pub unspoilt : (forms : Forms) (user : Account) (heard : List ℕ) (pieces : List Command) (backend : BackendState) → LinkAt forms user heard pieces backend → standing_said forms user heard pieces ≢ Spoilt
+unspoilt forms user heard pieces backend (Entering at) is = (let no : Enters ≡ Spoilt = sym (standing-entering forms user heard pieces backend at) ∙ is in cc)
+unspoilt forms user heard pieces backend (Inside at) is = unspoilt-by backend.command (sym (standing-inside forms user heard pieces backend at) ∙ is)
 
 -- Bytes of the login.
 pub may-say : (service : Service) (log : Log) (tables : Tables) (link : LinkId) (lent : Lent) (k : ℕ) → Sound service log None tables → tables.lends.links link.0 ≡ Some lent → 0 < length lent.backend.own → MaySay service link (take k lent.backend.own) log
@@ -67,14 +67,14 @@ may-say service log tables link lent k sound is some = by (sound.lends.rows link
   by row = record {
     user = lent.backend.account;
     is_user = user-there service link row.turn lent.backend.account log row.is_turn row.user;
-    sound = λ spoilt. unspoilt lent.backend.account (heard_of link log) (pieces_of link log) lent.backend row.at (sym (row-standing service log tables.lends link lent row) ∙ spoilt);
-    front = subst (λ xs. IsPrefix (xs ++ take k lent.backend.own) (said_of (opening lent.backend.account (heard_of link log)))) (sym (row-written link log row.unlost)) (said-at lent.backend.account (heard_of link log) (pieces_of link log) lent.backend k row.at some);
+    sound = λ spoilt. unspoilt service.forms lent.backend.account (heard_of link log) (pieces_of link log) lent.backend row.at (sym (row-standing service log tables.lends link lent row) ∙ spoilt);
+    front = subst (λ xs. IsPrefix (xs ++ take k lent.backend.own) (said_of (opening lent.backend.account (heard_of link log)))) (sym (row-written link log row.unlost)) (said-at service.forms lent.backend.account (heard_of link log) (pieces_of link log) lent.backend k row.at some);
   }
 
 -- A link with a command is logged in.
-pub inside-with : (user : Account) (heard : List ℕ) (pieces : List Command) (backend : BackendState) (command : Handed) → LinkAt user heard pieces backend → backend.command ≡ Some command → IsInside user heard pieces backend
-inside-with user heard pieces backend command (Inside at) is = at
-inside-with user heard pieces backend command (Entering at) is = absurd (let no : None ≡ Some command = sym at.login.idle ∙ is in cc)
+pub inside-with : (forms : Forms) (user : Account) (heard : List ℕ) (pieces : List Command) (backend : BackendState) (command : Handed) → LinkAt forms user heard pieces backend → backend.command ≡ Some command → IsInside forms user heard pieces backend
+inside-with forms user heard pieces backend command (Inside at) is = at
+inside-with forms user heard pieces backend command (Entering at) is = absurd (let no : None ≡ Some command = sym at.login.idle ∙ is in cc)
 
 -- Bytes of its command.
 front-of : (bytes : List ℕ) (sent k : ℕ) → (take sent bytes ++ take k (drop sent bytes)) ++ drop k (drop sent bytes) ≡ bytes
@@ -91,8 +91,8 @@ may-send service log tables link lent command k sound is none has less = by (sou
     stands : HandedStands service log row.turn.client link command
     stands = row.command command has
 
-    inside : IsInside lent.backend.account (heard_of link log) (pieces_of link log) lent.backend
-    inside = inside-with lent.backend.account (heard_of link log) (pieces_of link log) lent.backend command row.at has
+    inside : IsInside service.forms lent.backend.account (heard_of link log) (pieces_of link log) lent.backend
+    inside = inside-with service.forms lent.backend.account (heard_of link log) (pieces_of link log) lent.backend command row.at has
 
     whole : command.bytes ≡ spelling stands.asked.message.first stands.asked.message.payload
     whole = stands.asked.packets ∙ ap (λ first. spelling first stands.asked.message.payload) (sym stands.asked.begins)
@@ -101,13 +101,13 @@ may-send service log tables link lent command k sound is none has less = by (sou
     here unsent (IsOwn owner owns) = (own-live service log tables link row.turn.client sound owns).here
     here unsent (IsLeft owner gone begins) = absurd (let no : false ≡ true = sym (ap is_begun has ∙ ap (λ sent. not (nat_eq sent 0)) unsent) ∙ begins in cc)
 
-    follows : (sent : ℕ) → command.sent ≡ sent → Continues (For (record { 0 = row.turn.client }) stands.ordinal) bytes (spelling stands.asked.message.first stands.asked.message.payload) (is_here row.turn.client log) (commands_on lent.backend.account link log) (standing_on lent.backend.account link log)
+    follows : (sent : ℕ) → command.sent ≡ sent → Continues (For (record { 0 = row.turn.client }) stands.ordinal) bytes (spelling stands.asked.message.first stands.asked.message.payload) (is_here row.turn.client log) (commands_on lent.backend.account link log) (standing_on service.forms lent.backend.account link log)
     follows zero unsent = Begins (here unsent row.owned)
-        (row-standing service log tables.lends link lent row ∙ standing-clean lent.backend.account (heard_of link log) (pieces_of link log) lent.backend inside (ap begun has ∙ ap (λ sent. begun_by sent command) unsent))
+        (row-standing service log tables.lends link lent row ∙ standing-clean service.forms lent.backend.account (heard_of link log) (pieces_of link log) lent.backend inside (ap begun has ∙ ap (λ sent. begun_by sent command) unsent))
         (record { rest = drop k (drop command.sent command.bytes); is = take-append-drop k (drop command.sent command.bytes) ∙ ap (λ sent. drop sent command.bytes) unsent ∙ whole })
     follows (suc sent) at = GoesOn inside.others (take command.sent command.bytes)
-        (row-standing service log tables.lends link lent row ∙ standing-sends lent.backend.account (heard_of link log) (pieces_of link log) lent.backend command (record { inside = inside; is = has; some = omega arith }) less)
-        (commands-inside lent.backend.account (heard_of link log) (pieces_of link log) lent.backend inside
+        (row-standing service log tables.lends link lent row ∙ standing-sends service.forms lent.backend.account (heard_of link log) (pieces_of link log) lent.backend command (record { inside = inside; is = has; some = omega arith }) less)
+        (commands-inside service.forms lent.backend.account (heard_of link log) (pieces_of link log) lent.backend inside
         ∙ ap (λ cs. inside.others ++ cs) (ap begun has ∙ begun-some command (omega arith))
         ∙ ap (λ (t : Tag). inside.others ++ record { tag = t; bytes = take command.sent command.bytes } ∷ []) stands.tag)
         (record { rest = drop k (drop command.sent command.bytes); is = front-of command.bytes command.sent k ∙ whole })
@@ -121,6 +121,7 @@ may-send service log tables link lent command k sound is none has less = by (sou
       message = stands.asked.message;
       due = stands.asked.due;
       asks = stands.asked.asks;
+      form = stands.asked.form;
       owner = owner-is service log tables.lends link lent stands.asked.message stands.asked.due row;
       user = lent.backend.account;
       is_user = row.user;
@@ -128,7 +129,7 @@ may-send service log tables link lent command k sound is none has less = by (sou
         said = inside.said;
         rest = inside.past ++ inside.part;
         is = inside.is;
-        written = subst (IsPrefix inside.said) (sym (row-written link log row.unlost)) (said-written lent.backend.account (heard_of link log) (pieces_of link log) lent.backend inside none);
+        written = subst (IsPrefix inside.said) (sym (row-written link log row.unlost)) (said-written service.forms lent.backend.account (heard_of link log) (pieces_of link log) lent.backend inside none);
       };
       elsewhere = λ other at. carried command.sent other (sym stands.carrier ∙ at);
       follows = follows command.sent refl;

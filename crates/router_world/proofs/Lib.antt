@@ -1,3 +1,5 @@
+pub mod Framing
+pub mod Spelt
 pub mod Answering
 pub mod Calm
 pub mod Asking

@@ -12,6 +12,7 @@ use Rattle.server_side.specs.declared.stage.Stage.TheVariants.{In}
 use Rattle.lend_core.specs.declared.lent.Lent.{Lent}
 use Rattle.lend_core.specs.Lends.{Lends, set}
 use Rattle.exchange.specs.Commands.{Command}
+use Rattle.exchange.specs.Replies.{Forms}
 use Rattle.promises.specs.Service.{Service}
 use Rattle.promises.proofs.InWork.{some-same}
 use Rattle.promises.proofs.Causes.{same-link}
@@ -40,9 +41,9 @@ pub put-other : {X : Type 0} (f : ℕ → Option X) (key k : ℕ) (value : Optio
 put-other f key k value apart = set-other (set f key None) key k value apart ∙ set-other f key k None apart
 
 -- a link on which a command is begun is logged in
-pub begun-inside : (user : Account) (heard : List ℕ) (pieces : List Command) (backend : BackendState) → LinkAt user heard pieces backend → is_begun backend.command ≡ true → backend.stage ≡ In
-begun-inside user heard pieces backend (Entering at) begun = absurd (let no' : false ≡ true = sym (ap is_begun at.login.idle) ∙ begun in cc)
-begun-inside user heard pieces backend (Inside at) begun = at.stage
+pub begun-inside : (forms : Forms) (user : Account) (heard : List ℕ) (pieces : List Command) (backend : BackendState) → LinkAt forms user heard pieces backend → is_begun backend.command ≡ true → backend.stage ≡ In
+begun-inside forms user heard pieces backend (Entering at) begun = absurd (let no' : false ≡ true = sym (ap is_begun at.login.idle) ∙ begun in cc)
+begun-inside forms user heard pieces backend (Inside at) begun = at.stage
 
 -- a row that is another client's, this client's own, or nobody's any more
 pub kept-row : (service : Service) (log : Log) (n : ℕ) (lends other : Lends) (link : LinkId) (lent : Lent) → LendsSound service log lends → lends.links link.0 ≡ Some lent → (lends.owned n ≡ Some link → RowStands service log other link lent) → RowNow service log n lends other link lent
@@ -51,7 +52,7 @@ kept-row service log n lends other link lent sound is mine = by (sound.rows link
   by stands = at (nat_eq stands.turn.client n) refl where
     own : Owned service log lends link stands.turn.client lent → stands.turn.client ≡ n → RowNow service log n lends other link lent
     own (Own owner owns) same = Now (mine (subst (λ k. lends.owned k ≡ Some link) same owns))
-    own (Left none gone begun) same = Now (row-left service log lends other link lent stands none (begun-inside lent.backend.account _ _ lent.backend stands.at begun))
+    own (Left none gone begun) same = Now (row-left service log lends other link lent stands none (begun-inside service.forms lent.backend.account _ _ lent.backend stands.at begun))
 
     at : (b : Bool) → nat_eq stands.turn.client n ≡ b → RowNow service log n lends other link lent
     at false differs = Was is stands.turn stands.is_turn differs

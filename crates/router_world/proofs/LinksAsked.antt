@@ -19,7 +19,8 @@ use Rattle.lend_core.specs.Events.{asked, asked_by, asked_on}
 use Rattle.promises.specs.Service.{Service}
 use Rattle.promises.proofs.InWork.{some-same}
 use Rattle.promises.proofs.Causes.{same-link}
-use Rattle.router_world.specs.Rows.{Inside}
+use Rattle.router_world.specs.Rows.{form_at, Inside}
+use Rattle.router_world.proofs.Spelt.{form-spelt}
 use Rattle.router_world.proofs.RowsStanding.{inside-at}
 use Rattle.router_world.proofs.RowsWritten.{packets-handed}
 use Rattle.router_world.proofs.Sets.{set-same, set-other}
@@ -85,7 +86,8 @@ handed-row service log n ask lends other link lent stands inside idle owner owns
   hostgroup = row.hostgroup;
   user = row.user;
   some = row.some;
-  at = Inside (packets-handed lent.backend.account _ _ lent.backend (For client ask.ordinal) ask.packets stands.asked.message.payload ask.first (inside-at lent.backend.account _ _ lent.backend row.at inside) idle stands.asked.packets stands.asked.short);
+  at = Inside (packets-handed service.forms lent.backend.account _ _ lent.backend (For client ask.ordinal) ask.packets stands.asked.message.payload ask.first (inside-at service.forms lent.backend.account _ _ lent.backend row.at inside) idle stands.asked.packets stands.asked.short
+      (stands.asked.form ∙ sym (form-spelt stands.asked.message stands.asked.begins) ∙ ap form_at (sym stands.asked.packets)));
   command = λ command is. subst (λ (k : ℕ). HandedStands service log k link command) (sym mine) (subst (HandedStands service log n link) (some-same the command is) handed_stands);
   enters = λ outside. absurd (outside inside);
   owned = Own (owner ∙ ap (λ k. Some (record { 0 = k })) (sym mine)) (ap other.owned mine ∙ owns);

@@ -66,7 +66,7 @@ came-of service log e lends link lent at other answer news comes = record {
 
 -- the row of the link, as it is then
 pub row-later : (service : Service) (log : Log) (e : Entry) (lends other : Lends) (link : LinkId) (lent now : Lent) (row : RowStands service log lends link lent) → AllLawful Fits (log ++ e ∷ []) → IsOpen link (log ++ e ∷ []) → was_lost link (log ++ e ∷ []) ≡ false → now.backend.account ≡ lent.backend.account
-    → LinkAt lent.backend.account (heard_of link (log ++ e ∷ [])) (pieces_of link (log ++ e ∷ [])) now.backend → ((command : Handed) → now.backend.command ≡ Some command → HandedStands service (log ++ e ∷ []) row.turn.client link command)
+    → LinkAt service.forms lent.backend.account (heard_of link (log ++ e ∷ [])) (pieces_of link (log ++ e ∷ [])) now.backend → ((command : Handed) → now.backend.command ≡ Some command → HandedStands service (log ++ e ∷ []) row.turn.client link command)
     → (now.backend.stage ≢ In → Enters other row.turn) → Owned service (log ++ e ∷ []) other link row.turn.client now → RowStands service (log ++ e ∷ []) other link now
 row-later service log e lends other link lent now row fits opened unlost same at command enters owned = record {
   opened = opened;
@@ -76,7 +76,7 @@ row-later service log e lends other link lent now row fits opened unlost same at
   hostgroup = row.hostgroup;
   user = user-stays service row.turn.client log (e ∷ []) lent.backend.account row.user ∙ ap Some (sym same);
   some = pieces-some link (log ++ e ∷ []) fits;
-  at = subst (λ (u : Account). LinkAt u (heard_of link (log ++ e ∷ [])) (pieces_of link (log ++ e ∷ [])) now.backend) (sym same) at;
+  at = subst (λ (u : Account). LinkAt service.forms u (heard_of link (log ++ e ∷ [])) (pieces_of link (log ++ e ∷ [])) now.backend) (sym same) at;
   command = command;
   enters = enters;
   owned = owned;
@@ -132,7 +132,7 @@ pub entering-here : (service : Service) (log : Log) (lends : Lends) (link : Link
 entering-here service log lends link lent row outside = by row.owned where
   by : Owned service log lends link row.turn.client lent → IsEnteringHere service log lends link row.turn.client lent
   by (Own owner owns) = (let enters = row.enters outside in record { ask = enters.ask; is = enters.is; owner = owner; owns = owns })
-  by (Left none gone begun) = absurd (let at = entering-at lent.backend.account _ _ lent.backend row.at outside in let no' : false ≡ true = sym (ap is_begun at.login.idle) ∙ begun in cc)
+  by (Left none gone begun) = absurd (let at = entering-at service.forms lent.backend.account _ _ lent.backend row.at outside in let no' : false ≡ true = sym (ap is_begun at.login.idle) ∙ begun in cc)
 
 -- a command that waits stays so
 pub ask-unreplied : (service : Service) (log : Log) (e : Entry) (n : ℕ) (ask : Ask) → AllLawful (IsLawful service) (log ++ e ∷ []) → AskStands service log n ask → Calm service log e n → replied service n ask.ordinal (log ++ e ∷ []) ≡ None

@@ -80,13 +80,13 @@ lost-sound service log e link lends lent turn lawful fits sound idle unclosed th
       fails : Fails service log e link lent at.row.turn.client ConnectionLost
       fails = record {
         opened = opened-on link log e names (λ was. loss-opens e was loss) at.row.opened;
-        spoilt = ap (λ b. cond b Spoilt (standing_said user (heard_of link new) (pieces_of link new))) was;
+        spoilt = ap (λ b. cond b Spoilt (standing_said service.forms user (heard_of link new) (pieces_of link new))) was;
         silent = λ i. loss-silent e at.row.turn.client i loss;
         fails = λ enters. ap (λ b. cond b false (cond (goes_on (login_on user link log)) (breaks_off user link log e) false)) at.row.unlost ∙ ap (λ b. cond b (breaks_off user link log e) false) (ap goes_on enters.goes) ∙ loss-breaks e user link log loss;
         told = λ c i inside has some tag carrier.
             replied-said service at.row.turn.client i link user new (refused-or-sent service new lawful) (carrier-stays at.row.turn.client i log (e ∷ []) link carrier) (user-later service log e lends link lent at.row)
-            ∙ ap (λ h. reply_said at.row.turn.client i user h (pieces_of link new) (was_lost link new)) (heard-end link log e names at.row.unlost loss)
-            ∙ ap (λ p. reply_said at.row.turn.client i user (heard_of link log) p (was_lost link new)) (pieces-on link log e names at.row.unlost (loss-piece e loss))
-            ∙ ap (reply_said at.row.turn.client i user (heard_of link log) (pieces_of link log)) was
-            ∙ unanswered-at user (heard_of link log) (pieces_of link log) lent.backend c at.row.turn.client i true (record { inside = inside; is = has; some = some }) (command-is at.row.turn.client i c.tag tag);
+            ∙ ap (λ h. reply_said service.forms at.row.turn.client i user h (pieces_of link new) (was_lost link new)) (heard-end link log e names at.row.unlost loss)
+            ∙ ap (λ p. reply_said service.forms at.row.turn.client i user (heard_of link log) p (was_lost link new)) (pieces-on link log e names at.row.unlost (loss-piece e loss))
+            ∙ ap (reply_said service.forms at.row.turn.client i user (heard_of link log) (pieces_of link log)) was
+            ∙ unanswered-at service.forms user (heard_of link log) (pieces_of link log) lent.backend c at.row.turn.client i true (record { inside = inside; is = has; some = some }) (command-is at.row.turn.client i c.tag tag);
       }

@@ -38,10 +38,10 @@ use Rattle.promises.specs.Owners.{is_turn, refused, is_refused}
 use Rattle.promises.specs.Due.{Work, reply_to}
 use Rattle.promises.specs.Closes.{MayDrop, IsSpoilt}
 use Rattle.promises.specs.Headline.{IsLawful}
-use Rattle.promises.proofs.InWork.{some-same}
+use Rattle.promises.proofs.InWork.{some-same, in-work}
 use Rattle.promises.proofs.Causes.{login-refuses, or-inr}
 use Rattle.promises.proofs.Links.{refused-or-sent}
-use Rattle.promises.proofs.Staying.{user-stays}
+use Rattle.promises.proofs.Staying.{message-stays, user-stays}
 use Rattle.router_world.specs.Replied.{replied}
 use Rattle.router_world.specs.Rows.{LinkAt, Entering, Inside, IsInside, IsEntering}
 use Rattle.router_world.proofs.Sets.{set-same, set-other}
@@ -138,10 +138,11 @@ refused-now service log e lends link lent ask names row same unsent fails = ap (
   })) ∙ list_any-append (is_turn turn.client ask.ordinal) (refused service log) (turn ∷ []) ∙ or-inr (list_any (is_turn turn.client ask.ordinal) (refused service log)) (is_turn turn.client ask.ordinal turn || false) (ap (λ b. b || false) here)
 
 -- One answer, as packets.
-pub answers-one : (service : Service) (log : Log) (n i : ℕ) (lends other : Lends) (answer : Answer) (packets bytes : List ℕ) (id : ℕ) (before : Log) → packets ≡ spelt id answer → Busy lends n i → IsAsked service n i bytes id before → replied service n i log ≡ Some answer → Free other n → other.waiting ≡ []
-    → (other.closing ≡ []) ⊎ (other.owned n ≡ None) → Comes service log n lends other (Some (record { client = record { 0 = n }; packets = packets }))
-answers-one service log n i lends other answer packets bytes id before is busy asked told free unwaiting closes =
-    subst (λ (p : List ℕ). Comes service log n lends other (Some (record { client = record { 0 = n }; packets = p }))) (sym is) (Answers i answer bytes id before busy asked told free unwaiting closes)
+pub answers-one : (service : Service) (log : Log) (e : Entry) (n i : ℕ) (lends other : Lends) (answer : Answer) (packets bytes : List ℕ) (id : ℕ) → packets ≡ spelt id answer → Busy lends n i → IsAsked service n i bytes id log → replied service n i (log ++ e ∷ []) ≡ Some answer → Free other n → other.waiting ≡ []
+    → (other.closing ≡ []) ⊎ (other.owned n ≡ None) → Comes service (log ++ e ∷ []) n lends other (Some (record { client = record { 0 = n }; packets = packets }))
+answers-one service log e n i lends other answer packets bytes id is busy asked told free unwaiting closes =
+    subst (λ (p : List ℕ). Comes service (log ++ e ∷ []) n lends other (Some (record { client = record { 0 = n }; packets = p }))) (sym (is ∙ ap (λ k. spelt k answer) asked.first))
+    (Answers i answer asked.message busy (message-stays service n i log (e ∷ []) asked.message (in-work service n log (record { ordinal = i; message = asked.message }) asked.asks.work).0) told free unwaiting closes)
 
 -- an error of the router's is an answer of one payload
 pub error-spelt : (id : ℕ) (payload : List ℕ) → spelling id payload ≡ spelt id (payload ∷ [])
@@ -156,7 +157,7 @@ pub answered-shut : (service : Service) (log : Log) (e : Entry) (lends : Lends) 
 answered-shut service log e lends link lent at c answer packets opened may asks_stay inside has some owns is told = came-of service log e lends link lent at base (Some (record { client = client; packets = packets }))
     (shut-news service log e lends link lent at base (record { links = λ k differs. set-other lends.links link.0 k None differs; out = set-same lends.links link.0 None; closing = ap (λ l. l ++ link ∷ []) at.unclosed; asks = λ k differs. refl; owned = λ k differs. set-other lends.owned n k None differs })
     opened may asks_stay (λ l owned. absurd (unowned l owned)) at.sound.one_waits (λ someone waits. absurd (none-one lends.waiting at.idle waits)))
-    (answers-one service (log ++ e ∷ []) n stands.ordinal lends base answer packets c.bytes c.first log is (On unasked link lent c owns at.there inside has stands.tag) stands.asked
+    (answers-one service log e n stands.ordinal lends base answer packets c.bytes c.first is (On unasked link lent c owns at.there inside has stands.tag) stands.asked
     (told stands.ordinal stands.tag (carried service log n link c stands some)) (record { unasked = unasked; idle = λ l x owned here. absurd (unowned l owned) }) at.idle (inr (set-same lends.owned n None))) where
       n : ℕ
       n = at.row.turn.client
@@ -204,10 +205,10 @@ forgotten-shut service log e lends link lent at none opened may asks_stay = came
 -- Why the link can't be used again, and what that makes of its command.
 pub record Fails (service : Service) (log : Log) (e : Entry) (link : LinkId) (lent : Lent) (n : ℕ) (refusal : Refusal) : Type 0 where
   pub opened : IsOpen link (log ++ e ∷ [])
-  pub spoilt : standing_on lent.backend.account link (log ++ e ∷ []) ≡ Spoilt
+  pub spoilt : standing_on service.forms lent.backend.account link (log ++ e ∷ []) ≡ Spoilt
   pub silent : (i : ℕ) → carries n i e ≡ None
   pub fails : IsEntering lent.backend.account (heard_of link log) (pieces_of link log) lent.backend → login_fails lent.backend.account link log e ≡ true
-  pub told : (command : Handed) (i : ℕ) → IsInside lent.backend.account (heard_of link log) (pieces_of link log) lent.backend → lent.backend.command ≡ Some command → 0 < command.sent → command.tag ≡ For (record { 0 = n }) i → carrier_of n i log ≡ Some link
+  pub told : (command : Handed) (i : ℕ) → IsInside service.forms lent.backend.account (heard_of link log) (pieces_of link log) lent.backend → lent.backend.command ≡ Some command → 0 < command.sent → command.tag ≡ For (record { 0 = n }) i → carrier_of n i log ≡ Some link
       → replied service n i (log ++ e ∷ []) ≡ Some (payload_of refusal ∷ [])
 
 pub failed-came : (service : Service) (log : Log) (e : Entry) (lends : Lends) (link : LinkId) (lent : Lent) (refusal : Refusal) (at : AtRow service log e lends link lent) → Fails service log e link lent at.row.turn.client refusal
@@ -270,12 +271,12 @@ failed-came service log e lends link lent refusal at why = by at.row.at where
         came = came-of service log e lends link lent at other (Some (refusal_for client mine.ask))
             (shut-news service log e lends link lent at other (shut other (λ k. refl) refl (λ k differs. set-other lends.asks n k None differs) (λ k. refl)) why.opened spoilt
             (λ ask is. absurd (let no' : None ≡ Some ask = sym (set-same lends.asks n None) ∙ is in cc)) (none-owned other unowned) at.sound.one_waits (nobody-waits other refl))
-            (answers-one service new n mine.ask.ordinal lends other (connection_refused ∷ []) (spelling mine.ask.first connection_refused) mine.ask.packets mine.ask.first log (error-spelt mine.ask.first connection_refused)
+            (answers-one service log e n mine.ask.ordinal lends other (connection_refused ∷ []) (spelling mine.ask.first connection_refused) mine.ask.packets mine.ask.first (error-spelt mine.ask.first connection_refused)
             (Logs mine.ask mine.is refl link lent mine.owns at.there outside) stands.asked
             (refused-now service log e lends link lent mine.ask at.names at.row same stands.unsent (why.fails enters))
             (record { unasked = set-same lends.asks n None; idle = λ l x owns is. absurd (let no' : None ≡ Some l = sym unowned ∙ owns in cc) }) at.idle (inr unowned))
 
-  inside : IsInside lent.backend.account (heard_of link log) (pieces_of link log) lent.backend → Came service new n lends (failed link lent refusal (without_link link lends))
+  inside : IsInside service.forms lent.backend.account (heard_of link log) (pieces_of link log) lent.backend → Came service new n lends (failed link lent refusal (without_link link lends))
   inside is_in = command lent.backend.command refl at.row.owned where
     calm : Calm service log e n
     calm = calm-own service log e lends link lent n at.names at.row (inside-stays lent.backend.account link log e (ap goes_on is_in.is)) why.silent
@@ -371,6 +372,6 @@ failed-came service log e lends link lent refusal at why = by at.row.at where
     command None has (Left own gone begun) = absurd (let no' : false ≡ true = sym (ap is_begun has) ∙ begun in cc)
     command (Some c) has owned = sent-is c has c.sent refl owned
 
-  by : LinkAt lent.backend.account (heard_of link log) (pieces_of link log) lent.backend → Came service new n lends (failed link lent refusal (without_link link lends))
+  by : LinkAt service.forms lent.backend.account (heard_of link log) (pieces_of link log) lent.backend → Came service new n lends (failed link lent refusal (without_link link lends))
   by (Entering enters) = entering enters
   by (Inside is_in) = inside is_in

@@ -15,7 +15,7 @@ use Rattle.lend_core.specs.Changes.{with_link, without_link, owns_none, without_
 use Rattle.lend_core.specs.Events.{left_at, left_on, left_by, gone}
 use Rattle.exchange.specs.Logins.{was_lost, heard_of}
 use Rattle.exchange.specs.Commands.{pieces_of}
-use Rattle.exchange.specs.Replies.{Enters, Clean, Runs, Spoilt, standing_on}
+use Rattle.exchange.specs.Replies.{Forms, Enters, Clean, Runs, Spoilt, standing_on}
 use Rattle.promises.specs.Service.{Service}
 use Rattle.promises.specs.Owners.{is_here}
 use Rattle.promises.specs.Closes.{MayDrop, Gone as HasGone, Unneeded}
@@ -70,8 +70,8 @@ went-of service log n lends other sound apart traces left waiting rows one_close
   }
 
 -- How a link stands on which no command is begun.
-pub standing-unlost : (user : Account) (link : LinkId) (log : Log) → was_lost link log ≡ false → standing_on user link log ≡ standing_said user (heard_of link log) (pieces_of link log)
-standing-unlost user link log unlost = ap (λ b. cond b Spoilt (standing_said user (heard_of link log) (pieces_of link log))) unlost
+pub standing-unlost : (forms : Forms) (user : Account) (link : LinkId) (log : Log) → was_lost link log ≡ false → standing_on forms user link log ≡ standing_said forms user (heard_of link log) (pieces_of link log)
+standing-unlost forms user link log unlost = ap (λ b. cond b Spoilt (standing_said forms user (heard_of link log) (pieces_of link log))) unlost
 
 pub not-begun : (sent : ℕ) → not (nat_eq sent 0) ≡ false → sent ≡ 0
 not-begun sent none = nat_eq-true sent 0 (by (nat_eq sent 0) none) where
@@ -83,16 +83,16 @@ pub unbegun : (o : Option Handed) → is_begun o ≡ false → begun o ≡ []
 unbegun None none = refl
 unbegun (Some command) none = ap (λ sent. begun_by sent command) (not-begun command.sent none)
 
-unbegun-idle : (user : Account) (link : LinkId) (log : Log) (lent : Lent) → was_lost link log ≡ false → LinkAt user (heard_of link log) (pieces_of link log) lent.backend → is_begun lent.backend.command ≡ false → standing_on user link log ≢ Runs
-unbegun-idle user link log lent unlost (Entering at) none runs = (let no' : Enters ≡ Runs = sym (standing-unlost user link log unlost ∙ standing-entering user (heard_of link log) (pieces_of link log) lent.backend at) ∙ runs in cc)
-unbegun-idle user link log lent unlost (Inside at) none runs = (let no' : Clean ≡ Runs = sym (standing-unlost user link log unlost ∙ standing-clean user (heard_of link log) (pieces_of link log) lent.backend at (unbegun lent.backend.command none)) ∙ runs in cc)
+unbegun-idle : (forms : Forms) (user : Account) (link : LinkId) (log : Log) (lent : Lent) → was_lost link log ≡ false → LinkAt forms user (heard_of link log) (pieces_of link log) lent.backend → is_begun lent.backend.command ≡ false → standing_on forms user link log ≢ Runs
+unbegun-idle forms user link log lent unlost (Entering at) none runs = (let no' : Enters ≡ Runs = sym (standing-unlost forms user link log unlost ∙ standing-entering forms user (heard_of link log) (pieces_of link log) lent.backend at) ∙ runs in cc)
+unbegun-idle forms user link log lent unlost (Inside at) none runs = (let no' : Clean ≡ Runs = sym (standing-unlost forms user link log unlost ∙ standing-clean forms user (heard_of link log) (pieces_of link log) lent.backend at (unbegun lent.backend.command none)) ∙ runs in cc)
 
 -- the link may be closed
 may-drop : (service : Service) (log : Log) (n : ℕ) (lends : Lends) (link : LinkId) (lent : Lent) (hostgroup : ℕ) → MayGo service log n lends → lends.owned n ≡ Some link → lends.links link.0 ≡ Some lent → was_lost link log ≡ false
-    → LinkAt lent.backend.account (heard_of link log) (pieces_of link log) lent.backend → is_begun lent.backend.command ≡ false → MayDrop service (record { client = n; hostgroup = hostgroup }) lent.backend.account link log
-may-drop service log n lends link lent hostgroup (Away away) owns there unlost at none = HasGone away (unbegun-idle lent.backend.account link log lent unlost at none)
+    → LinkAt service.forms lent.backend.account (heard_of link log) (pieces_of link log) lent.backend → is_begun lent.backend.command ≡ false → MayDrop service (record { client = n; hostgroup = hostgroup }) lent.backend.account link log
+may-drop service log n lends link lent hostgroup (Away away) owns there unlost at none = HasGone away (unbegun-idle service.forms lent.backend.account link log lent unlost at none)
 may-drop service log n lends link lent hostgroup (Idle free idle) owns there unlost at none = (let is = free.idle link lent owns there in
-    Unneeded (standing-unlost lent.backend.account link log unlost ∙ standing-clean lent.backend.account _ _ lent.backend (inside-at lent.backend.account _ _ lent.backend at is.0) (ap begun is.1)) idle)
+    Unneeded (standing-unlost service.forms lent.backend.account link log unlost ∙ standing-clean service.forms lent.backend.account _ _ lent.backend (inside-at service.forms lent.backend.account _ _ lent.backend at is.0) (ap begun is.1)) idle)
 
 begun-away : (service : Service) (log : Log) (n : ℕ) (lends : Lends) (link : LinkId) (lent : Lent) → MayGo service log n lends → lends.owned n ≡ Some link → lends.links link.0 ≡ Some lent → is_begun lent.backend.command ≡ true → is_here n log ≡ false
 begun-away service log n lends link lent (Away away) owns there begins = away
@@ -100,7 +100,7 @@ begun-away service log n lends link lent (Idle free idle) owns there begins = ab
 
 -- the row of a link whose client has gone
 left-row : (service : Service) (log : Log) (n : ℕ) (lends other : Lends) (link : LinkId) (lent : Lent) (row : RowStands service log lends link lent) → row.turn.client ≡ n → is_here n log ≡ false → is_begun lent.backend.command ≡ true → RowStands service log other link (record lent { owner = None })
-left-row service log n lends other link lent row mine away begins = row-among service log lends other link lent None row (λ outside. absurd (outside (begun-inside lent.backend.account _ _ lent.backend row.at begins)))
+left-row service log n lends other link lent row mine away begins = row-among service log lends other link lent None row (λ outside. absurd (outside (begun-inside service.forms lent.backend.account _ _ lent.backend row.at begins)))
     (Left refl (ap (λ k. is_here k log) mine ∙ away) begins)
 
 pub gone-sound : (service : Service) (log : Log) (n : ℕ) (lends : Lends) → LendsSound service log lends → (lends.closing ≡ []) ⊎ (lends.owned n ≡ None) → MayGo service log n lends → Went service log n lends (gone (record { 0 = n }) lends)

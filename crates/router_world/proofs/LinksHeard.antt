@@ -106,14 +106,14 @@ module _ (service : Service) (log : Log) (bytes : List ℕ) (lends : Lends) (lin
   opened = opened-on link log e refl (λ was. refl) at.row.opened
 
   -- a reply is whole
-  replied-came : (left : BackendState) (used : ℕ) → IsInside user heard_here pieces lent.backend → got_of bytes lent.backend ≡ Hears (Whole used) left → ((ask : Ask) → lends.asks n ≡ Some ask → AskStands service new n ask)
+  replied-came : (left : BackendState) (used : ℕ) → IsInside service.forms user heard_here pieces lent.backend → got_of bytes lent.backend ≡ Hears (Whole used) left → ((ask : Ask) → lends.asks n ≡ Some ask → AskStands service new n ask)
       → Came service new n lends (answers link (due_on lent.backend) (nat_eq used (length bytes)) lent.owner left (without_link link lends))
   replied-came left used inside is asks_stay = subst (λ (due : Due). Came service new n lends (answers link due ended lent.owner left (without_link link lends))) (sym due) (by at.row.owned) where
     ended : Bool
     ended = nat_eq used (length bytes)
 
-    rep : IsReplied user (heard_here ++ bytes) pieces lent.backend left ended
-    rep = heard-whole user heard_here bytes pieces lent.backend left used inside got.piece is
+    rep : IsReplied service.forms user (heard_here ++ bytes) pieces lent.backend left ended
+    rep = heard-whole service.forms user heard_here bytes pieces lent.backend left used inside got.piece is
 
     c : Handed
     c = rep.command
@@ -129,17 +129,17 @@ module _ (service : Service) (log : Log) (bytes : List ℕ) (lends : Lends) (lin
 
     told : (i : ℕ) → c.tag ≡ For client i → carrier_of n i log ≡ Some link → replied service n i new ≡ Some rep.answer
     told i tag carrier = replied-said service n i link user new (refused-or-sent service new at.lawful) (carrier-stays n i log (e ∷ []) link carrier) (user-later service log e lends link lent at.row)
-        ∙ said-got (λ h p. reply_said n i user h p (was_lost link new)) link log bytes at.row.unlost
+        ∙ said-got (λ h p. reply_said service.forms n i user h p (was_lost link new)) link log bytes at.row.unlost
         ∙ rep.told n i (was_lost link new) (command-is n i c.tag tag)
 
     spoilt : (owner : Owner) → clean ≡ false → MayDrop service owner user link new
-    spoilt owner unclean = IsSpoilt (got-standing user link log bytes Spoilt at.row.unlost (rep.spoilt unclean))
+    spoilt owner unclean = IsSpoilt (got-standing service.forms user link log bytes Spoilt at.row.unlost (rep.spoilt unclean))
 
     -- the link serves on
     kept : lent.owner ≡ Some client → lends.owned n ≡ Some link → clean ≡ true
         → Came service new n lends (record { lends = with_link link (record { owner = Some client; backend = without_reply left }) (without_link link lends); answer = Some (record { client = client; packets = left.reply }) })
     kept own owns is_clean = came-of service log e lends link lent at other (Some (record { client = client; packets = left.reply })) (kept-news service log e lends link lent at now other keeps (sym own) row asks_stay)
-        (answers-one service new n stands.ordinal lends other rep.answer left.reply c.bytes c.first log rep.reply (On unasked link lent c owns at.there inside.stage rep.is stands.tag) stands.asked
+        (answers-one service log e n stands.ordinal lends other rep.answer left.reply c.bytes c.first rep.reply (On unasked link lent c owns at.there inside.stage rep.is stands.tag) stands.asked
         (told stands.ordinal stands.tag (carried service log n link c stands rep.sent)) (record { unasked = unasked; idle = λ l x owned here. idle l x owned here }) at.idle (inl at.unclosed)) where
           now : Lent
           now = record { owner = Some client; backend = without_reply left }
@@ -156,12 +156,12 @@ module _ (service : Service) (log : Log) (bytes : List ℕ) (lends : Lends) (lin
           unasked : lends.asks n ≡ None
           unasked = begun-alone service log lends n link c at.sound stands rep.sent
 
-          in_left : IsInside user (heard_here ++ bytes) pieces left
+          in_left : IsInside service.forms user (heard_here ++ bytes) pieces left
           in_left = rep.inside is_clean
 
           row : RowStands service new other link now
           row = row-later service log e lends other link lent now at.row at.fits opened unlost in_left.account
-              (got-at user link log bytes (without_reply left) at.row.unlost (Inside (reply-moved user (heard_here ++ bytes) pieces left [] in_left rep.idle)))
+              (got-at service.forms user link log bytes (without_reply left) at.row.unlost (Inside (reply-moved service.forms user (heard_here ++ bytes) pieces left [] in_left rep.idle)))
               (λ d has. absurd (let no' : None ≡ Some d = sym rep.idle ∙ has in cc)) (λ out. absurd (out in_left.stage)) (Own refl owns)
 
           idle : (l : LinkId) (x : Lent) → lends.owned n ≡ Some l → other.links l.0 ≡ Some x → (x.backend.stage ≡ stage.In) × (x.backend.command ≡ None)
@@ -177,7 +177,7 @@ module _ (service : Service) (log : Log) (bytes : List ℕ) (lends : Lends) (lin
     drops : is_here n log ≡ false → (b : Bool) → clean ≡ b → MayDrop service (record { client = n; hostgroup = at.row.turn.hostgroup }) user link new
     drops gone false unclean = spoilt _ unclean
     drops gone true is_clean = HasGone (gone-stays service n user log e (lawful-last Fits log e at.fits).1 at.row.user gone)
-        (λ runs. (let no' : Clean ≡ Runs = sym (got-standing user link log bytes Clean at.row.unlost (standing-clean user (heard_here ++ bytes) pieces left (rep.inside is_clean) (ap begun rep.idle))) ∙ runs in cc))
+        (λ runs. (let no' : Clean ≡ Runs = sym (got-standing service.forms user link log bytes Clean at.row.unlost (standing-clean service.forms user (heard_here ++ bytes) pieces left (rep.inside is_clean) (ap begun rep.idle))) ∙ runs in cc))
 
     by : Owned service log lends link n lent → Came service new n lends (answers link (Reply (nat_eq c.sent (length c.bytes)) c.first) ended lent.owner left (without_link link lends))
     by (Own own owns) = subst (λ (o : Option ClientNo). Came service new n lends (answers link (Reply (nat_eq c.sent (length c.bytes)) c.first) ended o left (without_link link lends))) (sym own)
@@ -232,7 +232,7 @@ module _ (service : Service) (log : Log) (bytes : List ℕ) (lends : Lends) (lin
           mine = entering-here service log lends link lent at.row outside
 
           row : RowStands service new (lends_with left) link (row_with left)
-          row = row-later service log e lends (lends_with left) link lent (row_with left) at.row at.fits opened unlost goes_in.account (got-at user link log bytes left at.row.unlost (Entering goes_in))
+          row = row-later service log e lends (lends_with left) link lent (row_with left) at.row at.fits opened unlost goes_in.account (got-at service.forms user link log bytes left at.row.unlost (Entering goes_in))
               (λ c has. absurd (let no' : None ≡ Some c = sym goes_in.login.idle ∙ has in cc)) (λ still. (let it = at.row.enters outside in record { ask = it.ask; is = it.is; same = it.same })) (Own mine.owner mine.owns)
 
           goes : (i : ℕ) → BusyHere lends n i link lent → Busy (lends_with left) n i
@@ -253,8 +253,8 @@ module _ (service : Service) (log : Log) (bytes : List ℕ) (lends : Lends) (lin
           mine : IsEnteringHere service log lends link n lent
           mine = entering-here service log lends link lent at.row outside
 
-          inside : IsInside user (heard_here ++ bytes) pieces left × (left.command ≡ None)
-          inside = heard-logged-in user heard_here bytes pieces lent.backend left enters at.row.some is
+          inside : IsInside service.forms user (heard_here ++ bytes) pieces left × (left.command ≡ None)
+          inside = heard-logged-in service.forms user heard_here bytes pieces lent.backend left enters at.row.some is
 
           takes : takes_command left ≡ true
           takes = ap (λ s. takes_at s left.command) inside.0.stage ∙ ap (λ c. not (is_some c)) inside.1
@@ -278,7 +278,7 @@ module _ (service : Service) (log : Log) (bytes : List ℕ) (lends : Lends) (lin
           stands = asks-stay calm mine.ask mine.is
 
           idle : RowStands service new other link now
-          idle = row-later service log e lends other link lent now at.row at.fits opened unlost inside.0.account (got-at user link log bytes left at.row.unlost (Inside inside.0))
+          idle = row-later service log e lends other link lent now at.row at.fits opened unlost inside.0.account (got-at service.forms user link log bytes left at.row.unlost (Inside inside.0))
               (λ c has. absurd (let no' : None ≡ Some c = sym inside.1 ∙ has in cc)) (λ out. absurd (out inside.0.stage)) (Own mine.owner mine.owns)
 
           news : RowNews service new n link lends other
@@ -304,21 +304,21 @@ module _ (service : Service) (log : Log) (bytes : List ℕ) (lends : Lends) (lin
           came = came-of service log e lends link lent at other None news
               (Quiet (λ i busy. goes i (busy-at i busy)) (λ free. absurd (let no' : None ≡ Some mine.ask = sym free.unasked ∙ mine.is in cc)) (λ gone. absurd (let no' : None ≡ Some mine.ask = sym gone.unasked ∙ mine.is in cc)) (λ i busy. silent-entering outside calm i (busy-at i busy)))
 
-    calm-inside : IsInside user heard_here pieces lent.backend → Calm service log e n
+    calm-inside : IsInside service.forms user heard_here pieces lent.backend → Calm service log e n
     calm-inside inside = calm-at (inside-stays user link log e (ap goes_on inside.is))
 
     -- a reply goes on
-    part : (left : BackendState) (used : ℕ) → IsInside user heard_here pieces lent.backend → got_of bytes lent.backend ≡ Hears (Part used) left → Came service new n lends (record { lends = with_link link (record lent { backend = left }) (without_link link lends); answer = None })
+    part : (left : BackendState) (used : ℕ) → IsInside service.forms user heard_here pieces lent.backend → got_of bytes lent.backend ≡ Hears (Part used) left → Came service new n lends (record { lends = with_link link (record lent { backend = left }) (without_link link lends); answer = None })
     part left used inside is = came-of service log e lends link lent at (lends_with left) None (kept-news service log e lends link lent at (row_with left) (lends_with left) (kept_with left) refl row (asks-stay calm))
         (Quiet (λ i busy. goes i (busy-at i busy)) (free-kept service log e lends link lent at (row_with left) (lends_with left) (kept_with left) (λ idle. absurd (let no' : None ≡ Some goes_in.command = sym idle.1 ∙ goes_in.was in cc))) (gone-kept n link (row_with left) lends (lends_with left) (kept_with left)) (λ i busy. silent i (busy-at i busy))) where
-          goes_in : IsGoing user (heard_here ++ bytes) pieces lent.backend left
-          goes_in = heard-part user heard_here bytes pieces lent.backend left used inside got.piece is
+          goes_in : IsGoing service.forms user (heard_here ++ bytes) pieces lent.backend left
+          goes_in = heard-part service.forms user heard_here bytes pieces lent.backend left used inside got.piece is
 
           calm : Calm service log e n
           calm = calm-inside inside
 
-          now_at : LinkAt user (heard_of link new) (pieces_of link new) left
-          now_at = got-at user link log bytes left at.row.unlost (Inside goes_in.inside)
+          now_at : LinkAt service.forms user (heard_of link new) (pieces_of link new) left
+          now_at = got-at service.forms user link log bytes left at.row.unlost (Inside goes_in.inside)
 
           -- the command, but for how far its reply is
           further : Handed → Handed
@@ -355,31 +355,31 @@ module _ (service : Service) (log : Log) (bytes : List ℕ) (lends : Lends) (lin
           silent i (OnHere owns unasked c staged has tag) = (let stands = at.row.command c has in
               let same : stands.ordinal ≡ i = (let both : For client stands.ordinal ≡ For client i = sym stands.tag ∙ tag in cc) in ap (λ k. replied service n k new) (sym same) ∙ unreplied c has)
 
-    whole : (left : BackendState) (used : ℕ) → IsInside user heard_here pieces lent.backend → got_of bytes lent.backend ≡ Hears (Whole used) left → Came service new n lends (answers link (due_on lent.backend) (nat_eq used (length bytes)) lent.owner left (without_link link lends))
+    whole : (left : BackendState) (used : ℕ) → IsInside service.forms user heard_here pieces lent.backend → got_of bytes lent.backend ≡ Hears (Whole used) left → Came service new n lends (answers link (due_on lent.backend) (nat_eq used (length bytes)) lent.owner left (without_link link lends))
     whole left used inside is = replied-came left used inside is (asks-stay (calm-inside inside))
 
     -- no reply goes on so
-    broken : (fault : BackendFault) → got_of bytes lent.backend ≡ GotFault fault → standing_said user (heard_here ++ bytes) pieces ≡ Spoilt → Fails service log e link lent n (BadServerBytes (place_of fault))
+    broken : (fault : BackendFault) → got_of bytes lent.backend ≡ GotFault fault → standing_said service.forms user (heard_here ++ bytes) pieces ≡ Spoilt → Fails service log e link lent n (BadServerBytes (place_of fault))
     broken fault is spoilt = record {
       opened = opened;
-      spoilt = got-standing user link log bytes Spoilt at.row.unlost spoilt;
+      spoilt = got-standing service.forms user link log bytes Spoilt at.row.unlost spoilt;
       silent = λ i. refl;
-      fails = λ enters. ap (λ b. cond b false (cond (goes_on (login_on user link log)) (breaks_off user link log e) false)) at.row.unlost ∙ ap (λ b. cond b (breaks_off user link log e) false) (ap goes_on enters.goes) ∙ (heard-failure user heard_here bytes pieces lent.backend fault enters at.row.some is).0;
-      told = λ c i inside has some tag carrier. (let bad = heard-bad user heard_here bytes pieces lent.backend fault inside got.piece is in
+      fails = λ enters. ap (λ b. cond b false (cond (goes_on (login_on user link log)) (breaks_off user link log e) false)) at.row.unlost ∙ ap (λ b. cond b (breaks_off user link log e) false) (ap goes_on enters.goes) ∙ (heard-failure service.forms user heard_here bytes pieces lent.backend fault enters at.row.some is).0;
+      told = λ c i inside has some tag carrier. (let bad = heard-bad service.forms user heard_here bytes pieces lent.backend fault inside got.piece is in
           replied-said service n i link user new (refused-or-sent service new at.lawful) (carrier-stays n i log (e ∷ []) link carrier) (user-later service log e lends link lent at.row)
-          ∙ said-got (λ h p. reply_said n i user h p (was_lost link new)) link log bytes at.row.unlost
+          ∙ said-got (λ h p. reply_said service.forms n i user h p (was_lost link new)) link log bytes at.row.unlost
           ∙ bad.told c n i (was_lost link new) has some (command-is n i c.tag tag)
           ∙ ap (λ f. Some (bad_server_bytes (place_of f) ∷ [])) (sym bad.bad_bytes));
     }
 
-    by : LinkAt user heard_here pieces lent.backend → (gets : Gets) → got_of bytes lent.backend ≡ gets → Came service new n lends (told_by link lent (length bytes) gets (without_link link lends))
+    by : LinkAt service.forms user heard_here pieces lent.backend → (gets : Gets) → got_of bytes lent.backend ≡ gets → Came service new n lends (told_by link lent (length bytes) gets (without_link link lends))
     by (Entering enters) (Hears GoesOn left) is = quiet left enters is
     by (Entering enters) (Hears LoggedIn left) is = logs_in left enters is
-    by (Entering enters) (Hears (Part used) left) is = absurd (subst (TellsEntering user (heard_here ++ bytes) pieces) is (heard-entering user heard_here bytes pieces lent.backend enters at.row.some))
-    by (Entering enters) (Hears (Whole used) left) is = absurd (subst (TellsEntering user (heard_here ++ bytes) pieces) is (heard-entering user heard_here bytes pieces lent.backend enters at.row.some))
-    by (Entering enters) (GotFault fault) is = failed-came service log e lends link lent (BadServerBytes (place_of fault)) at (broken fault is (heard-failure user heard_here bytes pieces lent.backend fault enters at.row.some is).1)
-    by (Inside inside) (Hears GoesOn left) is = absurd (subst (TellsInside user (heard_here ++ bytes) pieces lent.backend (length bytes)) is (heard-inside user heard_here bytes pieces lent.backend inside got.piece))
-    by (Inside inside) (Hears LoggedIn left) is = absurd (subst (TellsInside user (heard_here ++ bytes) pieces lent.backend (length bytes)) is (heard-inside user heard_here bytes pieces lent.backend inside got.piece))
+    by (Entering enters) (Hears (Part used) left) is = absurd (subst (TellsEntering service.forms user (heard_here ++ bytes) pieces) is (heard-entering service.forms user heard_here bytes pieces lent.backend enters at.row.some))
+    by (Entering enters) (Hears (Whole used) left) is = absurd (subst (TellsEntering service.forms user (heard_here ++ bytes) pieces) is (heard-entering service.forms user heard_here bytes pieces lent.backend enters at.row.some))
+    by (Entering enters) (GotFault fault) is = failed-came service log e lends link lent (BadServerBytes (place_of fault)) at (broken fault is (heard-failure service.forms user heard_here bytes pieces lent.backend fault enters at.row.some is).1)
+    by (Inside inside) (Hears GoesOn left) is = absurd (subst (TellsInside service.forms user (heard_here ++ bytes) pieces lent.backend (length bytes)) is (heard-inside service.forms user heard_here bytes pieces lent.backend inside got.piece))
+    by (Inside inside) (Hears LoggedIn left) is = absurd (subst (TellsInside service.forms user (heard_here ++ bytes) pieces lent.backend (length bytes)) is (heard-inside service.forms user heard_here bytes pieces lent.backend inside got.piece))
     by (Inside inside) (Hears (Part used) left) is = part left used inside is
     by (Inside inside) (Hears (Whole used) left) is = whole left used inside is
-    by (Inside inside) (GotFault fault) is = failed-came service log e lends link lent (BadServerBytes (place_of fault)) at (broken fault is (heard-bad user heard_here bytes pieces lent.backend fault inside got.piece is).spoilt)
+    by (Inside inside) (GotFault fault) is = failed-came service log e lends link lent (BadServerBytes (place_of fault)) at (broken fault is (heard-bad service.forms user heard_here bytes pieces lent.backend fault inside got.piece is).spoilt)

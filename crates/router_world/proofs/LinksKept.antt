@@ -16,7 +16,7 @@ use Rattle.lend_core.specs.Lends.{Lends, set}
 use Rattle.lend_core.specs.Changes.{with_link, without_link}
 use Rattle.exchange.specs.Logins.{was_lost, heard_of}
 use Rattle.exchange.specs.Commands.{Command, pieces_of}
-use Rattle.exchange.specs.Replies.{Standing, standing_on}
+use Rattle.exchange.specs.Replies.{Forms, Standing, standing_on}
 use Rattle.promises.specs.Service.{Service}
 use Rattle.promises.specs.Headline.{IsLawful}
 use Rattle.promises.proofs.InWork.{some-same}
@@ -73,12 +73,12 @@ gone-kept n link now lends other keeps gone = record { unasked = ap (λ f. f n) 
 pub said-got : {X : Type 0} (f : List ℕ → List Command → X) (link : LinkId) (log : Log) (bytes : List ℕ) → was_lost link log ≡ false → f (heard_of link (log ++ Got link bytes ∷ [])) (pieces_of link (log ++ Got link bytes ∷ [])) ≡ f (heard_of link log ++ bytes) (pieces_of link log)
 said-got f link log bytes unlost = ap (λ h. f h (pieces_of link (log ++ Got link bytes ∷ []))) (heard-on link log (Got link bytes) refl unlost refl) ∙ ap (f (heard_of link log ++ bytes)) (pieces-on link log (Got link bytes) refl unlost refl)
 
-pub got-at : (user : Account) (link : LinkId) (log : Log) (bytes : List ℕ) (backend : BackendState) → was_lost link log ≡ false → LinkAt user (heard_of link log ++ bytes) (pieces_of link log) backend → LinkAt user (heard_of link (log ++ Got link bytes ∷ [])) (pieces_of link (log ++ Got link bytes ∷ [])) backend
-got-at user link log bytes backend unlost at = subst (λ h. LinkAt user h (pieces_of link (log ++ Got link bytes ∷ [])) backend) (sym (heard-on link log (Got link bytes) refl unlost refl))
-    (subst (λ pieces. LinkAt user (heard_of link log ++ bytes) pieces backend) (sym (pieces-on link log (Got link bytes) refl unlost refl)) at)
+pub got-at : (forms : Forms) (user : Account) (link : LinkId) (log : Log) (bytes : List ℕ) (backend : BackendState) → was_lost link log ≡ false → LinkAt forms user (heard_of link log ++ bytes) (pieces_of link log) backend → LinkAt forms user (heard_of link (log ++ Got link bytes ∷ [])) (pieces_of link (log ++ Got link bytes ∷ [])) backend
+got-at forms user link log bytes backend unlost at = subst (λ h. LinkAt forms user h (pieces_of link (log ++ Got link bytes ∷ [])) backend) (sym (heard-on link log (Got link bytes) refl unlost refl))
+    (subst (λ pieces. LinkAt forms user (heard_of link log ++ bytes) pieces backend) (sym (pieces-on link log (Got link bytes) refl unlost refl)) at)
 
-pub got-standing : (user : Account) (link : LinkId) (log : Log) (bytes : List ℕ) (standing : Standing) → was_lost link log ≡ false → standing_said user (heard_of link log ++ bytes) (pieces_of link log) ≡ standing → standing_on user link (log ++ Got link bytes ∷ []) ≡ standing
-got-standing user link log bytes standing unlost is = standing-unlost user link (log ++ Got link bytes ∷ []) (lost-on link log (Got link bytes) refl unlost) ∙ said-got (standing_said user) link log bytes unlost ∙ is
+pub got-standing : (forms : Forms) (user : Account) (link : LinkId) (log : Log) (bytes : List ℕ) (standing : Standing) → was_lost link log ≡ false → standing_said forms user (heard_of link log ++ bytes) (pieces_of link log) ≡ standing → standing_on forms user link (log ++ Got link bytes ∷ []) ≡ standing
+got-standing forms user link log bytes standing unlost is = standing-unlost forms user link (log ++ Got link bytes ∷ []) (lost-on link log (Got link bytes) refl unlost) ∙ said-got (standing_said forms user) link log bytes unlost ∙ is
 
 -- The piece, on a row.
 pub record GotAt (service : Service) (log : Log) (bytes : List ℕ) (lends : Lends) (link : LinkId) (lent : Lent) : Type 0 where

@@ -31,7 +31,7 @@ use Rattle.router_world.proofs.LinksWritten.{LeftIn, OfLogin, OfCommand, left-in
 -- a login that fails was for the command in work
 fails-early : (service : Service) (log : Log) (e : Entry) (lends : Lends) (link : LinkId) (lent : Lent) (arrived : ℕ) (at : AtRow service log e lends link lent) → ((i : ℕ) → Busy lends at.row.turn.client i → i ≤ arrived) → login_fails lent.backend.account link log e ≡ true → at.row.turn.ordinal ≤ arrived
 fails-early service log e lends link lent arrived at early fails = by at.row.at where
-  by : LinkAt lent.backend.account (heard_of link log) (pieces_of link log) lent.backend → at.row.turn.ordinal ≤ arrived
+  by : LinkAt service.forms lent.backend.account (heard_of link log) (pieces_of link log) lent.backend → at.row.turn.ordinal ≤ arrived
   by (Inside inside) = absurd (let no' : false ≡ true = sym (inside-stays lent.backend.account link log e (ap goes_on inside.is)) ∙ fails in cc)
   by (Entering enters) = (let out = outside-at lent.backend.account (heard_of link log) (pieces_of link log) lent.backend enters in
       let mine = entering-here service log lends link lent at.row out in let it = at.row.enters out in
@@ -78,7 +78,7 @@ wrote-early service log tag bytes lends link lent arrived wrote early unsent i l
 
     first : (sent : ℕ) → c.sent ≡ sent → Owned service log lends link n lent → i ≡ stands.ordinal → ⊥
     first zero none (Own owner owns) same = (let most : stands.ordinal ≤ arrived = early stands.ordinal (On (unasked-beside service log (Wrote link tag bytes) lends link lent at c has wrote.holds) link lent c owns at.there (staged at.row.at) has stands.tag) in omega arith) where
-      staged : LinkAt lent.backend.account (heard_of link log) (pieces_of link log) lent.backend → lent.backend.stage ≡ stage.In
+      staged : LinkAt service.forms lent.backend.account (heard_of link log) (pieces_of link log) lent.backend → lent.backend.stage ≡ stage.In
       staged (Inside is_in) = is_in.stage
       staged (Entering enters) = absurd (let no' : None ≡ Some c = sym enters.login.idle ∙ has in cc)
     first zero none (Left owner gone begun) same = (let no' : false ≡ true = sym (ap is_begun has ∙ ap (λ s. not (nat_eq s 0)) none) ∙ begun in cc)

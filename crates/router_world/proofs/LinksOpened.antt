@@ -183,7 +183,7 @@ open-failed-sound service log server address lends client lawful fits awaited co
         sound = mended service new client.0 lends other (but-client service log e client.0 lends lawful fits awaited.sound (OpensNone server address (turn_with client mine.ask) next refl)) mends;
         apart = apart-none client.0 lends other same;
         traces = traces-none client.0 lends other same;
-        comes = answers-one service new client.0 mine.ask.ordinal lends other (connection_refused ∷ []) (spelling mine.ask.first connection_refused) mine.ask.packets mine.ask.first log (error-spelt mine.ask.first connection_refused) (Waits mine.ask mine.asks refl mine.unowned awaited.waiting) stands.asked told
+        comes = answers-one service log e client.0 mine.ask.ordinal lends other (connection_refused ∷ []) (spelling mine.ask.first connection_refused) mine.ask.packets mine.ask.first (error-spelt mine.ask.first connection_refused) (Waits mine.ask mine.asks refl mine.unowned awaited.waiting) stands.asked told
             (record { unasked = unasked; idle = λ l x owned is. absurd (let no' : None ≡ Some l = sym mine.unowned ∙ owned in cc) }) unwaiting (inl awaited.unclosed);
       }
 
@@ -258,8 +258,8 @@ opened-sound service log server address link lends client lawful fits awaited co
         hostgroup = refl;
         user = user-stays service client.0 log (e ∷ []) mine.ask.account stands.account;
         some = pieces-some link new fits;
-        at = subst (λ h. LinkAt mine.ask.account h (pieces_of link new) (new_backend mine.ask.account)) (sym (ap (λ (l : Log). flat_map got_bytes (until_loss l)) alone))
-            (subst (λ p. LinkAt mine.ask.account [] p (new_backend mine.ask.account)) (sym (ap (λ (l : Log). filter_map piece (until_loss l)) alone)) (first-at mine.ask.account));
+        at = subst (λ h. LinkAt service.forms mine.ask.account h (pieces_of link new) (new_backend mine.ask.account)) (sym (ap (λ (l : Log). flat_map got_bytes (until_loss l)) alone))
+            (subst (λ p. LinkAt service.forms mine.ask.account [] p (new_backend mine.ask.account)) (sym (ap (λ (l : Log). filter_map piece (until_loss l)) alone)) (first-at service.forms mine.ask.account));
         command = λ c has. absurd (let no' : None ≡ Some c = has in cc);
         enters = λ outside. record { ask = mine.ask; is = mine.asks; same = refl };
         owned = Own refl owned;

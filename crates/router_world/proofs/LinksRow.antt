@@ -77,23 +77,23 @@ piece-on link log tag bytes unlost = pieces-more link log (Wrote link tag bytes 
 
 -- What comes of a command on the link is what the link says.
 pub replied-said : (service : Service) (n i : ℕ) (link : LinkId) (user : Account) (log : Log) → RefusedOrSent service log → carrier_of n i log ≡ Some link → user_on service link log ≡ Some user
-    → replied service n i log ≡ reply_said n i user (heard_of link log) (pieces_of link log) (was_lost link log)
+    → replied service n i log ≡ reply_said service.forms n i user (heard_of link log) (pieces_of link log) (was_lost link log)
 replied-said service n i link user log never carrier is = ap (λ b. cond b (Some (connection_refused ∷ [])) (reply_to service n i log)) (sent-unrefused service n i log link never carrier)
-    ∙ ap (option_and_then (λ l. option_and_then (reply_on n i l log) (user_on service l log))) carrier
-    ∙ ap (option_and_then (reply_on n i link log)) is
+    ∙ ap (option_and_then (λ l. option_and_then (reply_on service.forms n i l log) (user_on service l log))) carrier
+    ∙ ap (option_and_then (reply_on service.forms n i link log)) is
 
 pub command-is : (n i : ℕ) (tag : Tag) → tag ≡ For (record { 0 = n }) i → is_command n i tag ≡ true
 command-is n i tag is = ap (is_command n i) is ∙ ap (λ b. b && nat_eq i i) (same_number n) ∙ same_number i
 
 -- nothing comes of one that is written in part, or waits for its first byte
-pub command-unreplied : (service : Service) (n i : ℕ) (link : LinkId) (user : Account) (log : Log) (backend : BackendState) (command : Handed) → RefusedOrSent service log → LinkAt user (heard_of link log) (pieces_of link log) backend → backend.command ≡ Some command
+pub command-unreplied : (service : Service) (n i : ℕ) (link : LinkId) (user : Account) (log : Log) (backend : BackendState) (command : Handed) → RefusedOrSent service log → LinkAt service.forms user (heard_of link log) (pieces_of link log) backend → backend.command ≡ Some command
     → command.tag ≡ For (record { 0 = n }) i → carrier_of n i log ≡ carried_by link command.sent → user_on service link log ≡ Some user → was_lost link log ≡ false → (command.sent ≡ 0 → is_refused service n i log ≡ false) → replied service n i log ≡ None
 command-unreplied service n i link user log backend command never (Entering at) has tag carrier is unlost unrefused = absurd (let no' : None ≡ Some command = sym at.login.idle ∙ has in cc)
 command-unreplied service n i link user log backend command never (Inside at) has tag carrier is unlost unrefused = by command.sent refl where
   by : (sent : ℕ) → command.sent ≡ sent → replied service n i log ≡ None
   by zero none = unsent-still service n i log (carrier ∙ ap (carried_by link) none) (unrefused none)
   by (suc sent) some = replied-said service n i link user log never (carrier ∙ ap (carried_by link) some) is
-      ∙ unanswered-at user (heard_of link log) (pieces_of link log) backend command n i (was_lost link log) (record { inside = at; is = has; some = omega arith }) (command-is n i command.tag tag)
+      ∙ unanswered-at service.forms user (heard_of link log) (pieces_of link log) backend command n i (was_lost link log) (record { inside = at; is = has; some = omega arith }) (command-is n i command.tag tag)
       ∙ ap (λ b. cond b (Some (Rattle.client_session.specs.Errors.connection_lost ∷ [])) None) unlost
 
 -- The client's own link.

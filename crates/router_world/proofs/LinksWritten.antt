@@ -98,7 +98,7 @@ pub data Holds (lends : Lends) (n : ℕ) : Type 0 where
 -- beside a command on the link none is asked for
 pub unasked-beside : (service : Service) (log : Log) (e : Entry) (lends : Lends) (link : LinkId) (lent : Lent) (at : AtRow service log e lends link lent) (command : Handed) → lent.backend.command ≡ Some command → Holds lends at.row.turn.client → lends.asks at.row.turn.client ≡ None
 unasked-beside service log e lends link lent at command has (Works i busy) = by (at-busy service log e lends link lent at i busy) where
-  inside : LinkAt lent.backend.account (heard_of link log) (pieces_of link log) lent.backend → lent.backend.stage ≡ stage.In
+  inside : LinkAt service.forms lent.backend.account (heard_of link log) (pieces_of link log) lent.backend → lent.backend.stage ≡ stage.In
   inside (Entering enters) = absurd (let no' : None ≡ Some command = sym enters.login.idle ∙ has in cc)
   inside (Inside is_in) = is_in.stage
 
@@ -177,10 +177,10 @@ wrote-came service log tag bytes lends link lent wrote = by (left-in lent.backen
     none-there (inl there) = absurd (uncarried m i link log unsent there)
     none-there (inr none) = none
 
-  now_at : LinkAt user (heard_of link new) (pieces_of link new) now.backend
-  now_at = subst (λ h. LinkAt user h (pieces_of link new) now.backend) (sym (heard-on link log e refl at.row.unlost refl ∙ append-nil (heard_of link log)))
-      (subst (λ p. LinkAt user (heard_of link log) p now.backend) (sym (piece-on link log tag bytes at.row.unlost ∙ ap (λ (t : Tag). pieces_of link log ++ record { tag = t; bytes = bytes } ∷ []) wrote.same ∙ ap (λ b. pieces_of link log ++ record { tag = wrote.l.tag; bytes = b } ∷ []) (sym wrote.front)))
-      (taken-at user (heard_of link log) (pieces_of link log) lent.backend wrote.l (length bytes) at.row.at wrote.is wrote.some wrote.fits fresh))
+  now_at : LinkAt service.forms user (heard_of link new) (pieces_of link new) now.backend
+  now_at = subst (λ h. LinkAt service.forms user h (pieces_of link new) now.backend) (sym (heard-on link log e refl at.row.unlost refl ∙ append-nil (heard_of link log)))
+      (subst (λ p. LinkAt service.forms user (heard_of link log) p now.backend) (sym (piece-on link log tag bytes at.row.unlost ∙ ap (λ (t : Tag). pieces_of link log ++ record { tag = t; bytes = bytes } ∷ []) wrote.same ∙ ap (λ b. pieces_of link log ++ record { tag = wrote.l.tag; bytes = b } ∷ []) (sym wrote.front)))
+      (taken-at service.forms user (heard_of link log) (pieces_of link log) lent.backend wrote.l (length bytes) at.row.at wrote.is wrote.some wrote.fits fresh))
 
   owned : (o : Option Handed) → is_begun o ≡ true → now.backend.command ≡ o → Owned service log lends link n lent → Owned service new other link n now
   owned o begins is (ItsOwn own owns) = ItsOwn own owns

@@ -1,15 +1,16 @@
 -- What is done for one client among the links to servers.
 use Rattle.std.specs.Prelude.{◌≡◌, ◌⊎◌, ℕ, false, List, [], Option, Some, None}
 use Rattle.mx_wire.specs.Log.{Log}
+use Rattle.packet_frame.specs.Packets.{Framed, next_id}
 use Rattle.lend_core.specs.declared.ask.Answered.{Answered}
 use Rattle.lend_core.specs.Lends.{Lends, Told}
 use Rattle.client_session.specs.Answers.{is_query}
 use Rattle.exchange.specs.Replies.{Answer, spelt}
 use Rattle.promises.specs.Service.{Service}
 use Rattle.promises.specs.Owners.{is_here}
-use Rattle.promises.specs.Due.{Work, work_of}
+use Rattle.promises.specs.Due.{Work, message_of, work_of}
 use Rattle.router_world.specs.Replied.{replied}
-use Rattle.router_world.proofs.Sound.{IsAsked, LendsSound, Free, Gone, Busy}
+use Rattle.router_world.proofs.Sound.{LendsSound, Free, Gone, Busy}
 use Rattle.router_world.proofs.Apart.{Apart, Traces}
 
 -- its query was asked for
@@ -33,8 +34,8 @@ pub record Went (service : Service) (log : Log) (n : ℕ) (lends other : Lends) 
 -- Something came of the client's command, or nothing did.
 pub data Comes (service : Service) (log : Log) (n : ℕ) (lends other : Lends) : Option Answered → Type 0 where
   Quiet : ((i : ℕ) → Busy lends n i → Busy other n i) → (Free lends n → Free other n) → (Gone lends n → Gone other n) → ((i : ℕ) → Busy lends n i → replied service n i log ≡ None) → Comes service log n lends other None
-  Answers : (i : ℕ) (answer : Answer) (bytes : List ℕ) (id : ℕ) (before : Log) → Busy lends n i → IsAsked service n i bytes id before → replied service n i log ≡ Some answer → Free other n
-      → other.waiting ≡ [] → (other.closing ≡ []) ⊎ (other.owned n ≡ None) → Comes service log n lends other (Some (record { client = record { 0 = n }; packets = spelt id answer }))
+  Answers : (i : ℕ) (answer : Answer) (message : Framed) → Busy lends n i → message_of service n i log ≡ Some message → replied service n i log ≡ Some answer → Free other n
+      → other.waiting ≡ [] → (other.closing ≡ []) ⊎ (other.owned n ≡ None) → Comes service log n lends other (Some (record { client = record { 0 = n }; packets = spelt (next_id message.last) answer }))
 
 -- `before` is the log before the entry; the tables were sound for that, and what came is sound for the log with the entry
 pub record Came (service : Service) (log : Log) (n : ℕ) (lends : Lends) (told : Told) : Type 0 where

@@ -25,7 +25,7 @@ use Rattle.router_world.specs.World.{told, tables_after, turn_at}
 use Rattle.router_world.proofs.Connecting.{counts-all}
 use Rattle.router_world.proofs.Calm.{Leaves, leaves-other, Spares, carrier-same, unrefused-more}
 use Rattle.router_world.proofs.Sitting.{seat-stays}
-use Rattle.router_world.proofs.Sound.{Sound, Serves, Unsent, Gone, Waits, InHand, OnHand, Known, Servers, Covers}
+use Rattle.router_world.proofs.Sound.{AreFormed, Sound, Serves, Unsent, Gone, Waits, InHand, OnHand, Known, Servers, Covers}
 use Rattle.router_world.proofs.Turns.{IsFor, next-turn}
 use Rattle.router_world.proofs.LinksCalm.{Concerns, Opens, OpensNone, calm-other, leaves-others, open-cause}
 use Rattle.router_world.proofs.LinksOpened.{IsAwaited, CameNew, open-failed-sound, opened-sound}
@@ -42,6 +42,7 @@ pub record OnOpen (service : Service) (log : Log) (e : Entry) (tables : Tables) 
   pub few : length log < 281474976710656
   pub lawful : AllLawful (IsLawful service) (log ++ e ∷ [])
   pub served : IsServed service (log ++ e ∷ [])
+  pub formed : AreFormed service (log ++ e ∷ [])
   pub covers : Covers service (log ++ e ∷ [])
   pub quiet : IsQuiet tables
   pub are : tables_after service.setup log ≡ tables
@@ -77,6 +78,7 @@ open-failed-step service log server address tables sound on = server-step servic
   counts = counts-all (log ++ e ∷ []) all;
   lawful = on.lawful;
   served = on.served;
+  formed = on.formed;
   plain = record { arrives = λ before. refl; stays = λ links. refl };
   quiet = on.quiet;
   came = open-failed-sound service log server address tables.lends on.for.client on.lawful all (awaited service log e tables sound on) on.covers;

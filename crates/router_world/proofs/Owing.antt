@@ -24,7 +24,7 @@ use Rattle.lend_core.specs.declared.lent.Lent.{Lent}
 use Rattle.lend_core.specs.Events.{left_in}
 use Rattle.exchange.specs.Logins.{IsPrefix, heard_of}
 use Rattle.exchange.specs.Commands.{Command, pieces_of, commands_on}
-use Rattle.exchange.specs.Replies.{Standing, Clean, Sends, standing_on}
+use Rattle.exchange.specs.Replies.{Forms, Standing, Clean, Sends, standing_on}
 use Rattle.promises.specs.Service.{Turn, Service, turn_of}
 use Rattle.promises.specs.Owners.{talk_with, user_on}
 use Rattle.promises.specs.Due.{work_of, turned_away, due}
@@ -123,9 +123,9 @@ owed-farewell service log tables parting told stands some = owed-client service 
 
 -- A link to a server.
 
-said-written : (user : Account) (heard : List ℕ) (pieces : List Command) (backend : BackendState) → LinkAt user heard pieces backend → drop (length (bytes_in pieces)) (said_of (opening user heard)) ≡ backend.own
-said-written user heard pieces backend (Entering at) = ap (λ o. drop (length (bytes_in pieces)) (said_of o)) at.goes ∙ drop-append_seam (bytes_in pieces) backend.own
-said-written user heard pieces backend (Inside at) = ap (λ o. drop (length (bytes_in pieces)) (said_of o)) at.is ∙ by at.written where
+said-written : (forms : Forms) (user : Account) (heard : List ℕ) (pieces : List Command) (backend : BackendState) → LinkAt forms user heard pieces backend → drop (length (bytes_in pieces)) (said_of (opening user heard)) ≡ backend.own
+said-written forms user heard pieces backend (Entering at) = ap (λ o. drop (length (bytes_in pieces)) (said_of o)) at.goes ∙ drop-append_seam (bytes_in pieces) backend.own
+said-written forms user heard pieces backend (Inside at) = ap (λ o. drop (length (bytes_in pieces)) (said_of o)) at.is ∙ by at.written where
   by : (bytes_in pieces ++ backend.own ≡ at.said) ⊎ ((backend.own ≡ []) × IsPrefix at.said (bytes_in pieces)) → drop (length (bytes_in pieces)) at.said ≡ backend.own
   by (inl all) = ap (drop (length (bytes_in pieces))) (sym all) ∙ drop-append_seam (bytes_in pieces) backend.own
   by (inr (none, front)) = drop_all (length (bytes_in pieces)) at.said (let size : length (at.said ++ front.rest) ≡ length at.said + length front.rest = length-append at.said front.rest in let same : length (at.said ++ front.rest) ≡ length (bytes_in pieces) = ap length front.is in omega arith) ∙ sym none
@@ -148,14 +148,14 @@ owed-row service log tables link lent l told row is = by (left-at lent.backend l
   n = row.turn.client
 
   rest : List ℕ
-  rest = owed_standing (standing_on user link log) (commands_on user link log) (query_in (work_of service n log))
+  rest = owed_standing (standing_on service.forms user link log) (commands_on user link log) (query_in (work_of service n log))
 
   nobody : client_at link 1 (arrivals log) ≡ None
   nobody = none-at link (arrivals log) 1 (λ j other has there.
       none-some (turn_of service link log) (ap (λ (l : LinkId). turn_of service l log) (sym there) ∙ clients-unowned service (suc j) other log told has) row.is_turn)
 
   own : unwritten link log (said_of (opening user (heard_of link log))) ≡ lent.backend.own
-  own = ap (λ bytes. drop (length bytes) (said_of (opening user (heard_of link log)))) (row-written link log row.unlost) ∙ said-written user (heard_of link log) (pieces_of link log) lent.backend row.at
+  own = ap (λ bytes. drop (length bytes) (said_of (opening user (heard_of link log)))) (row-written link log row.unlost) ∙ said-written service.forms user (heard_of link log) (pieces_of link log) lent.backend row.at
 
   whole : owed service link log ≡ login_first lent.backend.own rest
   whole = ap (owed_by service link log) nobody
@@ -169,8 +169,8 @@ owed-row service log tables link lent l told row is = by (left-at lent.backend l
     stands : HandedStands service log n link command
     stands = row.command command has
 
-    inside : IsInside user (heard_of link log) (pieces_of link log) lent.backend
-    inside = inside-with user (heard_of link log) (pieces_of link log) lent.backend command row.at has
+    inside : IsInside service.forms user (heard_of link log) (pieces_of link log) lent.backend
+    inside = inside-with service.forms user (heard_of link log) (pieces_of link log) lent.backend command row.at has
 
     query : query_in (work_of service n log) ≡ command.bytes
     query = ap query_in stands.asked.asks.work ∙ ap (λ b. cond b (spelling stands.asked.message.first stands.asked.message.payload) []) stands.asked.asks.query
@@ -178,11 +178,11 @@ owed-row service log tables link lent l told row is = by (left-at lent.backend l
 
     behind : (sent : ℕ) → command.sent ≡ sent → rest ≡ drop command.sent command.bytes
     behind zero at = ap (λ standing. owed_standing standing (commands_on user link log) (query_in (work_of service n log)))
-        (row-standing service log tables.lends link lent row ∙ standing-clean user (heard_of link log) (pieces_of link log) lent.backend inside (ap begun has ∙ ap (λ sent. begun_by sent command) at))
+        (row-standing service log tables.lends link lent row ∙ standing-clean service.forms user (heard_of link log) (pieces_of link log) lent.backend inside (ap begun has ∙ ap (λ sent. begun_by sent command) at))
         ∙ query ∙ ap (λ sent. drop sent command.bytes) (sym at)
     behind (suc sent) at = ap (λ standing. owed_standing standing (commands_on user link log) (query_in (work_of service n log)))
-        (row-standing service log tables.lends link lent row ∙ standing-sends user (heard_of link log) (pieces_of link log) lent.backend command (record { inside = inside; is = has; some = omega arith }) less)
-        ∙ ap (λ cs. drop (length (last_bytes cs)) (query_in (work_of service n log))) (commands-inside user (heard_of link log) (pieces_of link log) lent.backend inside ∙ ap (λ cs. inside.others ++ cs) (ap begun has ∙ begun-some command (omega arith)))
+        (row-standing service log tables.lends link lent row ∙ standing-sends service.forms user (heard_of link log) (pieces_of link log) lent.backend command (record { inside = inside; is = has; some = omega arith }) less)
+        ∙ ap (λ cs. drop (length (last_bytes cs)) (query_in (work_of service n log))) (commands-inside service.forms user (heard_of link log) (pieces_of link log) lent.backend inside ∙ ap (λ cs. inside.others ++ cs) (ap begun has ∙ begun-some command (omega arith)))
         ∙ ap (λ bytes. drop (length bytes) (query_in (work_of service n log))) (last-behind inside.others (record { tag = command.tag; bytes = take command.sent command.bytes }))
         ∙ ap (λ k. drop k (query_in (work_of service n log))) (length-take-le command.sent command.bytes (omega arith))
         ∙ ap (drop command.sent) query

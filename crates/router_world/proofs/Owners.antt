@@ -91,8 +91,8 @@ owner-is service log lends link lent message due row = ap (λ (o : Option Turn).
   owner : ℕ → Option Owner
   owner hostgroup = Some (record { client = row.turn.client; hostgroup = hostgroup })
 
-pub row-standing : (service : Service) (log : Log) (lends : Lends) (link : LinkId) (lent : Lent) → RowStands service log lends link lent → standing_on lent.backend.account link log ≡ standing_said lent.backend.account (heard_of link log) (pieces_of link log)
-row-standing service log lends link lent row = ap (λ b. cond b Spoilt (standing_said lent.backend.account (heard_of link log) (pieces_of link log))) row.unlost
+pub row-standing : (service : Service) (log : Log) (lends : Lends) (link : LinkId) (lent : Lent) → RowStands service log lends link lent → standing_on service.forms lent.backend.account link log ≡ standing_said service.forms lent.backend.account (heard_of link log) (pieces_of link log)
+row-standing service log lends link lent row = ap (λ b. cond b Spoilt (standing_said service.forms lent.backend.account (heard_of link log) (pieces_of link log))) row.unlost
 
 pub row-written : (link : LinkId) (log : Log) → was_lost link log ≡ false → written_of link log ≡ bytes_in (pieces_of link log)
 row-written link log unlost = pieces-bytes (of_link link log) ∙ ap (λ l. flat_map piece_bytes (filter_map piece l)) (sym (before-loss (of_link link log) [] unlost).0)

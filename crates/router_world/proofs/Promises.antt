@@ -1,5 +1,5 @@
 -- What the router does keeps the promises.
-use Rattle.std.specs.Prelude.{◌≡◌, ◌<◌, ◌+◌, true, false, List, [], ◌∷◌, ◌++◌, length, Some, None, refl}
+use Rattle.std.specs.Prelude.{◌≡◌, ◌≤◌, ◌<◌, ◌+◌, true, false, List, [], ◌∷◌, ◌++◌, length, Some, None, refl}
 use Rattle.std.proofs.Common.{sym, ◌∙◌, ap, subst, arith, inl, inr}
 use Rattle.std.proofs.lemmas.List.Sums.{fold-append}
 use Rattle.mx_base.specs.declared.names.LinkId.{LinkId}
@@ -8,9 +8,9 @@ use Rattle.mx_wire.specs.Moments.{AllLawful, moment-last}
 use Rattle.mx_wire.specs.Tells.{MayFollow}
 use Rattle.mx_wire.specs.declared.entry.Entry.{Entry}
 use Rattle.mx_wire.specs.declared.entry.Entry.TheVariants as entry
-use Rattle.packet_frame.specs.Packets.{longest}
 use Rattle.client_session.specs.Setups.{Setup}
 use Rattle.lend_core.specs.Lends.{nothing_lent}
+use Rattle.exchange.specs.Commands.{most_command}
 use Rattle.promises.specs.Service.{Service}
 use Rattle.promises.specs.Headline.{IsServed, Keeps, Serves}
 use Rattle.promises.proofs.InWork.{some-same}
@@ -27,7 +27,7 @@ use Rattle.router_world.proofs.OpenEvents.{OnOpen, open-failed-step, opened-step
 use Rattle.router_world.proofs.Comings.{coming-step}
 use Rattle.router_world.proofs.Nothings.{IsNothing, nothing-step}
 use Rattle.router_world.proofs.Happenings.{Happens, got-step, ended-step, failed-step, written-step, offer-written, offer-failed}
-use Rattle.router_world.proofs.Keeping.{GoesOn, keeps-none, stands-behind, keeps-all}
+use Rattle.router_world.proofs.Keeping.{GoesOn, service-of, formed-so, keeps-none, stands-behind, keeps-all}
 
 -- A link closes.
 closed-step : (service : Service) (log : Log) (link : LinkId) (tables : Tables) → Happens service log (entry.Closed link) tables → IsClosing tables link log → Sound service (log ++ entry.Closed link ∷ []) None (closed_by tables.parting tables)
@@ -57,6 +57,7 @@ on-open service log e tables target are happens covers awaited at = record {
   few = (let few : length log + 1 < 281474976710656 = happens.few in omega arith);
   lawful = happens.lawful;
   served = happens.served;
+  formed = happens.formed;
   covers = covers;
   quiet = quiet-closes tables (awaits-so service.setup tables target awaited).0;
   are = are;
@@ -67,7 +68,7 @@ on-open service log e tables target are happens covers awaited at = record {
 nothing : (service : Service) (log : Log) (e : Entry) (tables : Tables) → Happens service log e tables → IsNothing e → Sound service (log ++ e ∷ []) None tables
 nothing service log e tables happens none = nothing-step service log e tables happens.sound happens.told happens.fits happens.lawful happens.served none
 
-entry-step : (service : Service) (log : Log) (e : Entry) (tables : Tables) → service.setup.limit < longest → tables_after service.setup log ≡ tables → Happens service log e tables → Covers service (log ++ e ∷ []) → IsOurs service.setup log e → Sound service (log ++ e ∷ []) None (step service.setup tables e)
+entry-step : (service : Service) (log : Log) (e : Entry) (tables : Tables) → service.setup.limit ≤ most_command → tables_after service.setup log ≡ tables → Happens service log e tables → Covers service (log ++ e ∷ []) → IsOurs service.setup log e → Sound service (log ++ e ∷ []) None (step service.setup tables e)
 entry-step service log (entry.Accepted port link salt) tables short are happens covers ours = coming-step service log port link salt tables happens.sound (record {
   told = happens.told;
   fits = happens.fits;
@@ -150,23 +151,24 @@ starts service = record {
   served = moment-last (IsServed service) [] (keeps-none service).served;
 }
 
-pub goes-on : (service : Service) → service.setup.limit < longest → GoesOn service
-goes-on service short log e stands follows ours covers keeps = subst (Sound service (log ++ e ∷ []) None) (sym (fold-append (step service.setup) no_tables log (e ∷ [])))
+pub goes-on : (service : Service) → service.setup.limit ≤ most_command → GoesOn service
+goes-on service short log e stands follows ours covers formed keeps = subst (Sound service (log ++ e ∷ []) None) (sym (fold-append (step service.setup) no_tables log (e ∷ [])))
     (entry-step service log e (tables_after service.setup log) short refl (record {
       told = stands.told;
       fits = follows.fits;
       few = follows.bounded;
       lawful = keeps.lawful;
       served = moment-last (IsServed service) (log ++ e ∷ []) keeps.served;
+      formed = formed;
       sound = stands.sound;
     }) covers ours)
 
 -- What the router knows stands for each log of its own.
-pub sound-after : (setup : Setup) (log : Log) → setup.limit < longest → AllLawful MayFollow log → AllLawful (IsOurs setup) log → (service : Service) × Sound service log None (tables_after setup log)
-sound-after setup log short follow ours = (service, (stands-behind service [] log (goes-on service short) refl (record { told = tt; sound = starts service; counts = refl; keeps = keeps-none service }) follow ours).sound) where
+pub sound-after : (setup : Setup) (log : Log) → setup.limit ≤ most_command → AllLawful MayFollow log → AllLawful (IsOurs setup) log → (service : Service) × Sound service log None (tables_after setup log)
+sound-after setup log short follow ours = (service, (stands-behind service [] log (goes-on service short) refl (formed-so setup log) (record { told = tt; sound = starts service; counts = refl; keeps = keeps-none service }) follow ours).sound) where
   service : Service
-  service = record { setup = setup; opens = turns setup log }
+  service = service-of setup log
 
 -- A log whose entries are the router's keeps the promises.
-pub keeps : (setup : Setup) (log : Log) → setup.limit < longest → AllLawful MayFollow log → AllLawful (IsOurs setup) log → Serves setup log
-keeps setup log short follow ours = keeps-all setup log (λ service same. (goes-on service (subst (λ (s : Setup). s.limit < longest) (sym same) short), starts service)) follow ours
+pub keeps : (setup : Setup) (log : Log) → setup.limit ≤ most_command → AllLawful MayFollow log → AllLawful (IsOurs setup) log → Serves setup log
+keeps setup log short follow ours = keeps-all setup log (λ service same. (goes-on service (subst (λ (s : Setup). s.limit ≤ most_command) (sym same) short), starts service)) follow ours

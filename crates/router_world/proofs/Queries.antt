@@ -46,7 +46,7 @@ own-row service log tables link lent n sound owns is = (let row = sound.lends.ro
 
 -- The query waits on it.
 waits-on : (service : Service) (log : Log) (tables : Tables) (link : LinkId) (lent : Lent) (n i : ℕ) (bytes : List ℕ) (id : ℕ) (work : Work) → IsMine service log tables link lent n → (asked : IsAsked service n i bytes id log) → work_of service n log ≡ Some work
-    → Stays n i asked.message lent.backend.account link log → Waits service n work log
+    → Stays service.forms n i asked.message lent.backend.account link log → Waits service n work log
 waits-on service log tables link lent n i bytes id work own asked is stays = subst (λ (w : Work). Waits service n w log) (some-same (record { ordinal = i; message = asked.message }) work (sym asked.asks.work ∙ is)) (record {
   due = asked.due;
   is_due = asked.asks.is_due;
@@ -60,25 +60,25 @@ waits-on service log tables link lent n i bytes id work own asked is stays = sub
 
 -- while the login goes on there
 logs-in : (service : Service) (log : Log) (tables : Tables) (link : LinkId) (lent : Lent) (n i : ℕ) (bytes : List ℕ) (id : ℕ) → IsDrained (reads tables) (sends tables) log → Sound service log None tables → tables.lends.links link.0 ≡ Some lent → (row : RowStands service log tables.lends link lent)
-    → lent.backend.stage ≢ In → (asked : IsAsked service n i bytes id log) → Stays n i asked.message lent.backend.account link log
+    → lent.backend.stage ≢ In → (asked : IsAsked service n i bytes id log) → Stays service.forms n i asked.message lent.backend.account link log
 logs-in service log tables link lent n i bytes id drained sound is row outside asked = by lent.backend.own refl where
   entering : IsEntering lent.backend.account (heard_of link log) (pieces_of link log) lent.backend
-  entering = entering-at lent.backend.account (heard_of link log) (pieces_of link log) lent.backend row.at outside
+  entering = entering-at service.forms lent.backend.account (heard_of link log) (pieces_of link log) lent.backend row.at outside
 
-  by : (own : List ℕ) → lent.backend.own ≡ own → Stays n i asked.message lent.backend.account link log
-  by [] at = LogsIn (row-standing service log tables.lends link lent row ∙ standing-entering lent.backend.account (heard_of link log) (pieces_of link log) lent.backend entering)
+  by : (own : List ℕ) → lent.backend.own ≡ own → Stays service.forms n i asked.message lent.backend.account link log
+  by [] at = LogsIn (row-standing service log tables.lends link lent row ∙ standing-entering service.forms lent.backend.account (heard_of link log) (pieces_of link log) lent.backend entering)
       (entering.goes ∙ ap Goes (ap (λ own. bytes_in (pieces_of link log) ++ own) at ∙ append-nil (bytes_in (pieces_of link log)) ∙ sym (row-written link log row.unlost)))
   by (byte ∷ bytes) at = Full (row-full service log tables link lent (record { tag = Own; bytes = byte ∷ bytes }) drained sound row.opened is (ap (λ own. left_by own lent.backend.command) at))
 
 -- or as its command
 stays-on : (service : Service) (log : Log) (tables : Tables) (link : LinkId) (lent : Lent) (command : Handed) (n i : ℕ) → IsDrained (reads tables) (sends tables) log → Sound service log None tables → tables.lends.links link.0 ≡ Some lent → (row : RowStands service log tables.lends link lent)
-    → lent.backend.command ≡ Some command → command.tag ≡ For (record { 0 = n }) i → (asked : IsAsked service n i command.bytes command.first log) → Stays n i asked.message lent.backend.account link log
+    → lent.backend.command ≡ Some command → command.tag ≡ For (record { 0 = n }) i → (asked : IsAsked service n i command.bytes command.first log) → Stays service.forms n i asked.message lent.backend.account link log
 stays-on service log tables link lent command n i drained sound is row has tag asked = by (nat_lt command.sent (length command.bytes)) refl where
-  inside : IsInside lent.backend.account (heard_of link log) (pieces_of link log) lent.backend
-  inside = inside-with lent.backend.account (heard_of link log) (pieces_of link log) lent.backend command row.at has
+  inside : IsInside service.forms lent.backend.account (heard_of link log) (pieces_of link log) lent.backend
+  inside = inside-with service.forms lent.backend.account (heard_of link log) (pieces_of link log) lent.backend command row.at has
 
-  message : IsMessage command
-  message = subst IsHanded has inside.command
+  message : IsMessage service.forms command
+  message = subst (IsHanded service.forms) has inside.command
 
   some : 0 < length command.bytes
   some = (let size : length command.bytes ≡ length (spelling 0 message.payload) = ap length message.spelt in let least : 0 < length (spelling 0 message.payload) = spelling-some 0 message.payload in omega arith)
@@ -86,14 +86,14 @@ stays-on service log tables link lent command n i drained sound is row has tag a
   whole : command.bytes ≡ spelling asked.message.first asked.message.payload
   whole = asked.packets ∙ ap (λ first. spelling first asked.message.payload) (sym asked.begins)
 
-  sent : command.sent ≡ length command.bytes → Stays n i asked.message lent.backend.account link log
-  sent all = Sent inside.others (row-standing service log tables.lends link lent row ∙ standing-runs lent.backend.account (heard_of link log) (pieces_of link log) lent.backend command inside has all)
-      (commands-inside lent.backend.account (heard_of link log) (pieces_of link log) lent.backend inside
+  sent : command.sent ≡ length command.bytes → Stays service.forms n i asked.message lent.backend.account link log
+  sent all = Sent inside.others (row-standing service log tables.lends link lent row ∙ standing-runs service.forms lent.backend.account (heard_of link log) (pieces_of link log) lent.backend command inside has all)
+      (commands-inside service.forms lent.backend.account (heard_of link log) (pieces_of link log) lent.backend inside
       ∙ ap (λ cs. inside.others ++ cs) (ap begun has ∙ begun-some command (let least : 0 < length command.bytes = some in omega arith))
       ∙ ap (λ (t : Tag). inside.others ++ record { tag = t; bytes = take command.sent command.bytes } ∷ []) tag
       ∙ ap (λ bytes. inside.others ++ record { tag = For (record { 0 = n }) i; bytes = bytes } ∷ []) (take_all command.sent command.bytes (omega arith) ∙ whole))
 
-  by : (b : Bool) → nat_lt command.sent (length command.bytes) ≡ b → Stays n i asked.message lent.backend.account link log
+  by : (b : Bool) → nat_lt command.sent (length command.bytes) ≡ b → Stays service.forms n i asked.message lent.backend.account link log
   by true less = (let l = left-some lent.backend command has less in Full (row-full service log tables link lent l.0 drained sound row.opened is l.1))
   by false most = sent (let fits : command.sent ≤ length command.bytes = message.sent in grind arith)
 

@@ -14,7 +14,7 @@ use Rattle.client_session.specs.Arrivals.{Arrival, arrival_in, arrival_of, is_se
 use Rattle.client_session.specs.Answers.{Talk, opening_of, account, messages_of, front, fault_answer}
 use Rattle.exchange.specs.Logins.{was_lost, heard_of}
 use Rattle.exchange.specs.Commands.{pieces_of}
-use Rattle.exchange.specs.Replies.{Answer, Spoilt, standing_on}
+use Rattle.exchange.specs.Replies.{Forms, Answer, Spoilt, standing_on}
 use Rattle.promises.specs.Service.{Turn, Service, turn_of}
 use Rattle.promises.specs.Owners.{talk_with, talk_of, user_of, user_on, Owner}
 use Rattle.promises.specs.Due.{work_in, work_of, due, answered}
@@ -96,12 +96,12 @@ ended-same service n came log e silence = ap (λ (t : Talk). is_over service n c
 pub done-same : (service : Service) (n : ℕ) (came : Arrival) (log : Log) (e : Entry) → Silence log e → arrival_of n log ≡ Some came → is_served service.setup came ≡ true → IsDone service n came log → IsDone service n came (log ++ e ∷ [])
 done-same service n came log e silence is served done = record { ended = ended-same service n came log e silence ∙ done.ended; told = silence.sounds.written came.link ∙ done.told ∙ sym (due-same service n came log e silence is served) }
 
-standing-same : (user : Account) (link : LinkId) (log : Log) (e : Entry) → Sounds log e → standing_on user link (log ++ e ∷ []) ≡ standing_on user link log
-standing-same user link log e sounds = ap (λ b. cond b Spoilt (standing_said user (heard_of link (log ++ e ∷ [])) (pieces_of link (log ++ e ∷ [])))) (sounds.lost link)
-    ∙ ap (λ heard. cond (was_lost link log) Spoilt (standing_said user heard (pieces_of link (log ++ e ∷ [])))) (sounds.heard link)
-    ∙ ap (λ pieces. cond (was_lost link log) Spoilt (standing_said user (heard_of link log) pieces)) (sounds.pieces link)
+standing-same : (forms : Forms) (user : Account) (link : LinkId) (log : Log) (e : Entry) → Sounds log e → standing_on forms user link (log ++ e ∷ []) ≡ standing_on forms user link log
+standing-same forms user link log e sounds = ap (λ b. cond b Spoilt (standing_said forms user (heard_of link (log ++ e ∷ [])) (pieces_of link (log ++ e ∷ [])))) (sounds.lost link)
+    ∙ ap (λ heard. cond (was_lost link log) Spoilt (standing_said forms user heard (pieces_of link (log ++ e ∷ [])))) (sounds.heard link)
+    ∙ ap (λ pieces. cond (was_lost link log) Spoilt (standing_said forms user (heard_of link log) pieces)) (sounds.pieces link)
 
 pub drop-same : (service : Service) (owner : Owner) (user known : Account) (link : LinkId) (log : Log) (e : Entry) → Silence log e → Fits log e → user_of service owner.client log ≡ Some known → MayDrop service owner user link log → MayDrop service owner user link (log ++ e ∷ [])
-drop-same service owner user known link log e silence fits is (IsSpoilt spoilt) = IsSpoilt (standing-same user link log e silence.sounds ∙ spoilt)
-drop-same service owner user known link log e silence fits is (HasGone gone idle) = HasGone (gone-stays service owner.client known log e fits is gone) (λ runs. idle (sym (standing-same user link log e silence.sounds) ∙ runs))
-drop-same service owner user known link log e silence fits is (Unneeded clean idle) = Unneeded (standing-same user link log e silence.sounds ∙ clean) (λ work at. idle work (sym (work-same service owner.client log e silence) ∙ at))
+drop-same service owner user known link log e silence fits is (IsSpoilt spoilt) = IsSpoilt (standing-same service.forms user link log e silence.sounds ∙ spoilt)
+drop-same service owner user known link log e silence fits is (HasGone gone idle) = HasGone (gone-stays service owner.client known log e fits is gone) (λ runs. idle (sym (standing-same service.forms user link log e silence.sounds) ∙ runs))
+drop-same service owner user known link log e silence fits is (Unneeded clean idle) = Unneeded (standing-same service.forms user link log e silence.sounds ∙ clean) (λ work at. idle work (sym (work-same service owner.client log e silence) ∙ at))

@@ -23,32 +23,32 @@ use Rattle.server_side.specs.declared.hear.Heard.TheVariants.{Quiet, LoggedIn, P
 use Rattle.client_session.specs.Errors.{bad_server_bytes}
 use Rattle.exchange.specs.Logins.{is_empty, has_failed}
 use Rattle.exchange.specs.Commands.{Command, most_command, whole_by, is_whole, is_command, commands_in}
-use Rattle.exchange.specs.Replies.{Answer, spelt, Replies, Never, command_reply, cut, replies_by, Clean, Spoilt, stands, standing_in, reply_at}
+use Rattle.exchange.specs.Replies.{Forms, Answer, spelt, Replies, Never, command_reply, cut, replies_by, Clean, Spoilt, stands, standing_in, reply_at}
 use Rattle.promises.specs.Follows.{behind_replies}
 use Rattle.promises.proofs.InWork.{some-same}
-use Rattle.router_world.specs.Rows.{bytes_in, commands_said, replies_said, standing_said, reply_said, is_of, begun_by, begun, IsMessage, IsHanded, IsEntering, IsHearing, HearsPart, IsInside}
+use Rattle.router_world.specs.Rows.{form_at, bytes_in, commands_said, replies_said, standing_said, reply_said, is_of, begun_by, begun, IsMessage, IsHanded, IsEntering, IsHearing, HearsPart, IsInside}
 use Rattle.router_world.proofs.RowsPieces.{has_bytes, empty-not, behind-all, whole-spelt, part-spelt}
 use Rattle.router_world.proofs.RowsReplies.{IsPiece, IsWholeReply, hearing-more, whole-reply, never-reply}
 use Rattle.router_world.proofs.RowsSaid.{Stands, stands-at, stands-more, opening-more, replies-both, standing-of, reply-of, reply-open, reply-there, stands-answered}
 use Rattle.router_world.proofs.RowsWritten.{begun-some}
 
 -- A login goes on, is there, or fails.
-abbrev pub TellsEntering : Account → (heard : List ℕ) → (pieces : List Command) → Got → Type 0
-TellsEntering user heard pieces (Hears Quiet left) = IsEntering user heard pieces left
-TellsEntering user heard pieces (Hears LoggedIn left) = IsInside user heard pieces left × (left.command ≡ None)
-TellsEntering user heard pieces (Hears (Part used) left) = ⊥
-TellsEntering user heard pieces (Hears (WholeReply used) left) = ⊥
-TellsEntering user heard pieces (GotFault fault) = (has_failed (opening user heard) ≡ true) × (standing_said user heard pieces ≡ Spoilt)
+abbrev pub TellsEntering : Forms → Account → (heard : List ℕ) → (pieces : List Command) → Got → Type 0
+TellsEntering forms user heard pieces (Hears Quiet left) = IsEntering user heard pieces left
+TellsEntering forms user heard pieces (Hears LoggedIn left) = IsInside forms user heard pieces left × (left.command ≡ None)
+TellsEntering forms user heard pieces (Hears (Part used) left) = ⊥
+TellsEntering forms user heard pieces (Hears (WholeReply used) left) = ⊥
+TellsEntering forms user heard pieces (GotFault fault) = (has_failed (opening user heard) ≡ true) × (standing_said forms user heard pieces ≡ Spoilt)
 
 -- bytes behind all commands spoil a link
-spoilt-by : (user : Account) (read : List ℕ) (pieces : List Command) (kept : List ℕ) → Stands user read pieces [] kept → 0 < length kept → standing_said user read pieces ≡ Spoilt
-spoilt-by user read pieces kept at some = standing-of user read pieces [] kept at
+spoilt-by : (forms : Forms) (user : Account) (read : List ℕ) (pieces : List Command) (kept : List ℕ) → Stands forms user read pieces [] kept → 0 < length kept → standing_said forms user read pieces ≡ Spoilt
+spoilt-by forms user read pieces kept at some = standing-of forms user read pieces [] kept at
     ∙ stands-answered (at.others ++ []) (at.whole ++ []) kept (let one : length (at.others ++ []) ≡ length at.others + 0 = length-append at.others [] in let two : length (at.whole ++ []) ≡ length at.whole + 0 = length-append at.whole [] in let same : length at.whole ≡ length at.others = at.all in omega arith)
     ∙ ap (λ b. cond b Clean Spoilt) (and_left (is_empty kept) (list_all is_whole (at.others ++ [])) (empty-not kept some))
 
 -- a login that is there, before any command
-first-inside : (user : Account) (read : List ℕ) (pieces : List Command) (said rest : List ℕ) → opening user read ≡ LogsIn said rest → list_all has_bytes pieces ≡ true → length (bytes_in pieces) ≤ length said → Stands user read pieces [] rest
-first-inside user read pieces said rest is some fits = record {
+first-inside : (forms : Forms) (user : Account) (read : List ℕ) (pieces : List Command) (said rest : List ℕ) → opening user read ≡ LogsIn said rest → list_all has_bytes pieces ≡ true → length (bytes_in pieces) ≤ length said → Stands forms user read pieces [] rest
+first-inside forms user read pieces said rest is some fits = record {
   said = said;
   past = [];
   is = is;
@@ -61,17 +61,17 @@ first-inside user read pieces said rest is some fits = record {
   all = refl;
 }
 
-failed-by : (user : Account) (read : List ℕ) (pieces : List Command) (fault : BackendFault) (o : Opening) → opening user read ≡ o → HasFailed o fault → list_all has_bytes pieces ≡ true → length (bytes_in pieces) ≤ length (said_of o)
-    → (has_failed (opening user read) ≡ true) × (standing_said user read pieces ≡ Spoilt)
-failed-by user read pieces fault (Goes said) is failed some fits = absurd failed
-failed-by user read pieces fault (LogsIn said rest) is failed some fits = (ap has_failed is ∙ ap not (empty-not rest failed.0), spoilt-by user read pieces rest (first-inside user read pieces said rest is some fits) failed.0)
-failed-by user read pieces fault (Fails said why) is failed some fits = (ap has_failed is, ap (λ (o : Opening). standing_in o (commands_said user read pieces) (replies_said user read pieces)) is)
+failed-by : (forms : Forms) (user : Account) (read : List ℕ) (pieces : List Command) (fault : BackendFault) (o : Opening) → opening user read ≡ o → HasFailed o fault → list_all has_bytes pieces ≡ true → length (bytes_in pieces) ≤ length (said_of o)
+    → (has_failed (opening user read) ≡ true) × (standing_said forms user read pieces ≡ Spoilt)
+failed-by forms user read pieces fault (Goes said) is failed some fits = absurd failed
+failed-by forms user read pieces fault (LogsIn said rest) is failed some fits = (ap has_failed is ∙ ap not (empty-not rest failed.0), spoilt-by forms user read pieces rest (first-inside forms user read pieces said rest is some fits) failed.0)
+failed-by forms user read pieces fault (Fails said why) is failed some fits = (ap has_failed is, ap (λ (o : Opening). standing_in o (commands_said user read pieces) (replies_said forms user read pieces)) is)
 
 quiet-at : (user : Account) (heard piece : List ℕ) (pieces : List Command) (backend left : BackendState) → IsEntering user heard pieces backend → TellsOf (Hears Quiet left) backend (bytes_in pieces) (heard ++ piece) → IsEntering user (heard ++ piece) pieces left
 quiet-at user heard piece pieces backend left at tells = record { account = tells.1 ∙ at.account; login = tells.0; goes = ap (λ (u : Account). opening u (heard ++ piece)) (sym at.account) ∙ tells.2 }
 
-pub heard-entering : (user : Account) (heard piece : List ℕ) (pieces : List Command) (backend : BackendState) → IsEntering user heard pieces backend → list_all has_bytes pieces ≡ true → TellsEntering user (heard ++ piece) pieces (got_of piece backend)
-heard-entering user heard piece pieces backend at some = by (got_of piece backend) (opening-got backend piece heard (bytes_in pieces) at.login) where
+pub heard-entering : (forms : Forms) (user : Account) (heard piece : List ℕ) (pieces : List Command) (backend : BackendState) → IsEntering user heard pieces backend → list_all has_bytes pieces ≡ true → TellsEntering forms user (heard ++ piece) pieces (got_of piece backend)
+heard-entering forms user heard piece pieces backend at some = by (got_of piece backend) (opening-got backend piece heard (bytes_in pieces) at.login) where
   -- all that was written is of what the router says
   fits : length (bytes_in pieces) ≤ length (said_of (opening user (heard ++ piece)))
   fits = (let more = opening-said user heard piece in
@@ -81,7 +81,7 @@ heard-entering user heard piece pieces backend at some = by (got_of piece backen
       let same : length ((bytes_in pieces ++ backend.own) ++ more.0) ≡ length (said_of (opening user (heard ++ piece))) = ap length is in
       omega arith)
 
-  by : (got : Got) → TellsOf got backend (bytes_in pieces) (heard ++ piece) → TellsEntering user (heard ++ piece) pieces got
+  by : (got : Got) → TellsOf got backend (bytes_in pieces) (heard ++ piece) → TellsEntering forms user (heard ++ piece) pieces got
   by (Hears Quiet left) tells = quiet-at user heard piece pieces backend left at tells
   by (Hears LoggedIn left) tells = (inside, tells.0.idle) where
     said : List ℕ
@@ -90,7 +90,7 @@ heard-entering user heard piece pieces backend at some = by (got_of piece backen
     is : opening user (heard ++ piece) ≡ LogsIn said []
     is = ap (λ (u : Account). opening u (heard ++ piece)) (sym (tells.1 ∙ at.account)) ∙ ap (opening left.account) (sym (append-nil (heard ++ piece))) ∙ tells.0.is []
 
-    inside : IsInside user (heard ++ piece) pieces left
+    inside : IsInside forms user (heard ++ piece) pieces left
     inside = record {
       account = tells.1 ∙ at.account;
       stage = tells.0.stage;
@@ -102,7 +102,7 @@ heard-entering user heard piece pieces backend at some = by (got_of piece backen
       others = [];
       wholes = refl;
       commands = ap commands_in (behind-all (length said) pieces some (let sum : length (bytes_in pieces ++ left.own) ≡ length (bytes_in pieces) + length left.own = length-append (bytes_in pieces) left.own in omega arith)) ∙ sym (ap begun tells.0.idle);
-      command = subst IsHanded (sym tells.0.idle) tt;
+      command = subst (IsHanded forms) (sym tells.0.idle) tt;
       new = λ n i any. absurd (let no : false ≡ true = sym (ap (λ (o : Option Handed). list_any (is_of n i) (begun o)) tells.0.idle) ∙ any in cc);
       whole = [];
       replies = refl;
@@ -112,61 +112,61 @@ heard-entering user heard piece pieces backend at some = by (got_of piece backen
     }
   by (Hears (Part used) left) tells = tells
   by (Hears (WholeReply used) left) tells = tells
-  by (GotFault fault) tells = failed-by user (heard ++ piece) pieces fault (opening user (heard ++ piece)) refl (subst (λ (u : Account). HasFailed (opening u (heard ++ piece)) fault) at.account tells) some fits
+  by (GotFault fault) tells = failed-by forms user (heard ++ piece) pieces fault (opening user (heard ++ piece)) refl (subst (λ (u : Account). HasFailed (opening u (heard ++ piece)) fault) at.account tells) some fits
 
 -- The reply to the command that is begun is whole: this is what it says, and the link is clean where all of the command was written and the piece
 -- ended with the reply.
-pub record IsReplied (user : Account) (heard : List ℕ) (pieces : List Command) (backend left : BackendState) (ended : Bool) : Type 0 where
+pub record IsReplied (forms : Forms) (user : Account) (heard : List ℕ) (pieces : List Command) (backend left : BackendState) (ended : Bool) : Type 0 where
   pub command : Handed
   pub is : backend.command ≡ Some command
   pub sent : 0 < command.sent
   pub answer : Answer
   pub reply : left.reply ≡ spelt command.first answer
   pub idle : left.command ≡ None
-  pub told : (n i : ℕ) (lost : Bool) → is_command n i command.tag ≡ true → reply_said n i user heard pieces lost ≡ Some answer
-  pub inside : (nat_eq command.sent (length command.bytes) && ended) ≡ true → IsInside user heard pieces left
-  pub spoilt : (nat_eq command.sent (length command.bytes) && ended) ≡ false → standing_said user heard pieces ≡ Spoilt
+  pub told : (n i : ℕ) (lost : Bool) → is_command n i command.tag ≡ true → reply_said forms n i user heard pieces lost ≡ Some answer
+  pub inside : (nat_eq command.sent (length command.bytes) && ended) ≡ true → IsInside forms user heard pieces left
+  pub spoilt : (nat_eq command.sent (length command.bytes) && ended) ≡ false → standing_said forms user heard pieces ≡ Spoilt
 
 -- The reply goes on: the command is the same, but for how far its reply is.
-pub record IsGoing (user : Account) (heard : List ℕ) (pieces : List Command) (backend left : BackendState) : Type 0 where
+pub record IsGoing (forms : Forms) (user : Account) (heard : List ℕ) (pieces : List Command) (backend left : BackendState) : Type 0 where
   pub command : Handed
   pub was : backend.command ≡ Some command
   pub sent : 0 < command.sent
   pub state : State
   pub is : left.command ≡ Some (record command { tracker = record { state = state } })
-  pub inside : IsInside user heard pieces left
+  pub inside : IsInside forms user heard pieces left
 
 -- Bytes came that no command asked for, or that are no reply to it, from this place of the reply on.
-pub record IsBroken (user : Account) (heard : List ℕ) (pieces : List Command) (backend : BackendState) (fault : BackendFault) : Type 0 where
+pub record IsBroken (forms : Forms) (user : Account) (heard : List ℕ) (pieces : List Command) (backend : BackendState) (fault : BackendFault) : Type 0 where
   pub place : ℕ
   pub bad_bytes : fault ≡ BadBytes place
-  pub told : (command : Handed) (n i : ℕ) (lost : Bool) → backend.command ≡ Some command → 0 < command.sent → is_command n i command.tag ≡ true → reply_said n i user heard pieces lost ≡ Some (bad_server_bytes place ∷ [])
-  pub spoilt : standing_said user heard pieces ≡ Spoilt
+  pub told : (command : Handed) (n i : ℕ) (lost : Bool) → backend.command ≡ Some command → 0 < command.sent → is_command n i command.tag ≡ true → reply_said forms n i user heard pieces lost ≡ Some (bad_server_bytes place ∷ [])
+  pub spoilt : standing_said forms user heard pieces ≡ Spoilt
 
-abbrev pub TellsInside : Account → (heard : List ℕ) → (pieces : List Command) → BackendState → (size : ℕ) → Got → Type 0
-TellsInside user heard pieces backend size (Hears Quiet left) = ⊥
-TellsInside user heard pieces backend size (Hears LoggedIn left) = ⊥
-TellsInside user heard pieces backend size (Hears (Part used) left) = IsGoing user heard pieces backend left
-TellsInside user heard pieces backend size (Hears (WholeReply used) left) = IsReplied user heard pieces backend left (nat_eq used size)
-TellsInside user heard pieces backend size (GotFault fault) = IsBroken user heard pieces backend fault
+abbrev pub TellsInside : Forms → Account → (heard : List ℕ) → (pieces : List Command) → BackendState → (size : ℕ) → Got → Type 0
+TellsInside forms user heard pieces backend size (Hears Quiet left) = ⊥
+TellsInside forms user heard pieces backend size (Hears LoggedIn left) = ⊥
+TellsInside forms user heard pieces backend size (Hears (Part used) left) = IsGoing forms user heard pieces backend left
+TellsInside forms user heard pieces backend size (Hears (WholeReply used) left) = IsReplied forms user heard pieces backend left (nat_eq used size)
+TellsInside forms user heard pieces backend size (GotFault fault) = IsBroken forms user heard pieces backend fault
 
-got-inside : (user : Account) (heard piece : List ℕ) (pieces : List Command) (backend : BackendState) → IsInside user heard pieces backend → got_of piece backend ≡ reply_due backend.command piece backend
-got-inside user heard piece pieces backend at = ap (λ s. hears s piece backend) at.stage
+got-inside : (forms : Forms) (user : Account) (heard piece : List ℕ) (pieces : List Command) (backend : BackendState) → IsInside forms user heard pieces backend → got_of piece backend ≡ reply_due backend.command piece backend
+got-inside forms user heard piece pieces backend at = ap (λ s. hears s piece backend) at.stage
 
 -- nothing was asked for
-unasked-at : (user : Account) (heard piece : List ℕ) (pieces : List Command) (backend : BackendState) → IsInside user heard pieces backend → 0 < length piece → begun backend.command ≡ [] → IsBroken user (heard ++ piece) pieces backend (BadBytes 0)
-unasked-at user heard piece pieces backend at some none = record {
+unasked-at : (forms : Forms) (user : Account) (heard piece : List ℕ) (pieces : List Command) (backend : BackendState) → IsInside forms user heard pieces backend → 0 < length piece → begun backend.command ≡ [] → IsBroken forms user (heard ++ piece) pieces backend (BadBytes 0)
+unasked-at forms user heard piece pieces backend at some none = record {
   place = 0;
   bad_bytes = refl;
   told = λ command n i lost is sent here. absurd (let no : record { tag = command.tag; bytes = take command.sent command.bytes } ∷ [] ≡ [] = sym (begun-some command sent) ∙ sym (ap begun is) ∙ none in cc);
-  spoilt = spoilt-by user (heard ++ piece) pieces (at.part ++ piece)
-      (subst (λ last. Stands user (heard ++ piece) pieces last (at.part ++ piece)) none (stands-more user heard piece pieces (begun backend.command) at.part (stands-at user heard pieces backend at)))
+  spoilt = spoilt-by forms user (heard ++ piece) pieces (at.part ++ piece)
+      (subst (λ last. Stands forms user (heard ++ piece) pieces last (at.part ++ piece)) none (stands-more forms user heard piece pieces (begun backend.command) at.part (stands-at forms user heard pieces backend at)))
       (let sum : length (at.part ++ piece) ≡ length at.part + length piece = length-append at.part piece in omega arith);
 }
 
 -- A command that is begun, of whose reply a part was read, and the piece that comes.
-record IsAsked (user : Account) (heard piece : List ℕ) (pieces : List Command) (backend : BackendState) (command : Handed) : Type 0 where
-  pub at : IsInside user heard pieces backend
+record IsAsked (forms : Forms) (user : Account) (heard piece : List ℕ) (pieces : List Command) (backend : BackendState) (command : Handed) : Type 0 where
+  pub at : IsInside forms user heard pieces backend
   pub is : backend.command ≡ Some command
   pub sent : 0 < command.sent
   pub are : AreBytes piece
@@ -175,35 +175,40 @@ record IsAsked (user : Account) (heard piece : List ℕ) (pieces : List Command)
 abbrev sent_of : Handed → Command
 sent_of command = record { tag = command.tag; bytes = take command.sent command.bytes }
 
-hearing : (user : Account) (heard piece : List ℕ) (pieces : List Command) (backend : BackendState) (command : Handed) (asked : IsAsked user heard piece pieces backend command) → IsHearing command asked.at.part backend.reply
-hearing user heard piece pieces backend command asked = subst (λ (o : Option Handed). HearsPart o asked.at.part backend.reply) asked.is asked.at.partly
+hearing : (forms : Forms) (user : Account) (heard piece : List ℕ) (pieces : List Command) (backend : BackendState) (command : Handed) (asked : IsAsked forms user heard piece pieces backend command) → IsHearing command asked.at.part backend.reply
+hearing forms user heard piece pieces backend command asked = subst (λ (o : Option Handed). HearsPart o asked.at.part backend.reply) asked.is asked.at.partly
 
-last-begun : (user : Account) (heard piece : List ℕ) (pieces : List Command) (backend : BackendState) (command : Handed) → IsAsked user heard piece pieces backend command → begun backend.command ≡ sent_of command ∷ []
-last-begun user heard piece pieces backend command asked = ap begun asked.is ∙ begun-some command asked.sent
+formed : (forms : Forms) (user : Account) (heard piece : List ℕ) (pieces : List Command) (backend : BackendState) (command : Handed) → IsAsked forms user heard piece pieces backend command → forms command.tag ≡ form_at command.bytes
+formed forms user heard piece pieces backend command asked = message.form where
+  message : IsMessage forms command
+  message = subst (IsHanded forms) asked.is asked.at.command
 
-begun-stands : (user : Account) (heard piece : List ℕ) (pieces : List Command) (backend : BackendState) (command : Handed) (asked : IsAsked user heard piece pieces backend command)
-    → Stands user (heard ++ piece) pieces (sent_of command ∷ []) (asked.at.part ++ piece)
-begun-stands user heard piece pieces backend command asked =
-    subst (λ l. Stands user (heard ++ piece) pieces l (asked.at.part ++ piece)) (last-begun user heard piece pieces backend command asked)
-    (stands-more user heard piece pieces (begun backend.command) asked.at.part (stands-at user heard pieces backend asked.at))
+last-begun : (forms : Forms) (user : Account) (heard piece : List ℕ) (pieces : List Command) (backend : BackendState) (command : Handed) → IsAsked forms user heard piece pieces backend command → begun backend.command ≡ sent_of command ∷ []
+last-begun forms user heard piece pieces backend command asked = ap begun asked.is ∙ begun-some command asked.sent
+
+begun-stands : (forms : Forms) (user : Account) (heard piece : List ℕ) (pieces : List Command) (backend : BackendState) (command : Handed) (asked : IsAsked forms user heard piece pieces backend command)
+    → Stands forms user (heard ++ piece) pieces (sent_of command ∷ []) (asked.at.part ++ piece)
+begun-stands forms user heard piece pieces backend command asked =
+    subst (λ l. Stands forms user (heard ++ piece) pieces l (asked.at.part ++ piece)) (last-begun forms user heard piece pieces backend command asked)
+    (stands-more forms user heard piece pieces (begun backend.command) asked.at.part (stands-at forms user heard pieces backend asked.at))
 
 -- the reply goes on
-part-at : (user : Account) (heard piece : List ℕ) (pieces : List Command) (backend : BackendState) (command : Handed) (state : State) → IsAsked user heard piece pieces backend command → run command.tracker.state piece ≡ Going state
-    → IsGoing user (heard ++ piece) pieces backend (record backend { command = Some (record command { tracker = record { state = state } }); reply = backend.reply ++ renumbered command.tracker.state piece })
-part-at user heard piece pieces backend command state asked goes = record { command = command; was = asked.is; sent = asked.sent; state = state; is = refl; inside = inside } where
+part-at : (forms : Forms) (user : Account) (heard piece : List ℕ) (pieces : List Command) (backend : BackendState) (command : Handed) (state : State) → IsAsked forms user heard piece pieces backend command → run command.tracker.state piece ≡ Going state
+    → IsGoing forms user (heard ++ piece) pieces backend (record backend { command = Some (record command { tracker = record { state = state } }); reply = backend.reply ++ renumbered command.tracker.state piece })
+part-at forms user heard piece pieces backend command state asked goes = record { command = command; was = asked.is; sent = asked.sent; state = state; is = refl; inside = inside } where
   now : Handed
   now = record command { tracker = record { state = state } }
 
   heard_of : IsHearing command asked.at.part backend.reply
-  heard_of = hearing user heard piece pieces backend command asked
+  heard_of = hearing forms user heard piece pieces backend command asked
 
-  handed : IsMessage command
-  handed = subst IsHanded asked.is asked.at.command
+  handed : IsMessage forms command
+  handed = subst (IsHanded forms) asked.is asked.at.command
 
   same : begun (Some now) ≡ begun backend.command
-  same = begun-some now asked.sent ∙ sym (last-begun user heard piece pieces backend command asked)
+  same = begun-some now asked.sent ∙ sym (last-begun forms user heard piece pieces backend command asked)
 
-  inside : IsInside user (heard ++ piece) pieces (record backend { command = Some now; reply = backend.reply ++ renumbered command.tracker.state piece })
+  inside : IsInside forms user (heard ++ piece) pieces (record backend { command = Some now; reply = backend.reply ++ renumbered command.tracker.state piece })
   inside = record {
     account = asked.at.account;
     stage = asked.at.stage;
@@ -215,7 +220,7 @@ part-at user heard piece pieces backend command state asked goes = record { comm
     others = asked.at.others;
     wholes = asked.at.wholes;
     commands = asked.at.commands ∙ ap (λ cs. asked.at.others ++ cs) (sym same);
-    command = record { payload = handed.payload; spelt = handed.spelt; short = handed.short; sent = handed.sent };
+    command = record { payload = handed.payload; spelt = handed.spelt; short = handed.short; sent = handed.sent; form = handed.form };
     new = λ n i any. asked.at.new n i (sym (ap (list_any (is_of n i)) same) ∙ any);
     whole = asked.at.whole;
     replies = asked.at.replies;
@@ -225,40 +230,40 @@ part-at user heard piece pieces backend command state asked goes = record { comm
   }
 
 -- no reply goes on so
-broken-at : (user : Account) (heard piece : List ℕ) (pieces : List Command) (backend : BackendState) (command : Handed) (place : ℕ) (asked : IsAsked user heard piece pieces backend command)
-    → command_reply (sent_of command) (asked.at.part ++ piece) ≡ Never place → IsBroken user (heard ++ piece) pieces backend (BadBytes place)
-broken-at user heard piece pieces backend command place asked never = by (begun-stands user heard piece pieces backend command asked) where
+broken-at : (forms : Forms) (user : Account) (heard piece : List ℕ) (pieces : List Command) (backend : BackendState) (command : Handed) (place : ℕ) (asked : IsAsked forms user heard piece pieces backend command)
+    → command_reply forms (sent_of command) (asked.at.part ++ piece) ≡ Never place → IsBroken forms user (heard ++ piece) pieces backend (BadBytes place)
+broken-at forms user heard piece pieces backend command place asked never = by (begun-stands forms user heard piece pieces backend command asked) where
   bytes : List ℕ
   bytes = asked.at.part ++ piece
 
-  last : replies_by command_reply (sent_of command ∷ []) bytes ≡ record { whole = []; rest = bytes; bad = Some place }
-  last = ap (λ h. cut h bytes (replies_by command_reply [])) never
+  last : replies_by (command_reply forms) (sent_of command ∷ []) bytes ≡ record { whole = []; rest = bytes; bad = Some place }
+  last = ap (λ h. cut h bytes (replies_by (command_reply forms) [])) never
 
-  by : Stands user (heard ++ piece) pieces (sent_of command ∷ []) bytes → IsBroken user (heard ++ piece) pieces backend (BadBytes place)
+  by : Stands forms user (heard ++ piece) pieces (sent_of command ∷ []) bytes → IsBroken forms user (heard ++ piece) pieces backend (BadBytes place)
   by now = record {
     place = place;
     bad_bytes = refl;
-    told = λ other n i lost same sent here. reply-of user (heard ++ piece) pieces (sent_of command) bytes now n i lost (ap (λ (h : Handed). is_command n i h.tag) (some-same command other (sym asked.is ∙ same)) ∙ here)
+    told = λ other n i lost same sent here. reply-of forms user (heard ++ piece) pieces (sent_of command) bytes now n i lost (ap (λ (h : Handed). is_command n i h.tag) (some-same command other (sym asked.is ∙ same)) ∙ here)
         ∙ ap (λ (r : Replies). reply_at (length now.others) (behind_replies now.whole r) lost) last ∙ reply-open now.whole bytes (Some place) (length now.others) lost now.all;
-    spoilt = standing-of user (heard ++ piece) pieces (sent_of command ∷ []) bytes now ∙ ap (λ (r : Replies). stands (now.others ++ sent_of command ∷ []) (behind_replies now.whole r)) last;
+    spoilt = standing-of forms user (heard ++ piece) pieces (sent_of command ∷ []) bytes now ∙ ap (λ (r : Replies). stands (now.others ++ sent_of command ∷ []) (behind_replies now.whole r)) last;
   }
 
 -- the reply is whole
-replied-at : (user : Account) (heard piece : List ℕ) (pieces : List Command) (backend : BackendState) (command : Handed) (asked : IsAsked user heard piece pieces backend command) (reply : Answer) (rest : List ℕ)
-    → IsWholeReply command asked.at.part backend.reply piece reply rest
-    → IsReplied user (heard ++ piece) pieces backend (record backend { command = None; reply = backend.reply ++ take (length piece - length rest) (renumbered command.tracker.state piece) }) (nat_eq (length piece - length rest) (length piece))
-replied-at user heard piece pieces backend command asked reply rest whole = record {
+replied-at : (forms : Forms) (user : Account) (heard piece : List ℕ) (pieces : List Command) (backend : BackendState) (command : Handed) (asked : IsAsked forms user heard piece pieces backend command) (reply : Answer) (rest : List ℕ)
+    → IsWholeReply forms command asked.at.part backend.reply piece reply rest
+    → IsReplied forms user (heard ++ piece) pieces backend (record backend { command = None; reply = backend.reply ++ take (length piece - length rest) (renumbered command.tracker.state piece) }) (nat_eq (length piece - length rest) (length piece))
+replied-at forms user heard piece pieces backend command asked reply rest whole = record {
   command = command;
   is = asked.is;
   sent = asked.sent;
   answer = reply;
   reply = whole.handed;
   idle = refl;
-  told = λ n i lost here. reply-of user (heard ++ piece) pieces c bytes now n i lost here ∙ ap (λ (r : Replies). reply_at (length now.others) (behind_replies now.whole r) lost) one ∙ reply-there now.whole reply rest (length now.others) lost now.all;
+  told = λ n i lost here. reply-of forms user (heard ++ piece) pieces c bytes now n i lost here ∙ ap (λ (r : Replies). reply_at (length now.others) (behind_replies now.whole r) lost) one ∙ reply-there now.whole reply rest (length now.others) lost now.all;
   inside = inside;
   spoilt = spoilt;
 } where
-  at : IsInside user heard pieces backend
+  at : IsInside forms user heard pieces backend
   at = asked.at
 
   bytes : List ℕ
@@ -270,19 +275,19 @@ replied-at user heard piece pieces backend command asked reply rest whole = reco
   used : ℕ
   used = length piece - length rest
 
-  handed : IsMessage command
-  handed = subst IsHanded asked.is at.command
+  handed : IsMessage forms command
+  handed = subst (IsHanded forms) asked.is at.command
 
-  now : Stands user (heard ++ piece) pieces (c ∷ []) bytes
-  now = begun-stands user heard piece pieces backend command asked
+  now : Stands forms user (heard ++ piece) pieces (c ∷ []) bytes
+  now = begun-stands forms user heard piece pieces backend command asked
 
-  one : replies_by command_reply (c ∷ []) bytes ≡ record { whole = reply ∷ []; rest = rest; bad = None }
-  one = ap (λ h. cut h bytes (replies_by command_reply [])) (whole.said c)
+  one : replies_by (command_reply forms) (c ∷ []) bytes ≡ record { whole = reply ∷ []; rest = rest; bad = None }
+  one = ap (λ h. cut h bytes (replies_by (command_reply forms) [])) (whole.said c refl)
 
   wholly : command.sent ≡ length command.bytes → is_whole c ≡ true
   wholly all = ap (λ bytes. whole_by (first_message most_command 0 bytes)) (take_all command.sent command.bytes (omega arith) ∙ handed.spelt) ∙ whole-spelt handed.payload handed.short
 
-  inside : (nat_eq command.sent (length command.bytes) && nat_eq used (length piece)) ≡ true → IsInside user (heard ++ piece) pieces (record backend { command = None; reply = backend.reply ++ take used (renumbered command.tracker.state piece) })
+  inside : (nat_eq command.sent (length command.bytes) && nat_eq used (length piece)) ≡ true → IsInside forms user (heard ++ piece) pieces (record backend { command = None; reply = backend.reply ++ take used (renumbered command.tracker.state piece) })
   inside both = (let parts = and_parts (nat_eq command.sent (length command.bytes)) (nat_eq used (length piece)) both in
       let ended : used ≡ length piece = nat_eq-true used (length piece) parts.1 in
       let shorter : length rest < length piece = whole.shorter in
@@ -298,19 +303,19 @@ replied-at user heard piece pieces backend command asked reply rest whole = reco
         written = at.written;
         others = at.others ++ c ∷ [];
         wholes = list_all-append is_whole at.others (c ∷ []) ∙ and_from (list_all is_whole at.others) (is_whole c && true) at.wholes (and_from (is_whole c) true (wholly all) refl);
-        commands = at.commands ∙ ap (λ l. at.others ++ l) (last-begun user heard piece pieces backend command asked) ∙ sym (append-nil (at.others ++ c ∷ []));
+        commands = at.commands ∙ ap (λ l. at.others ++ l) (last-begun forms user heard piece pieces backend command asked) ∙ sym (append-nil (at.others ++ c ∷ []));
         command = tt;
         new = λ n i any. absurd (let no : false ≡ true = any in cc);
         whole = at.whole ++ reply ∷ [];
-        replies = replies-both at.others (c ∷ []) at.past bytes at.whole at.replies at.all ∙ ap (behind_replies at.whole) one
+        replies = replies-both forms at.others (c ∷ []) at.past bytes at.whole at.replies at.all ∙ ap (behind_replies at.whole) one
             ∙ ap (λ r. record { whole = at.whole ++ reply ∷ []; rest = r; bad = None }) empty;
         all = length_push at.whole reply ∙ ap (λ n. n + 1) at.all ∙ sym (length_push at.others c);
         unasked = λ none. refl;
         partly = refl;
       })
 
-  spoilt : (nat_eq command.sent (length command.bytes) && nat_eq used (length piece)) ≡ false → standing_said user (heard ++ piece) pieces ≡ Spoilt
-  spoilt either = standing-of user (heard ++ piece) pieces (c ∷ []) bytes now ∙ ap (λ (r : Replies). stands (now.others ++ c ∷ []) (behind_replies now.whole r)) one
+  spoilt : (nat_eq command.sent (length command.bytes) && nat_eq used (length piece)) ≡ false → standing_said forms user (heard ++ piece) pieces ≡ Spoilt
+  spoilt either = standing-of forms user (heard ++ piece) pieces (c ∷ []) bytes now ∙ ap (λ (r : Replies). stands (now.others ++ c ∷ []) (behind_replies now.whole r)) one
       ∙ stands-answered (now.others ++ c ∷ []) (now.whole ++ reply ∷ []) rest (let a = length_push now.others c in let b = length_push now.whole reply in let same = now.all in omega arith)
       ∙ ap (λ b. cond b Clean Spoilt) (unclean (and_cases (nat_eq command.sent (length command.bytes)) (nat_eq used (length piece)) either)) where
         unclean : (nat_eq command.sent (length command.bytes) ≡ false) ⊎ (nat_eq used (length piece) ≡ false) → (is_empty rest && list_all is_whole (now.others ++ c ∷ [])) ≡ false
@@ -326,22 +331,22 @@ replied-at user heard piece pieces backend command asked reply rest whole = reco
                   let other : command.sent ≢ length command.bytes = less in omega arith) handed.short
 
 -- A piece comes, which isn't empty.
-pub heard-inside : (user : Account) (heard piece : List ℕ) (pieces : List Command) (backend : BackendState) → IsInside user heard pieces backend → IsPiece piece → TellsInside user (heard ++ piece) pieces backend (length piece) (got_of piece backend)
-heard-inside user heard piece pieces backend at some = subst (TellsInside user (heard ++ piece) pieces backend (length piece)) (sym (got-inside user heard piece pieces backend at)) (asked backend.command refl) where
-  read : (command : Handed) → IsAsked user heard piece pieces backend command → (ending : Ending) → run command.tracker.state piece ≡ ending
-      → TellsInside user (heard ++ piece) pieces backend (length piece) (reply_by (length piece) (renumbered command.tracker.state piece) command backend ending)
-  read command asked (Going state) is = part-at user heard piece pieces backend command state asked is
-  read command asked (Ended end rest) is = (let whole = whole-reply command asked.at.part backend.reply piece end rest (hearing user heard piece pieces backend command asked) asked.are is in
-      replied-at user heard piece pieces backend command asked whole.0 rest whole.1)
-  read command asked (Failed behind) is = (let never = never-reply command asked.at.part backend.reply piece behind (hearing user heard piece pieces backend command asked) is in
-      broken-at user heard piece pieces backend command (length backend.reply + (length piece - length behind)) asked (never (sent_of command)))
+pub heard-inside : (forms : Forms) (user : Account) (heard piece : List ℕ) (pieces : List Command) (backend : BackendState) → IsInside forms user heard pieces backend → IsPiece piece → TellsInside forms user (heard ++ piece) pieces backend (length piece) (got_of piece backend)
+heard-inside forms user heard piece pieces backend at some = subst (TellsInside forms user (heard ++ piece) pieces backend (length piece)) (sym (got-inside forms user heard piece pieces backend at)) (asked backend.command refl) where
+  read : (command : Handed) → IsAsked forms user heard piece pieces backend command → (ending : Ending) → run command.tracker.state piece ≡ ending
+      → TellsInside forms user (heard ++ piece) pieces backend (length piece) (reply_by (length piece) (renumbered command.tracker.state piece) command backend ending)
+  read command asked (Going state) is = part-at forms user heard piece pieces backend command state asked is
+  read command asked (Ended end rest) is = (let whole = whole-reply forms command asked.at.part backend.reply piece end rest (formed forms user heard piece pieces backend command asked) (hearing forms user heard piece pieces backend command asked) asked.are is in
+      replied-at forms user heard piece pieces backend command asked whole.0 rest whole.1)
+  read command asked (Failed behind) is = (let never = never-reply forms command asked.at.part backend.reply piece behind (formed forms user heard piece pieces backend command asked) (hearing forms user heard piece pieces backend command asked) is in
+      broken-at forms user heard piece pieces backend command (length backend.reply + (length piece - length behind)) asked (never (sent_of command) refl))
 
-  by-sent : (command : Handed) → backend.command ≡ Some command → (sent : ℕ) → command.sent ≡ sent → TellsInside user (heard ++ piece) pieces backend (length piece) (reply_begun sent piece command backend)
-  by-sent command is zero none = unasked-at user heard piece pieces backend at some.some (ap begun is ∙ ap (λ sent. begun_by sent command) none)
+  by-sent : (command : Handed) → backend.command ≡ Some command → (sent : ℕ) → command.sent ≡ sent → TellsInside forms user (heard ++ piece) pieces backend (length piece) (reply_begun sent piece command backend)
+  by-sent command is zero none = unasked-at forms user heard piece pieces backend at some.some (ap begun is ∙ ap (λ sent. begun_by sent command) none)
   by-sent command is (suc sent) more = read command (record { at = at; is = is; sent = omega arith; are = some.are }) (run command.tracker.state piece) refl
 
-  asked : (o : Option Handed) → backend.command ≡ o → TellsInside user (heard ++ piece) pieces backend (length piece) (reply_due o piece backend)
-  asked None is = unasked-at user heard piece pieces backend at some.some (ap begun is)
+  asked : (o : Option Handed) → backend.command ≡ o → TellsInside forms user (heard ++ piece) pieces backend (length piece) (reply_due o piece backend)
+  asked None is = unasked-at forms user heard piece pieces backend at some.some (ap begun is)
   asked (Some command) is = by-sent command is command.sent refl
 
 -- By what a piece tells, of a login:
@@ -349,38 +354,38 @@ pub heard-quiet : (user : Account) (heard piece : List ℕ) (pieces : List Comma
 heard-quiet user heard piece pieces backend left at is =
     quiet-at user heard piece pieces backend left at (subst (λ (got : Got). TellsOf got backend (bytes_in pieces) (heard ++ piece)) is (opening-got backend piece heard (bytes_in pieces) at.login))
 
-pub heard-logged-in : (user : Account) (heard piece : List ℕ) (pieces : List Command) (backend left : BackendState) → IsEntering user heard pieces backend → list_all has_bytes pieces ≡ true → got_of piece backend ≡ Hears LoggedIn left
-    → IsInside user (heard ++ piece) pieces left × (left.command ≡ None)
-heard-logged-in user heard piece pieces backend left at some is = subst (TellsEntering user (heard ++ piece) pieces) is (heard-entering user heard piece pieces backend at some)
+pub heard-logged-in : (forms : Forms) (user : Account) (heard piece : List ℕ) (pieces : List Command) (backend left : BackendState) → IsEntering user heard pieces backend → list_all has_bytes pieces ≡ true → got_of piece backend ≡ Hears LoggedIn left
+    → IsInside forms user (heard ++ piece) pieces left × (left.command ≡ None)
+heard-logged-in forms user heard piece pieces backend left at some is = subst (TellsEntering forms user (heard ++ piece) pieces) is (heard-entering forms user heard piece pieces backend at some)
 
-pub heard-failure : (user : Account) (heard piece : List ℕ) (pieces : List Command) (backend : BackendState) (fault : BackendFault) → IsEntering user heard pieces backend → list_all has_bytes pieces ≡ true → got_of piece backend ≡ GotFault fault
-    → (has_failed (opening user (heard ++ piece)) ≡ true) × (standing_said user (heard ++ piece) pieces ≡ Spoilt)
-heard-failure user heard piece pieces backend fault at some is = subst (TellsEntering user (heard ++ piece) pieces) is (heard-entering user heard piece pieces backend at some)
+pub heard-failure : (forms : Forms) (user : Account) (heard piece : List ℕ) (pieces : List Command) (backend : BackendState) (fault : BackendFault) → IsEntering user heard pieces backend → list_all has_bytes pieces ≡ true → got_of piece backend ≡ GotFault fault
+    → (has_failed (opening user (heard ++ piece)) ≡ true) × (standing_said forms user (heard ++ piece) pieces ≡ Spoilt)
+heard-failure forms user heard piece pieces backend fault at some is = subst (TellsEntering forms user (heard ++ piece) pieces) is (heard-entering forms user heard piece pieces backend at some)
 
 -- and inside.
-pub heard-part : (user : Account) (heard piece : List ℕ) (pieces : List Command) (backend left : BackendState) (used : ℕ) → IsInside user heard pieces backend → IsPiece piece → got_of piece backend ≡ Hears (Part used) left
-    → IsGoing user (heard ++ piece) pieces backend left
-heard-part user heard piece pieces backend left used at some is = subst (TellsInside user (heard ++ piece) pieces backend (length piece)) is (heard-inside user heard piece pieces backend at some)
+pub heard-part : (forms : Forms) (user : Account) (heard piece : List ℕ) (pieces : List Command) (backend left : BackendState) (used : ℕ) → IsInside forms user heard pieces backend → IsPiece piece → got_of piece backend ≡ Hears (Part used) left
+    → IsGoing forms user (heard ++ piece) pieces backend left
+heard-part forms user heard piece pieces backend left used at some is = subst (TellsInside forms user (heard ++ piece) pieces backend (length piece)) is (heard-inside forms user heard piece pieces backend at some)
 
-pub heard-whole : (user : Account) (heard piece : List ℕ) (pieces : List Command) (backend left : BackendState) (used : ℕ) → IsInside user heard pieces backend → IsPiece piece → got_of piece backend ≡ Hears (WholeReply used) left
-    → IsReplied user (heard ++ piece) pieces backend left (nat_eq used (length piece))
-heard-whole user heard piece pieces backend left used at some is = subst (TellsInside user (heard ++ piece) pieces backend (length piece)) is (heard-inside user heard piece pieces backend at some)
+pub heard-whole : (forms : Forms) (user : Account) (heard piece : List ℕ) (pieces : List Command) (backend left : BackendState) (used : ℕ) → IsInside forms user heard pieces backend → IsPiece piece → got_of piece backend ≡ Hears (WholeReply used) left
+    → IsReplied forms user (heard ++ piece) pieces backend left (nat_eq used (length piece))
+heard-whole forms user heard piece pieces backend left used at some is = subst (TellsInside forms user (heard ++ piece) pieces backend (length piece)) is (heard-inside forms user heard piece pieces backend at some)
 
-pub heard-bad : (user : Account) (heard piece : List ℕ) (pieces : List Command) (backend : BackendState) (fault : BackendFault) → IsInside user heard pieces backend → IsPiece piece → got_of piece backend ≡ GotFault fault
-    → IsBroken user (heard ++ piece) pieces backend fault
-heard-bad user heard piece pieces backend fault at some is = subst (TellsInside user (heard ++ piece) pieces backend (length piece)) is (heard-inside user heard piece pieces backend at some)
+pub heard-bad : (forms : Forms) (user : Account) (heard piece : List ℕ) (pieces : List Command) (backend : BackendState) (fault : BackendFault) → IsInside forms user heard pieces backend → IsPiece piece → got_of piece backend ≡ GotFault fault
+    → IsBroken forms user (heard ++ piece) pieces backend fault
+heard-bad forms user heard piece pieces backend fault at some is = subst (TellsInside forms user (heard ++ piece) pieces backend (length piece)) is (heard-inside forms user heard piece pieces backend at some)
 
 -- the error in the reply's place
-pub heard-told : (user : Account) (heard piece : List ℕ) (pieces : List Command) (backend : BackendState) (place : ℕ) (command : Handed) (n i : ℕ) (lost : Bool) → IsInside user heard pieces backend → IsPiece piece → got_of piece backend ≡ GotFault (BadBytes place)
-    → backend.command ≡ Some command → 0 < command.sent → is_command n i command.tag ≡ true → reply_said n i user (heard ++ piece) pieces lost ≡ Some (bad_server_bytes place ∷ [])
-heard-told user heard piece pieces backend place command n i lost at some is same sent here = (let broken = heard-bad user heard piece pieces backend (BadBytes place) at some is in
+pub heard-told : (forms : Forms) (user : Account) (heard piece : List ℕ) (pieces : List Command) (backend : BackendState) (place : ℕ) (command : Handed) (n i : ℕ) (lost : Bool) → IsInside forms user heard pieces backend → IsPiece piece → got_of piece backend ≡ GotFault (BadBytes place)
+    → backend.command ≡ Some command → 0 < command.sent → is_command n i command.tag ≡ true → reply_said forms n i user (heard ++ piece) pieces lost ≡ Some (bad_server_bytes place ∷ [])
+heard-told forms user heard piece pieces backend place command n i lost at some is same sent here = (let broken = heard-bad forms user heard piece pieces backend (BadBytes place) at some is in
     let first : broken.place ≡ place = (let fault : BadBytes place ≡ BadBytes broken.place = broken.bad_bytes in cc) in
     broken.told command n i lost same sent here ∙ ap (λ p. Some (bad_server_bytes p ∷ [])) first)
 
 -- Where nothing is begun any piece is bad.
-pub unasked-bad : (user : Account) (heard piece : List ℕ) (pieces : List Command) (backend : BackendState) → IsInside user heard pieces backend → IsPiece piece → begun backend.command ≡ []
-    → (got_of piece backend ≡ GotFault (BadBytes 0)) × (standing_said user (heard ++ piece) pieces ≡ Spoilt)
-unasked-bad user heard piece pieces backend at some none = (got-inside user heard piece pieces backend at ∙ by backend.command none, (unasked-at user heard piece pieces backend at some.some none).spoilt) where
+pub unasked-bad : (forms : Forms) (user : Account) (heard piece : List ℕ) (pieces : List Command) (backend : BackendState) → IsInside forms user heard pieces backend → IsPiece piece → begun backend.command ≡ []
+    → (got_of piece backend ≡ GotFault (BadBytes 0)) × (standing_said forms user (heard ++ piece) pieces ≡ Spoilt)
+unasked-bad forms user heard piece pieces backend at some none = (got-inside forms user heard piece pieces backend at ∙ by backend.command none, (unasked-at forms user heard piece pieces backend at some.some none).spoilt) where
   by-sent : (command : Handed) (sent : ℕ) → begun_by sent command ≡ [] → reply_begun sent piece command backend ≡ bad
   by-sent command zero none = refl
   by-sent command (suc sent) none = absurd (let no : record { tag = command.tag; bytes = take (suc sent) command.bytes } ∷ [] ≡ [] = none in cc)

@@ -12,14 +12,14 @@ use Rattle.server_side.specs.Laws.{opening-logged_in}
 use Rattle.server_side.specs.Backend.{BackendState}
 use Rattle.exchange.specs.Logins.{is_empty}
 use Rattle.exchange.specs.Commands.{Command, is_whole, is_command, place_in, behind, commands_in, commands_behind}
-use Rattle.exchange.specs.Replies.{Answer, Replies, command_reply, replies_by, rest_of, Clean, Sends, Runs, Spoilt, stands_by, stands, standing_in, error_by, or_else, reply_at}
+use Rattle.exchange.specs.Replies.{Forms, Answer, Replies, command_reply, replies_by, rest_of, Clean, Sends, Runs, Spoilt, stands_by, stands, standing_in, error_by, or_else, reply_at}
 use Rattle.promises.specs.Follows.{behind_replies}
 use Rattle.promises.proofs.Clean.{command-reply-grammar, replies-behind}
 use Rattle.router_world.specs.Rows.{commands_said, replies_said, standing_said, reply_said, is_of, begun, IsInside}
 use Rattle.router_world.proofs.RowsPieces.{place-last}
 
 -- The commands before the last are whole and answered, and these bytes are behind their replies.
-pub record Stands (user : Account) (read : List ℕ) (pieces last : List Command) (kept : List ℕ) : Type 0 where
+pub record Stands (forms : Forms) (user : Account) (read : List ℕ) (pieces last : List Command) (kept : List ℕ) : Type 0 where
   pub said : List ℕ
   pub past : List ℕ
   pub is : opening user read ≡ LogsIn said (past ++ kept)
@@ -28,11 +28,11 @@ pub record Stands (user : Account) (read : List ℕ) (pieces last : List Command
   pub commands : commands_in (behind (length said) pieces) ≡ others ++ last
   pub new : (n i : ℕ) → list_any (is_of n i) last ≡ true → list_any (is_of n i) others ≡ false
   pub whole : List Answer
-  pub replies : replies_by command_reply others past ≡ record { whole = whole; rest = []; bad = None }
+  pub replies : replies_by (command_reply forms) others past ≡ record { whole = whole; rest = []; bad = None }
   pub all : length whole ≡ length others
 
-pub stands-at : (user : Account) (heard : List ℕ) (pieces : List Command) (backend : BackendState) (at : IsInside user heard pieces backend) → Stands user heard pieces (begun backend.command) at.part
-stands-at user heard pieces backend at = record {
+pub stands-at : (forms : Forms) (user : Account) (heard : List ℕ) (pieces : List Command) (backend : BackendState) (at : IsInside forms user heard pieces backend) → Stands forms user heard pieces (begun backend.command) at.part
+stands-at forms user heard pieces backend at = record {
   said = at.said;
   past = at.past;
   is = at.is;
@@ -49,8 +49,8 @@ stands-at user heard pieces backend at = record {
 pub opening-more : (user : Account) (heard piece said past kept : List ℕ) → opening user heard ≡ LogsIn said (past ++ kept) → opening user (heard ++ piece) ≡ LogsIn said (past ++ (kept ++ piece))
 opening-more user heard piece said past kept is = opening-logged_in user heard piece said (past ++ kept) is ∙ ap (LogsIn said) (append_assoc past kept piece)
 
-pub stands-more : (user : Account) (heard piece : List ℕ) (pieces last : List Command) (kept : List ℕ) → Stands user heard pieces last kept → Stands user (heard ++ piece) pieces last (kept ++ piece)
-stands-more user heard piece pieces last kept at = record {
+pub stands-more : (forms : Forms) (user : Account) (heard piece : List ℕ) (pieces last : List Command) (kept : List ℕ) → Stands forms user heard pieces last kept → Stands forms user (heard ++ piece) pieces last (kept ++ piece)
+stands-more forms user heard piece pieces last kept at = record {
   said = at.said;
   past = at.past;
   is = opening-more user heard piece at.said at.past kept at.is;
@@ -64,33 +64,33 @@ stands-more user heard piece pieces last kept at = record {
 }
 
 -- The commands, the replies and how the link stands, by what the last command has.
-pub commands-of : (user : Account) (read : List ℕ) (pieces last : List Command) (kept : List ℕ) (at : Stands user read pieces last kept) → commands_said user read pieces ≡ at.others ++ last
-commands-of user read pieces last kept at = ap (λ (o : Opening). commands_behind o pieces) at.is ∙ at.commands
+pub commands-of : (forms : Forms) (user : Account) (read : List ℕ) (pieces last : List Command) (kept : List ℕ) (at : Stands forms user read pieces last kept) → commands_said user read pieces ≡ at.others ++ last
+commands-of forms user read pieces last kept at = ap (λ (o : Opening). commands_behind o pieces) at.is ∙ at.commands
 
-pub replies-both : (others last : List Command) (past kept : List ℕ) (whole : List Answer) → replies_by command_reply others past ≡ record { whole = whole; rest = []; bad = None } → length whole ≡ length others
-    → replies_by command_reply (others ++ last) (past ++ kept) ≡ behind_replies whole (replies_by command_reply last kept)
-replies-both others last past kept whole is all = replies-behind command_reply command-reply-grammar others last past kept (ap (λ (r : Replies). r.bad) is) (ap (λ (r : Replies). r.rest) is) (ap (λ (r : Replies). length r.whole) is ∙ all)
-    ∙ ap (λ (r : Replies). behind_replies r.whole (replies_by command_reply last kept)) is
+pub replies-both : (forms : Forms) (others last : List Command) (past kept : List ℕ) (whole : List Answer) → replies_by (command_reply forms) others past ≡ record { whole = whole; rest = []; bad = None } → length whole ≡ length others
+    → replies_by (command_reply forms) (others ++ last) (past ++ kept) ≡ behind_replies whole (replies_by (command_reply forms) last kept)
+replies-both forms others last past kept whole is all = replies-behind (command_reply forms) (command-reply-grammar forms) others last past kept (ap (λ (r : Replies). r.bad) is) (ap (λ (r : Replies). r.rest) is) (ap (λ (r : Replies). length r.whole) is ∙ all)
+    ∙ ap (λ (r : Replies). behind_replies r.whole (replies_by (command_reply forms) last kept)) is
 
-pub replies-of : (user : Account) (read : List ℕ) (pieces last : List Command) (kept : List ℕ) (at : Stands user read pieces last kept)
-    → replies_said user read pieces ≡ behind_replies at.whole (replies_by command_reply last kept)
-replies-of user read pieces last kept at = ap (λ cs. replies_by command_reply cs (rest_of (opening user read))) (commands-of user read pieces last kept at)
-    ∙ ap (λ (o : Opening). replies_by command_reply (at.others ++ last) (rest_of o)) at.is
-    ∙ replies-both at.others last at.past kept at.whole at.replies at.all
+pub replies-of : (forms : Forms) (user : Account) (read : List ℕ) (pieces last : List Command) (kept : List ℕ) (at : Stands forms user read pieces last kept)
+    → replies_said forms user read pieces ≡ behind_replies at.whole (replies_by (command_reply forms) last kept)
+replies-of forms user read pieces last kept at = ap (λ cs. replies_by (command_reply forms) cs (rest_of (opening user read))) (commands-of forms user read pieces last kept at)
+    ∙ ap (λ (o : Opening). replies_by (command_reply forms) (at.others ++ last) (rest_of o)) at.is
+    ∙ replies-both forms at.others last at.past kept at.whole at.replies at.all
 
-pub standing-of : (user : Account) (read : List ℕ) (pieces last : List Command) (kept : List ℕ) (at : Stands user read pieces last kept)
-    → standing_said user read pieces ≡ stands (at.others ++ last) (behind_replies at.whole (replies_by command_reply last kept))
-standing-of user read pieces last kept at = ap (λ (o : Opening). standing_in o (commands_said user read pieces) (replies_said user read pieces)) at.is
-    ∙ ap (λ cs. stands cs (replies_said user read pieces)) (commands-of user read pieces last kept at)
-    ∙ ap (stands (at.others ++ last)) (replies-of user read pieces last kept at)
+pub standing-of : (forms : Forms) (user : Account) (read : List ℕ) (pieces last : List Command) (kept : List ℕ) (at : Stands forms user read pieces last kept)
+    → standing_said forms user read pieces ≡ stands (at.others ++ last) (behind_replies at.whole (replies_by (command_reply forms) last kept))
+standing-of forms user read pieces last kept at = ap (λ (o : Opening). standing_in o (commands_said user read pieces) (replies_said forms user read pieces)) at.is
+    ∙ ap (λ cs. stands cs (replies_said forms user read pieces)) (commands-of forms user read pieces last kept at)
+    ∙ ap (stands (at.others ++ last)) (replies-of forms user read pieces last kept at)
 
 -- The reply to the last command, which is no other.
-pub reply-of : (user : Account) (read : List ℕ) (pieces : List Command) (c : Command) (kept : List ℕ) (at : Stands user read pieces (c ∷ []) kept) (n i : ℕ) (lost : Bool) → is_command n i c.tag ≡ true
-    → reply_said n i user read pieces lost ≡ reply_at (length at.others) (behind_replies at.whole (replies_by command_reply (c ∷ []) kept)) lost
-reply-of user read pieces c kept at n i lost is = ap (λ cs. option_and_then (λ place. reply_at place (replies_said user read pieces) lost) (place_in n i 0 cs)) (commands-of user read pieces (c ∷ []) kept at)
-    ∙ ap (option_and_then (λ place. reply_at place (replies_said user read pieces) lost)) (place-last n i 0 at.others c (at.new n i (or_left (is_command n i c.tag) false is)) is)
-    ∙ ap (λ place. reply_at place (replies_said user read pieces) lost) zero-plus
-    ∙ ap (λ (r : Replies). reply_at (length at.others) r lost) (replies-of user read pieces (c ∷ []) kept at) where
+pub reply-of : (forms : Forms) (user : Account) (read : List ℕ) (pieces : List Command) (c : Command) (kept : List ℕ) (at : Stands forms user read pieces (c ∷ []) kept) (n i : ℕ) (lost : Bool) → is_command n i c.tag ≡ true
+    → reply_said forms n i user read pieces lost ≡ reply_at (length at.others) (behind_replies at.whole (replies_by (command_reply forms) (c ∷ []) kept)) lost
+reply-of forms user read pieces c kept at n i lost is = ap (λ cs. option_and_then (λ place. reply_at place (replies_said forms user read pieces) lost) (place_in n i 0 cs)) (commands-of forms user read pieces (c ∷ []) kept at)
+    ∙ ap (option_and_then (λ place. reply_at place (replies_said forms user read pieces) lost)) (place-last n i 0 at.others c (at.new n i (or_left (is_command n i c.tag) false is)) is)
+    ∙ ap (λ place. reply_at place (replies_said forms user read pieces) lost) zero-plus
+    ∙ ap (λ (r : Replies). reply_at (length at.others) r lost) (replies-of forms user read pieces (c ∷ []) kept at) where
       zero-plus : 0 + length at.others ≡ length at.others
       zero-plus = omega arith
 

@@ -17,33 +17,34 @@ use Rattle.reply_track.specs.Replying.{to_command}
 use Rattle.server_side.specs.Account.{Account}
 use Rattle.server_side.specs.Login.{Goes, said_of, most_payload, greeting_by, opening}
 use Rattle.server_side.specs.Laws.{opening-new}
-use Rattle.server_side.specs.Backend.{BackendState, new_backend, command_of, commanded, Left, command_left, left_by, left, command_taken, taken_by, taken}
+use Rattle.server_side.specs.Backend.{BackendState, new_backend, command_of, Left, command_left, left_by, left, command_taken, taken_by, taken}
 use Rattle.server_side.specs.Handing.{handed}
 use Rattle.server_side.specs.Reading.{IsOpening, IsLoggingIn}
 use Rattle.server_side.specs.declared.command.Command.{Command as Handed}
 use Rattle.server_side.specs.declared.stage.Stage.{Stage}
 use Rattle.server_side.specs.declared.stage.Stage.TheVariants as stages
 use Rattle.exchange.specs.Logins.{IsPrefix}
+use Rattle.exchange.specs.Replies.{Forms}
 use Rattle.exchange.specs.Commands.{Command, most_command, with_piece, is_command, behind, commands_in}
 use Rattle.promises.proofs.Clean.{behind-append}
 use Rattle.promises.proofs.InWork.{some-same}
-use Rattle.router_world.specs.Rows.{bytes_in, is_of, begun_by, begun, IsMessage, IsHanded, IsEntering, IsHearing, HearsPart, IsInside, LinkAt, Entering, Inside}
+use Rattle.router_world.specs.Rows.{form_at, bytes_in, is_of, begun_by, begun, IsMessage, IsHanded, IsEntering, IsHearing, HearsPart, IsInside, LinkAt, Entering, Inside}
 use Rattle.router_world.proofs.RowsPieces.{not-empty, bytes-more, behind-past, behind-short, behind-one, part-spelt, with-piece-behind, with-piece-on, of-commands}
 
 -- nothing was heard or written yet
-pub first-at : (user : Account) → LinkAt user [] [] (new_backend user)
+pub first-at : (forms : Forms) (user : Account) → LinkAt forms user [] [] (new_backend user)
 unfolding opening
-first-at user = Entering (record { account = refl; login = opening-new user; goes = ap (greeting_by user) (first_message-empty most_payload 0) })
+first-at forms user = Entering (record { account = refl; login = opening-new user; goes = ap (greeting_by user) (first_message-empty most_payload 0) })
 
 no-bytes : AreBytes []
 no-bytes i = lit< tt
 
 -- A link on which a session runs, after what was handed to it, written of it or moved out.
-inside-after : (user : Account) (heard : List ℕ) (pieces now : List Command) (backend : BackendState) (own reply : List ℕ) (command_now : Option Handed) (at : IsInside user heard pieces backend)
-    → (bytes_in now ++ own ≡ at.said) ⊎ ((own ≡ []) × IsPrefix at.said (bytes_in now)) → commands_in (behind (length at.said) now) ≡ at.others ++ begun command_now → IsHanded command_now
+inside-after : (forms : Forms) (user : Account) (heard : List ℕ) (pieces now : List Command) (backend : BackendState) (own reply : List ℕ) (command_now : Option Handed) (at : IsInside forms user heard pieces backend)
+    → (bytes_in now ++ own ≡ at.said) ⊎ ((own ≡ []) × IsPrefix at.said (bytes_in now)) → commands_in (behind (length at.said) now) ≡ at.others ++ begun command_now → IsHanded forms command_now
     → ((n i : ℕ) → list_any (is_of n i) (begun command_now) ≡ true → list_any (is_of n i) at.others ≡ false) → (begun command_now ≡ [] → at.part ≡ []) → HearsPart command_now at.part reply
-    → IsInside user heard now (record backend { own = own; command = command_now; reply = reply })
-inside-after user heard pieces now backend own reply command_now at written commands is_message new unasked partly = record {
+    → IsInside forms user heard now (record backend { own = own; command = command_now; reply = reply })
+inside-after forms user heard pieces now backend own reply command_now at written commands is_message new unasked partly = record {
   account = at.account;
   stage = at.stage;
   said = at.said;
@@ -64,25 +65,21 @@ inside-after user heard pieces now backend own reply command_now at written comm
 }
 
 -- The packets of a message are handed to a link that has no command.
-pub packets-handed : (user : Account) (heard : List ℕ) (pieces : List Command) (backend : BackendState) (tag : Tag) (packets payload : List ℕ) (first : ℕ) → IsInside user heard pieces backend → backend.command ≡ None → packets ≡ spelling 0 payload → length payload ≤ most_command
-    → IsInside user heard pieces (handed tag packets first backend)
-packets-handed user heard pieces backend tag packets payload first at none spelt short = inside-after user heard pieces pieces backend backend.own [] (Some (command_of tag packets first)) at at.written
-    (at.commands ∙ ap (λ o. at.others ++ begun o) none) (record { payload = payload; spelt = spelt; short = short; sent = omega arith }) (λ n i is. absurd (let no : false ≡ true = is in cc)) (λ is. unheard)
+pub packets-handed : (forms : Forms) (user : Account) (heard : List ℕ) (pieces : List Command) (backend : BackendState) (tag : Tag) (packets payload : List ℕ) (first : ℕ) → IsInside forms user heard pieces backend → backend.command ≡ None → packets ≡ spelling 0 payload → length payload ≤ most_command → forms tag ≡ form_at packets
+    → IsInside forms user heard pieces (handed tag packets first backend)
+packets-handed forms user heard pieces backend tag packets payload first at none spelt short form = inside-after forms user heard pieces pieces backend backend.own [] (Some (command_of tag packets first)) at at.written
+    (at.commands ∙ ap (λ o. at.others ++ begun o) none) (record { payload = payload; spelt = spelt; short = short; sent = omega arith; form = form }) (λ n i is. absurd (let no : false ≡ true = is in cc)) (λ is. unheard)
     (record {
-      goes = ap (run (started (to_command first))) unheard;
-      made = ap (renumbered (started (to_command first))) (sym unheard);
+      goes = ap (run (started (to_command packets first))) unheard;
+      made = ap (renumbered (started (to_command packets first))) (sym unheard);
       are = subst AreBytes (sym unheard) no-bytes;
     }) where
       unheard : at.part ≡ []
       unheard = at.unasked (ap begun none)
 
-pub handed-at : (user : Account) (heard : List ℕ) (pieces : List Command) (backend : BackendState) (tag : Tag) (payload : List ℕ) (first : ℕ) → IsInside user heard pieces backend → backend.command ≡ None → length payload ≤ most_command
-    → IsInside user heard pieces (commanded tag payload first backend)
-handed-at user heard pieces backend tag payload first at none short = packets-handed user heard pieces backend tag (spelling 0 payload) payload first at none refl short
-
 -- The last reply is moved out.
-pub reply-moved : (user : Account) (heard : List ℕ) (pieces : List Command) (backend : BackendState) (reply : List ℕ) → IsInside user heard pieces backend → backend.command ≡ None → IsInside user heard pieces (record backend { reply = reply })
-reply-moved user heard pieces backend reply at none = inside-after user heard pieces pieces backend backend.own reply backend.command at at.written at.commands at.command at.new at.unasked
+pub reply-moved : (forms : Forms) (user : Account) (heard : List ℕ) (pieces : List Command) (backend : BackendState) (reply : List ℕ) → IsInside forms user heard pieces backend → backend.command ≡ None → IsInside forms user heard pieces (record backend { reply = reply })
+reply-moved forms user heard pieces backend reply at none = inside-after forms user heard pieces pieces backend backend.own reply backend.command at at.written at.commands at.command at.new at.unasked
     (subst (λ (o : Option Handed). HearsPart o at.part reply) (sym none) (subst (λ (o : Option Handed). HearsPart o at.part backend.reply) none at.partly))
 
 -- What was written of the command, once a byte of it was.
@@ -93,9 +90,9 @@ begun-some command = by command.sent where
   by (suc sent) some = refl
 
 -- More of it is written.
-begun-more : (command : Handed) (n : ℕ) → IsMessage command → 0 < n → n ≤ length (drop command.sent command.bytes)
+begun-more : (forms : Forms) (command : Handed) (n : ℕ) → IsMessage forms command → 0 < n → n ≤ length (drop command.sent command.bytes)
     → with_piece (begun (Some command)) (record { tag = command.tag; bytes = take n (drop command.sent command.bytes) }) ≡ record { tag = command.tag; bytes = take (command.sent + n) command.bytes } ∷ []
-begun-more command n message some fits = by command.sent fits where
+begun-more forms command n message some fits = by command.sent fits where
   by : (sent : ℕ) → n ≤ length (drop sent command.bytes)
       → with_piece (begun_by sent command) (record { tag = command.tag; bytes = take n (drop sent command.bytes) }) ≡ record { tag = command.tag; bytes = take (sent + n) command.bytes } ∷ []
   by zero fits = (let same : n ≡ 0 + n = omega arith in ap (λ k. record { tag = command.tag; bytes = take k command.bytes } ∷ []) same)
@@ -131,41 +128,41 @@ entering-taken user heard pieces backend n at = record {
   same = same-said pieces Own n backend.own
 
 -- While bytes of a login are left, all that was written is of it, and no command is begun.
-pub own-left : (user : Account) (heard : List ℕ) (pieces : List Command) (backend : BackendState) (at : IsInside user heard pieces backend) → 0 < length backend.own → bytes_in pieces ++ backend.own ≡ at.said
-own-left user heard pieces backend at some = by at.written where
+pub own-left : (forms : Forms) (user : Account) (heard : List ℕ) (pieces : List Command) (backend : BackendState) (at : IsInside forms user heard pieces backend) → 0 < length backend.own → bytes_in pieces ++ backend.own ≡ at.said
+own-left forms user heard pieces backend at some = by at.written where
   by : (bytes_in pieces ++ backend.own ≡ at.said) ⊎ ((backend.own ≡ []) × IsPrefix at.said (bytes_in pieces)) → bytes_in pieces ++ backend.own ≡ at.said
   by (inl is) = is
   by (inr past) = absurd (let none : length backend.own ≡ 0 = ap length past.0 in omega arith)
 
-said-longer : (user : Account) (heard : List ℕ) (pieces : List Command) (backend : BackendState) (at : IsInside user heard pieces backend) → 0 < length backend.own → length at.said ≡ length (bytes_in pieces) + length backend.own
-said-longer user heard pieces backend at some = ap length (sym (own-left user heard pieces backend at some)) ∙ length-append (bytes_in pieces) backend.own
+said-longer : (forms : Forms) (user : Account) (heard : List ℕ) (pieces : List Command) (backend : BackendState) (at : IsInside forms user heard pieces backend) → 0 < length backend.own → length at.said ≡ length (bytes_in pieces) + length backend.own
+said-longer forms user heard pieces backend at some = ap length (sym (own-left forms user heard pieces backend at some)) ∙ length-append (bytes_in pieces) backend.own
 
-none-behind : (user : Account) (heard : List ℕ) (pieces : List Command) (backend : BackendState) (at : IsInside user heard pieces backend) → 0 < length backend.own → [] ≡ at.others ++ begun backend.command
-none-behind user heard pieces backend at some = ap commands_in (sym (behind-short (length at.said) pieces (let sum : length at.said ≡ length (bytes_in pieces) + length backend.own = said-longer user heard pieces backend at some in omega arith))) ∙ at.commands
+none-behind : (forms : Forms) (user : Account) (heard : List ℕ) (pieces : List Command) (backend : BackendState) (at : IsInside forms user heard pieces backend) → 0 < length backend.own → [] ≡ at.others ++ begun backend.command
+none-behind forms user heard pieces backend at some = ap commands_in (sym (behind-short (length at.said) pieces (let sum : length at.said ≡ length (bytes_in pieces) + length backend.own = said-longer forms user heard pieces backend at some in omega arith))) ∙ at.commands
 
-pub own-first : (user : Account) (heard : List ℕ) (pieces : List Command) (backend : BackendState) → IsInside user heard pieces backend → backend.own ≢ [] → begun backend.command ≡ []
-own-first user heard pieces backend at some = nil_from_length (begun backend.command)
+pub own-first : (forms : Forms) (user : Account) (heard : List ℕ) (pieces : List Command) (backend : BackendState) → IsInside forms user heard pieces backend → backend.own ≢ [] → begun backend.command ≡ []
+own-first forms user heard pieces backend at some = nil_from_length (begun backend.command)
     (let sum : length (at.others ++ begun backend.command) ≡ length at.others + length (begun backend.command) = length-append at.others (begun backend.command) in
-    let none : 0 ≡ length (at.others ++ begun backend.command) = ap length (none-behind user heard pieces backend at (not-empty backend.own some)) in omega arith)
+    let none : 0 ≡ length (at.others ++ begun backend.command) = ap length (none-behind forms user heard pieces backend at (not-empty backend.own some)) in omega arith)
 
-own-taken : (user : Account) (heard : List ℕ) (pieces : List Command) (backend : BackendState) (n : ℕ) → IsInside user heard pieces backend → 0 < n → n ≤ length backend.own
-    → IsInside user heard (pieces ++ record { tag = Own; bytes = take n backend.own } ∷ []) (record backend { own = drop n backend.own })
-own-taken user heard pieces backend n at some fits = inside-after user heard pieces (pieces ++ piece ∷ []) backend (drop n backend.own) backend.reply backend.command at
-    (inl (same-said pieces Own n backend.own ∙ own-left user heard pieces backend at (omega arith))) commands at.command at.new at.unasked at.partly where
+own-taken : (forms : Forms) (user : Account) (heard : List ℕ) (pieces : List Command) (backend : BackendState) (n : ℕ) → IsInside forms user heard pieces backend → 0 < n → n ≤ length backend.own
+    → IsInside forms user heard (pieces ++ record { tag = Own; bytes = take n backend.own } ∷ []) (record backend { own = drop n backend.own })
+own-taken forms user heard pieces backend n at some fits = inside-after forms user heard pieces (pieces ++ piece ∷ []) backend (drop n backend.own) backend.reply backend.command at
+    (inl (same-said pieces Own n backend.own ∙ own-left forms user heard pieces backend at (omega arith))) commands at.command at.new at.unasked at.partly where
       piece : Command
       piece = record { tag = Own; bytes = take n backend.own }
 
       longer : length at.said ≡ length (bytes_in pieces) + length backend.own
-      longer = said-longer user heard pieces backend at (omega arith)
+      longer = said-longer forms user heard pieces backend at (omega arith)
 
       commands : commands_in (behind (length at.said) (pieces ++ piece ∷ [])) ≡ at.others ++ begun backend.command
       commands = (let sum = longer in let size : length (take n backend.own) ≡ n = length-take-le n backend.own fits in
           ap commands_in (behind-past (length at.said) pieces (piece ∷ []) (omega arith) ∙ behind-one (length at.said - length (bytes_in pieces)) piece (omega arith) (omega arith))
-          ∙ none-behind user heard pieces backend at (omega arith))
+          ∙ none-behind forms user heard pieces backend at (omega arith))
 
 -- all that the router says in a login was written
-pub said-written : (user : Account) (heard : List ℕ) (pieces : List Command) (backend : BackendState) (at : IsInside user heard pieces backend) → backend.own ≡ [] → IsPrefix at.said (bytes_in pieces)
-said-written user heard pieces backend at none = by at.written where
+pub said-written : (forms : Forms) (user : Account) (heard : List ℕ) (pieces : List Command) (backend : BackendState) (at : IsInside forms user heard pieces backend) → backend.own ≡ [] → IsPrefix at.said (bytes_in pieces)
+said-written forms user heard pieces backend at none = by at.written where
   by : (bytes_in pieces ++ backend.own ≡ at.said) ⊎ ((backend.own ≡ []) × IsPrefix at.said (bytes_in pieces)) → IsPrefix at.said (bytes_in pieces)
   by (inl is) = record { rest = []; is = append-nil at.said ∙ sym is ∙ ap (λ xs. bytes_in pieces ++ xs) none ∙ append-nil (bytes_in pieces) }
   by (inr past) = past.1
@@ -177,30 +174,30 @@ prefix-more : (front whole more longer : List ℕ) → IsPrefix front whole → 
 prefix-more front whole more longer at same = record { rest = at.rest ++ more; is = sym (append_assoc front at.rest more) ∙ ap (λ xs. xs ++ more) at.is ∙ sym same }
 
 -- Bytes of the command are written.
-command-taken : (user : Account) (heard : List ℕ) (pieces : List Command) (backend : BackendState) (command : Handed) (n : ℕ) → IsInside user heard pieces backend → backend.own ≡ [] → backend.command ≡ Some command
+command-taken : (forms : Forms) (user : Account) (heard : List ℕ) (pieces : List Command) (backend : BackendState) (command : Handed) (n : ℕ) → IsInside forms user heard pieces backend → backend.own ≡ [] → backend.command ≡ Some command
     → 0 < n → n ≤ length (drop command.sent command.bytes) → IsFresh backend.command pieces
-    → IsInside user heard (pieces ++ record { tag = command.tag; bytes = take n (drop command.sent command.bytes) } ∷ []) (record backend { command = Some (record command { sent = command.sent + n }) })
-command-taken user heard pieces backend command n at none is some fits fresh = inside-after user heard pieces (pieces ++ piece ∷ []) backend backend.own backend.reply (Some (record command { sent = command.sent + n })) at
-    (inr (none, prefix-more at.said (bytes_in pieces) piece.bytes (bytes_in (pieces ++ piece ∷ [])) (said-written user heard pieces backend at none) (bytes-more pieces piece))) commands
-    (record { payload = message.payload; spelt = message.spelt; short = message.short; sent = (let left : length (drop command.sent command.bytes) ≡ length command.bytes - command.sent = length-drop command.sent command.bytes in omega arith) }) new
+    → IsInside forms user heard (pieces ++ record { tag = command.tag; bytes = take n (drop command.sent command.bytes) } ∷ []) (record backend { command = Some (record command { sent = command.sent + n }) })
+command-taken forms user heard pieces backend command n at none is some fits fresh = inside-after forms user heard pieces (pieces ++ piece ∷ []) backend backend.own backend.reply (Some (record command { sent = command.sent + n })) at
+    (inr (none, prefix-more at.said (bytes_in pieces) piece.bytes (bytes_in (pieces ++ piece ∷ [])) (said-written forms user heard pieces backend at none) (bytes-more pieces piece))) commands
+    (record { payload = message.payload; spelt = message.spelt; short = message.short; sent = (let left : length (drop command.sent command.bytes) ≡ length command.bytes - command.sent = length-drop command.sent command.bytes in omega arith); form = message.form }) new
     (λ no. absurd (let some_is : record { tag = command.tag; bytes = take (command.sent + n) command.bytes } ∷ [] ≡ [] = sym now ∙ no in cc))
     (let hears : IsHearing command at.part backend.reply = subst (λ (o : Option Handed). HearsPart o at.part backend.reply) is at.partly in record { goes = hears.goes; made = hears.made; are = hears.are }) where
       piece : Command
       piece = record { tag = command.tag; bytes = take n (drop command.sent command.bytes) }
 
-      message : IsMessage command
-      message = subst IsHanded is at.command
+      message : IsMessage forms command
+      message = subst (IsHanded forms) is at.command
 
       now : begun (Some (record command { sent = command.sent + n })) ≡ record { tag = command.tag; bytes = take (command.sent + n) command.bytes } ∷ []
       now = begun-some (record command { sent = command.sent + n }) (omega arith)
 
       commands : commands_in (behind (length at.said) (pieces ++ piece ∷ [])) ≡ at.others ++ begun (Some (record command { sent = command.sent + n }))
-      commands = ap commands_in (behind-append (length at.said) pieces (piece ∷ []) (prefix-fits at.said (bytes_in pieces) (said-written user heard pieces backend at none)))
+      commands = ap commands_in (behind-append (length at.said) pieces (piece ∷ []) (prefix-fits at.said (bytes_in pieces) (said-written forms user heard pieces backend at none)))
           ∙ fold-append with_piece [] (behind (length at.said) pieces) (piece ∷ [])
           ∙ ap (λ cs. with_piece cs piece) at.commands
           ∙ with-piece-behind at.others (begun backend.command) piece at.wholes
           ∙ ap (λ (o : Option Handed). at.others ++ with_piece (begun o) piece) is
-          ∙ ap (λ cs. at.others ++ cs) (begun-more command n message some fits ∙ sym now)
+          ∙ ap (λ cs. at.others ++ cs) (begun-more forms command n message some fits ∙ sym now)
 
       new : (m i : ℕ) → list_any (is_of m i) (begun (Some (record command { sent = command.sent + n }))) ≡ true → list_any (is_of m i) at.others ≡ false
       new m i any = by command.sent refl where
@@ -216,34 +213,34 @@ command-taken user heard pieces backend command n at none is some fits fresh = i
         by (suc sent) was = at.new m i (ap (λ (o : Option Handed). list_any (is_of m i) (begun o)) is ∙ ap (list_any (is_of m i)) (begun-some command (omega arith)) ∙ here)
 
 -- So many bytes of what is left are written, with its tag.
-pub taken-at : (user : Account) (heard : List ℕ) (pieces : List Command) (backend : BackendState) (l : Left) (n : ℕ) → LinkAt user heard pieces backend → left backend ≡ Some l → 0 < n → n ≤ length l.bytes → IsFresh backend.command pieces
-    → LinkAt user heard (pieces ++ record { tag = l.tag; bytes = take n l.bytes } ∷ []) (taken n backend)
-taken-at user heard pieces backend l n (Entering at) is some fits fresh = by backend.own refl is where
-  by : (own : List ℕ) → backend.own ≡ own → left_by own backend.command ≡ Some l → LinkAt user heard (pieces ++ record { tag = l.tag; bytes = take n l.bytes } ∷ []) (taken_by n own backend)
+pub taken-at : (forms : Forms) (user : Account) (heard : List ℕ) (pieces : List Command) (backend : BackendState) (l : Left) (n : ℕ) → LinkAt forms user heard pieces backend → left backend ≡ Some l → 0 < n → n ≤ length l.bytes → IsFresh backend.command pieces
+    → LinkAt forms user heard (pieces ++ record { tag = l.tag; bytes = take n l.bytes } ∷ []) (taken n backend)
+taken-at forms user heard pieces backend l n (Entering at) is some fits fresh = by backend.own refl is where
+  by : (own : List ℕ) → backend.own ≡ own → left_by own backend.command ≡ Some l → LinkAt forms user heard (pieces ++ record { tag = l.tag; bytes = take n l.bytes } ∷ []) (taken_by n own backend)
   by [] same left = absurd (let no : None ≡ Some l = sym (ap command_left at.login.idle) ∙ left in cc)
-  by (byte ∷ bytes) same left = subst (λ (o : Left). LinkAt user heard (pieces ++ record { tag = o.tag; bytes = take n o.bytes } ∷ []) (record backend { own = drop n (byte ∷ bytes) })) (some-same (record { tag = Own; bytes = byte ∷ bytes }) l left)
-      (subst (λ own. LinkAt user heard (pieces ++ record { tag = Own; bytes = take n own } ∷ []) (record backend { own = drop n own })) same (Entering (entering-taken user heard pieces backend n at)))
-taken-at user heard pieces backend l n (Inside at) is some fits fresh = by backend.own refl is where
+  by (byte ∷ bytes) same left = subst (λ (o : Left). LinkAt forms user heard (pieces ++ record { tag = o.tag; bytes = take n o.bytes } ∷ []) (record backend { own = drop n (byte ∷ bytes) })) (some-same (record { tag = Own; bytes = byte ∷ bytes }) l left)
+      (subst (λ own. LinkAt forms user heard (pieces ++ record { tag = Own; bytes = take n own } ∷ []) (record backend { own = drop n own })) same (Entering (entering-taken user heard pieces backend n at)))
+taken-at forms user heard pieces backend l n (Inside at) is some fits fresh = by backend.own refl is where
   piece : Command
   piece = record { tag = l.tag; bytes = take n l.bytes }
 
   of-command : backend.own ≡ [] → (command : Handed) → backend.command ≡ Some command → (there : Bool) → cond there (Some (record { tag = command.tag; bytes = drop command.sent command.bytes })) None ≡ Some l
-      → LinkAt user heard (pieces ++ piece ∷ []) (record backend { command = Some (record command { sent = command.sent + n }) })
+      → LinkAt forms user heard (pieces ++ piece ∷ []) (record backend { command = Some (record command { sent = command.sent + n }) })
   of-command none command same false left = absurd (let no : None ≡ Some l = left in cc)
-  of-command none command same true left = subst (λ (o : Left). LinkAt user heard (pieces ++ record { tag = o.tag; bytes = take n o.bytes } ∷ []) (record backend { command = Some (record command { sent = command.sent + n }) })) the
-      (Inside (command-taken user heard pieces backend command n at none same some (subst (λ (o : Left). n ≤ length o.bytes) (sym the) fits) fresh)) where
+  of-command none command same true left = subst (λ (o : Left). LinkAt forms user heard (pieces ++ record { tag = o.tag; bytes = take n o.bytes } ∷ []) (record backend { command = Some (record command { sent = command.sent + n }) })) the
+      (Inside (command-taken forms user heard pieces backend command n at none same some (subst (λ (o : Left). n ≤ length o.bytes) (sym the) fits) fresh)) where
         the : record { tag = command.tag; bytes = drop command.sent command.bytes } ≡ l
         the = some-same (record { tag = command.tag; bytes = drop command.sent command.bytes }) l left
 
-  commanded-left : backend.own ≡ [] → (o : Option Handed) → backend.command ≡ o → command_left o ≡ Some l → LinkAt user heard (pieces ++ piece ∷ []) (record backend { command = command_taken n o })
+  commanded-left : backend.own ≡ [] → (o : Option Handed) → backend.command ≡ o → command_left o ≡ Some l → LinkAt forms user heard (pieces ++ piece ∷ []) (record backend { command = command_taken n o })
   commanded-left none None same left = absurd (let no : None ≡ Some l = left in cc)
   commanded-left none (Some command) same left = of-command none command same (nat_lt command.sent (length command.bytes)) left
 
-  by : (own : List ℕ) → backend.own ≡ own → left_by own backend.command ≡ Some l → LinkAt user heard (pieces ++ piece ∷ []) (taken_by n own backend)
+  by : (own : List ℕ) → backend.own ≡ own → left_by own backend.command ≡ Some l → LinkAt forms user heard (pieces ++ piece ∷ []) (taken_by n own backend)
   by [] same left = commanded-left same backend.command refl left
-  by (byte ∷ bytes) same left = subst (λ (o : Left). LinkAt user heard (pieces ++ record { tag = o.tag; bytes = take n o.bytes } ∷ []) (record backend { own = drop n (byte ∷ bytes) })) the
-      (subst (λ own. LinkAt user heard (pieces ++ record { tag = Own; bytes = take n own } ∷ []) (record backend { own = drop n own })) same
-      (Inside (own-taken user heard pieces backend n at some (subst (λ own. n ≤ length own) (sym same) (subst (λ (o : Left). n ≤ length o.bytes) (sym the) fits))))) where
+  by (byte ∷ bytes) same left = subst (λ (o : Left). LinkAt forms user heard (pieces ++ record { tag = o.tag; bytes = take n o.bytes } ∷ []) (record backend { own = drop n (byte ∷ bytes) })) the
+      (subst (λ own. LinkAt forms user heard (pieces ++ record { tag = Own; bytes = take n own } ∷ []) (record backend { own = drop n own })) same
+      (Inside (own-taken forms user heard pieces backend n at some (subst (λ own. n ≤ length own) (sym same) (subst (λ (o : Left). n ≤ length o.bytes) (sym the) fits))))) where
         the : record { tag = Own; bytes = byte ∷ bytes } ≡ l
         the = some-same (record { tag = Own; bytes = byte ∷ bytes }) l left
 
@@ -254,9 +251,9 @@ part-said pieces own said k is = record { rest = drop k own; is = append_assoc (
 pub said-entering : (user : Account) (heard : List ℕ) (pieces : List Command) (backend : BackendState) (k : ℕ) → IsEntering user heard pieces backend → IsPrefix (bytes_in pieces ++ take k backend.own) (said_of (opening user heard))
 said-entering user heard pieces backend k at = part-said pieces backend.own (said_of (opening user heard)) k (sym (ap said_of at.goes))
 
-pub said-inside : (user : Account) (heard : List ℕ) (pieces : List Command) (backend : BackendState) (k : ℕ) → IsInside user heard pieces backend → 0 < length backend.own → IsPrefix (bytes_in pieces ++ take k backend.own) (said_of (opening user heard))
-said-inside user heard pieces backend k at some = part-said pieces backend.own (said_of (opening user heard)) k (own-left user heard pieces backend at some ∙ sym (ap said_of at.is))
+pub said-inside : (forms : Forms) (user : Account) (heard : List ℕ) (pieces : List Command) (backend : BackendState) (k : ℕ) → IsInside forms user heard pieces backend → 0 < length backend.own → IsPrefix (bytes_in pieces ++ take k backend.own) (said_of (opening user heard))
+said-inside forms user heard pieces backend k at some = part-said pieces backend.own (said_of (opening user heard)) k (own-left forms user heard pieces backend at some ∙ sym (ap said_of at.is))
 
-pub said-at : (user : Account) (heard : List ℕ) (pieces : List Command) (backend : BackendState) (k : ℕ) → LinkAt user heard pieces backend → 0 < length backend.own → IsPrefix (bytes_in pieces ++ take k backend.own) (said_of (opening user heard))
-said-at user heard pieces backend k (Entering at) some = said-entering user heard pieces backend k at
-said-at user heard pieces backend k (Inside at) some = said-inside user heard pieces backend k at some
+pub said-at : (forms : Forms) (user : Account) (heard : List ℕ) (pieces : List Command) (backend : BackendState) (k : ℕ) → LinkAt forms user heard pieces backend → 0 < length backend.own → IsPrefix (bytes_in pieces ++ take k backend.own) (said_of (opening user heard))
+said-at forms user heard pieces backend k (Entering at) some = said-entering user heard pieces backend k at
+said-at forms user heard pieces backend k (Inside at) some = said-inside forms user heard pieces backend k at some

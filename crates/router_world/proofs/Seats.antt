@@ -2,7 +2,7 @@
 use Rattle.std.specs.Prelude.{◌≡◌, ◌≢◌, ◌≤◌, ◌<◌, ℕ, suc, true, false, is_some, List, [], ◌++◌, length, take, drop, Option, Some, None, refl}
 use Rattle.std.proofs.Common.{sym, ◌∙◌, ap, subst, append-nil, append_assoc, take-append-drop, arith}
 use Rattle.mx_base.specs.declared.names.ClientNo.{ClientNo}
-use Rattle.packet_frame.specs.Packets.{Framed, Split, split, with_front, longest, next_id}
+use Rattle.packet_frame.specs.Packets.{Framed, Split, split, with_front, next_id}
 use Rattle.packet_frame.specs.Laws.{first_message-empty}
 use Rattle.client_side.specs.declared.stage.Stage.{Stage}
 use Rattle.client_side.specs.declared.stage.Stage.TheVariants as stage
@@ -18,6 +18,7 @@ use Rattle.client_talk.specs.declared.session.Phase.TheVariants as phase
 use Rattle.client_talk.specs.declared.session.Session.{Session}
 use Rattle.client_talk.specs.Sessions.{new_session}
 use Rattle.client_talk.specs.Events.{said_in, said, rested, answered_in, answered, taken}
+use Rattle.exchange.specs.Commands.{most_command}
 use Rattle.exchange.specs.Replies.{Answer, spelt}
 use Rattle.promises.specs.Due.{Work}
 use Rattle.promises.specs.Closes.{ends_in, ends_by}
@@ -43,7 +44,7 @@ pub record IsNew (number : ClientNo) (salt : List ℕ) (setup : Setup) (reply : 
   pub coming : session.phase ≡ phase.LoggingIn
   pub greets : session.client.outgoing ≡ greeting_said number.0 salt setup.version
 
-pub new-seat : (number : ClientNo) (salt : List ℕ) (setup : Setup) (reply : ℕ → Option Answer) → setup.limit < longest → IsNew number salt setup reply (new_session number salt setup true)
+pub new-seat : (number : ClientNo) (salt : List ℕ) (setup : Setup) (reply : ℕ → Option Answer) → setup.limit ≤ most_command → IsNew number salt setup reply (new_session number salt setup true)
 new-seat number salt setup reply short = record {
   seat = record {
     number = refl;
@@ -51,7 +52,7 @@ new-seat number salt setup reply short = record {
     limit = refl;
     short = short;
     due = sym (append-nil (greeting_said number.0 salt setup.version)) ∙ sym (due-alone reply (new_talk number salt setup) (Waits false) waits refl);
-    at = record { login = logging-new number salt setup.version setup.limit short; switched = false; waits = waits; arrived = refl };
+    at = record { login = logging-new number salt setup.version setup.limit; switched = false; waits = waits; arrived = refl };
   };
   coming = refl;
   greets = refl;
@@ -84,7 +85,7 @@ phase-outgoing : (at : Phase) (talk : Talk) (reply : ℕ → Option Answer) (byt
 phase-outgoing phase.LoggingIn talk reply bytes outgoing client at = record { login = login-outgoing talk client outgoing bytes at.login; switched = at.switched; waits = at.waits; arrived = at.arrived }
 phase-outgoing (phase.Idle user) talk reply bytes outgoing client at = record { taken = taken-outgoing talk client outgoing at.taken; account = at.account; all = at.all; faultless = at.faultless; none = at.none }
 phase-outgoing (phase.Working user) talk reply bytes outgoing client at =
-    record { taken = taken-outgoing talk client outgoing at.taken; account = at.account; message = at.message; work = at.work; query = at.query; begins = at.begins; ends = at.ends; short = at.short }
+    record { taken = taken-outgoing talk client outgoing at.taken; account = at.account; message = at.message; work = at.work; query = at.query; begins = at.begins; short = at.short }
 phase-outgoing phase.Ending talk reply bytes outgoing client at = at
 
 pub taken-seat : (talk : Talk) (reply : ℕ → Option Answer) (written : List ℕ) (session : Session) (n : ℕ) → SeatAt talk reply written session → SeatAt talk reply (written ++ take n session.client.outgoing) (taken n session)
@@ -109,8 +110,11 @@ phase-agrees : (at : Phase) (talk : Talk) (reply other : ℕ → Option Answer) 
 phase-agrees phase.LoggingIn talk reply other bytes client same at = at
 phase-agrees (phase.Idle user) talk reply other bytes client same at = record { taken = at.taken; account = at.account; all = same ∙ at.all; faultless = at.faultless; none = at.none }
 phase-agrees (phase.Working user) talk reply other bytes client same at =
-    record { taken = at.taken; account = at.account; message = at.message; work = same ∙ at.work; query = at.query; begins = at.begins; ends = at.ends; short = at.short }
+    record { taken = at.taken; account = at.account; message = at.message; work = same ∙ at.work; query = at.query; begins = at.begins; short = at.short }
 phase-agrees phase.Ending talk reply other bytes client same at = ap (λ w. ends_in (opening_of talk) (account talk) (ends_by w (is_some (messages_of talk).fault))) same ∙ at
+
+pub agree-work : (talk : Talk) (reply other : ℕ → Option Answer) → Agrees talk reply other → work_said other talk ≡ work_said reply talk
+agree-work talk reply other agrees = (agree talk.setup reply other 1 (messages_of talk).messages (fault_answer talk.setup.limit (messages_of talk).fault) agrees.stays agrees.none).goes
 
 pub agree-seat : (talk : Talk) (reply other : ℕ → Option Answer) (written : List ℕ) (session : Session) → Agrees talk reply other → SeatAt talk reply written session → SeatAt talk other written session
 agree-seat talk reply other written session agrees seat = (
@@ -174,7 +178,6 @@ working-fed talk reply written bytes user client seat = (
         work = ap (first_open talk.setup reply 1) grown.messages ∙ open-more talk.setup reply 1 (messages_of talk).messages grown.later work seat.at.work;
         query = seat.at.query;
         begins = seat.at.begins;
-        ends = seat.at.ends;
         short = seat.at.short;
       };
     })

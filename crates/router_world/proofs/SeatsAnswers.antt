@@ -3,7 +3,7 @@ use Rattle.std.specs.Prelude.{◌≡◌, ◌≢◌, ◌≤◌, ◌<◌, ℕ, suc
 use Rattle.std.proofs.Common.{sym, ◌∙◌, ap, subst, append-nil, append_assoc, arith, length-append}
 use Rattle.packet_frame.specs.Packets.{Framed, next_id}
 use Rattle.command_parse.specs.Meaning.{Meaning, parsed}
-use Rattle.command_parse.specs.Meaning.Meaning.{Query, InitDb, Ping, Quit}
+use Rattle.command_parse.specs.Meaning.Meaning.{Query, InitDb, FieldList, Ping, Quit}
 use Rattle.command_parse.specs.declared.fault.CommandFault.{CommandFault}
 use Rattle.client_session.specs.Setups.{Setup}
 use Rattle.client_session.specs.Answers.{query_by, is_query, quit_by, is_quit}
@@ -29,18 +29,15 @@ Means asked.Ping has_server reply meaning = answer_by (served has_server reply) 
 Means asked.Quit has_server reply meaning = (quit_by meaning ≡ true) × (answer_by (served has_server reply) meaning ≡ None)
 Means (asked.Refused refusal) has_server reply meaning = answer_by (served has_server reply) meaning ≡ Some (payload_of refusal ∷ [])
 
-means-query : (has_server : Bool) (reply : Option Answer) (text : List ℕ) → Means (query_if has_server) has_server reply (Ok (Query text))
-means-query true reply text = (refl, refl)
-means-query false reply text = refl
-
-means-choice : (has_server : Bool) (reply : Option Answer) (schema : List ℕ) → Means (query_if has_server) has_server reply (Ok (InitDb schema))
-means-choice true reply schema = (refl, refl)
-means-choice false reply schema = refl
+means-served : (has_server : Bool) (reply : Option Answer) (meaning : Result Meaning CommandFault) → query_by meaning ≡ true → ((o : Option Answer) → answer_by o meaning ≡ o) → Means (query_if has_server) has_server reply meaning
+means-served true reply meaning query answers = (query, answers reply)
+means-served false reply meaning query answers = answers (served false reply)
 
 pub means-asked : (has_server : Bool) (reply : Option Answer) (meaning : Result Meaning CommandFault) → Means (asked_by has_server meaning) has_server reply meaning
 means-asked has_server reply (Err fault) = refl
-means-asked has_server reply (Ok (Query text)) = means-query has_server reply text
-means-asked has_server reply (Ok (InitDb schema)) = means-choice has_server reply schema
+means-asked has_server reply (Ok (Query text)) = means-served has_server reply (Ok (Query text)) refl (λ o. refl)
+means-asked has_server reply (Ok (InitDb schema)) = means-served has_server reply (Ok (InitDb schema)) refl (λ o. refl)
+means-asked has_server reply (Ok (FieldList rest)) = means-served has_server reply (Ok (FieldList rest)) refl (λ o. refl)
 means-asked has_server reply (Ok Ping) = refl
 means-asked has_server reply (Ok Quit) = (refl, refl)
 means-asked has_server reply (Ok _) = refl
@@ -48,12 +45,14 @@ means-asked has_server reply (Ok _) = refl
 query-by : (reply : Option Answer) (meaning : Result Meaning CommandFault) → query_by meaning ≡ true → answer_by reply meaning ≡ reply
 query-by reply (Ok (Query text)) is = refl
 query-by reply (Ok (InitDb schema)) is = refl
+query-by reply (Ok (FieldList rest)) is = refl
 query-by reply (Err fault) is = absurd (let no : false ≡ true = is in cc)
 query-by reply (Ok _) is = absurd (let no : false ≡ true = is in cc)
 
 no-quit : (meaning : Result Meaning CommandFault) → query_by meaning ≡ true → quit_by meaning ≡ false
 no-quit (Ok (Query text)) is = refl
 no-quit (Ok (InitDb schema)) is = refl
+no-quit (Ok (FieldList rest)) is = refl
 no-quit (Err fault) is = refl
 no-quit (Ok _) is = absurd (let no : false ≡ true = is in cc)
 
@@ -78,6 +77,7 @@ query-served setup reply payload query server = query-by (served (is_some setup.
 answer-by-stays : (old new : Option Answer) (meaning : Result Meaning CommandFault) (answer : Answer) → (old ≡ Some answer → new ≡ Some answer) → answer_by old meaning ≡ Some answer → answer_by new meaning ≡ Some answer
 answer-by-stays old new (Ok (Query text)) answer stays is = stays is
 answer-by-stays old new (Ok (InitDb schema)) answer stays is = stays is
+answer-by-stays old new (Ok (FieldList rest)) answer stays is = stays is
 answer-by-stays old new _ answer stays is = is
 
 served-stays : (has_server : Bool) (old new : Option Answer) (answer : Answer) → (old ≡ Some answer → new ≡ Some answer) → served has_server old ≡ Some answer → served has_server new ≡ Some answer
@@ -92,6 +92,7 @@ answer-stays setup old new payload answer stays is =
 answer-by-none : (old new : Option Answer) (meaning : Result Meaning CommandFault) → (query_by meaning ≡ true → new ≡ None) → answer_by old meaning ≡ None → answer_by new meaning ≡ None
 answer-by-none old new (Ok (Query text)) stays is = stays refl
 answer-by-none old new (Ok (InitDb schema)) stays is = stays refl
+answer-by-none old new (Ok (FieldList rest)) stays is = stays refl
 answer-by-none old new _ stays is = is
 
 served-none : (has_server : Bool) (old new : Option Answer) → new ≡ None → served has_server old ≡ None → served has_server new ≡ None

@@ -2,7 +2,7 @@
 use Rattle.std.specs.Prelude.{◌≡◌, ◌≤◌, ◌<◌, ℕ, suc, Bool, true, false, is_some, cond, List, [], ◌++◌, length, drop, Option, Some, None, Result, Ok, Err, refl}
 use Rattle.std.proofs.Common.{sym, ◌∙◌, ap, subst, append-nil, append_assoc, arith, length-drop}
 use Rattle.packet_frame.specs.FramerState.{look}
-use Rattle.packet_frame.specs.Packets.{Framed, Found, split, longest, message_size, next_id, spelling}
+use Rattle.packet_frame.specs.Packets.{Framed, Found, split, message_size, next_id, spelling}
 use Rattle.packet_frame.specs.Packets.Found.{Nothing, Whole, Faulty}
 use Rattle.handshake.specs.declared.fault.HandFault.{HandFault}
 use Rattle.handshake.specs.declared.response.Response.{Response}
@@ -26,6 +26,7 @@ use Rattle.client_talk.specs.declared.session.Phase.TheVariants as phase
 use Rattle.client_talk.specs.declared.session.Session.{Session}
 use Rattle.client_talk.specs.Steps.{admitted, denied, logs_in, logs_in_as, refused, step_by, step}
 use Rattle.client_talk.specs.Going.{still, unsaid, left_to_say}
+use Rattle.exchange.specs.Commands.{most_command}
 use Rattle.exchange.specs.Replies.{Answer}
 use Rattle.promises.specs.Closes.{ends_by, ends_in, if_user}
 use Rattle.router_world.specs.Seats.{due_said, work_said, over_said}
@@ -82,7 +83,7 @@ record IsNext (talk : Talk) (reply : ℕ → Option Answer) (left : ℕ) (client
   number : client.number.0 ≡ talk.number
   salt : client.salt ≡ talk.salt
   limit : client.framer.limit ≡ talk.setup.limit
-  short : talk.setup.limit < longest
+  short : talk.setup.limit ≤ most_command
   few : length talk.read < 18446744073709551616
   arrived : client.arrived ≡ 0
   later : (i : ℕ) → suc client.arrived ≤ i → reply i ≡ None

@@ -1,6 +1,5 @@
 -- How a client's session stands between the steps that it takes.
 use Rattle.std.specs.Prelude.{◌≡◌, ◌≤◌, ◌<◌, ℕ, suc, true, List, ◌++◌, length, Option, Some, None}
-use Rattle.packet_frame.specs.Packets.{longest}
 use Rattle.client_side.specs.Client.{ClientState}
 use Rattle.client_side.specs.Reading.{IsLoggingIn}
 use Rattle.server_side.specs.Account.{Account}
@@ -12,6 +11,7 @@ use Rattle.client_talk.specs.declared.step.Turn.{Turn}
 use Rattle.client_talk.specs.declared.step.Turn.TheVariants as turn
 use Rattle.client_talk.specs.Steps.{Step}
 use Rattle.client_talk.specs.Going.{Turned, still, left_to_say}
+use Rattle.exchange.specs.Commands.{most_command}
 use Rattle.exchange.specs.Replies.{Answer}
 use Rattle.router_world.specs.Seats.{due_said, over_said, IsTaken, SeatAt, Unanswered, Asks}
 use Rattle.router_world.proofs.SeatsAnswers.{AreDone}
@@ -39,7 +39,7 @@ pub record GoesAt (talk : Talk) (reply : ℕ → Option Answer) (written : List 
   pub number : session.client.number.0 ≡ talk.number
   pub salt : session.client.salt ≡ talk.salt
   pub limit : session.client.framer.limit ≡ talk.setup.limit
-  pub short : talk.setup.limit < longest
+  pub short : talk.setup.limit ≤ most_command
   pub few : length talk.read < 18446744073709551616
   pub later : (i : ℕ) → suc session.client.arrived ≤ i → reply i ≡ None
   pub at : MayGo session.phase talk reply (written ++ session.client.outgoing) session.client
@@ -59,7 +59,7 @@ abbrev pub Leads : (left : ℕ) → Talk → (ℕ → Option Answer) → (writte
 Leads left talk reply written next = LeadsTo next.turn left talk reply written next.session
 
 -- A session that ends is asked for nothing.
-pub ends-so : (talk : Talk) (reply : ℕ → Option Answer) (written : List ℕ) (client : ClientState) → client.number.0 ≡ talk.number → client.salt ≡ talk.salt → client.framer.limit ≡ talk.setup.limit → talk.setup.limit < longest
+pub ends-so : (talk : Talk) (reply : ℕ → Option Answer) (written : List ℕ) (client : ClientState) → client.number.0 ≡ talk.number → client.salt ≡ talk.salt → client.framer.limit ≡ talk.setup.limit → talk.setup.limit ≤ most_command
     → ((i : ℕ) → suc client.arrived ≤ i → reply i ≡ None) → over_said reply talk ≡ true → written ++ client.outgoing ≡ due_said reply talk
     → (old : Session) → SeatTurned talk reply written old (still (record { client = client; phase = phase.Ending }))
 ends-so talk reply written client number salt limit short later over due old = record {

@@ -6,7 +6,7 @@ use Rattle.packet_frame.specs.declared.fault.FrameFault.{FrameFault}
 use Rattle.packet_frame.specs.Packets.{Framed, Found, Split, split, with_front, first_message, message_size, next_id, spelling}
 use Rattle.packet_frame.specs.Packets.Found.{Nothing, Whole, Faulty}
 use Rattle.packet_frame.specs.Laws.{first_message-shorter}
-use Rattle.packet_frame.specs.OnePacket.{first_message-whole}
+use Rattle.packet_frame.specs.MessageLaws.{first_message-goes}
 use Rattle.command_parse.specs.Meaning.{parsed}
 use Rattle.client_side.specs.declared.stage.Stage.{Stage}
 use Rattle.client_side.specs.declared.step.ClientFault.TheVariants.{Frame}
@@ -33,6 +33,7 @@ use Rattle.promises.specs.Closes.{ends_by}
 use Rattle.router_world.specs.Replied.{answer_of}
 use Rattle.router_world.specs.Seats.{due_said, over_said, IsTaken, IsWorking}
 use Rattle.router_world.proofs.SeatsAnswers.{at_place, Means, means-asked, done-one}
+use Rattle.router_world.proofs.Framing.{message-framed}
 use Rattle.router_world.proofs.SeatsTalks.{IsAllDue, IsDueTo, over-in, taken-nothing, taken-whole, taken-faulty, taken-few, client_past, taken-one, counted-suc, due-all, due-open}
 use Rattle.router_world.proofs.SeatsGoing.{GoesAt, SeatTurned, LeadsTo, Leads, ends-so}
 use Rattle.router_world.proofs.SeatsComing.{coming-steps}
@@ -56,7 +57,7 @@ idle-rests talk reply written user client goes at old = record {
     at = record {
       taken = record {
         stage = goes.at.taken.stage;
-        framer = record { short = goes.at.taken.framer.short; unfound = refl; faultless = goes.at.taken.framer.faultless };
+        framer = record { unfound = refl; faultless = goes.at.taken.framer.faultless };
         past = goes.at.taken.past;
         arrived = goes.at.taken.arrived;
         whatever = goes.at.taken.whatever;
@@ -101,7 +102,6 @@ idle-refused talk reply written user client fault goes at old =
 record IsWhole (talk : Talk) (client : ClientState) (taken : IsTaken talk client) (message : Framed) (rest : List ℕ) : Type 0 where
   at : first_message talk.setup.limit 0 client.framer.kept ≡ Whole message rest
   begins : message.first ≡ 0
-  ends : message.last ≡ 0
   fits : length message.payload ≤ talk.setup.limit
   fewer : length (drop (message_size client.framer.kept) client.framer.kept) < length client.framer.kept
   few : suc (length taken.past) < 18446744073709551616
@@ -111,18 +111,18 @@ record IsWhole (talk : Talk) (client : ClientState) (taken : IsTaken talk client
 whole-at : (talk : Talk) (reply : ℕ → Option Answer) (written : List ℕ) (user : Account) (client : ClientState) (message : Framed) (rest : List ℕ) (goes : GoesAt talk reply written (idle user client)) → first_message talk.setup.limit 0 client.framer.kept ≡ Whole message rest
     → IsWhole talk client goes.at.taken message rest
 whole-at talk reply written user client message rest goes at = (
-    let one = first_message-whole talk.setup.limit 0 client.framer.kept message rest goes.short at in
+    let one = message-framed talk.setup.limit 0 client.framer.kept message rest at in
+    let behind : rest ≡ drop (message_size client.framer.kept) client.framer.kept = first_message-goes talk.setup.limit 0 client.framer.kept message rest at in
     let all : length talk.read < 18446744073709551616 = goes.few in
     let least : suc (length goes.at.taken.past) ≤ length talk.read = taken-few talk client message rest user goes.at.taken goes.at.account at in
     let few : suc (length goes.at.taken.past) < 18446744073709551616 = omega arith in
     let shorter : length rest + length message.payload + 4 ≤ length client.framer.kept = first_message-shorter talk.setup.limit 0 client.framer.kept message rest at in
-    let left : length rest ≡ length (drop (message_size client.framer.kept) client.framer.kept) = ap length one.goes in
+    let left : length rest ≡ length (drop (message_size client.framer.kept) client.framer.kept) = ap length behind in
     let less : length (drop (message_size client.framer.kept) client.framer.kept) < length client.framer.kept = omega arith in
     record {
       at = at;
       begins = one.begins;
-      ends = one.ends;
-      fits = one.fits;
+      fits = (let most : 0 + length message.payload ≤ talk.setup.limit = one.fits in omega arith);
       fewer = less;
       few = few;
       counts = counted-suc client.arrived (length goes.at.taken.past) goes.at.taken.arrived few;
@@ -146,7 +146,7 @@ idle-answers talk reply written user client message rest payload goes whole answ
     few = goes.few;
     later = λ i from. later-from talk reply written user client goes (counted client.arrived) i whole.counts (omega arith);
     at = record {
-      taken = taken-one talk client message rest (client.outgoing ++ spelling (next_id message.last) payload) goes.short goes.at.taken whole.at whole.few;
+      taken = taken-one talk client message rest (client.outgoing ++ spelling (next_id message.last) payload) goes.at.taken whole.at whole.few;
       account = goes.at.account;
       said = goes.at.said ++ spelt (next_id message.last) (payload ∷ []);
       done = done-one talk.setup reply goes.at.taken.past goes.at.said message (payload ∷ []) goes.at.done answer;
@@ -181,13 +181,12 @@ idle-works talk reply written user client message rest goes whole query answer o
 
   working : IsWorking talk reply user (client_past message client.outgoing client)
   working = record {
-    taken = taken-one talk client message rest client.outgoing goes.short goes.at.taken whole.at whole.few;
+    taken = taken-one talk client message rest client.outgoing goes.at.taken whole.at whole.few;
     account = goes.at.account;
     message = message;
     work = to.first ∙ ap (λ k. Some (at_place k message)) (sym whole.counts);
     query = query;
     begins = whole.begins;
-    ends = whole.ends;
     short = whole.fits;
   }
 

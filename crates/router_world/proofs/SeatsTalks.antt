@@ -2,10 +2,10 @@
 use Rattle.std.specs.Prelude.{◌≡◌, ◌≤◌, ◌<◌, ℕ, suc, ◌+◌, Bool, is_some, cond, List, [], ◌∷◌, ◌++◌, length, drop, Option, Some, None, refl}
 use Rattle.std.proofs.Common.{sym, ◌∙◌, ap, append-nil, append_assoc, arith, length-append}
 use Rattle.packet_frame.specs.declared.fault.FrameFault.{FrameFault}
-use Rattle.packet_frame.specs.Packets.{Framed, Split, split, with_front, first_message, message_size, longest, next_id}
+use Rattle.packet_frame.specs.Packets.{Framed, Split, split, with_front, first_message, message_size, next_id}
 use Rattle.packet_frame.specs.Packets.Found.{Nothing, Whole, Faulty}
 use Rattle.packet_frame.specs.Laws.{split-nothing, split-whole, split-faulty, split-count, first_message-empty, first_message-whole-more}
-use Rattle.packet_frame.specs.OnePacket.{first_message-whole}
+use Rattle.packet_frame.specs.MessageLaws.{first_message-goes}
 use Rattle.handshake.specs.declared.response.Response.{Response}
 use Rattle.client_side.specs.Client.{ClientState, fed, counted, past_message}
 use Rattle.client_side.specs.Login.{Opening, Waits, Says, Fails}
@@ -127,7 +127,7 @@ counted-suc n k same few = (let more : counted n ≡ n + 1 = counted-one n (omeg
 abbrev pub taken-fed : (talk : Talk) (client : ClientState) (bytes : List ℕ) (user : Account) → account talk ≡ Some user → IsTaken talk client → IsTaken (heard_more talk bytes) (fed client bytes)
 taken-fed talk client bytes user is taken = record {
   stage = taken.stage;
-  framer = record { short = taken.framer.short; unfound = taken.framer.unfound; faultless = taken.framer.faultless };
+  framer = record { unfound = taken.framer.unfound; faultless = taken.framer.faultless };
   past = taken.past;
   arrived = taken.arrived;
   whatever = λ more.
@@ -144,24 +144,23 @@ past-count past message = omega (arith, length-append past (message ∷ []))
 abbrev pub client_past : Framed → (outgoing : List ℕ) → ClientState → ClientState
 client_past message outgoing client = record client { framer = past_message message client.framer; arrived = counted client.arrived; outgoing = outgoing }
 
-pub past-whatever : (talk : Talk) (client : ClientState) (message : Framed) (rest : List ℕ) → talk.setup.limit < longest → (taken : IsTaken talk client) → first_message talk.setup.limit 0 client.framer.kept ≡ Whole message rest
+pub past-whatever : (talk : Talk) (client : ClientState) (message : Framed) (rest : List ℕ) → (taken : IsTaken talk client) → first_message talk.setup.limit 0 client.framer.kept ≡ Whole message rest
     → (more : List ℕ) → split talk.setup.limit 0 (commands talk ++ more) ≡ with_front (taken.past ++ message ∷ []) (split talk.setup.limit 0 (drop (message_size client.framer.kept) client.framer.kept ++ more))
-past-whatever talk client message rest short taken at more = (
-    let one = first_message-whole talk.setup.limit 0 client.framer.kept message rest short at in
+past-whatever talk client message rest taken at more = (
     let others = split talk.setup.limit 0 (rest ++ more) in
     taken.whatever more
     ∙ ap (with_front taken.past) (split-whole talk.setup.limit 0 (client.framer.kept ++ more) message (rest ++ more) (first_message-whole-more talk.setup.limit 0 client.framer.kept more message rest at))
     ∙ ap (λ (messages : List Framed). record { messages = messages; rest = others.rest; fault = others.fault }) (sym (append_assoc taken.past (message ∷ []) others.messages))
-    ∙ ap (λ bytes. with_front (taken.past ++ message ∷ []) (split talk.setup.limit 0 (bytes ++ more))) one.goes)
+    ∙ ap (λ bytes. with_front (taken.past ++ message ∷ []) (split talk.setup.limit 0 (bytes ++ more))) (first_message-goes talk.setup.limit 0 client.framer.kept message rest at))
 
-abbrev pub taken-one : (talk : Talk) (client : ClientState) (message : Framed) (rest outgoing : List ℕ) → talk.setup.limit < longest → (taken : IsTaken talk client) → first_message talk.setup.limit 0 client.framer.kept ≡ Whole message rest
+abbrev pub taken-one : (talk : Talk) (client : ClientState) (message : Framed) (rest outgoing : List ℕ) → (taken : IsTaken talk client) → first_message talk.setup.limit 0 client.framer.kept ≡ Whole message rest
     → suc (length taken.past) < 18446744073709551616 → IsTaken talk (client_past message outgoing client)
-taken-one talk client message rest outgoing short taken at few = record {
+taken-one talk client message rest outgoing taken at few = record {
   stage = taken.stage;
-  framer = record { short = taken.framer.short; unfound = refl; faultless = taken.framer.faultless };
+  framer = record { unfound = refl; faultless = taken.framer.faultless };
   past = taken.past ++ message ∷ [];
   arrived = counted-suc client.arrived (length taken.past) taken.arrived few ∙ past-count taken.past message;
-  whatever = past-whatever talk client message rest short taken at;
+  whatever = past-whatever talk client message rest taken at;
 }
 
 -- What is due by them.

@@ -29,7 +29,7 @@ use Rattle.router_world.proofs.Sets.{apart-numbers}
 use Rattle.router_world.proofs.Connecting.{counts-all}
 use Rattle.router_world.proofs.Calm.{Leaves, leaves-other}
 use Rattle.router_world.proofs.Asking.{asks-server}
-use Rattle.router_world.proofs.Sound.{RowStands, Sound, Serves, Unsent, Gone, Busy, InHand, AtMostOne, Nobody, One}
+use Rattle.router_world.proofs.Sound.{AreFormed, RowStands, Sound, Serves, Unsent, Gone, Busy, InHand, AtMostOne, Nobody, One}
 use Rattle.router_world.proofs.Hands.{none-some}
 use Rattle.router_world.proofs.LinksCalm.{Concerns, OnLink, calm-other, leaves-others}
 use Rattle.router_world.proofs.LinksAt.{AtRow}
@@ -62,6 +62,7 @@ pub record OnRow (service : Service) (log : Log) (e : Entry) (link : LinkId) (le
   pub few : length log < 281474976710656
   pub lawful : AllLawful (IsLawful service) (log ++ e ∷ [])
   pub served : IsServed service (log ++ e ∷ [])
+  pub formed : AreFormed service (log ++ e ∷ [])
   pub quiet : IsQuiet tables
   pub idle : tables.lends.waiting ≡ []
   pub there : tables.lends.links link.0 ≡ Some lent
@@ -84,6 +85,7 @@ row-step service log e link lent tables news sound on row writes later came = se
   counts = counts-all (log ++ e ∷ []) (lawful-more Fits log e on.told on.fits);
   lawful = on.lawful;
   served = on.served;
+  formed = on.formed;
   plain = on.plain;
   quiet = on.quiet;
   came = came;

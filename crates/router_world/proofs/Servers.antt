@@ -22,7 +22,7 @@ use Rattle.router_world.specs.Tables.{Tables, with_lends}
 use Rattle.router_world.proofs.Calm.{Leaves}
 use Rattle.router_world.proofs.Frames.{Calm}
 use Rattle.router_world.proofs.Sitting.{same-ordinal, seat-stays}
-use Rattle.router_world.proofs.Sound.{Sound, InHand, Serves, Unsent, Free, Gone, Busy, Waits, Logs, On}
+use Rattle.router_world.proofs.Sound.{AreFormed, Sound, InHand, Serves, Unsent, Free, Gone, Busy, Waits, Logs, On}
 use Rattle.router_world.proofs.Moves.{Came}
 use Rattle.router_world.proofs.Hands.{none-some}
 use Rattle.router_world.proofs.Connecting.{Counts}
@@ -68,6 +68,7 @@ pub record FromServer (service : Service) (log : Log) (e : Entry) (n : ℕ) (tab
   pub counts : Counts (log ++ e ∷ [])
   pub lawful : AllLawful (IsLawful service) (log ++ e ∷ [])
   pub served : IsServed service (log ++ e ∷ [])
+  pub formed : AreFormed service (log ++ e ∷ [])
   pub plain : IsPlain e
   pub quiet : IsQuiet tables
   pub came : Came service (log ++ e ∷ []) n tables.lends news

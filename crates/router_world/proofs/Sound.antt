@@ -25,8 +25,8 @@ use Rattle.exchange.specs.Commands.{most_command, pieces_of, carrier_of}
 use Rattle.promises.specs.Service.{Turn, Service, open_tries, turn_of}
 use Rattle.router_world.specs.World.{turns}
 use Rattle.promises.specs.Owners.{talk_with, user_of, is_here, is_refused}
-use Rattle.promises.specs.Due.{due}
-use Rattle.promises.specs.Sends.{Asks}
+use Rattle.promises.specs.Due.{due, message_of}
+use Rattle.promises.specs.Sends.{Asks, form_of}
 use Rattle.promises.specs.Closes.{IsDone, MayDrop, was_offered}
 use Rattle.promises.specs.Headline.{IsServed}
 use Rattle.router_world.specs.declared.seat.Parting.{Parting}
@@ -40,13 +40,17 @@ use Rattle.std.specs.List.{list_all}
 use Rattle.router_world.specs.Seats.{SeatAt}
 use Rattle.router_world.specs.Tables.{Tables}
 
+-- what the reply to each message of a client is like is what the message asks for
+abbrev pub AreFormed : Service → Log → Type 0
+AreFormed service log = (n i : ℕ) (message : Framed) → message_of service n i log ≡ Some message → service.forms (For (record { 0 = n }) i) ≡ form_of message
+
 -- A query in work, of these packets, whose answer begins with this id.
 pub record IsAsked (service : Service) (n i : ℕ) (bytes : List ℕ) (id : ℕ) (log : Log) : Type 0 where
   pub message : Framed
   pub due : Log
   pub asks : Asks service n i message due log
   pub begins : message.first ≡ 0
-  pub ends : message.last ≡ 0
+  pub form : service.forms (For (record { 0 = n }) i) ≡ form_of message
   pub short : length message.payload ≤ most_command
   pub packets : bytes ≡ spelling 0 message.payload
   pub first : id ≡ next_id message.last
@@ -88,7 +92,7 @@ pub record RowStands (service : Service) (log : Log) (lends : Lends) (link : Lin
   pub hostgroup : turn.hostgroup ≡ 0
   pub user : user_of service turn.client log ≡ Some lent.backend.account
   pub some : list_all has_bytes (pieces_of link log) ≡ true
-  pub at : LinkAt lent.backend.account (heard_of link log) (pieces_of link log) lent.backend
+  pub at : LinkAt service.forms lent.backend.account (heard_of link log) (pieces_of link log) lent.backend
   pub command : (command : Handed) → lent.backend.command ≡ Some command → HandedStands service log turn.client link command
   pub enters : lent.backend.stage ≢ In → Enters lends turn
   pub owned : Owned service log lends link turn.client lent

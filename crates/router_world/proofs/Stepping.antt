@@ -27,7 +27,7 @@ use Rattle.router_world.specs.Acts.{has_some, closes, opens, asks}
 use Rattle.router_world.proofs.Sets.{set-same, set-other, apart-numbers}
 use Rattle.router_world.proofs.Calm.{Leaves, leaves-other, Spares}
 use Rattle.router_world.proofs.Frames.{Calm, ask-calm, row-calm}
-use Rattle.router_world.proofs.Sound.{LendsSound, SeatStands, Sound, Hand}
+use Rattle.router_world.proofs.Sound.{AreFormed, LendsSound, SeatStands, Sound, Hand}
 use Rattle.router_world.proofs.Hands.{none-some}
 use Rattle.router_world.proofs.Connecting.{counts-all}
 use Rattle.router_world.proofs.Leaving.{Parted}
@@ -93,6 +93,7 @@ pub record OnClient (service : Service) (log : Log) (e : Entry) (client : Client
   pub fits : Fits log e
   pub lawful : AllLawful (IsLawful service) (log ++ e ∷ [])
   pub served : IsServed service (log ++ e ∷ [])
+  pub formed : AreFormed service (log ++ e ∷ [])
   pub quiet : IsQuiet tables
   pub number : tables.numbers link.0 ≡ Some client
 

@@ -51,21 +51,21 @@ turn-same service link log e silent = ap (λ l. turn_by link l service.opens) (f
 pub replied-same : (service : Service) (n i : ℕ) (log : Log) (e : Entry) → IsSilent e → Sounds log e → ((link : LinkId) → user_on service link (log ++ e ∷ []) ≡ user_on service link log) → replied service n i (log ++ e ∷ []) ≡ replied service n i log
 replied-same service n i log e silent sounds users = ap (λ (turns : List Turn). cond (list_any (is_turn n i) turns) (Some (connection_refused ∷ [])) (reply_to service n i (log ++ e ∷ []))) (refused-same service log e silent)
     ∙ ap (cond (is_refused service n i log) (Some (connection_refused ∷ []))) replies where
-      on : (link : LinkId) (user : Account) → reply_on n i link (log ++ e ∷ []) user ≡ reply_on n i link log user
+      on : (link : LinkId) (user : Account) → reply_on service.forms n i link (log ++ e ∷ []) user ≡ reply_on service.forms n i link log user
       on link user = ap (λ heard. by heard (pieces_of link (log ++ e ∷ [])) (was_lost link (log ++ e ∷ []))) (sounds.heard link)
           ∙ ap (λ pieces. by (heard_of link log) pieces (was_lost link (log ++ e ∷ []))) (sounds.pieces link)
           ∙ ap (by (heard_of link log) (pieces_of link log)) (sounds.lost link) where
             by : List ℕ → List Command → Bool → Option Answer
-            by heard pieces lost = reply_said n i user heard pieces lost
+            by heard pieces lost = reply_said service.forms n i user heard pieces lost
 
-      link-replies : (link : LinkId) → option_and_then (reply_on n i link (log ++ e ∷ [])) (user_on service link (log ++ e ∷ [])) ≡ option_and_then (reply_on n i link log) (user_on service link log)
-      link-replies link = ap (option_and_then (reply_on n i link (log ++ e ∷ []))) (users link) ∙ by (user_on service link log) where
-        by : (o : Option Account) → option_and_then (reply_on n i link (log ++ e ∷ [])) o ≡ option_and_then (reply_on n i link log) o
+      link-replies : (link : LinkId) → option_and_then (reply_on service.forms n i link (log ++ e ∷ [])) (user_on service link (log ++ e ∷ [])) ≡ option_and_then (reply_on service.forms n i link log) (user_on service link log)
+      link-replies link = ap (option_and_then (reply_on service.forms n i link (log ++ e ∷ []))) (users link) ∙ by (user_on service link log) where
+        by : (o : Option Account) → option_and_then (reply_on service.forms n i link (log ++ e ∷ [])) o ≡ option_and_then (reply_on service.forms n i link log) o
         by None = refl
         by (Some user) = on link user
 
       replies : reply_to service n i (log ++ e ∷ []) ≡ reply_to service n i log
-      replies = ap (option_and_then (λ link. option_and_then (reply_on n i link (log ++ e ∷ [])) (user_on service link (log ++ e ∷ [])))) (carrier-same n i log e (silent.carries_none n i)) ∙ by (carrier_of n i log) where
-        by : (o : Option LinkId) → option_and_then (λ link. option_and_then (reply_on n i link (log ++ e ∷ [])) (user_on service link (log ++ e ∷ []))) o ≡ option_and_then (λ link. option_and_then (reply_on n i link log) (user_on service link log)) o
+      replies = ap (option_and_then (λ link. option_and_then (reply_on service.forms n i link (log ++ e ∷ [])) (user_on service link (log ++ e ∷ [])))) (carrier-same n i log e (silent.carries_none n i)) ∙ by (carrier_of n i log) where
+        by : (o : Option LinkId) → option_and_then (λ link. option_and_then (reply_on service.forms n i link (log ++ e ∷ [])) (user_on service link (log ++ e ∷ []))) o ≡ option_and_then (λ link. option_and_then (reply_on service.forms n i link log) (user_on service link log)) o
         by None = refl
         by (Some link) = link-replies link

@@ -3,7 +3,7 @@ use Rattle.std.specs.Prelude.{◌≡◌, ◌<◌, ◌≤◌, ℕ, ◌+◌, Bool,
 use Rattle.std.specs.Option.{option_map, option_and_then}
 use Rattle.std.proofs.Common.{sym, ◌∙◌, ap, subst, arith, append-nil}
 use Rattle.mx_wire.specs.Log.{Log}
-use Rattle.packet_frame.specs.Packets.{Framed, longest, next_id, spelling}
+use Rattle.packet_frame.specs.Packets.{Framed, next_id, spelling}
 use Rattle.packet_frame.specs.declared.fault.FrameFault.{FrameFault}
 use Rattle.server_side.specs.Account.{Account}
 use Rattle.client_side.specs.Client.{ClientState}
@@ -15,7 +15,7 @@ use Rattle.client_talk.specs.declared.session.Phase.{Phase}
 use Rattle.client_talk.specs.declared.session.Phase.TheVariants as phase
 use Rattle.client_talk.specs.declared.session.Session.{Session}
 use Rattle.client_talk.specs.Queries.{Query}
-use Rattle.exchange.specs.Commands.{carrier_of}
+use Rattle.exchange.specs.Commands.{most_command, carrier_of}
 use Rattle.exchange.specs.Replies.{Answer}
 use Rattle.promises.specs.Service.{Service}
 use Rattle.promises.specs.Owners.{talk_with, user_of}
@@ -28,7 +28,8 @@ use Rattle.router_world.specs.Seats.{SeatAt, PhaseAt, IsWorking, due_said, work_
 use Rattle.router_world.proofs.Answering.{first-replied}
 use Rattle.router_world.proofs.SeatsAnswers.{goes-all, open-from, open-more, open-due}
 use Rattle.router_world.proofs.SeatsTalks.{due-alone, account-more, front-more, over-in}
-use Rattle.router_world.proofs.Sound.{IsAsked, AskStands}
+use Rattle.promises.proofs.InWork.{in-work}
+use Rattle.router_world.proofs.Sound.{AreFormed, IsAsked, AskStands}
 use Rattle.router_world.proofs.Turning.{ask_for}
 
 -- Behind messages that are all answered the one in work comes later.
@@ -42,26 +43,26 @@ work-is service n came log is = ap (λ (o : Option Arrival). work_in service n l
 pub user-is : (service : Service) (n : ℕ) (came : Arrival) (log : Log) → arrival_of n log ≡ Some came → user_of service n log ≡ account (talk_with service n came log)
 user-is service n came log is = ap (λ (o : Option Arrival). option_and_then account (option_map (λ (came : Arrival). talk_with service n came log) o)) is
 
-pub working-asked : (service : Service) (n : ℕ) (came : Arrival) (log : Log) (user : Account) (client : ClientState) (bytes : List ℕ) (id : ℕ) → arrival_of n log ≡ Some came → is_served service.setup came ≡ true → service.setup.limit < longest
+pub working-asked : (service : Service) (n : ℕ) (came : Arrival) (log : Log) (user : Account) (client : ClientState) (bytes : List ℕ) (id : ℕ) → arrival_of n log ≡ Some came → is_served service.setup came ≡ true → service.setup.limit ≤ most_command → AreFormed service log
     → (working : IsWorking (talk_with service n came log) (λ i. replied service n i log) user client) → bytes ≡ spelling 0 working.message.payload → id ≡ next_id working.message.last → IsAsked service n client.arrived bytes id log
-working-asked service n came log user client bytes id is served short working packets first = (let work : work_of service n log ≡ Some (record { ordinal = client.arrived; message = working.message }) = work-is service n came log is ∙ working.work in
+working-asked service n came log user client bytes id is served short formed working packets first = (let work : work_of service n log ≡ Some (record { ordinal = client.arrived; message = working.message }) = work-is service n came log is ∙ working.work in
     let due = work-due service n log (record { ordinal = client.arrived; message = working.message }) work in
     record {
       message = working.message;
       due = due.0;
       asks = record { came = came; is_came = is; served = served; work = work; query = working.query; is_due = due.1 };
       begins = working.begins;
-      ends = working.ends;
+      form = formed n client.arrived working.message (in-work service n log (record { ordinal = client.arrived; message = working.message }) work).0;
       short = (let small : length working.message.payload ≤ service.setup.limit = working.short in omega arith);
       packets = packets;
       first = first;
     })
 
-pub working-ask : (service : Service) (n : ℕ) (came : Arrival) (log : Log) (user : Account) (client : ClientState) (query : Query) → arrival_of n log ≡ Some came → is_served service.setup came ≡ true → service.setup.limit < longest
+pub working-ask : (service : Service) (n : ℕ) (came : Arrival) (log : Log) (user : Account) (client : ClientState) (query : Query) → arrival_of n log ≡ Some came → is_served service.setup came ≡ true → service.setup.limit ≤ most_command → AreFormed service log
     → (working : IsWorking (talk_with service n came log) (λ i. replied service n i log) user client) → query.ordinal ≡ client.arrived → query.first ≡ next_id working.message.last → query.packets ≡ spelling 0 working.message.payload
     → carrier_of n client.arrived log ≡ None → AskStands service log n (ask_for user query)
-working-ask service n came log user client query is served short working ordinal first packets none = record {
-  asked = subst (λ i. IsAsked service n i query.packets query.first log) (sym ordinal) (working-asked service n came log user client query.packets query.first is served short working packets first);
+working-ask service n came log user client query is served short formed working ordinal first packets none = record {
+  asked = subst (λ i. IsAsked service n i query.packets query.first log) (sym ordinal) (working-asked service n came log user client query.packets query.first is served short formed working packets first);
   account = user-is service n came log is ∙ working.account;
   unsent = ap (λ i. carrier_of n i log) ordinal ∙ none;
 }

@@ -6,7 +6,7 @@ use Rattle.mx_base.specs.Fields.{AreBytes}
 use Rattle.packet_frame.specs.Packets.{spelling}
 use Rattle.reply_track.specs.Runs.{Going, run, renumbered}
 use Rattle.reply_track.specs.Tracking.{started}
-use Rattle.reply_track.specs.Replying.{to_command}
+use Rattle.reply_track.specs.Replying.{kind_to, id_after, to_command}
 use Rattle.server_side.specs.Account.{Account}
 use Rattle.server_side.specs.Login.{Goes, LogsIn, opening}
 use Rattle.server_side.specs.Backend.{BackendState}
@@ -15,22 +15,22 @@ use Rattle.server_side.specs.declared.command.Command.{Command as Handed}
 use Rattle.server_side.specs.declared.stage.Stage.TheVariants.{In}
 use Rattle.exchange.specs.Logins.{IsPrefix}
 use Rattle.exchange.specs.Commands.{Command, most_command, is_whole, is_command, place_in, behind, commands_in, commands_behind}
-use Rattle.exchange.specs.Replies.{Answer, Replies, Standing, command_reply, replies_by, rest_of, reply_at, standing_in}
+use Rattle.exchange.specs.Replies.{Form, Forms, Answer, Replies, Standing, command_reply, replies_by, rest_of, reply_at, standing_in}
 
 -- What was heard of a server, and the pieces that were written to it, say: the commands, the replies to them, and how the link stands.
 
 abbrev pub commands_said : Account → (heard : List ℕ) → (pieces : List Command) → List Command
 commands_said user heard pieces = commands_behind (opening user heard) pieces
 
-abbrev pub replies_said : Account → (heard : List ℕ) → (pieces : List Command) → Replies
-replies_said user heard pieces = replies_by command_reply (commands_said user heard pieces) (rest_of (opening user heard))
+abbrev pub replies_said : Forms → Account → (heard : List ℕ) → (pieces : List Command) → Replies
+replies_said forms user heard pieces = replies_by (command_reply forms) (commands_said user heard pieces) (rest_of (opening user heard))
 
-abbrev pub standing_said : Account → (heard : List ℕ) → (pieces : List Command) → Standing
-standing_said user heard pieces = standing_in (opening user heard) (commands_said user heard pieces) (replies_said user heard pieces)
+abbrev pub standing_said : Forms → Account → (heard : List ℕ) → (pieces : List Command) → Standing
+standing_said forms user heard pieces = standing_in (opening user heard) (commands_said user heard pieces) (replies_said forms user heard pieces)
 
 -- the reply to the i-th command of client n, or the error in its place
-abbrev pub reply_said : (n i : ℕ) → Account → (heard : List ℕ) → (pieces : List Command) → (lost : Bool) → Option Answer
-reply_said n i user heard pieces lost = option_and_then (λ place. reply_at place (replies_said user heard pieces) lost) (place_in n i 0 (commands_said user heard pieces))
+abbrev pub reply_said : (forms : Forms) (n i : ℕ) → Account → (heard : List ℕ) → (pieces : List Command) → (lost : Bool) → Option Answer
+reply_said forms n i user heard pieces lost = option_and_then (λ place. reply_at place (replies_said forms user heard pieces) lost) (place_in n i 0 (commands_said user heard pieces))
 
 abbrev pub piece_bytes : Command → List ℕ
 piece_bytes piece = piece.bytes
@@ -52,16 +52,21 @@ abbrev pub begun : Option Handed → List Command
 begun None = []
 begun (Some command) = begun_by command.sent command
 
--- a command is one message, of which so much was written
-pub record IsMessage (command : Handed) : Type 0 where
+-- what the reply to a whole command is like
+abbrev pub form_at : (command : List ℕ) → Form
+form_at command = record { kind = kind_to command; first = id_after command }
+
+-- a command is one message, of which so much was written, and its reply is like that
+pub record IsMessage (forms : Forms) (command : Handed) : Type 0 where
   pub payload : List ℕ
   pub spelt : command.bytes ≡ spelling 0 payload
   pub short : length payload ≤ most_command
   pub sent : command.sent ≤ length command.bytes
+  pub form : forms command.tag ≡ form_at command.bytes
 
-abbrev pub IsHanded : Option Handed → Type 0
-IsHanded None = Unit {0}
-IsHanded (Some command) = IsMessage command
+abbrev pub IsHanded : Forms → Option Handed → Type 0
+IsHanded forms None = Unit {0}
+IsHanded forms (Some command) = IsMessage forms command
 
 -- the login goes on
 pub record IsEntering (user : Account) (heard : List ℕ) (pieces : List Command) (backend : BackendState) : Type 0 where
@@ -71,8 +76,8 @@ pub record IsEntering (user : Account) (heard : List ℕ) (pieces : List Command
 
 -- this part of a command's reply was read, and is kept as the client will get it
 pub record IsHearing (command : Handed) (part kept : List ℕ) : Type 0 where
-  pub goes : run (started (to_command command.first)) part ≡ Going command.tracker.state
-  pub made : kept ≡ renumbered (started (to_command command.first)) part
+  pub goes : run (started (to_command command.bytes command.first)) part ≡ Going command.tracker.state
+  pub made : kept ≡ renumbered (started (to_command command.bytes command.first)) part
   pub are : AreBytes part
 
 abbrev pub HearsPart : Option Handed → (part kept : List ℕ) → Type 0
@@ -80,7 +85,7 @@ HearsPart None part kept = part ≡ []
 HearsPart (Some command) part kept = IsHearing command part kept
 
 -- the router is logged in: the other commands are whole and answered, and a part of the reply to the one that is begun was read
-pub record IsInside (user : Account) (heard : List ℕ) (pieces : List Command) (backend : BackendState) : Type 0 where
+pub record IsInside (forms : Forms) (user : Account) (heard : List ℕ) (pieces : List Command) (backend : BackendState) : Type 0 where
   pub account : backend.account ≡ user
   pub stage : backend.stage ≡ In
   pub said : List ℕ
@@ -91,14 +96,14 @@ pub record IsInside (user : Account) (heard : List ℕ) (pieces : List Command) 
   pub others : List Command
   pub wholes : list_all is_whole others ≡ true
   pub commands : commands_in (behind (length said) pieces) ≡ others ++ begun backend.command
-  pub command : IsHanded backend.command
+  pub command : IsHanded forms backend.command
   pub new : (n i : ℕ) → list_any (is_of n i) (begun backend.command) ≡ true → list_any (is_of n i) others ≡ false
   pub whole : List Answer
-  pub replies : replies_by command_reply others past ≡ record { whole = whole; rest = []; bad = None }
+  pub replies : replies_by (command_reply forms) others past ≡ record { whole = whole; rest = []; bad = None }
   pub all : length whole ≡ length others
   pub unasked : begun backend.command ≡ [] → part ≡ []
   pub partly : HearsPart backend.command part backend.reply
 
-pub data LinkAt (user : Account) (heard : List ℕ) (pieces : List Command) (backend : BackendState) : Type 0 where
-  Entering : IsEntering user heard pieces backend → LinkAt user heard pieces backend
-  Inside : IsInside user heard pieces backend → LinkAt user heard pieces backend
+pub data LinkAt (forms : Forms) (user : Account) (heard : List ℕ) (pieces : List Command) (backend : BackendState) : Type 0 where
+  Entering : IsEntering user heard pieces backend → LinkAt forms user heard pieces backend
+  Inside : IsInside forms user heard pieces backend → LinkAt forms user heard pieces backend

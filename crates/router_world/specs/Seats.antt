@@ -1,6 +1,6 @@
 -- How a client's session stands for what was read of it and written to it.
 use Rattle.std.specs.Prelude.{◌≡◌, ◌≤◌, ◌<◌, ℕ, suc, Bool, true, is_some, List, ◌++◌, length, Option, Some, None}
-use Rattle.packet_frame.specs.Packets.{Framed, Nothing, split, with_front, first_message, longest, next_id, spelling}
+use Rattle.packet_frame.specs.Packets.{Framed, Nothing, split, with_front, first_message, next_id, spelling}
 use Rattle.server_side.specs.Account.{Account}
 use Rattle.client_side.specs.declared.stage.Stage.TheVariants as stage
 use Rattle.client_side.specs.Client.{ClientState}
@@ -11,6 +11,7 @@ use Rattle.client_talk.specs.declared.session.Phase.{Phase}
 use Rattle.client_talk.specs.declared.session.Phase.TheVariants as phase
 use Rattle.client_talk.specs.declared.session.Session.{Session}
 use Rattle.client_talk.specs.Queries.{Query}
+use Rattle.exchange.specs.Commands.{most_command}
 use Rattle.exchange.specs.Replies.{Answer}
 use Rattle.promises.specs.Due.{Work}
 use Rattle.promises.specs.Closes.{ends_in, ends_by}
@@ -58,7 +59,6 @@ pub record IsWorking (talk : Talk) (reply : ℕ → Option Answer) (user : Accou
   pub work : work_said reply talk ≡ Some (record { ordinal = client.arrived; message = message })
   pub query : is_query message.payload ≡ true
   pub begins : message.first ≡ 0
-  pub ends : message.last ≡ 0
   pub short : length message.payload ≤ talk.setup.limit
 
 abbrev pub PhaseAt : Phase → Talk → (ℕ → Option Answer) → (bytes : List ℕ) → ClientState → Type 0
@@ -72,7 +72,7 @@ pub record SeatAt (talk : Talk) (reply : ℕ → Option Answer) (written : List 
   pub number : session.client.number.0 ≡ talk.number
   pub salt : session.client.salt ≡ talk.salt
   pub limit : session.client.framer.limit ≡ talk.setup.limit
-  pub short : talk.setup.limit < longest
+  pub short : talk.setup.limit ≤ most_command
   pub due : written ++ session.client.outgoing ≡ due_said reply talk
   pub at : PhaseAt session.phase talk reply (written ++ session.client.outgoing) session.client
 

@@ -32,7 +32,7 @@ new_backend account = record { account = account; framer = reading []; stage = G
 
 -- a command of which nothing is written and nothing of the reply is read, which is to have ids from `first` on
 abbrev pub command_of : Tag → (packets : List ℕ) → (first : ℕ) → Command
-command_of tag packets first = record { tag = tag; bytes = packets; sent = 0; first = first; tracker = record { state = started (to_command first) } }
+command_of tag packets first = record { tag = tag; bytes = packets; sent = 0; first = first; tracker = record { state = started (to_command packets first) } }
 
 abbrev pub commanded : Tag → List ℕ → (first : ℕ) → BackendState → BackendState
 commanded tag payload first backend = record backend { command = Some (command_of tag (spelling 0 payload) first); reply = [] }
