@@ -1,6 +1,5 @@
 -- What sessions go by.
-use Rattle.std.specs.Prelude.{ℕ, ◌<◌, ◌≤◌, Bool, is_some, List, length, Option}
-use Rattle.packet_frame.specs.Packets.{longest}
+use Rattle.std.specs.Prelude.{ℕ, ◌≤◌, Bool, is_some, List, length, Option}
 use Rattle.handshake.specs.Spelling.{IsText}
 use Rattle.client_session.specs.declared.setup.ServerAt.{ServerAt}
 
@@ -22,8 +21,12 @@ pub record Setup : Type 0 where
 abbrev pub has_server : Setup → Bool
 has_server setup = is_some setup.target
 
--- each message of a client is one packet, and the version is a text that a NUL ends
+-- a message of a client has 1 GiB at most
+abbrev pub most_message : ℕ
+most_message = 1073741824
+
+-- no longer message is allowed, and the version is a text that a NUL ends
 pub record IsSound (version : List ℕ) (limit : ℕ) : Type 0 where
-  pub one_packet : limit < longest
+  pub most : limit ≤ most_message
   pub text : IsText version
   pub short : length version ≤ 255

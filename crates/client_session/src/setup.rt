@@ -75,13 +75,12 @@ impl Model for Setup {
 }
 
 impl Setup {
-    ghost use Rattle.std.specs.Prelude.{◌≡◌, ◌<◌, ◌≤◌, length, is_some};
-    ghost use Rattle.packet_frame.specs.Packets.{longest};
+    ghost use Rattle.std.specs.Prelude.{◌≡◌, ◌≤◌, length, is_some};
     ghost use Rattle.handshake.specs.Spelling.{IsText};
-    ghost use Rattle.client_session.specs.Setups.{Setup, has_server};
+    ghost use Rattle.client_session.specs.Setups.{Setup, has_server, most_message};
 
     /// The version that clients are told, at most 255 bytes without a NUL; who may log in; the longest payload of a client's message, in
-    /// bytes, below 16,777,215; how many clients may be connected; and the server that queries go to, where one is configured.
+    /// bytes, 1 GiB at most; how many clients may be connected; and the server that queries go to, where one is configured.
     pub fn new(
         version: Bytes,
         users: Vec<User>,
@@ -91,7 +90,7 @@ impl Setup {
     ) -> Self
         requires text { IsText version }
         requires short { length version ≤ 255 }
-        requires limit { limit < longest }
+        requires limit { limit ≤ most_message }
         ensures { result ≡ record { version = version; users = users.items; limit = limit; max_clients = max_clients; target = target } }
     {
         Setup {
@@ -121,7 +120,7 @@ impl Setup {
 
     /// The longest payload of a client's message, in bytes.
     pub fn limit(&self) -> u64
-        ensures short { result < longest }
+        ensures most { result ≤ most_message }
         ensures is { result ≡ self.now.limit }
     {
         self.limit

@@ -10,6 +10,7 @@ use Rattle.mx_wire.specs.declared.entry.Entry.TheVariants.{Wrote}
 use Rattle.packet_frame.specs.Packets.{Found, Nothing, Whole, Faulty, first_message}
 use Rattle.server_side.specs.Account.{Account}
 use Rattle.server_side.specs.Login.{Opening, Goes, LogsIn, Fails}
+use Rattle.client_session.specs.Setups.{most_message}
 use Rattle.exchange.specs.Logins.{is_empty, sound_of, login_on}
 
 -- what a command is for, and its bytes that were written so far
@@ -43,7 +44,7 @@ same_tag _ _ = false
 
 -- a command is whole where its bytes are one message
 abbrev pub most_command : ℕ
-most_command = 1073741824
+most_command = most_message
 
 abbrev pub whole_by : Found → Bool
 whole_by Nothing = false

@@ -1,5 +1,5 @@
 -- What the core takes of the configuration.
-use Rattle.std.specs.Prelude.{List, [], ◌∷◌, Option, Some, None, min, map, All}
+use Rattle.std.specs.Prelude.{List, [], ◌∷◌, Option, Some, None, map, All}
 use Rattle.handshake.specs.Spelling.{IsText}
 use Rattle.hostgroups.specs.declared.row.ServerRow.{ServerRow}
 use Rattle.client_session.specs.declared.setup.ServerAt.{ServerAt}
@@ -23,12 +23,12 @@ users_of rows = map user_of rows
 abbrev pub AreTexts : List UserRow → Type 0
 AreTexts rows = All (λ (row : UserRow). IsText row.name) rows
 
--- what sessions go by, where this is configured: each message of a client is one packet
+-- what sessions go by, where this is configured
 abbrev pub setup_of : Config → Setup
 setup_of config = record {
   version = config.proxy.server_version;
   users = users_of config.users;
-  limit = min config.proxy.max_packet 16777214;
+  limit = config.proxy.max_packet;
   max_clients = config.proxy.max_clients;
   target = server_of config.servers;
 }

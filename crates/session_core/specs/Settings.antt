@@ -4,6 +4,7 @@ use Rattle.std.specs.List.{list_any}
 use Rattle.std.proofs.Common.{arith}
 use Rattle.std.proofs.lemmas.List.Elements.{All-nil, All-cons}
 use Rattle.handshake.specs.Spelling.{IsText}
+use Rattle.client_session.specs.Setups.{most_message}
 use Rattle.mx_config.specs.Lawful.{IsLawful, IsLawfulUser, EachBehind}
 use Rattle.mx_config.specs.declared.config.Config.{Config}
 use Rattle.mx_config.specs.declared.config.UserRow.{UserRow}
@@ -31,12 +32,15 @@ texts-behind : (before rows : List UserRow) → EachBehind IsLawfulUser before r
 texts-behind before [] each = All-nil (λ (row : UserRow). IsText row.name)
 texts-behind before (row ∷ rows) each = All-cons (λ (r : UserRow). IsText r.name) row rows (fitting-text row.name _ each.0.name) (texts-behind (before ++ row ∷ []) rows each.1)
 
--- its version is a text that a NUL ends, and so are the names
+-- its version is a text that a NUL ends, and so are the names; and no longer message is allowed than may be
 pub lawful-version : (config : Config) → IsLawful config → IsText config.proxy.server_version
 lawful-version config lawful = fitting-text config.proxy.server_version _ lawful.proxy.server_version
 
 pub lawful-short : (config : Config) → IsLawful config → length config.proxy.server_version ≤ 255
 lawful-short config lawful = short-length config.proxy.server_version lawful.proxy.server_version
+
+pub lawful-limit : (config : Config) → IsLawful config → config.proxy.max_packet ≤ most_message
+lawful-limit config lawful = (let most : config.proxy.max_packet ≤ 268435456 = lawful.proxy.max_packet.1 in omega arith)
 
 pub lawful-names : (config : Config) → IsLawful config → AreTexts config.users
 lawful-names config lawful = texts-behind [] config.users lawful.users.each

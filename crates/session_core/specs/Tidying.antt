@@ -6,7 +6,7 @@ use Rattle.mx_base.specs.declared.names.LinkId.{LinkId}
 use Rattle.mx_wire.specs.Log.{Log}
 use Rattle.mx_wire.specs.Tells.{Fits, MayFollow}
 use Rattle.mx_wire.specs.Moments.{AllLawful, LawfulAfter}
-use Rattle.packet_frame.specs.Packets.{longest}
+use Rattle.client_session.specs.Setups.{most_message}
 use Rattle.packet_frame.specs.PacketLaws.{nat_eq-true}
 use Rattle.client_session.specs.Setups.{Setup}
 use Rattle.client_talk.specs.declared.session.Phase.{Phase}
@@ -114,5 +114,5 @@ follow-behind before (e ∷ later) all few = (
 pub all-follow : (log : Log) → AllLawful Fits log → length log < 281474976710656 → AllLawful MayFollow log
 all-follow log all few = follow-behind [] log all few
 
-pub tidy-after : (setup : Setup) (log : Log) → setup.limit < longest → length log < 281474976710656 → AllLawful Fits log → AllLawful (IsOurs setup) log → Tidy (tables_after setup log) log
+pub tidy-after : (setup : Setup) (log : Log) → setup.limit ≤ most_message → length log < 281474976710656 → AllLawful Fits log → AllLawful (IsOurs setup) log → Tidy (tables_after setup log) log
 tidy-after setup log short few fits ours = (let sound = sound-after setup log short (all-follow log fits few) ours in tidy-sound sound.0 log (tables_after setup log) sound.1)

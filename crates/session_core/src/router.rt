@@ -1,6 +1,6 @@
 // The core.
 ghost use Rattle.std.specs.Prelude.{◌≡◌, ◌≤◌, ◌<◌, [], None, length, IfOk};
-ghost use Rattle.packet_frame.specs.Packets.{longest};
+ghost use Rattle.client_session.specs.Setups.{most_message};
 ghost use Rattle.handshake.specs.Spelling.{IsText};
 ghost use Rattle.mx_config.specs.Lawful.{IsLawful};
 ghost use Rattle.session_core.specs.Cores.{server_of, users_of, setup_of, AreTexts};
@@ -11,9 +11,6 @@ use client_session::{ServerAt, Setup, User};
 use mx_base::{Address, Bytes, OutOfMemory, ServerId};
 use mx_config::{Config, UserRow};
 use std::alloc::Global;
-
-/// The longest payload that is one packet, in bytes.
-const MOST_PAYLOAD: u64 = 16_777_214;
 
 /// The router's core: what it serves by, and what it knows.
 #[derive(Drop)]
@@ -51,14 +48,14 @@ impl Core {
 fn setup_of(alloc: Global, config: &Config) -> Result<Setup, OutOfMemory>
     requires version { IsText config.now.proxy.server_version }
     requires short { length config.now.proxy.server_version ≤ 255 }
+    requires limit { config.now.proxy.max_packet ≤ most_message }
     requires names { AreTexts config.now.users }
     ensures { IfOk result (λ setup. setup ≡ setup_of config.now) }
 {
     let version = Bytes::from_slice(alloc, config.proxy.server_version.as_slice())?;
     let users = users_of(alloc, config.users.as_slice())?;
-    let limit = config.proxy.max_packet.min(MOST_PAYLOAD);
     let target = first_server(config);
-    Ok(Setup::new(version, users, limit, config.proxy.max_clients, target))
+    Ok(Setup::new(version, users, config.proxy.max_packet, config.proxy.max_clients, target))
 }
 
 // Who may log in.
