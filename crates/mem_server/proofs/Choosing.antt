@@ -1,7 +1,7 @@
 -- Schemas.
-use Rattle.std.specs.Prelude.{◌≡◌, ℕ, Bool, true, false, List, [], Option, None, Some}
-use Rattle.std.proofs.Common.{refl, sym, ap, ◌∙◌}
-use Rattle.session_state.specs.Classes.{Effect, Tracked, Uses, Neither, effect_of, schema_by}
+use Rattle.std.specs.Prelude.{◌≡◌, ℕ, Bool, true, false, List, [], Option, None}
+use Rattle.std.proofs.Common.{refl, sym, ap}
+use Rattle.session_state.specs.Classes.{Effect, Uses, effect_of, schema_by}
 use Rattle.session_state.specs.Endings.{is_ok}
 use Rattle.pin_classifier.specs.Classes.{class_of}
 use Rattle.server_rule.specs.Classes.{effect_run, router_reads}
@@ -14,7 +14,6 @@ use Rattle.mem_server.specs.Commands.{by_effect, chooses, ran, status_of}
 use Rattle.mem_server.specs.Statements.{Binding}
 use Rattle.mem_server.specs.Stored.{step, tables_in, tests}
 use Rattle.mem_server.specs.Tables.{Tables}
-use Rattle.mem_server.specs.declared.server.Ran.{Ran}
 use Rattle.mem_server.proofs.Resets.{ok_is_ok}
 
 of_effect : (e : Effect) (schema : List ℕ) → e ≡ Uses schema → (text : List ℕ) (b : Option Binding) (is_binary : Bool) (place : List ℕ) (t : Tables) (s : Session) → by_effect e text b is_binary place t s ≡ chooses schema s

@@ -9,25 +9,24 @@ use Rattle.mx_base.specs.FieldLaws.{lenenc_at-again, number_at-there}
 use Rattle.mx_base.specs.Fields.{lenenc, lenenc_at, number_at}
 use Rattle.mx_base.specs.Steps.{◌>>=◌}
 use Rattle.session_vars.specs.Slots.{slot_named}
-use Rattle.session_vars.specs.declared.change.SlotValue.{SlotValue}
 use Rattle.session_vars.specs.declared.slot.Slot.{Slot}
 use Rattle.session_state.specs.Classes.{Effect, Tracked, Uses, Neither, effect_of}
 use Rattle.session_state.specs.Endings.{in_transaction, shows_transaction}
 use Rattle.pin_classifier.specs.Classes.{class_of}
 use Rattle.server_rule.specs.Classes.{is_close, is_prepare}
 use Rattle.server_rule.specs.Laws.{FlagsLaw}
-use Rattle.server_rule.specs.Replies.{end_by, field_at, last_payload, ok_behind, ok_behind_rows, ok_end, reply_end}
+use Rattle.server_rule.specs.Replies.{end_by, last_payload, reply_end}
 use Rattle.server_rule.specs.Servers.{is_some_of}
 use Rattle.server_rule.specs.declared.command.Cmd.{Cmd}
 use Rattle.server_rule.specs.declared.command.Cmd.TheVariants.{Query, InitDb, FieldList, Prepare, Run, Reset, Close}
 use Rattle.server_rule.specs.declared.session.Session.{Session}
 use Rattle.mem_server.specs.Answers.{column_payload, eof_payload, err_payload, is_off_in, ok_payload, payloads_of, row_payloads, status, table_payloads}
-use Rattle.mem_server.specs.Commands.{by_effect, definitions, fields_by, ran, says, scene, with_settings}
+use Rattle.mem_server.specs.Commands.{by_effect, fields_by, ran, says, scene, with_settings}
 use Rattle.mem_server.specs.Forms.{form_of}
 use Rattle.mem_server.specs.Notes.{notes_of}
 use Rattle.mem_server.specs.Scenes.{Scene, creates, deep_notes, greatest_id, is_locked, keeps, named_lock, place, place_in, seen, takes}
 use Rattle.mem_server.specs.Statements.{Binding, asked, bound, filled_from, id_at, id_place, said_by, said_in, said_with}
-use Rattle.mem_server.specs.Steps.{does, insert, lock_by, on_table_by, plain_note, row_note, rows_do, shown_by, stays, table_fault, write, write_by}
+use Rattle.mem_server.specs.Steps.{does, lock_by, on_table_by, row_note, rows_do, shown_by, stays, table_fault, write, write_by}
 use Rattle.mem_server.specs.Stored.{step, tables_in, tests}
 use Rattle.mem_server.specs.Tables.{Tables, holds}
 use Rattle.mem_server.specs.declared.answer.Answer.{Answer}
@@ -42,6 +41,7 @@ use Rattle.mem_server.specs.declared.note.Note.{Note}
 use Rattle.mem_server.specs.declared.note.NoteKind.TheVariants.{Put}
 use Rattle.mem_server.specs.declared.scene.Place.{Place}
 use Rattle.mem_server.specs.declared.scene.Place.TheVariants.{Temporary, Absent, Locked, There}
+use Rattle.mem_server.proofs.Picking.{pick}
 
 -- a reply shows this, or nothing
 abbrev IsShown : (in_trans : Bool) → List (List ℕ) → Type 0
@@ -53,10 +53,6 @@ abbrev IsSmall : Answer → Type 0
 IsSmall (Done rows id) = (rows < 2 ^ 64) × (id < 2 ^ 64)
 IsSmall (Shown columns row) = Unit {0}
 IsSmall (Refused fault) = Unit {0}
-
-pick : (b : Bool) (x y : Did) → IsSmall x.answer → IsSmall y.answer → IsSmall (if b then x else y).answer
-pick true x y px py = px
-pick false x y px py = py
 
 by_write : (p : Place) (keeps : Bool) (c : Scene) (note : Note) (answer : Answer) → IsSmall answer → IsSmall (write_by p keeps c note answer).answer
 by_write Temporary keeps c note answer small = small
@@ -86,50 +82,30 @@ by_insert c text true is =
 by_insert c text false is = tt
 
 of_rows : (form : Form) (d : Said) (c : Scene) → d.id < 2 ^ 64 → IsSmall (rows_do form d c).answer
-of_rows forms.CreateTable d c small = by_lock (place c) c
-of_rows forms.CreateTemporary d c small = by_lock (place c) c
-of_rows forms.InsertAt d c small = pick (is_some (seen c d.id)) _ _ tt (by_write (place c) (keeps c) c _ (Done 1 d.id) (lit< tt, small))
+of_rows forms.InsertAt d c small = pick (λ did. IsSmall did.answer) (is_some (seen c d.id)) _ _ tt (by_write (place c) (keeps c) c _ (Done 1 d.id) (lit< tt, small))
 of_rows forms.Insert d c small = by_insert c d.text (nat_lt (greatest_id c) (2 ^ 64 - 1)) refl
 of_rows forms.Select d c small = tt
 of_rows forms.Count d c small = tt
-of_rows forms.Update d c small = pick (is_some (seen c d.id)) _ _ (by_write (place c) (keeps c) c _ (Done 1 0) (lit< tt, lit< tt)) (lit< tt, lit< tt)
-of_rows forms.Delete d c small = pick (is_some (seen c d.id)) _ _ (by_write (place c) (keeps c) c _ (Done 1 0) (lit< tt, lit< tt)) (lit< tt, lit< tt)
-of_rows forms.Begin d c small = by_lock (place c) c
-of_rows forms.Commit d c small = by_lock (place c) c
-of_rows forms.Rollback d c small = by_lock (place c) c
-of_rows forms.Setting d c small = by_lock (place c) c
-of_rows forms.SetVariable d c small = by_lock (place c) c
-of_rows forms.Variable d c small = by_lock (place c) c
-of_rows forms.SetId d c small = by_lock (place c) c
-of_rows forms.Id d c small = by_lock (place c) c
-of_rows forms.Lock d c small = by_lock (place c) c
-of_rows forms.LockTables d c small = by_lock (place c) c
-of_rows forms.UnlockTables d c small = by_lock (place c) c
-of_rows forms.Warnings d c small = by_lock (place c) c
-of_rows forms.Do d c small = by_lock (place c) c
+of_rows forms.Update d c small = pick (λ did. IsSmall did.answer) (is_some (seen c d.id)) _ _ (by_write (place c) (keeps c) c _ (Done 1 0) (lit< tt, lit< tt)) (lit< tt, lit< tt)
+of_rows forms.Delete d c small = pick (λ did. IsSmall did.answer) (is_some (seen c d.id)) _ _ (by_write (place c) (keeps c) c _ (Done 1 0) (lit< tt, lit< tt)) (lit< tt, lit< tt)
+of_rows _ d c small = by_lock (place c) c
 
 of_form : (form : Form) (d : Said) (c : Scene) → d.id < 2 ^ 64 → IsSmall (does form d c).answer
-of_form forms.CreateTable d c small = pick (is_locked c.tables c.locks c.schema) _ _ tt (lit< tt, lit< tt)
-of_form forms.CreateTemporary d c small = pick (list_any (creates c.schema) (deep_notes c)) _ _ (lit< tt, lit< tt) (lit< tt, lit< tt)
+of_form forms.CreateTable d c small = pick (λ did. IsSmall did.answer) (is_locked c.tables c.locks c.schema) _ _ tt (lit< tt, lit< tt)
+of_form forms.CreateTemporary d c small = pick (λ did. IsSmall did.answer) (list_any (creates c.schema) (deep_notes c)) _ _ (lit< tt, lit< tt) (lit< tt, lit< tt)
 of_form forms.InsertAt d c small = by_fault (table_fault (place c)) c _ (of_rows forms.InsertAt d c small)
 of_form forms.Insert d c small = by_fault (table_fault (place c)) c _ (of_rows forms.Insert d c small)
 of_form forms.Select d c small = by_fault (table_fault (place c)) c _ (of_rows forms.Select d c small)
 of_form forms.Count d c small = by_fault (table_fault (place c)) c _ (of_rows forms.Count d c small)
 of_form forms.Update d c small = by_fault (table_fault (place c)) c _ (of_rows forms.Update d c small)
 of_form forms.Delete d c small = by_fault (table_fault (place c)) c _ (of_rows forms.Delete d c small)
-of_form forms.Begin d c small = (lit< tt, lit< tt)
-of_form forms.Commit d c small = (lit< tt, lit< tt)
-of_form forms.Rollback d c small = (lit< tt, lit< tt)
 of_form forms.Setting d c small = by_slot (slot_named d.name) c d.name
-of_form forms.SetVariable d c small = (lit< tt, lit< tt)
 of_form forms.Variable d c small = tt
-of_form forms.SetId d c small = (lit< tt, lit< tt)
-of_form forms.Id d c small = tt
-of_form forms.Lock d c small = pick (list_any (takes (named_lock d.name)) (deep_notes c)) _ _ tt (pick (holds c.tables.held (named_lock d.name)) _ _ tt tt)
+of_form forms.Id d c small = pick (λ did. IsSmall did.answer) (nat_lt c.last_id (2 ^ 64)) _ _ tt tt
+of_form forms.Lock d c small = pick (λ did. IsSmall did.answer) (list_any (takes (named_lock d.name)) (deep_notes c)) _ _ tt (pick (λ did. IsSmall did.answer) (holds c.tables.held (named_lock d.name)) _ _ tt tt)
 of_form forms.LockTables d c small = by_fault (table_fault (place c)) c _ (of_rows forms.LockTables d c small)
-of_form forms.UnlockTables d c small = (lit< tt, lit< tt)
 of_form forms.Warnings d c small = tt
-of_form forms.Do d c small = (lit< tt, lit< tt)
+of_form _ d c small = (lit< tt, lit< tt)
 
 -- so does the number in a statement
 abbrev AllSmall : Option Said → Type 0

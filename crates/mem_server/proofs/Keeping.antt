@@ -1,8 +1,9 @@
 -- The server keeps to sessions that it takes: their deep state stays, gets a note more, or goes.
-use Rattle.std.specs.Prelude.{◌≡◌, ◌⊎◌, ℕ, ◌+◌, ◌-◌, ◌^◌, Bool, true, false, not, nat_eq, nat_lt, is_some, List, [], ◌∷◌, ◌++◌, Option, None, Some, slice_index_or, if◌then◌else◌}
-use Rattle.std.proofs.Common.{refl, sym, ap, ◌∙◌, subst, inl, inr}
+use Rattle.std.specs.Prelude.{◌≡◌, ◌⊎◌, ℕ, ◌+◌, ◌-◌, ◌^◌, Bool, true, false, not, nat_eq, nat_lt, is_some, List, [], ◌∷◌, ◌++◌, Option, None, Some, slice_index_or}
+use Rattle.std.proofs.Common.{refl, inl, inr}
 use Rattle.std.specs.List.{list_any}
 use Rattle.session_vars.specs.Slots.{slot_named}
+use Rattle.session_vars.specs.declared.change.Change.{Change}
 use Rattle.session_vars.specs.declared.slot.Slot.{Slot}
 use Rattle.session_state.specs.Classes.{Effect, Tracked, Uses, Neither, effect_of}
 use Rattle.pin_classifier.specs.Classes.{class_of}
@@ -10,7 +11,7 @@ use Rattle.server_rule.specs.Laws.{KeepsTests}
 use Rattle.server_rule.specs.declared.command.Cmd.{Cmd}
 use Rattle.server_rule.specs.declared.command.Cmd.TheVariants.{Query, InitDb, FieldList, Prepare, Run, Reset, Close}
 use Rattle.server_rule.specs.declared.session.Session.{Session}
-use Rattle.mem_server.specs.Commands.{by_effect, fields_by, prepares_by, prepares_form, ran, says, scene, with_settings}
+use Rattle.mem_server.specs.Commands.{by_effect, fields_by, prepares_by, prepares_form, ran, says, scene, tracks, with_settings}
 use Rattle.mem_server.specs.Forms.{form_of}
 use Rattle.mem_server.specs.Notes.{code_of, note_bytes, notes_of}
 use Rattle.mem_server.specs.Scenes.{Scene, creates, deep_notes, greatest_id, is_locked, keeps, named_lock, place, place_in, seen, takes}
@@ -30,13 +31,10 @@ use Rattle.mem_server.specs.declared.note.NoteKind.{NoteKind}
 use Rattle.mem_server.specs.declared.note.NoteKind.TheVariants.{Begun, Put, Removed, Created, Held, Freed, Named}
 use Rattle.mem_server.specs.declared.scene.Place.{Place}
 use Rattle.mem_server.specs.declared.scene.Place.TheVariants.{Temporary, Absent, Locked, There}
+use Rattle.mem_server.proofs.Picking.{pick}
 
 abbrev pub From : (old new : List ℕ) → Type 0
 From old new = (new ≡ old) ⊎ ((note : Note) × (new ≡ old ++ note_bytes note))
-
-pick : (deep : List ℕ) (b : Bool) (x y : Did) → From deep x.deep → From deep y.deep → From deep (if b then x else y).deep
-pick deep true x y px py = px
-pick deep false x y px py = py
 
 by_write : (p : Place) (keeps : Bool) (c : Scene) (note : Note) (answer : Answer) → From c.deep (write_by p keeps c note answer).deep
 by_write Temporary keeps c note answer = inr (note, refl)
@@ -60,50 +58,29 @@ by_slot None c name = inl refl
 by_slot (Some slot) c name = inl refl
 
 of_rows : (form : Form) (d : Said) (c : Scene) → From c.deep (rows_do form d c).deep
-of_rows forms.CreateTable d c = by_lock (place c) c
-of_rows forms.CreateTemporary d c = by_lock (place c) c
-of_rows forms.InsertAt d c = pick c.deep (is_some (seen c d.id)) _ _ (inl refl) (by_write (place c) (keeps c) c _ _)
-of_rows forms.Insert d c = pick c.deep (nat_lt (greatest_id c) (2 ^ 64 - 1)) _ _ (by_write (place c) (keeps c) c (row_note Put c.schema (greatest_id c + 1) d.text) (Done 1 (greatest_id c + 1))) (inl refl)
+of_rows forms.InsertAt d c = pick (λ did. From c.deep did.deep) (is_some (seen c d.id)) _ _ (inl refl) (by_write (place c) (keeps c) c _ _)
+of_rows forms.Insert d c = pick (λ did. From c.deep did.deep) (nat_lt (greatest_id c) (2 ^ 64 - 1)) _ _ (by_write (place c) (keeps c) c (row_note Put c.schema (greatest_id c + 1) d.text) (Done 1 (greatest_id c + 1))) (inl refl)
 of_rows forms.Select d c = inl refl
 of_rows forms.Count d c = inl refl
-of_rows forms.Update d c = pick c.deep (is_some (seen c d.id)) _ _ (by_write (place c) (keeps c) c _ _) (inl refl)
-of_rows forms.Delete d c = pick c.deep (is_some (seen c d.id)) _ _ (by_write (place c) (keeps c) c _ _) (inl refl)
-of_rows forms.Begin d c = by_lock (place c) c
-of_rows forms.Commit d c = by_lock (place c) c
-of_rows forms.Rollback d c = by_lock (place c) c
-of_rows forms.Setting d c = by_lock (place c) c
-of_rows forms.SetVariable d c = by_lock (place c) c
-of_rows forms.Variable d c = by_lock (place c) c
-of_rows forms.SetId d c = by_lock (place c) c
-of_rows forms.Id d c = by_lock (place c) c
-of_rows forms.Lock d c = by_lock (place c) c
-of_rows forms.LockTables d c = by_lock (place c) c
-of_rows forms.UnlockTables d c = by_lock (place c) c
-of_rows forms.Warnings d c = by_lock (place c) c
-of_rows forms.Do d c = by_lock (place c) c
+of_rows forms.Update d c = pick (λ did. From c.deep did.deep) (is_some (seen c d.id)) _ _ (by_write (place c) (keeps c) c _ _) (inl refl)
+of_rows forms.Delete d c = pick (λ did. From c.deep did.deep) (is_some (seen c d.id)) _ _ (by_write (place c) (keeps c) c _ _) (inl refl)
+of_rows _ d c = by_lock (place c) c
 
 pub of_form : (form : Form) (d : Said) (c : Scene) → From c.deep (does form d c).deep
-of_form forms.CreateTable d c = pick c.deep (is_locked c.tables c.locks c.schema) _ _ (inl refl) (inl refl)
-of_form forms.CreateTemporary d c = pick c.deep (list_any (creates c.schema) (deep_notes c)) _ _ (inl refl) (inr (plain_note Created c.schema, refl))
+of_form forms.CreateTable d c = pick (λ did. From c.deep did.deep) (is_locked c.tables c.locks c.schema) _ _ (inl refl) (inl refl)
+of_form forms.CreateTemporary d c = pick (λ did. From c.deep did.deep) (list_any (creates c.schema) (deep_notes c)) _ _ (inl refl) (inr (plain_note Created c.schema, refl))
 of_form forms.InsertAt d c = by_fault (table_fault (place c)) c _ (of_rows forms.InsertAt d c)
 of_form forms.Insert d c = by_fault (table_fault (place c)) c _ (of_rows forms.Insert d c)
 of_form forms.Select d c = by_fault (table_fault (place c)) c _ (of_rows forms.Select d c)
 of_form forms.Count d c = by_fault (table_fault (place c)) c _ (of_rows forms.Count d c)
 of_form forms.Update d c = by_fault (table_fault (place c)) c _ (of_rows forms.Update d c)
 of_form forms.Delete d c = by_fault (table_fault (place c)) c _ (of_rows forms.Delete d c)
-of_form forms.Begin d c = inl refl
-of_form forms.Commit d c = inl refl
-of_form forms.Rollback d c = inl refl
 of_form forms.Setting d c = by_slot (slot_named d.name) c d.name
 of_form forms.SetVariable d c = inr (row_note Named d.name 0 d.text, refl)
-of_form forms.Variable d c = inl refl
-of_form forms.SetId d c = inl refl
-of_form forms.Id d c = inl refl
-of_form forms.Lock d c = pick c.deep (list_any (takes (named_lock d.name)) (deep_notes c)) _ _ (inl refl) (pick c.deep (holds c.tables.held (named_lock d.name)) _ _ (inl refl) (inr (plain_note Held (named_lock d.name), refl)))
+of_form forms.Id d c = pick (λ did. From c.deep did.deep) (nat_lt c.last_id (2 ^ 64)) _ _ (inl refl) (inl refl)
+of_form forms.Lock d c = pick (λ did. From c.deep did.deep) (list_any (takes (named_lock d.name)) (deep_notes c)) _ _ (inl refl) (pick (λ did. From c.deep did.deep) (holds c.tables.held (named_lock d.name)) _ _ (inl refl) (inr (plain_note Held (named_lock d.name), refl)))
 of_form forms.LockTables d c = by_fault (table_fault (place c)) c _ (of_rows forms.LockTables d c)
-of_form forms.UnlockTables d c = inl refl
-of_form forms.Warnings d c = inl refl
-of_form forms.Do d c = inl refl
+of_form _ d c = inl refl
 
 -- what becomes of it in a step
 abbrev pub Left : (old new : List ℕ) → Type 0
@@ -120,8 +97,11 @@ by_settings : (on : Bool) (s : Session) → (with_settings on s).session.deep �
 by_settings true s = refl
 by_settings false s = refl
 
+pub tracked_deep : (s : Session) (changes : List Change) → (tracks changes s).session.deep ≡ s.deep
+tracked_deep s changes = by_settings _ _
+
 of_effect : (e : Effect) (text : List ℕ) (b : Option Binding) (is_binary : Bool) (schema : List ℕ) (t : Tables) (s : Session) → Left s.deep (by_effect e text b is_binary schema t s).session.deep
-of_effect (Tracked changes) text b is_binary schema t s = inr (inl (by_settings _ _))
+of_effect (Tracked changes) text b is_binary schema t s = inr (inl (tracked_deep s changes))
 of_effect (Uses chosen) text b is_binary schema t s = stays
 of_effect Neither text b is_binary schema t s = by_said (said_in text b) is_binary schema t s
 

@@ -1,5 +1,5 @@
 -- Preparations.
-use Rattle.std.specs.Prelude.{◌≡◌, ℕ, Bool, true, false, List, [], ◌∷◌, Option, None, Some}
+use Rattle.std.specs.Prelude.{◌≡◌, ℕ, true, List, [], Option, None, Some}
 use Rattle.std.proofs.Common.{refl}
 use Rattle.session_state.specs.Classes.{Effect, Tracked, Uses, Neither, effect_of}
 use Rattle.pin_classifier.specs.Classes.{class_of}

@@ -1,6 +1,6 @@
 -- The list that data are written to says these data.
-use Rattle.std.specs.Prelude.{◌≡◌, ◌≤◌, ℕ, zero, suc, ◌+◌, List, [], ◌∷◌, ◌++◌, drop, length, take}
-use Rattle.std.proofs.Common.{refl, sym, ap, ◌∙◌, arith, length-append}
+use Rattle.std.specs.Prelude.{◌≡◌, ◌≤◌, ℕ, zero, suc, List, [], ◌∷◌, ◌++◌, length}
+use Rattle.std.proofs.Common.{refl, arith, length-append}
 use Rattle.std.proofs.lemmas.List.{take_at, drop_at}
 use Rattle.mem_server.specs.Stored.{items_in, items_out, row_in, row_out, same, stored_after, table_in, table_out, tables_in, tables_out}
 use Rattle.mem_server.specs.Tables.{TableRows, Tables, after_all}

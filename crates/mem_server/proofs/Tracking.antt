@@ -1,5 +1,5 @@
 -- Tracked settings.
-use Rattle.std.specs.Prelude.{◌≡◌, ◌⊎◌, ◌≢◌, ℕ, Bool, true, false, not, ◌&&◌, ◌||◌, List, [], ◌∷◌, Option, None, Some}
+use Rattle.std.specs.Prelude.{◌≡◌, ◌⊎◌, ◌≢◌, ℕ, Bool, true, false, not, ◌&&◌, ◌||◌, List, [], ◌∷◌, Option, None}
 use Rattle.std.proofs.Common.{refl, sym, ap, ◌∙◌, inl, inr, arith}
 use Rattle.std.proofs.lemmas.List.{get_or-set_other}
 use Rattle.session_vars.specs.Settings.{applied, changed, value_at, value_after}
@@ -9,7 +9,7 @@ use Rattle.session_vars.specs.declared.change.SlotValue.TheVariants.{Default}
 use Rattle.session_vars.specs.Slots.{place_of}
 use Rattle.session_vars.specs.declared.slot.Slot.{Slot}
 use Rattle.session_vars.specs.declared.slot.Slot.TheVariants.{Names, CharacterSetResults, Autocommit, SqlMode, TimeZone, TransactionIsolation, TransactionReadOnly, SqlSafeUpdates, ForeignKeyChecks, UniqueChecks, SqlSelectLimit, GroupConcatMaxLen, LcTimeNames, LcMessages, WaitTimeout, NetReadTimeout, NetWriteTimeout, InnodbLockWaitTimeout, LockWaitTimeout, MaxExecutionTime, SqlAutoIsNull}
-use Rattle.session_state.specs.Classes.{Effect, Tracked, Uses, Neither, effect_of, is_autocommit, settings_by, sets_autocommit}
+use Rattle.session_state.specs.Classes.{Effect, Tracked, effect_of, is_autocommit, settings_by, sets_autocommit}
 use Rattle.session_state.specs.Endings.{is_ok}
 use Rattle.pin_classifier.specs.Classes.{class_of}
 use Rattle.server_rule.specs.Classes.{effect_run, router_reads}
@@ -42,18 +42,18 @@ tracking t s Reset changes is = absurd (cc)
 tracking t s Close changes is = absurd (cc)
 
 -- what such a step leaves
-record IsKept (s : Session) (r : Ran) : Type 0 where
-  ok : is_ok (reply_end false r.reply) ≡ true
-  settings : r.session.settings ≡ s.settings
-  schema : r.session.schema ≡ s.schema
-  locks : r.session.locks ≡ s.locks
-  last_id : r.session.last_id ≡ s.last_id
+pub record IsKept (s : Session) (r : Ran) : Type 0 where
+  pub ok : is_ok (reply_end false r.reply) ≡ true
+  pub settings : r.session.settings ≡ s.settings
+  pub schema : r.session.schema ≡ s.schema
+  pub locks : r.session.locks ≡ s.locks
+  pub last_id : r.session.last_id ≡ s.last_id
 
 kept_by : (on : Bool) (s : Session) → IsKept s (with_settings on s)
 kept_by true s = record { ok = ok_is_ok _; settings = refl; schema = refl; locks = refl; last_id = refl }
 kept_by false s = record { ok = ok_is_ok _; settings = refl; schema = refl; locks = refl; last_id = refl }
 
-kept : (s : Session) (changes : List Change) → IsKept (record s { settings = applied s.settings changes }) (tracks changes s)
+pub kept : (s : Session) (changes : List Change) → IsKept (record s { settings = applied s.settings changes }) (tracks changes s)
 kept s changes = kept_by (is_off_in s.settings && not (is_off_in (applied s.settings changes))) (record s { settings = applied s.settings changes })
 
 settings_are : (s : Session) (changes : List Change) → (tracks changes s).session.settings ≡ settings_by (Tracked changes) (is_ok (reply_end false (tracks changes s).reply)) s.settings

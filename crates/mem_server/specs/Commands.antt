@@ -1,7 +1,7 @@
 -- What a command does to the data and to the session in which it runs.
-use Rattle.std.specs.Prelude.{◌≡◌, ℕ, ◌+◌, ◌*◌, ◌%◌, ◌^◌, Bool, true, false, not, ◌&&◌, List, [], ◌∷◌, ◌++◌, codes, filter, fold, length, map, replicate, Option, Some, None, if◌then◌else◌}
+use Rattle.std.specs.Prelude.{◌≡◌, ℕ, ◌+◌, ◌*◌, ◌%◌, ◌^◌, Bool, true, false, not, ◌&&◌, List, [], ◌∷◌, ◌++◌, codes, filter, fold, length, map, replicate, Option, Some, None}
 use Rattle.mx_base.specs.Fields.{number_bytes}
-use Rattle.session_vars.specs.Settings.{applied, defaults}
+use Rattle.session_vars.specs.Settings.{applied}
 use Rattle.session_vars.specs.declared.change.Change.{Change}
 use Rattle.pin_classifier.specs.Classes.{class_of}
 use Rattle.session_state.specs.Classes.{Effect, Tracked, Uses, Neither, effect_of}

@@ -1,5 +1,5 @@
 -- The forms of statements. A text has a form where its tokens are those of the form, one by one.
-use Rattle.std.specs.Prelude.{ℕ, Bool, true, false, ◌&&◌, ◌||◌, nat_eq, nat_le, bytes_eq, List, [], ◌∷◌, ◌++◌, codes, drop, slice_index_or, Option, Some, None, if◌then◌else◌}
+use Rattle.std.specs.Prelude.{ℕ, Bool, ◌&&◌, ◌||◌, nat_eq, nat_le, bytes_eq, List, [], ◌∷◌, ◌++◌, codes, drop, length, slice_index_or, Option, Some, None, if◌then◌else◌}
 use Rattle.mx_base.specs.Pieces.{pieces}
 use Rattle.sql_tokens.specs.Tokens.{tokens_of}
 use Rattle.sql_tokens.specs.Words.{bytes_of, inside, says}
@@ -45,14 +45,18 @@ abbrev pub fixed_if : Bool → Captured
 fixed_if fits = if fits then Fixed else Differs
 
 abbrev pub symbol_as : (piece bytes : List ℕ) → Captured
-symbol_as piece bytes = if bytes_eq bytes (codes "?") && (bytes_eq piece (codes "<n>") || bytes_eq piece (codes "<x>")) then Asked else fixed_if (bytes_eq bytes piece)
+symbol_as piece bytes = if bytes_eq bytes (codes "?") && (bytes_eq piece (codes "<n>") || bytes_eq piece (codes "<x>")) then Asked else fixed_if (nat_eq (length piece) 1 && bytes_eq bytes piece)
+
+-- the one number that a form has
+abbrev pub number_as : (piece bytes : List ℕ) → Captured
+number_as piece bytes = if bytes_eq piece (codes "<n>") then Value bytes else fixed_if (bytes_eq piece (codes "0") && bytes_eq bytes piece)
 
 abbrev pub is_single_quoted : List ℕ → Bool
 is_single_quoted bytes = nat_eq (slice_index_or bytes 0 0) 39
 
 abbrev pub captured_by : TokenKind → (text piece : List ℕ) → Token → Captured
 captured_by kinds.Symbol text piece token = symbol_as piece (bytes_of text token)
-captured_by kinds.Number text piece token = if bytes_eq piece (codes "<n>") then Value (bytes_of text token) else fixed_if (bytes_eq (bytes_of text token) piece)
+captured_by kinds.Number text piece token = number_as piece (bytes_of text token)
 captured_by kinds.Quoted text piece token = value_if (bytes_eq piece (codes "<x>") && is_single_quoted (bytes_of text token)) (inside (bytes_of text token))
 captured_by kinds.UserVar text piece token = value_if (bytes_eq piece (codes "<a>")) (drop 1 (bytes_of text token))
 captured_by kinds.SysVar text piece token = value_if (bytes_eq piece (codes "<s>")) (drop 2 (bytes_of text token))

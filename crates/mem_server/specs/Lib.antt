@@ -7,3 +7,4 @@ pub mod Statements
 pub mod Steps
 pub mod Stored
 pub mod Tables
+pub mod Worked

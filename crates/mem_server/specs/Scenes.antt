@@ -8,7 +8,7 @@ use Rattle.mem_server.specs.Notes.{is_row, notes_of}
 use Rattle.mem_server.specs.Tables.{Rows, TableRows, Tables, greatest, holds, place_of, row_at}
 use Rattle.mem_server.specs.declared.note.Note.{Note}
 use Rattle.mem_server.specs.declared.note.NoteKind.{NoteKind}
-use Rattle.mem_server.specs.declared.note.NoteKind.TheVariants.{Put, Removed, Created, Held, Named}
+use Rattle.mem_server.specs.declared.note.NoteKind.TheVariants.{Put, Created, Held, Named}
 use Rattle.mem_server.specs.declared.scene.Place.{Place}
 use Rattle.mem_server.specs.declared.scene.Place.TheVariants.{Temporary, Absent, Locked, There}
 

@@ -108,6 +108,10 @@ variable_by (Some note) = text_bytes note.text
 abbrev pub variable : Scene → (name : List ℕ) → Did
 variable c name = show c name (Some (variable_by (find (names name) (reverse (deep_notes c)))))
 
+-- the insert id, which fits 64 bits in every session
+abbrev pub show_id : Scene → Did
+show_id c = if nat_lt c.last_id (2 ^ 64) then show c (codes "LAST_INSERT_ID()") (Some (text_bytes (decimal c.last_id))) else stays c (Refused faults.Syntax)
+
 -- 1 where the session has the lock then, 0 where another one has it
 abbrev pub get_lock : Scene → (name : List ℕ) → Did
 get_lock c name =
@@ -158,7 +162,7 @@ does forms.Setting d c = shown_by (slot_named d.name) c d.name
 does forms.SetVariable d c = goes_on_with c (c.deep ++ note_bytes (row_note Named d.name 0 d.text))
 does forms.Variable d c = variable c d.name
 does forms.SetId d c = record (stays c (Done 0 0)) { last_id = d.id }
-does forms.Id d c = show c (codes "LAST_INSERT_ID()") (Some (text_bytes (decimal c.last_id)))
+does forms.Id d c = show_id c
 does forms.Lock d c = get_lock c d.name
 does forms.UnlockTables d c = unlock c
 does forms.Warnings d c = warnings c

@@ -1,8 +1,6 @@
 -- The data as one list of numbers, and the server as a step of it. Each part of a list stands behind its length.
-use Rattle.std.specs.Prelude.{◌≡◌, ℕ, zero, suc, Bool, true, not, nat_eq, List, [], ◌∷◌, ◌++◌, drop, length, slice_index_or, take}
-use Rattle.server_rule.specs.Servers.{Outcome, Step, Tests}
-use Rattle.server_rule.specs.declared.command.Cmd.{Cmd}
-use Rattle.server_rule.specs.declared.session.Session.{Session}
+use Rattle.std.specs.Prelude.{ℕ, zero, suc, true, not, nat_eq, List, [], ◌∷◌, ◌++◌, drop, length, slice_index_or, take}
+use Rattle.server_rule.specs.Servers.{Step, Tests}
 use Rattle.mem_server.specs.Commands.{ran}
 use Rattle.mem_server.specs.Tables.{TableRows, Tables, after_all, no_rows, no_tables}
 use Rattle.mem_server.specs.declared.note.Note.{Note}

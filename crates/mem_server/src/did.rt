@@ -4,7 +4,7 @@ ghost use Rattle.session_vars.specs.Slots.{slot_named};
 ghost use Rattle.session_vars.specs.Texts as texts;
 ghost use Rattle.mem_server.specs.Notes.{note_bytes, text_bytes};
 ghost use Rattle.mem_server.specs.Scenes as scenes;
-ghost use Rattle.mem_server.specs.Steps.{cell, change, commit, create, create_temporary, does, frees, get_lock, goes_on_with, insert, insert_at, lock_by, on_table, plain_note, row_note, rows_do, select, show, shown_by, stays, table_fault, unlock, variable, variable_by, warning_by, warnings, write};
+ghost use Rattle.mem_server.specs.Steps.{cell, change, commit, create, create_temporary, does, frees, get_lock, goes_on_with, insert, insert_at, lock_by, on_table, plain_note, row_note, rows_do, select, show, show_id, shown_by, stays, table_fault, unlock, variable, variable_by, warning_by, warnings, write};
 
 use crate::scene::{Place, Scene, named_lock, table_lock};
 use crate::{Answer, Fault, Form, Note, NoteKind, Notes};
@@ -349,6 +349,13 @@ fn set_id(alloc: Global, c: &Scene, id: u64) -> Result<Did, OutOfMemory>
     Ok(did)
 }
 
+// The insert id.
+fn show_id(alloc: Global, c: &Scene) -> Result<Did, OutOfMemory>
+    ensures { IfOk result (λ did. did ≡ show_id c.now) }
+{
+    show_number(alloc, c, b"LAST_INSERT_ID()", c.session.last_id)
+}
+
 fn get_lock(alloc: Global, c: &Scene, name: &[u8]) -> Result<Did, OutOfMemory>
     ensures { IfOk result (λ did. did ≡ get_lock c.now name.now) }
 {
@@ -445,7 +452,7 @@ pub(crate) fn does(alloc: Global, said: &Said, c: &Scene) -> Result<Did, OutOfMe
         Form::SetVariable => set_variable(alloc, c, said.name.as_slice(), said.text.as_slice()),
         Form::Variable => variable(alloc, c, said.name.as_slice()),
         Form::SetId => set_id(alloc, c, said.id),
-        Form::Id => show_number(alloc, c, b"LAST_INSERT_ID()", c.session.last_id),
+        Form::Id => show_id(alloc, c),
         Form::Lock => get_lock(alloc, c, said.name.as_slice()),
         Form::UnlockTables => unlock(alloc, c),
         Form::Warnings => warnings(alloc, c),

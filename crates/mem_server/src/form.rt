@@ -1,6 +1,6 @@
 // The forms of statements.
 ghost use Rattle.std.specs.Prelude.{◌≡◌, IfOk, drop};
-ghost use Rattle.mem_server.specs.Forms.{taken_as, first_fit, fits, fixed_if, form_of, is_single_quoted, is_word_piece, pattern_of, symbol_as, value_if};
+ghost use Rattle.mem_server.specs.Forms.{taken_as, first_fit, fits, fixed_if, form_of, is_single_quoted, is_word_piece, number_as, pattern_of, symbol_as, value_if};
 
 use mx_base::{Bytes, OutOfMemory, first_piece};
 use sql_tokens::{Token, TokenKind, Tokens, bytes_of, inside, says};
@@ -154,7 +154,18 @@ fn symbol(piece: &[u8], bytes: &[u8]) -> Captured
     if bytes == b"?".as_slice() && (piece == b"<n>".as_slice() || piece == b"<x>".as_slice()) {
         Captured::Asked
     } else {
-        fixed(bytes == piece)
+        fixed(piece.len() == 1 && bytes == piece)
+    }
+}
+
+// What a number is where this piece of a form stands.
+fn number(alloc: Global, piece: &[u8], bytes: &[u8]) -> Result<Captured, OutOfMemory>
+    ensures { IfOk result (λ got. got ≡ number_as piece.now bytes.now) }
+{
+    if piece == b"<n>".as_slice() {
+        Ok(Captured::Value(Bytes::from_slice(alloc, bytes)?))
+    } else {
+        Ok(fixed(piece == b"0".as_slice() && bytes == piece))
     }
 }
 
@@ -197,13 +208,7 @@ fn taken_as(
     let bytes = bytes_of(text, token);
     match token.kind {
         TokenKind::Symbol => Ok(symbol(piece, bytes)),
-        TokenKind::Number => {
-            if piece == b"<n>".as_slice() {
-                value(alloc, true, bytes)
-            } else {
-                Ok(fixed(bytes == piece))
-            }
-        }
+        TokenKind::Number => number(alloc, piece, bytes),
         TokenKind::Quoted => value(
             alloc,
             piece == b"<x>".as_slice() && is_single_quoted(bytes),

@@ -1,6 +1,6 @@
 // The laws of a tame server, of the step of this one.
 ghost use Rattle.server_rule.specs.Classes.{router_reads};
-ghost use Rattle.server_rule.specs.Laws.{AccountLaw, FlagsLaw, KeepsTests, PrepareLaw, ResetLaw, SchemaLaw, TrackedLaw};
+ghost use Rattle.server_rule.specs.Laws.{AccountLaw, BlindLaw, FlagsLaw, IdLaw, IsTame, KeepsTests, PrepareLaw, ReplyLaw, ResetLaw, SchemaLaw, TextLaw, TrackedLaw, UnlockLaw};
 ghost use Rattle.std.specs.Prelude.{◌≡◌, List};
 ghost use Rattle.mem_server.specs.Stored.{step, stored_after, tables_in, tables_out, tests};
 ghost use Rattle.mem_server.specs.Tables.{Tables, after_all};
@@ -45,4 +45,34 @@ pub fn keeps_tests_law()
 /// Status flags.
 pub fn flags_law()
     ensures { FlagsLaw tests step }
+{}
+
+/// Locks that are freed.
+pub fn unlock_law()
+    ensures { UnlockLaw router_reads tests step }
+{}
+
+/// Replies of one payload.
+pub fn reply_law()
+    ensures { ReplyLaw router_reads tests step }
+{}
+
+/// Ordinary texts.
+pub fn text_law()
+    ensures { TextLaw router_reads tests step }
+{}
+
+/// Insert ids.
+pub fn id_law()
+    ensures { IdLaw router_reads tests step }
+{}
+
+/// Independence of the insert id and of the diagnostics.
+pub fn blind_law()
+    ensures { BlindLaw router_reads tests step }
+{}
+
+/// All of them.
+pub fn tame()
+    ensures { IsTame router_reads tests step }
 {}

@@ -429,6 +429,11 @@ impl MemServer {
         }
     }
 
+    // What its memory comes from.
+    pub(crate) fn alloc(&self) -> Global {
+        self.base.alloc()
+    }
+
     /// Runs a command in a session. OutOfMemory changes neither.
     pub fn run(
         &mut self,

@@ -25,6 +25,11 @@ impl Model for Base {
 }
 
 impl Base {
+    // What its memory comes from.
+    pub(crate) fn alloc(&self) -> Global {
+        *self.tables.allocator()
+    }
+
     // The place of a schema's table.
     pub(crate) fn place(&self, schema: &[u8]) -> Option<usize>
         ensures { result ≡ place_of self.now.tables schema.now }

@@ -18,8 +18,9 @@ pub trait TameServer {
     /// What a command does.
     ghost step: { Step };
 
-    /// The ten laws, with the classes that the router reads.
-    ghost tame: { IsTame router_reads tests step };
+    /// The ten laws hold, with the classes that the router reads. Does nothing.
+    fn tame()
+        ensures { IsTame router_reads tests step };
 
     /// Runs a command in a session. OutOfMemory changes neither.
     fn run(&mut self, session: &mut Session, cmd: &Cmd) -> Result<ReplyList, OutOfMemory>

@@ -1,4 +1,4 @@
-use Rattle.std.proofs.Common.{◌≡◌, ◌++◌, ◌∷◌, ◌-◌, ◌∙◌, [], ap, sym, None, Some}
+use Rattle.std.proofs.Common.{◌≡◌, ◌++◌, ◌∷◌, ◌-◌, ◌∙◌, [], ap, None, Some}
 use Rattle.mem_server.specs.Notes.{note_at, notes_from}
 use Rattle.mem_server.proofs.Reading.{all_read, one_more}
 use Rattle.mem_server.proofs.note.Notes.read.Goals as goal
