@@ -37,7 +37,8 @@ no_last : (rest more : List ℕ) → rest ++ more ≡ [] → more ≡ []
 no_last [] more is = is
 no_last (x ∷ rest) more is = absurd (cc)
 
-pub all_of : (state : _) (front whole rest : List ℕ) (end last : ReplyEnd) → IsFront front whole → run state whole ≡ Ended last [] → run state front ≡ Ended end rest → IsAll front whole rest
+pub all_of : (state : _) (front whole rest : List ℕ) (end last : ReplyEnd) → IsFront front whole → run state whole ≡ Ended last []
+    → run state front ≡ Ended end rest → IsAll front whole rest
 all_of state front whole rest end last at ends found =
     let longer : run state whole ≡ Ended end (rest ++ at.rest) = ap (run state) (sym at.is) ∙ ended-more state front at.rest end rest found in
     let none : rest ++ at.rest ≡ [] = ap behind_of (sym longer ∙ ends) in
@@ -48,17 +49,22 @@ all_of state front whole rest end last at ends found =
 
 -- A reply of the grammar, and one that the automaton follows to its end.
 
-pub ends-so : (sought : Sought) (payloads : List (List ℕ)) (end : ReplyEnd) → IsReply sought.kind payloads end → run (started sought) (spellings sought.server payloads) ≡ Ended end []
-ends-so sought payloads end reply = ap (run (started sought)) (sym (append-nil (spellings sought.server payloads))) ∙ ((reply-sent sought.kind sought.number payloads end reply).over sought.server sought.client).runs []
+pub ends-so : (sought : Sought) (payloads : List (List ℕ)) (end : ReplyEnd) → IsReply sought.kind payloads end
+    → run (started sought) (spellings sought.server payloads) ≡ Ended end []
+ends-so sought payloads end reply =
+    ap (run (started sought)) (sym (append-nil (spellings sought.server payloads)))
+    ∙ ((reply-sent sought.kind sought.number payloads end reply).over sought.server sought.client).runs []
 
 all-bytes : (bytes : List ℕ) → list_all (λ b. nat_lt b 256) bytes ≡ true → AreBytes bytes
 all-bytes [] all i = lit< tt
 all-bytes (b ∷ bytes) all zero = ltb-true b 256 (and_parts (nat_lt b 256) (list_all (λ b. nat_lt b 256) bytes) all).0
 all-bytes (b ∷ bytes) all (suc i) = all-bytes bytes (and_parts (nat_lt b 256) (list_all (λ b. nat_lt b 256) bytes) all).1 i
 
-pub replies-so : (kind : ReplyKind) (server : ℕ) (payloads : List (List ℕ)) (end : ReplyEnd) → server < 256 → list_all (λ b. nat_lt b 256) (spellings server payloads) ≡ true
+pub replies-so : (kind : ReplyKind) (server : ℕ) (payloads : List (List ℕ)) (end : ReplyEnd) → server < 256
+    → list_all (λ b. nat_lt b 256) (spellings server payloads) ≡ true
     → run (started (record { kind = kind; server = server; client = 0; number = 0 })) (spellings server payloads) ≡ Ended end [] → IsReply kind payloads end
 replies-so kind server payloads end small bytes ends =
-    let on = handed-on (record { kind = kind; server = server; client = 0; number = 0 }) (spellings server payloads) end [] small (all-bytes (spellings server payloads) bytes) ends in
+    let on = handed-on (record { kind = kind; server = server; client = 0; number = 0 }) (spellings server payloads) end [] small
+    (all-bytes (spellings server payloads) bytes) ends in
     let front : on.front ≡ spellings server payloads = sym (append-nil on.front) ∙ sym on.is in
     subst (λ ps. IsReply kind ps end) (ap (payloads_in server) front ∙ payloads-again server payloads small) on.reply

@@ -1,8 +1,8 @@
--- The worked log, computed.
-use Rattle.std.specs.Prelude.{◌≡◌, refl, true, [], ◌∷◌, None, Some}
-use Rattle.std.proofs.Common.{sym, subst, inl}
+-- The worked logs, computed.
+use Rattle.std.specs.Prelude.{◌≡◌, refl, true, ℕ, codes, List, Option, length, nat_eq, [], ◌∷◌, ◌++◌, Some, None}
+use Rattle.std.proofs.Common.{ap, arith, sym, inl, inr, ◌∙◌}
 use Rattle.std.specs.Fmt.{digits}
-use Rattle.packet_frame.specs.Packets.{first_message, split, spelling}
+use Rattle.packet_frame.specs.Packets.{first_message, spelling, spellings, split}
 use Rattle.handshake.specs.Response.{response_fields, head_fields, response_of}
 use Rattle.handshake.specs.Greeting.{greeting_fields, greeting_of, protocol_field, offer_fields, back_field}
 use Rattle.handshake.specs.Switch.{switch_of}
@@ -10,84 +10,222 @@ use Rattle.handshake.specs.Reading.{number_field, bytes_field, text_field, count
 use Rattle.client_side.specs.Login.{opening as client_opening}
 use Rattle.server_side.specs.Login.{opening as server_opening, response_said, answer_said}
 use Rattle.client_session.specs.Accounts.{account_of}
-use Rattle.client_session.specs.Errors.{own_ok}
+use Rattle.client_session.specs.Errors.{connection_refused, own_ok}
 use Rattle.server_rule.specs.Replies.{one_number, reply_end}
 use Rattle.reply_track.specs.Replying.{payloads_in}
-use Rattle.log_story.specs.Telling.{story_of}
-use Rattle.log_story.specs.Worked.{account, first_comes, later_ok, log, plan, second_client, server, setup, told_story}
-use Rattle.session_vars.specs.Settings.{defaults}
-use Rattle.session_state.specs.Pins.{no_pin}
-use Rattle.session_state.specs.declared.place.Told.{Told}
-use Rattle.private_model.specs.Lawful.{Begins, IsLawful}
-use Rattle.private_model.specs.Story.{BecameDue}
-use Rattle.small_server.specs.Stories.{client, due_at, group, insert, nowhere, session}
-use Rattle.private_model.specs.Commands.{runs}
+use Rattle.private_model.specs.Commands.{Prepare, runs}
+use Rattle.private_model.specs.Story.{put}
+use Rattle.session_vars.specs.declared.long_part.LongPart.{LongPart}
+use Rattle.small_server.specs.Tally.{prepared}
 use Rattle.private_model.specs.Worlds.{private_after}
-use Rattle.log_story.specs.Headline.{due_bytes}
+use Rattle.session_state.specs.Pins.{no_pin}
+use Rattle.session_state.specs.declared.names.SessionName.{SessionName}
+use Rattle.private_model.specs.Lawful.{Begins, IsLawful}
+use Rattle.private_model.specs.View.{present}
+use Rattle.small_server.proofs.Told.{begins_at, begins_with, begun_so, settled_so, told}
+use Rattle.small_server.specs.Stories.{anybody, came, due_at, insert, link, nowhere, session, setup, shared}
+use Rattle.log_story.specs.Aside.{asker, asks, begin, beside_log, beside_plan, beside_story, copy_log, copy_plan, copy_story, given_up, goes_on, is_answered}
+use Rattle.log_story.specs.Aside.{is_given_up, is_woken, job_session, own_plan}
+use Rattle.log_story.specs.Aside.{ended_log, ended_plan, ended_story}
+use Rattle.log_story.specs.Executed.{done, due_with, execute_log, execute_plan, execute_story, first_run, first_story, prepared_story, preparer, runs_with}
+use Rattle.log_story.specs.Aside.{ended_log, ended_plan, ended_story}
+use Rattle.log_story.specs.Executed.{second_run, text}
+use Rattle.log_story.specs.Honest.{IsHonestLog}
+use Rattle.log_story.specs.Owed.{due_bytes}
+use Rattle.log_story.specs.Tale.{first_tale}
+use Rattle.log_story.specs.Telling.{story_of}
+use Rattle.log_story.specs.Worked.{later_ok, log, logged_in, plan, second_client, server}
+use Rattle.log_story.proofs.Tested.{log_tested, tested_so}
 
-pub first_told : story_of setup plan first_comes ≡ BecameDue (client 1) group 1 0 insert None ∷ []
-unfolding client_opening server_opening payloads_in first_message split spelling account_of response_fields head_fields response_of greeting_fields protocol_field offer_fields back_field greeting_of switch_of number_field bytes_field text_field counted_field optional_text last_text own_ok response_said answer_said reply_end one_number digits
-first_told = refl
+-- The first log.
 
-pub all_told : story_of setup plan log ≡ told_story
-unfolding client_opening server_opening payloads_in first_message split spelling account_of response_fields head_fields response_of greeting_fields protocol_field offer_fields back_field greeting_of switch_of number_field bytes_field text_field counted_field optional_text last_text own_ok response_said answer_said reply_end one_number digits
-all_told = refl
+pub worked_computed : (story_of setup plan log ≡ shared)
+    × (log_tested setup plan server first_tale log ≡ true)
+    × (due_bytes (private_after setup (runs server) shared).answers plan (length log) second_client ≡ logged_in 2 ++ later_ok)
+unfolding client_opening server_opening payloads_in first_message split spelling account_of response_fields head_fields response_of greeting_fields
+    protocol_field offer_fields back_field greeting_of switch_of number_field bytes_field text_field counted_field optional_text last_text own_ok
+    connection_refused response_said answer_said reply_end one_number digits
+worked_computed = (refl, refl, refl)
 
-abbrev place : Told
-place = record { schema = Some []; settings = defaults }
+pub log_honest : IsHonestLog setup plan server log
+log_honest = tested_so setup plan server first_tale log worked_computed.1
 
-first_begins : Begins setup (session 1) (due_at nowhere 1 true insert) account place (Some 0) (λ key. None) no_pin (Some 0)
-first_begins = record { statement = refl; keyed = tt; unpinned = refl; anew = refl; placed = record { schema = refl; settings = refl }; account = refl; blind = refl; known = 0; no_capture = refl; marks = λ e. refl }
+-- What the router answers itself.
 
-second_begins : Begins setup (session 2) (due_at nowhere 1 true insert) account place (Some 0) (λ key. None) no_pin (Some 0)
-second_begins = record { statement = refl; keyed = tt; unpinned = refl; anew = refl; placed = record { schema = refl; settings = refl }; account = refl; blind = refl; known = 0; no_capture = refl; marks = λ e. refl }
+pub own_computed : (story_of setup own_plan asks ≡ [])
+    × (story_of setup own_plan is_answered ≡ [])
+    × (story_of setup own_plan is_woken ≡ came 1 2 insert ∷ [])
+    × (story_of setup own_plan is_given_up ≡ came 1 2 insert ∷ [])
+    × (story_of setup own_plan goes_on ≡ given_up)
+    × (log_tested setup own_plan server first_tale goes_on ≡ true)
+    × (due_bytes (private_after setup (runs server) given_up).answers own_plan (length goes_on) asker ≡ logged_in 1
+    ++ (spelling 1 own_ok ++ spelling 1 connection_refused))
+unfolding client_opening server_opening payloads_in first_message split spelling account_of response_fields head_fields response_of greeting_fields
+    protocol_field offer_fields back_field greeting_of switch_of number_field bytes_field text_field counted_field optional_text last_text own_ok
+    connection_refused response_said answer_said reply_end one_number digits
+own_computed = (refl, refl, refl, refl, refl, refl, refl)
 
-told_lawful : IsLawful setup told_story
+pub own_honest : IsHonestLog setup own_plan server goes_on
+own_honest = tested_so setup own_plan server first_tale goes_on own_computed.5
+
+pub own_lawful : IsLawful setup given_up
+own_lawful = ((tt, tt), tt)
+
+-- What stands beside questions.
+
+pub beside_computed : (story_of setup beside_plan beside_log ≡ beside_story)
+    × (log_tested setup beside_plan server first_tale beside_log ≡ true)
+unfolding client_opening server_opening payloads_in first_message split spelling account_of response_fields head_fields response_of greeting_fields
+    protocol_field offer_fields back_field greeting_of switch_of number_field bytes_field text_field counted_field optional_text last_text own_ok
+    connection_refused response_said answer_said reply_end one_number digits
+beside_computed = (refl, refl)
+
+pub beside_honest : IsHonestLog setup beside_plan server beside_log
+beside_honest = tested_so setup beside_plan server first_tale beside_log beside_computed.1
+
+pub beside_lawful : IsLawful setup beside_story
 unfolding reply_end one_number digits
-told_lawful = (
+beside_lawful = (
   (
     (
-      (
-        (
-          (
-            (
-              (
-                (
-                  (
-                    (
-                      (
-                        (
-                          (((tt, tt), refl), record { usable = refl; quiet = refl; fits = record { is_due = refl; unsent = refl; present = refl; how = inl (record { lends = inl (record { free = refl; homeless = refl }); begins = first_begins }) } }),
-                          tt,
-                        ),
-                        tt,
-                      ),
-                      record { usable = refl; quiet = refl; fits = record { carries = refl; unpinned = refl; unknown = refl } },
-                    ),
-                    tt,
-                  ),
-                  tt,
-                ),
-                record { who = session 1; carries = inl refl; quiet = refl; harmless = refl; settled = inl (record { unpinned = refl; known = 1; is_known = refl }) },
-              ),
-              tt,
-            ),
-            record { usable = refl; quiet = refl; fits = record { free = inl refl; fits = tt } },
-          ),
-          tt,
-        ),
-        tt,
-      ),
-      record { usable = refl; quiet = refl; fits = record { is_due = refl; unsent = refl; present = refl; how = inl (record { lends = inl (record { free = refl; homeless = refl }); begins = second_begins }) } },
+      (((tt, tt), refl), refl),
+      begun_so _ (link 3) (session 1) (due_at nowhere 1 true insert) refl refl refl refl refl refl refl
+          (begins_at (session 1)),
     ),
     tt,
   ),
   tt,
 )
 
-pub log_lawful : IsLawful setup (story_of setup plan log)
-log_lawful = subst (IsLawful setup) (sym all_told) told_lawful
+-- A copy.
 
-pub second_owed : due_bytes (private_after setup (runs server) told_story).answers plan second_client ≡ later_ok
-unfolding client_opening server_opening payloads_in first_message split spelling account_of response_fields head_fields response_of greeting_fields protocol_field offer_fields back_field greeting_of switch_of number_field bytes_field text_field counted_field optional_text last_text own_ok response_said answer_said reply_end one_number digits
-second_owed = refl
+pub copy_computed : (story_of setup copy_plan copy_log ≡ copy_story)
+    × (log_tested setup copy_plan server first_tale copy_log ≡ true)
+unfolding client_opening server_opening payloads_in first_message split spelling account_of response_fields head_fields response_of greeting_fields
+    protocol_field offer_fields back_field greeting_of switch_of number_field bytes_field text_field counted_field optional_text last_text own_ok
+    connection_refused response_said answer_said reply_end one_number digits
+copy_computed = (refl, refl)
+
+pub copy_honest : IsHonestLog setup copy_plan server copy_log
+copy_honest = tested_so setup copy_plan server first_tale copy_log copy_computed.1
+
+-- a session that was left has another life than the present one
+left_is_other : (n present : SessionName) → n.life ≡ 0 → present.life ≡ 1 → n ≡ present → ⊥
+left_is_other n present left next same = (let both : 0 ≡ 1 = sym left ∙ ap (λ (m : SessionName). m.life) same ∙ next in omega (arith, both))
+
+pub copy_lawful : IsLawful setup copy_story
+unfolding reply_end one_number digits
+copy_lawful = (
+  (
+    (
+      (
+        (
+          ((((tt, tt), tt), tt), refl),
+          begun_so _ (link 3) job_session (due_at nowhere 1 true insert)
+              refl refl refl refl refl refl refl (begins_at job_session),
+        ),
+        tt,
+      ),
+      tt,
+    ),
+    tt,
+  ),
+  record { who = job_session; carries = inl refl; quiet = refl; harmless = refl; settled = inr (left_is_other _ _ refl refl) },
+)
+
+-- A client that the router ends.
+
+pub ended_computed : (story_of setup ended_plan ended_log ≡ ended_story)
+    × (log_tested setup ended_plan server first_tale ended_log ≡ true)
+unfolding client_opening server_opening payloads_in first_message split spelling account_of response_fields head_fields response_of greeting_fields
+    protocol_field offer_fields back_field greeting_of switch_of number_field bytes_field text_field counted_field optional_text last_text own_ok
+    connection_refused response_said answer_said reply_end one_number digits
+ended_computed = (refl, refl)
+
+pub ended_honest : IsHonestLog setup ended_plan server ended_log
+ended_honest = tested_so setup ended_plan server first_tale ended_log ended_computed.1
+
+begins_begin : Begins setup (session 1) (due_at nowhere 1 true begin) anybody told (Some 0) (λ key. None) no_pin (Some 0)
+begins_begin = begins_with (session 1) (due_at nowhere 1 true begin) (λ key. None) refl tt refl refl refl
+
+pub ended_lawful : IsLawful setup ended_story
+unfolding reply_end one_number digits
+ended_lawful = (
+  (
+    (
+      (
+        ((((((tt, tt), refl), begun_so _ (link 3) (session 1) (due_at nowhere 1 true begin) refl refl refl refl refl refl refl begins_begin), tt), tt), tt),
+        record { usable = refl; quiet = refl; fits = record { carries = refl; left = left_is_other _ _ refl refl; needed = refl } },
+      ),
+      tt,
+    ),
+    tt,
+  ),
+  record { who = session 1; carries = inl refl; quiet = refl; harmless = refl; settled = inr (left_is_other _ _ refl refl) },
+)
+
+-- A prepared statement.
+
+pub execute_computed : (story_of setup execute_plan execute_log ≡ execute_story)
+    × (log_tested setup execute_plan server first_tale execute_log ≡ true)
+    × (due_bytes (private_after setup (runs server) execute_story).answers execute_plan (length execute_log) preparer ≡ logged_in 1
+    ++ (spellings 1 (prepared 1) ++ (done ++ done)))
+unfolding client_opening server_opening payloads_in first_message split spelling account_of response_fields head_fields response_of greeting_fields
+    protocol_field offer_fields back_field greeting_of switch_of number_field bytes_field text_field counted_field optional_text last_text own_ok
+    connection_refused response_said answer_said reply_end one_number digits
+execute_computed = (refl, refl, refl)
+
+pub execute_honest : IsHonestLog setup execute_plan server execute_log
+execute_honest = tested_so setup execute_plan server first_tale execute_log execute_computed.1
+
+abbrev is_live : ℕ → Option ℕ
+is_live = put nat_eq (λ key. None) 7 (Some 7)
+
+begins_to_prepare : Begins setup (session 1) (due_with 1 (Prepare text)) anybody told (Some 0) (λ key. None) no_pin (Some 0)
+begins_to_prepare = begins_with (session 1) (due_with 1 (Prepare text)) (λ key. None) refl (record { text_is = refl; schema = refl; core = refl }) refl refl
+    refl
+
+begins_to_run : (ordinal null : ℕ) (long : List LongPart)
+    → Begins setup (session 1) (due_with ordinal (runs_with null long)) anybody told (Some 0) is_live no_pin (Some 0)
+begins_to_run ordinal null long = begins_with (session 1) (due_with ordinal (runs_with null long)) is_live refl
+    (record { number = 7; there = refl; text_of = refl; schema_of = refl; core_of = refl }) refl refl refl
+
+prepared_lawful : IsLawful setup prepared_story
+unfolding reply_end one_number digits
+prepared_lawful = (
+  (
+    ((((tt, tt), refl), begun_so _ (link 3) (session 1) (due_with 1 (Prepare text)) refl refl refl refl refl refl refl begins_to_prepare), tt),
+    tt,
+  ),
+  settled_so _ (link 3) (session 1) 0 refl refl refl refl refl,
+)
+
+first_lawful : IsLawful setup first_story
+unfolding reply_end one_number digits
+first_lawful = (
+  (
+    (
+      (
+        (prepared_lawful, tt),
+        begun_so _ (link 3) (session 1) (due_with 3 first_run) refl refl refl refl refl refl refl
+            (begins_to_run 3 0 (record { parameter = 0; bytes = codes "abc" } ∷ [])),
+      ),
+      tt,
+    ),
+    tt,
+  ),
+  settled_so _ (link 3) (session 1) 0 refl refl refl refl refl,
+)
+
+pub execute_lawful : IsLawful setup execute_story
+unfolding reply_end one_number digits
+execute_lawful = (
+  (
+    (
+      ((first_lawful, tt), begun_so _ (link 3) (session 1) (due_with 4 second_run) refl refl refl refl refl refl refl (begins_to_run 4 1 [])),
+      tt,
+    ),
+    tt,
+  ),
+  settled_so _ (link 3) (session 1) 0 refl refl refl refl refl,
+)

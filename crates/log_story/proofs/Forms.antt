@@ -1,13 +1,15 @@
 -- The answer on a link has the form of what ran there: whether it answers a STMT_PREPARE.
-use Rattle.std.specs.Prelude.{◌≡◌, ◌⊎◌, ℕ, Bool, true, false, [], ◌∷◌, Option, Some, None, if◌then◌else◌}
+use Rattle.std.specs.Prelude.{◌≡◌, ℕ, Bool, true, false, [], ◌∷◌, Option, Some, None, if◌then◌else◌}
 use Rattle.std.proofs.Common.{refl, sym, ap, ◌∙◌, subst, inl, inr}
+use Rattle.std.proofs.lemmas.Bool.{cases_Bool}
 use Rattle.mx_base.specs.declared.names.LinkId.{LinkId}
 use Rattle.mx_base.specs.declared.names.ServerId.{ServerId}
 use Rattle.packet_frame.specs.PacketLaws.{nat_eq-true}
 use Rattle.server_rule.specs.Classes.{Reads, is_prepare}
 use Rattle.server_rule.specs.Servers.{Step}
 use Rattle.private_model.specs.Commands.{Command, Query, InitDb, FieldList, SetId, ReadId, Prepare, Run, Reset, Quit, Reply, cmd_of, runs}
-use Rattle.private_model.specs.Story.{BecameDue, Capture, Dropped, End, Freed, Gone, Happening, Heard, Key, Left, LoggedIn, Own, Prep, Question, Ran, Sent, Statement, Story, Sync, Unprepared, command_of, is_link_id, put}
+use Rattle.private_model.specs.Story.{BecameDue, Capture, Dropped, End, Freed, Gone, Happening, Heard, Key, Left, LoggedIn, Mirrored, Own, Prep, Question, Ran}
+use Rattle.private_model.specs.Story.{Sent, Statement, Story, Sync, Unprepared, command_of, is_link_id, put}
 use Rattle.private_model.specs.View.{Answered, Asked, Link, Quiet, Setup, Stage, View, quieted, ran_by, view_after, view_step}
 use Rattle.private_model.specs.Worlds.{Peer, Real, decoded, entry_at, real_after, real_drop, real_run, real_step, there_command}
 
@@ -27,7 +29,8 @@ decoded_form (Some entry) (Run text schema settings args) = refl
 decoded_form (Some entry) Reset = refl
 decoded_form (Some entry) Quit = refl
 
-there_form : (question : Question) (live : ℕ → Option ℕ) (table : ℕ → Option Key) → is_prepare (cmd_of (there_command question live table)) ≡ is_prepare (cmd_of (command_of question))
+there_form : (question : Question) (live : ℕ → Option ℕ) (table : ℕ → Option Key)
+    → is_prepare (cmd_of (there_command question live table)) ≡ is_prepare (cmd_of (command_of question))
 there_form (Statement n due) live table = decoded_form (entry_at (live due.key) table) due.command
 there_form (Prep n key text) live table = refl
 there_form (Sync n command) live table = refl
@@ -35,16 +38,13 @@ there_form (Own command) live table = refl
 there_form (End n) live table = refl
 there_form (Capture n) live table = refl
 
-bool_cases : (b : Bool) → (b ≡ true) ⊎ (b ≡ false)
-bool_cases true = inl refl
-bool_cases false = inr refl
-
 same_link : (a b : LinkId) → is_link_id a b ≡ true → b ≡ a
 same_link a b is = ap (λ n. record { 0 = n }) (sym (nat_eq-true a.0 b.0 is))
 
 -- an entry that is put leaves what is asked of it
-put_kept : {A B : Type 0} (of : A → B) (table : LinkId → A) (key : LinkId) (value : A) → of value ≡ of (table key) → (link : LinkId) → of (put is_link_id table key value link) ≡ of (table link)
-put_kept of table key value same link = elim (bool_cases (is_link_id link key)) [
+put_kept : {A B : Type 0} (of : A → B) (table : LinkId → A) (key : LinkId) (value : A) → of value ≡ of (table key) → (link : LinkId)
+    → of (put is_link_id table key value link) ≡ of (table link)
+put_kept of table key value same link = elim (cases_Bool (is_link_id link key)) [
   | inl here ↦ rw here (same ∙ ap (λ l. of (table l)) (same_link link key here))
   | inr other ↦ rw other refl
 ]
@@ -55,11 +55,13 @@ AreFormed links peers = (link : LinkId) → HasForm (links link).stage (peers li
 both_kept : (stage other : Stage) (answer next : Reply) → other ≡ stage → next ≡ answer → HasForm stage answer → HasForm other next
 both_kept stage other answer next same also holds = subst (λ s. HasForm s next) (sym same) (subst (HasForm stage) (sym also) holds)
 
-put_formed : (b : Bool) (new old : Link) (peer : Peer) → ((answer : Reply) → HasForm new.stage answer) → HasForm old.stage peer.answer → HasForm (if b then new else old).stage peer.answer
+put_formed : (b : Bool) (new old : Link) (peer : Peer) → ((answer : Reply) → HasForm new.stage answer) → HasForm old.stage peer.answer
+    → HasForm (if b then new else old).stage peer.answer
 put_formed true new old peer always holds = always peer.answer
 put_formed false new old peer always holds = holds
 
-both_formed : (b : Bool) (new old : Link) (next peer : Peer) → HasForm new.stage next.answer → HasForm old.stage peer.answer → HasForm (if b then new else old).stage (if b then next else peer).answer
+both_formed : (b : Bool) (new old : Link) (next peer : Peer) → HasForm new.stage next.answer → HasForm old.stage peer.answer
+    → HasForm (if b then new else old).stage (if b then next else peer).answer
 both_formed true new old next peer now holds = now
 both_formed false new old next peer now holds = holds
 
@@ -68,31 +70,48 @@ quiet_form Quiet answer = tt
 quiet_form (Asked question) answer = tt
 quiet_form (Answered question) answer = tt
 
-run_formed : (reads : Reads) (server : Step) (view : View) (real : Real) (l : LinkId) (live : ℕ → Option ℕ) (alive : Bool) (stage : Stage) (at : ServerId) → AreFormed view.links real.peers
-    → AreFormed (put is_link_id view.links l (ran_by reads alive stage (view.links l))) (real_run (runs server) real l live alive stage at).peers
-run_formed reads server view real l live true (Asked question) at holds link = both_formed (is_link_id link l) _ (view.links link) _ (real.peers link) (there_form question live (real.peers l).table) (holds link)
-run_formed reads server view real l live true Quiet at holds link = both_kept (view.links link).stage _ (real.peers link).answer (real.peers link).answer (put_kept (λ (a : Link). a.stage) view.links l (view.links l) refl link) refl (holds link)
-run_formed reads server view real l live true (Answered question) at holds link = both_kept (view.links link).stage _ (real.peers link).answer (real.peers link).answer (put_kept (λ (a : Link). a.stage) view.links l (view.links l) refl link) refl (holds link)
-run_formed reads server view real l live false stage at holds link = both_kept (view.links link).stage _ (real.peers link).answer (real.peers link).answer (put_kept (λ (a : Link). a.stage) view.links l (view.links l) refl link) refl (holds link)
+-- a link of another kind in the same stage
+still_formed : (links : LinkId → Link) (peers : LinkId → Peer) (l : LinkId) (value : Link) → value.stage ≡ (links l).stage → AreFormed links peers
+    → AreFormed (put is_link_id links l value) peers
+still_formed links peers l value same holds link =
+    both_kept (links link).stage _ (peers link).answer (peers link).answer (put_kept (λ (a : Link). a.stage) links l value same link) refl (holds link)
 
-dropped_answer : (server : Step) (real : Real) (l : LinkId) (alive : Bool) (at : ServerId) (link : LinkId) → ((real_drop (runs server) real l alive at).peers link).answer ≡ (real.peers link).answer
+run_formed : (reads : Reads) (server : Step) (view : View) (real : Real) (l : LinkId) (live : ℕ → Option ℕ) (alive : Bool) (stage : Stage) (at : ServerId)
+    → AreFormed view.links real.peers
+    → AreFormed (put is_link_id view.links l (ran_by reads alive stage (view.links l))) (real_run (runs server) real l live alive stage at).peers
+run_formed reads server view real l live true (Asked question) at holds link =
+    both_formed (is_link_id link l) _ (view.links link) _ (real.peers link) (there_form question live (real.peers l).table) (holds link)
+run_formed reads server view real l live true Quiet at holds link = still_formed view.links real.peers l (view.links l) refl holds link
+run_formed reads server view real l live true (Answered question) at holds link = still_formed view.links real.peers l (view.links l) refl holds link
+run_formed reads server view real l live false stage at holds link = still_formed view.links real.peers l (view.links l) refl holds link
+
+dropped_answer : (server : Step) (real : Real) (l : LinkId) (alive : Bool) (at : ServerId) (link : LinkId)
+    → ((real_drop (runs server) real l alive at).peers link).answer ≡ (real.peers link).answer
 dropped_answer server real l true at link = put_kept (λ (p : Peer). p.answer) real.peers l _ refl link
 dropped_answer server real l false at link = refl
 
-step_formed : (setup : Setup) (server : Step) (view : View) (real : Real) (e : Happening) → AreFormed view.links real.peers → AreFormed (view_step setup view e).links (real_step (runs server) view real e).peers
+step_formed : (setup : Setup) (server : Step) (view : View) (real : Real) (e : Happening) → AreFormed view.links real.peers
+    → AreFormed (view_step setup view e).links (real_step (runs server) view real e).peers
 step_formed setup server view real (LoggedIn l at account) holds link = both_formed (is_link_id link l) _ (view.links link) _ (real.peers link) tt (holds link)
 step_formed setup server view real (BecameDue client hostgroup ordinal key command multiplex) holds link = holds link
-step_formed setup server view real (Sent l question) holds link = put_formed (is_link_id link l) _ (view.links link) (real.peers link) (λ answer. tt) (holds link)
-step_formed setup server view real (Ran l) holds link = run_formed setup.reads server view real l (view.links l).live (view.links l).alive (view.links l).stage (view.links l).server holds link
-step_formed setup server view real (Heard l reply) holds link = put_formed (is_link_id link l) _ (view.links link) (real.peers link) (quiet_form (view.links l).stage) (holds link)
-step_formed setup server view real (Freed l) holds link = both_kept (view.links link).stage _ (real.peers link).answer (real.peers link).answer (put_kept (λ (a : Link). a.stage) view.links l _ refl link) refl (holds link)
+step_formed setup server view real (Sent l question) holds link =
+    put_formed (is_link_id link l) _ (view.links link) (real.peers link) (λ answer. tt) (holds link)
+step_formed setup server view real (Ran l) holds link =
+    run_formed setup.reads server view real l (view.links l).live (view.links l).alive (view.links l).stage (view.links l).server holds link
+step_formed setup server view real (Heard l reply) holds link =
+    put_formed (is_link_id link l) _ (view.links link) (real.peers link) (quiet_form (view.links l).stage) (holds link)
+step_formed setup server view real (Freed l) holds link = still_formed view.links real.peers l _ refl holds link
 step_formed setup server view real (Unprepared l number) holds link =
-    both_kept (view.links link).stage _ (real.peers link).answer _ (put_kept (λ (a : Link). a.stage) view.links l _ refl link) (put_kept (λ (p : Peer). p.answer) real.peers l _ refl link) (holds link)
+    both_kept (view.links link).stage _ (real.peers link).answer _ (put_kept (λ (a : Link). a.stage) view.links l _ refl link)
+    (put_kept (λ (p : Peer). p.answer) real.peers l _ refl link) (holds link)
 step_formed setup server view real (Dropped l) holds link =
-    both_kept (view.links link).stage _ (real.peers link).answer _ (put_kept (λ (a : Link). a.stage) view.links l _ refl link) (dropped_answer server real l (view.links l).alive (view.links l).server link) (holds link)
-step_formed setup server view real (Gone l) holds link = both_kept (view.links link).stage _ (real.peers link).answer (real.peers link).answer (put_kept (λ (a : Link). a.stage) view.links l _ refl link) refl (holds link)
+    both_kept (view.links link).stage _ (real.peers link).answer _ (put_kept (λ (a : Link). a.stage) view.links l _ refl link)
+    (dropped_answer server real l (view.links l).alive (view.links l).server link) (holds link)
+step_formed setup server view real (Gone l) holds link = still_formed view.links real.peers l _ refl holds link
 step_formed setup server view real (Left client) holds link = holds link
+step_formed setup server view real (Mirrored client job) holds link = holds link
 
 pub story_formed : (setup : Setup) (server : Step) (story : Story) → AreFormed (view_after setup story).links (real_after setup (runs server) story).peers
 story_formed setup server [] link = tt
-story_formed setup server (e ∷ past) link = step_formed setup server (view_after setup past) (real_after setup (runs server) past) e (story_formed setup server past) link
+story_formed setup server (e ∷ past) link =
+    step_formed setup server (view_after setup past) (real_after setup (runs server) past) e (story_formed setup server past) link

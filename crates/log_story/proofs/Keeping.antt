@@ -1,7 +1,11 @@
 -- Honest bytes tell an honest story.
-use Rattle.std.specs.Prelude.{◌≡◌, ℕ, zero, suc, ◌-◌, Bool, true, false, ◌&&◌, ◌||◌, List, [], ◌∷◌, ◌++◌, fold, length, nat_eq, slice_get, slice_index_or, take, Option, Some, None, if◌then◌else◌}
+use Rattle.std.specs.Prelude.{◌≡◌, ℕ, zero, suc, ◌-◌, Bool, true, false, not, ◌&&◌, ◌||◌, List, [], ◌∷◌, ◌++◌, fold, length, nat_eq, slice_get, slice_index_or}
+use Rattle.std.specs.Prelude.{take, Option, Some, None, if◌then◌else◌}
 use Rattle.std.proofs.Common.{refl, sym, ap, ◌∙◌, subst, arith}
+use Rattle.std.proofs.lemmas.Bool.{not-false}
 use Rattle.std.proofs.lemmas.List.{take_all}
+use Rattle.mx_base.specs.declared.names.ClientNo.{ClientNo}
+use Rattle.mx_base.specs.declared.names.Hostgroup.{Hostgroup}
 use Rattle.mx_base.specs.declared.names.LinkId.{LinkId}
 use Rattle.mx_base.specs.declared.tag.Tag.{Tag}
 use Rattle.mx_base.specs.declared.tag.Tag.TheVariants as tag
@@ -14,18 +18,27 @@ use Rattle.reply_track.specs.Runs.Ending.{Going, Ended, Failed}
 use Rattle.reply_track.specs.Tracking.{started}
 use Rattle.server_side.specs.Login.{Opening, Goes, LogsIn, Fails, opening}
 use Rattle.server_rule.specs.Servers.{Step}
+use Rattle.session_state.specs.declared.names.MessageName.{MessageName}
 use Rattle.session_state.specs.declared.names.SessionName.{SessionName}
-use Rattle.private_model.specs.Commands.{Quit, Reply, cmd_of, runs}
+use Rattle.private_model.specs.Commands.{Command, Reply, cmd_of, runs}
 use Rattle.server_rule.specs.Classes.{is_prepare}
 use Rattle.private_model.specs.Honest.{IsHonest, IsTrueOf}
 use Rattle.private_model.specs.Lawful.{IsLawful}
 use Rattle.private_model.specs.Worlds.{real_after}
-use Rattle.private_model.specs.Story.{BecameDue, Dropped, Freed, Gone, Happening, Left, Own, Question, Ran, Sent, Story, command_of, is_link_id}
-use Rattle.private_model.specs.View.{Answered, Asked, Quiet, Setup, Stage, View, is_quit, present, view_after}
-use Rattle.log_story.specs.Plan.{Asks, Closes, Plan, Route, StepText, asked_in, com_reset}
-use Rattle.log_story.specs.Tale.{Client, Tale, Wire, first_tale, is_entered, is_to_server, link_in, tell, view_of, with_client, with_wire}
-use Rattle.log_story.specs.Clients.{and_on, captures_first, client_goes_on, client_leaves, clients_go_on, is_answered, messages, name_of, next_taken, taken_by, taken_up}
-use Rattle.log_story.specs.Servers.{begins, begun_by, entered_by, freed_if_done, heard_by, hears, is_done, is_own, is_quiet, is_whole, links_are_freed, own_step, quits_by, reads_on, reply_id, reply_in, routed, runs_first, sought, sync_step, told_if, with_run, writes}
+use Rattle.private_model.specs.Story.{BecameDue, Dropped, End, Freed, Gone, Happening, Left, Own, Question, Ran, Sent, Story, Sync, command_of, is_client}
+use Rattle.private_model.specs.Story.{is_link_id}
+use Rattle.private_model.specs.View.{Answered, Asked, Carried, Joined, Lent, Nobody, Quiet, Setup, Stage, View, present, view_after}
+use Rattle.log_story.specs.Plan.{Asks, Closes, Plan, Resets, Route, StepText, com_reset, is_by_now, is_now, job_of}
+use Rattle.log_story.specs.Tale.{Client, Tale, Wire, counted, first_tale, is_entered, is_reset_step, is_to_server, link_in, tell, view_of, with_client}
+use Rattle.log_story.specs.Tale.{with_wire}
+use Rattle.log_story.specs.Executes.{Request, requested}
+use Rattle.log_story.specs.Owed.{has_room, messages, name_of}
+use Rattle.log_story.specs.Clients.{and_on, captures_first, client_goes_on, client_leaves, clients_are_ended, clients_go_on, copied, due_by, ended_if_now}
+use Rattle.log_story.specs.Clients.{is_answered}
+use Rattle.log_story.specs.Clients.{is_event_of, next_taken, taken_by, taken_up}
+use Rattle.log_story.specs.Servers.{begins, begun_by, copy_begun, copy_by, entered_by, freed_if_done, heard_by, hears, is_done, links_are_freed, may_begin}
+use Rattle.log_story.specs.Servers.{quits_by, quits_for, reads_on, reply_id, reply_in, reset_by, reset_sought, routed, runs_first, sought, statement_of}
+use Rattle.log_story.specs.Servers.{step_for, stepped, tell_all, with_run, writes}
 use Rattle.log_story.specs.Telling.{is_lost_or_left, server_says, story_of, tale_step, told, wire_with}
 use Rattle.log_story.specs.Honest.{IsHonestFrom, IsHonestLog, IsTrue, IsTrueGot, IsTrueRead, IsTrueReply, real_of, spelled}
 use Rattle.log_story.proofs.Forms.{HasForm, story_formed}
@@ -37,175 +50,257 @@ if_either : {A : Type 0} (P : A → Type 0) (b : Bool) (x y : A) → (b ≡ true
 if_either P true x y first second = first refl
 if_either P false x y first second = second refl
 
-folds : {A : Type 0} (P : Tale → Type 0) (f : Tale → A → Tale) → ((tale : Tale) (a : A) → P tale → P (f tale a)) → (xs : List A) (tale : Tale) → P tale → P (fold f tale xs)
+folds : {A : Type 0} (P : Tale → Type 0) (f : Tale → A → Tale) → ((tale : Tale) (a : A) → P tale → P (f tale a)) → (xs : List A) (tale : Tale) → P tale
+    → P (fold f tale xs)
 folds P f keeps [] tale holds = holds
 folds P f keeps (x ∷ xs) tale holds = folds P f keeps xs (f tale x) (keeps tale x holds)
 
 -- What holds of a story as true happenings are told.
 pub record Kept (setup : Setup) (server : Step) : Type 1 where
   pub holds : Story → Type 0
-  pub more : (past : Story) (e : Happening) → IsTrueOf (runs server) (view_after setup past) (real_after setup (runs server) past) e → holds past → holds (e ∷ past)
+  pub more : (past : Story) (e : Happening) → IsTrueOf (runs server) (view_after setup past) (real_after setup (runs server) past) e → holds past
+      → holds (e ∷ past)
 
-abbrev pub IsKept : (setup : Setup) (server : Step) → Kept setup server → Tale → Type 0
-IsKept setup server k tale = k.holds tale.story
+module _ (setup : Setup) (plan : Plan) (server : Step) (k : Kept setup server) where
+  abbrev Holds : Tale → Type 0
+  Holds tale = k.holds tale.story
 
--- Clients.
+  -- Clients.
 
-abbrev IsKeptIn : (setup : Setup) (server : Step) → Kept setup server → Option Tale → Type 0
-IsKeptIn setup server k None = Unit {0}
-IsKeptIn setup server k (Some tale) = IsKept setup server k tale
+  abbrev HoldsIn : Option Tale → Type 0
+  HoldsIn None = Unit {0}
+  HoldsIn (Some tale) = Holds tale
 
-taken_by_keeps : (setup : Setup) (server : Step) (k : Kept setup server) (client : Client) (i : ℕ) (message : Framed) (route : Option Route) (tale : Tale) → IsKept setup server k tale → IsKeptIn setup server k (taken_by setup client i message route tale)
-taken_by_keeps setup server k client i message None tale holds = if_either (IsKept setup server k) (nat_eq (slice_index_or message.payload 0 0) com_reset) (tell (Left client.number) tale) tale (λ is. k.more _ _ tt holds) (λ is. holds)
-taken_by_keeps setup server k client i message (Some route) tale holds =
-    if_either (IsKeptIn setup server k) (captures_first ((view_of setup tale).held (present (view_of setup tale) client.number route.hostgroup))) None (Some (tell (BecameDue client.number route.hostgroup i route.key (asked_in route message.payload) route.multiplex) tale)) (λ is. tt) (λ is. k.more _ _ tt holds)
+  copied_keeps : (message : MessageName) (command : Command) (mirror : Option Hostgroup) (tale : Tale) → Holds tale → Holds (copied message command mirror tale)
+  copied_keeps message command None tale holds = holds
+  copied_keeps message command (Some hostgroup) tale holds = k.more _ _ tt (k.more _ _ tt holds)
 
-next_keeps : (setup : Setup) (plan : Plan) (server : Step) (k : Kept setup server) (client : Client) (message : Option Framed) (tale : Tale) → IsKept setup server k tale → IsKeptIn setup server k (next_taken setup plan client message tale)
-next_keeps setup plan server k client None tale holds = tt
-next_keeps setup plan server k client (Some message) tale holds =
-    if_either (IsKeptIn setup server k) (is_answered plan (view_of setup tale) client client.taken) (taken_by setup client (suc client.taken) message (plan.routes (name_of client (suc client.taken))) tale) None
-    (λ is. taken_by_keeps setup server k client (suc client.taken) message (plan.routes (name_of client (suc client.taken))) tale holds) (λ is. tt)
+  due_by_keeps : (client : Client) (i : ℕ) (route : Route) (request : Request) (tale : Tale) → Holds tale → HoldsIn (due_by setup client i route request tale)
+  due_by_keeps client i route request tale holds =
+      let due : Tale = tell (BecameDue client.number route.hostgroup i request.key request.command route.multiplex) tale in
+      if_either HoldsIn (captures_first ((view_of setup tale).held (present (view_of setup tale) client.number route.hostgroup))) None
+      (Some (copied (name_of client i) request.command route.mirror due)) (λ is. tt)
+      (λ is. copied_keeps (name_of client i) request.command route.mirror due (k.more _ _ tt holds))
 
-and_on_keeps : (setup : Setup) (server : Step) (k : Kept setup server) (next : Option Tale) (old : Tale) (others : Tale → Tale) → IsKept setup server k old → IsKeptIn setup server k next → ((tale : Tale) → IsKept setup server k tale → IsKept setup server k (others tale)) → IsKept setup server k (and_on next old others)
-and_on_keeps setup server k None old others holds found keeps = holds
-and_on_keeps setup server k (Some tale) old others holds found keeps = keeps tale found
+  taken_by_keeps : (client : Client) (i : ℕ) (message : Framed) (route : Option Route) (tale : Tale) → Holds tale
+      → HoldsIn (taken_by setup plan client i message route tale)
+  taken_by_keeps client i message None tale holds =
+      if_either Holds (nat_eq (slice_index_or message.payload 0 0) com_reset) (tell (Left client.number) tale) tale (λ is. k.more _ _ tt holds)
+      (λ is. holds)
+  taken_by_keeps client i message (Some route) tale holds =
+      due_by_keeps client i route (requested setup (view_of setup tale) plan tale.moment client i route message.payload) tale holds
 
-taken_up_keeps : (most : ℕ) (setup : Setup) (plan : Plan) (server : Step) (k : Kept setup server) (client : Client) (tale : Tale) → IsKept setup server k tale → IsKept setup server k (taken_up most setup plan client tale)
-taken_up_keeps zero setup plan server k client tale holds = holds
-taken_up_keeps (suc most) setup plan server k client tale holds =
-    let next : Client = record client { taken = suc client.taken } in
-    and_on_keeps setup server k (next_taken setup plan client (slice_get (messages plan client) client.taken) tale) tale (λ other. taken_up most setup plan next (with_client next other)) holds
-    (next_keeps setup plan server k client (slice_get (messages plan client) client.taken) tale holds)
-    (λ other found. taken_up_keeps most setup plan server k next (with_client next other) found)
+  next_keeps : (client : Client) (message : Option Framed) (tale : Tale) → Holds tale → HoldsIn (next_taken setup plan client message tale)
+  next_keeps client None tale holds = tt
+  next_keeps client (Some message) tale holds =
+      if_either HoldsIn (is_answered plan tale (view_of setup tale) client client.taken
+      && has_room (view_of setup tale).replies plan tale.moment client) (taken_by setup plan client (suc client.taken) message
+      (plan.routes (name_of client (suc client.taken))) tale) None
+      (λ is. taken_by_keeps client (suc client.taken) message (plan.routes (name_of client (suc client.taken))) tale holds) (λ is. tt)
 
-clients_keep : (setup : Setup) (plan : Plan) (server : Step) (k : Kept setup server) (tale : Tale) → IsKept setup server k tale → IsKept setup server k (clients_go_on setup plan tale)
-clients_keep setup plan server k tale holds = folds (IsKept setup server k) (client_goes_on setup plan) (λ other client found. taken_up_keeps (length (messages plan client)) setup plan server k client other found) tale.clients tale holds
+  and_on_keeps : (next : Option Tale) (old : Tale) (others : Tale → Tale) → Holds old → HoldsIn next → ((tale : Tale) → Holds tale → Holds (others tale))
+      → Holds (and_on next old others)
+  and_on_keeps None old others holds found keeps = holds
+  and_on_keeps (Some tale) old others holds found keeps = keeps tale found
 
--- Links to servers.
+  taken_up_keeps : (most : ℕ) (client : Client) (tale : Tale) → Holds tale → Holds (taken_up most setup plan client tale)
+  taken_up_keeps zero client tale holds = holds
+  taken_up_keeps (suc most) client tale holds =
+      let next : Client = record client { taken = suc client.taken } in
+      and_on_keeps (next_taken setup plan client (slice_get (messages plan client) client.taken) tale) tale
+      (λ other. taken_up most setup plan next (with_client next other)) holds
+      (next_keeps client (slice_get (messages plan client) client.taken) tale holds)
+      (λ other found. taken_up_keeps most next (with_client next other) found)
 
-freeing_keeps : (setup : Setup) (server : Step) (k : Kept setup server) (tale : Tale) → IsKept setup server k tale → IsKept setup server k (links_are_freed setup tale)
-freeing_keeps setup server k tale holds = folds (IsKept setup server k) (freed_if_done setup) (λ other link found. if_either (IsKept setup server k) (is_done (view_of setup other) (link_in setup other link)) (tell (Freed link) other) other (λ is. k.more _ _ tt found) (λ is. found)) tale.links tale holds
+  clients_keep : (view : View) (e : Entry) (tale : Tale) → Holds tale → Holds (clients_go_on setup plan view e tale)
+  clients_keep view e tale holds =
+      folds Holds (client_goes_on setup plan view e)
+      (λ other client found. if_either Holds (is_event_of view client e && not (is_by_now other.moment (plan.ends client.number)))
+      (taken_up (length (messages plan client)) setup plan client other) other
+      (λ is. taken_up_keeps (length (messages plan client)) client other found) (λ is. found)) tale.clients tale holds
 
-routed_keeps : (setup : Setup) (server : Step) (k : Kept setup server) (question : Route → Question) (route : Option Route) (link : LinkId) (tale : Tale) → IsKept setup server k tale → IsKept setup server k (told_if (routed question route (Some (Sent link (Own Quit))) link) tale)
-routed_keeps setup server k question None link tale holds = k.more _ _ tt holds
-routed_keeps setup server k question (Some route) link tale holds = k.more _ _ tt holds
+  ending_keeps : (tale : Tale) → Holds tale → Holds (clients_are_ended plan tale)
+  ending_keeps tale holds =
+      folds Holds (ended_if_now plan) (λ other client found. if_either Holds (is_now other.moment (plan.ends client.number))
+      (tell (Left client.number) other) other (λ is. k.more _ _ tt found) (λ is. found)) tale.clients tale holds
 
-sync_keeps : (setup : Setup) (server : Step) (k : Kept setup server) (link : LinkId) (n : SessionName) (step : StepText) (tale : Tale) → IsKept setup server k tale → IsKept setup server k (told_if (sync_step link n step) tale)
-sync_keeps setup server k link n (Asks command) tale holds = k.more _ _ tt holds
-sync_keeps setup server k link n (Closes number) tale holds = k.more _ _ tt holds
+  -- Links to servers.
 
-own_keeps : (setup : Setup) (server : Step) (k : Kept setup server) (link : LinkId) (step : StepText) (tale : Tale) → IsKept setup server k tale → IsKept setup server k (told_if (own_step link step) tale)
-own_keeps setup server k link (Asks command) tale holds = if_either (λ e. IsKept setup server k (told_if e tale)) (is_quit command) None (Some (Sent link (Own command))) (λ is. holds) (λ is. k.more _ _ tt holds)
-own_keeps setup server k link (Closes number) tale holds = k.more _ _ tt holds
+  freeing_keeps : (tale : Tale) → Holds tale → Holds (links_are_freed setup plan tale)
+  freeing_keeps tale holds =
+      folds Holds (freed_if_done setup plan)
+      (λ other link found. if_either Holds (is_done plan other.moment (view_of setup other) (other.wires link) (link_in setup other link))
+      (tell (Freed link) other) other (λ is. k.more _ _ tt found) (λ is. found)) tale.links tale holds
 
-begun_keeps : (setup : Setup) (plan : Plan) (server : Step) (k : Kept setup server) (view : View) (link : LinkId) (begun : ℕ) (for : Tag) (tale : Tale) → IsKept setup server k tale → IsKept setup server k (told_if (begun_by setup plan view link begun for) tale)
-begun_keeps setup plan server k view link begun (tag.For client ordinal) tale holds = routed_keeps setup server k _ (plan.routes (record { client = client; ordinal = ordinal })) link tale holds
-begun_keeps setup plan server k view link begun (tag.Prep client ordinal) tale holds = routed_keeps setup server k _ (plan.routes (record { client = client; ordinal = ordinal })) link tale holds
-begun_keeps setup plan server k view link begun (tag.Sync client hostgroup) tale holds = sync_keeps setup server k link (present view client hostgroup) (plan.steps link begun) tale holds
-begun_keeps setup plan server k view link begun (tag.End client hostgroup) tale holds = k.more _ _ tt holds
-begun_keeps setup plan server k view link begun (tag.Mirror client ordinal) tale holds = holds
-begun_keeps setup plan server k view link begun tag.Own tale holds = own_keeps setup server k link (plan.steps link begun) tale holds
-begun_keeps setup plan server k view link begun tag.Reply tale holds = holds
+  routed_keeps : (link : LinkId) (client : ClientNo) (happens : Route → List Happening) (route : Option Route) (tale : Tale)
+      → ((route : Route) → Holds (tell_all (happens route) tale)) → Holds tale → Holds (tell_all (routed link client happens route) tale)
+  routed_keeps link client happens None tale each holds = k.more _ _ tt holds
+  routed_keeps link client happens (Some route) tale each holds = each route
 
-writing_keeps : (setup : Setup) (plan : Plan) (server : Step) (k : Kept setup server) (link : LinkId) (for : Tag) (bytes : List ℕ) (wire : Wire) (tale : Tale) → IsKept setup server k tale → IsKept setup server k (writes setup plan link for bytes wire tale)
-writing_keeps setup plan server k link for bytes wire tale holds =
-    let begun : Wire = record wire { written = bytes; begun = suc wire.begun; quits = wire.quits || (is_own for && quits_by (plan.steps link wire.begun)) } in
-    if_either (IsKept setup server k) (wire.entered && (is_quiet (link_in setup tale link).stage && is_whole wire.written)) (begins setup plan link for bytes wire tale) (with_wire link (record wire { written = wire.written ++ bytes }) tale)
-    (λ is. begun_keeps setup plan server k (view_of setup tale) link wire.begun for (with_wire link begun tale) holds) (λ is. holds)
+  stepped_keeps : (link : LinkId) (question : Command → Question) (step : StepText) (tale : Tale) → Holds tale
+      → Holds (tell_all (stepped link question step) tale)
+  stepped_keeps link question (Asks command) tale holds = k.more _ _ tt holds
+  stepped_keeps link question (Closes number) tale holds = k.more _ _ tt holds
+  stepped_keeps link question (Resets number) tale holds = holds
 
-entering_keeps : (setup : Setup) (plan : Plan) (server : Step) (k : Kept setup server) (link : LinkId) (wire : Wire) (at : Opening) (tale : Tale) → IsKept setup server k tale → IsKept setup server k (entered_by plan link wire at tale)
-entering_keeps setup plan server k link wire (Goes said) tale holds = holds
-entering_keeps setup plan server k link wire (LogsIn said rest) tale holds = k.more _ _ tt holds
-entering_keeps setup plan server k link wire (Fails said fault) tale holds = holds
+  copy_by_keeps : (view : View) (link : LinkId) (n : SessionName) (carried : Carried) (tale : Tale) → Holds tale
+      → Holds (tell_all (copy_by view link n carried) tale)
+  copy_by_keeps view link n Nobody tale holds = k.more _ _ tt (k.more _ _ tt holds)
+  copy_by_keeps view link n (Lent who) tale holds = k.more _ _ tt (k.more _ _ tt holds)
+  copy_by_keeps view link n (Joined who) tale holds =
+      if_either (λ es. Holds (tell_all es tale)) (is_client who.client n.client) (Sent link (End who) ∷ [])
+      (Sent link (statement_of view 1 n) ∷ []) (λ is. k.more _ _ tt holds) (λ is. k.more _ _ tt holds)
 
--- A reply that is cut from honest bytes is the answer of the run.
+  copy_keeps : (view : View) (link : LinkId) (job : ClientNo) (mirror : Option Hostgroup) (tale : Tale) → Holds tale
+      → Holds (tell_all (copy_begun view link job mirror) tale)
+  copy_keeps view link job None tale holds = k.more _ _ tt holds
+  copy_keeps view link job (Some hostgroup) tale holds =
+      copy_by_keeps view link (present view job hostgroup) (view.links link).carries tale holds
 
-as_reply : (to_prepare : Bool) (payloads : List (List ℕ)) (answer : Reply) → to_prepare ≡ answer.to_prepare → payloads ≡ answer.payloads → record { to_prepare = to_prepare; payloads = payloads } ≡ answer
-as_reply to_prepare payloads answer form same = rw (form, same) refl
+  begun_keeps : (view : View) (link : LinkId) (begun : ℕ) (for : Tag) (tale : Tale) → Holds tale
+      → Holds (tell_all (begun_by setup plan view link begun for) tale)
+  begun_keeps view link begun (tag.For client ordinal) tale holds =
+      routed_keeps link client _ (plan.routes (record { client = client; ordinal = ordinal })) tale (λ route. k.more _ _ tt holds) holds
+  begun_keeps view link begun (tag.Prep client ordinal) tale holds =
+      routed_keeps link client _ (plan.routes (record { client = client; ordinal = ordinal })) tale (λ route. k.more _ _ tt holds) holds
+  begun_keeps view link begun (tag.Mirror client ordinal) tale holds =
+      routed_keeps link client _ (plan.routes (record { client = client; ordinal = ordinal })) tale
+      (λ route. copy_keeps view link (job_of (record { client = client; ordinal = ordinal })) route.mirror tale holds) holds
+  begun_keeps view link begun (tag.Sync client hostgroup) tale holds =
+      stepped_keeps link (Sync (present view client hostgroup)) (plan.steps link begun) tale holds
+  begun_keeps view link begun (tag.End client hostgroup) tale holds = k.more _ _ tt holds
+  begun_keeps view link begun tag.Own tale holds =
+      if_either (λ es. Holds (tell_all es tale)) (quits_by (plan.steps link begun)) [] (stepped link Own (plan.steps link begun)) (λ is. holds)
+      (λ is. stepped_keeps link Own (plan.steps link begun) tale holds)
+  begun_keeps view link begun tag.Reply tale holds = holds
 
-same_reply : (wire : Wire) (question : Question) (answer : Reply) (end : _) (rest : List ℕ) → IsTrueReply wire question answer → answer.to_prepare ≡ is_prepare (cmd_of (command_of question)) → run (started (sought wire question)) wire.unread ≡ Ended end rest
-    → reply_in wire question (take (length wire.unread - length rest) wire.unread) ≡ answer
-same_reply wire question answer end rest true_reply form found =
-    let all = all_of (started (sought wire question)) wire.unread (spelled wire answer) rest end true_reply.end true_reply.front (ends-so (sought wire question) answer.payloads true_reply.end true_reply.is) found in
-    let none : length rest ≡ 0 = ap length all.none in
-    let taken : take (length wire.unread - length rest) wire.unread ≡ wire.unread = take_all (length wire.unread - length rest) wire.unread (omega (arith, none)) in
-    let payloads = payloads-again (reply_id wire) answer.payloads (omega arith) in
-    let bytes : take (length wire.unread - length rest) wire.unread ≡ spelled wire answer = taken ∙ all.is in
-    let same : payloads_in (reply_id wire) (take (length wire.unread - length rest) wire.unread) ≡ answer.payloads = ap (payloads_in (reply_id wire)) bytes ∙ payloads in
-    as_reply (is_prepare (cmd_of (command_of question))) (payloads_in (reply_id wire) (take (length wire.unread - length rest) wire.unread)) answer (sym form) same
+  writing_keeps : (link : LinkId) (for : Tag) (bytes : List ℕ) (wire : Wire) (tale : Tale) → Holds tale → Holds (writes setup plan link for bytes wire tale)
+  writing_keeps link for bytes wire tale holds =
+      let step = plan.steps link wire.begun in
+      let begun : Wire = record wire { written = bytes; step = step_for for step; begun = suc wire.begun; quits = wire.quits || quits_for for step } in
+      if_either Holds (may_begin setup link wire tale) (begins setup plan link for bytes wire tale)
+      (with_wire link (record wire { written = wire.written ++ bytes }) tale)
+      (λ is. begun_keeps (view_of setup tale) link wire.begun for (with_wire link begun tale) holds) (λ is. holds)
 
-pub running_keeps : (setup : Setup) (server : Step) (k : Kept setup server) (link : LinkId) (wire : Wire) (tale : Tale) (stage : Stage) → IsTrueRead setup server link wire tale → (link_in setup tale link).stage ≡ stage → IsKept setup server k tale → IsKept setup server k (runs_first stage link tale)
-running_keeps setup server k link wire tale Quiet read is holds = holds
-running_keeps setup server k link wire tale (Asked question) read is holds = k.more _ _ (read.ran question is).fresh holds
-running_keeps setup server k link wire tale (Answered question) read is holds = holds
+  entering_keeps : (link : LinkId) (wire : Wire) (at : Opening) (tale : Tale) → Holds tale → Holds (entered_by plan link wire at tale)
+  entering_keeps link wire (Goes said) tale holds = holds
+  entering_keeps link wire (LogsIn said rest) tale holds = k.more _ _ tt holds
+  entering_keeps link wire (Fails said fault) tale holds = holds
 
-hearing_keeps : (setup : Setup) (server : Step) (k : Kept setup server) (link : LinkId) (wire : Wire) (question : Question) (ending : Ending) (tale : Tale) → (link_in setup tale link).stage ≡ Answered question → IsTrueReply wire question ((real_of setup server tale).peers link).answer
-    → run (started (sought wire question)) wire.unread ≡ ending → IsKept setup server k tale → IsKept setup server k (heard_by link question wire ending tale)
-hearing_keeps setup server k link wire question (Going state) tale ran reply found holds = holds
-hearing_keeps setup server k link wire question (Ended end rest) tale ran reply found holds = k.more _ _ (record { question = question; ran = ran; same = same_reply wire question ((real_of setup server tale).peers link).answer end rest reply (subst (λ stage. HasForm stage ((real_of setup server tale).peers link).answer) ran (story_formed setup server tale.story link)) found }) holds
-hearing_keeps setup server k link wire question (Failed rest) tale ran reply found holds = holds
+  -- A reply that is cut from honest bytes is the answer of the run.
 
-reading_keeps : (setup : Setup) (server : Step) (k : Kept setup server) (link : LinkId) (wire : Wire) (tale : Tale) → IsTrueRead setup server link wire tale → IsKept setup server k tale → IsKept setup server k (reads_on setup link wire tale)
-reading_keeps setup server k link wire tale read holds =
-    let before : Tale = with_run setup link tale in
-    let ran : IsKept setup server k before = running_keeps setup server k link wire tale (link_in setup tale link).stage read refl holds in
-    subst (λ stage. IsKept setup server k (hears link wire stage before)) (sym read.answered) (hearing_keeps setup server k link wire read.question (run (started (sought wire read.question)) wire.unread) before read.answered read.reply refl ran)
+  as_reply : (to_prepare : Bool) (payloads : List (List ℕ)) (answer : Reply) → to_prepare ≡ answer.to_prepare → payloads ≡ answer.payloads
+      → record { to_prepare = to_prepare; payloads = payloads } ≡ answer
+  as_reply to_prepare payloads answer form same = rw (form, same) refl
 
--- Each entry.
+  same_reply : (wire : Wire) (question : Question) (answer : Reply) (end : _) (rest : List ℕ) → IsTrueReply wire question answer
+      → answer.to_prepare ≡ is_prepare (cmd_of (command_of question)) → run (started (sought wire question)) wire.unread ≡ Ended end rest
+      → reply_in wire question (take (length wire.unread - length rest) wire.unread) ≡ answer
+  same_reply wire question answer end rest true_reply form found =
+      let all = all_of (started (sought wire question)) wire.unread (spelled wire answer) rest end true_reply.end true_reply.front
+      (ends-so (sought wire question) answer.payloads true_reply.end true_reply.is) found in
+      let none : length rest ≡ 0 = ap length all.none in
+      let taken : take (length wire.unread - length rest) wire.unread ≡ wire.unread =
+      take_all (length wire.unread - length rest) wire.unread (omega (arith, none)) in
+      let payloads = payloads-again (reply_id wire) answer.payloads (omega arith) in
+      let bytes : take (length wire.unread - length rest) wire.unread ≡ spelled wire answer = taken ∙ all.is in
+      let same : payloads_in (reply_id wire) (take (length wire.unread - length rest) wire.unread) ≡ answer.payloads =
+      ap (payloads_in (reply_id wire)) bytes ∙ payloads in
+      as_reply (is_prepare (cmd_of (command_of question))) (payloads_in (reply_id wire) (take (length wire.unread - length rest) wire.unread)) answer (sym form)
+      same
 
-losing_keeps : (setup : Setup) (server : Step) (k : Kept setup server) (link : LinkId) (tale : Tale) → IsKept setup server k tale → IsKept setup server k (is_lost_or_left link tale)
-losing_keeps setup server k link tale holds =
-    if_either (IsKept setup server k) (is_to_server tale link) (tell (Gone link) tale) (fold (client_leaves link) tale tale.clients) (λ is. k.more _ _ tt holds)
-    (λ is. folds (IsKept setup server k) (client_leaves link) (λ other client found. if_either (IsKept setup server k) (is_link_id client.link link) (tell (Left client.number) other) other (λ it. k.more _ _ tt found) (λ it. found)) tale.clients tale holds)
+  pub running_keeps : (link : LinkId) (wire : Wire) (tale : Tale) (stage : Stage) → IsTrueRead setup server link wire tale
+      → (link_in setup tale link).stage ≡ stage → Holds tale → Holds (runs_first stage link tale)
+  running_keeps link wire tale Quiet read is holds = holds
+  running_keeps link wire tale (Asked question) read is holds = k.more _ _ (read.ran question is).fresh holds
+  running_keeps link wire tale (Answered question) read is holds = holds
 
-saying_keeps : (setup : Setup) (plan : Plan) (server : Step) (k : Kept setup server) (link : LinkId) (bytes : List ℕ) (tale : Tale) → IsTrueGot setup plan server tale link (wire_with tale link bytes) → IsKept setup server k tale → IsKept setup server k (server_says setup plan link bytes tale)
-saying_keeps setup plan server k link bytes tale got holds = if_either (IsKept setup server k) (is_entered tale link) _ _ (λ is. reading_keeps setup server k link (wire_with tale link bytes) tale (got.read is) holds)
-    (λ is. entering_keeps setup plan server k link (wire_with tale link bytes) (opening (plan.logins link) (wire_with tale link bytes).unread) tale holds)
+  hearing_keeps : (link : LinkId) (wire : Wire) (question : Question) (ending : Ending) (tale : Tale) → (link_in setup tale link).stage ≡ Answered question
+      → IsTrueReply wire question ((real_of setup server tale).peers link).answer → run (started (sought wire question)) wire.unread ≡ ending → Holds tale
+      → Holds (heard_by link question wire ending tale)
+  hearing_keeps link wire question (Going state) tale ran reply found holds = holds
+  hearing_keeps link wire question (Ended end rest) tale ran reply found holds =
+      k.more _ _ (record {
+        question = question;
+        ran = ran;
+        same = same_reply wire question ((real_of setup server tale).peers link).answer end rest reply
+            (subst (λ stage. HasForm stage ((real_of setup server tale).peers link).answer) ran (story_formed setup server tale.story link)) found;
+      }) holds
+  hearing_keeps link wire question (Failed rest) tale ran reply found holds = holds
 
-told_keeps : (setup : Setup) (plan : Plan) (server : Step) (k : Kept setup server) (tale : Tale) (e : Entry) → IsTrue setup plan server tale e → IsKept setup server k tale → IsKept setup server k (told setup plan tale e)
-told_keeps setup plan server k tale (entry.Accepted port link salt) is holds = holds
-told_keeps setup plan server k tale (entry.Opened at address link) is holds = holds
-told_keeps setup plan server k tale (entry.Got link bytes) is holds = if_either (IsKept setup server k) (is_to_server tale link) _ _ (λ there. saying_keeps setup plan server k link bytes tale (is there) holds) (λ other. holds)
-told_keeps setup plan server k tale (entry.Wrote link for bytes) is holds = if_either (IsKept setup server k) (is_to_server tale link) _ _ (λ there. writing_keeps setup plan server k link for bytes (tale.wires link) tale holds) (λ other. holds)
-told_keeps setup plan server k tale (entry.Exec link) is holds = if_either (IsKept setup server k) (is_entered tale link) _ _ (λ there. if_either (IsKept setup server k) (tale.wires link).quits (tell (Dropped link) tale) (tell (Ran link) tale) (λ quits. k.more _ _ tt holds) (λ goes. k.more _ _ (is there goes).fresh holds)) (λ other. holds)
-told_keeps setup plan server k tale (entry.Drop link) is holds = k.more _ _ tt holds
-told_keeps setup plan server k tale (entry.Ended link) is holds = losing_keeps setup server k link tale holds
-told_keeps setup plan server k tale (entry.ReadFailed link) is holds = losing_keeps setup server k link tale holds
-told_keeps setup plan server k tale (entry.WriteFailed link) is holds = losing_keeps setup server k link tale holds
-told_keeps setup plan server k tale (entry.Closed link) is holds = losing_keeps setup server k link tale holds
-told_keeps setup plan server k tale (entry.Listening port address) is holds = holds
-told_keeps setup plan server k tale (entry.ListenFailed port) is holds = holds
-told_keeps setup plan server k tale (entry.Woke until_ms now_ms) is holds = holds
-told_keeps setup plan server k tale entry.WaitFailed is holds = holds
-told_keeps setup plan server k tale entry.Over is holds = holds
-told_keeps setup plan server k tale (entry.Named link) is holds = holds
-told_keeps setup plan server k tale entry.NoneNamed is holds = holds
-told_keeps setup plan server k tale (entry.AcceptNothing port) is holds = holds
-told_keeps setup plan server k tale (entry.AcceptFailed port) is holds = holds
-told_keeps setup plan server k tale (entry.OpenFailed at address) is holds = holds
-told_keeps setup plan server k tale (entry.ReadNothing link) is holds = holds
-told_keeps setup plan server k tale (entry.WriteNothing link) is holds = holds
+  reading_keeps : (link : LinkId) (wire : Wire) (tale : Tale) → IsTrueRead setup server link wire tale → Holds tale → Holds (reads_on setup link wire tale)
+  reading_keeps link wire tale read holds =
+      let before : Tale = with_run setup link tale in
+      let ran : Holds before = running_keeps link wire tale (link_in setup tale link).stage read refl holds in
+      subst (λ stage. Holds (hears link wire stage before)) (sym read.answered)
+      (hearing_keeps link wire read.question (run (started (sought wire read.question)) wire.unread) before read.answered read.reply refl ran)
 
-pub step_keeps : (setup : Setup) (plan : Plan) (server : Step) (k : Kept setup server) (tale : Tale) (e : Entry) → IsTrue setup plan server tale e → IsKept setup server k tale → IsKept setup server k (tale_step setup plan tale e)
-step_keeps setup plan server k tale e is holds =
-    let next = told_keeps setup plan server k tale e is holds in
-    let freed = freeing_keeps setup server k (told setup plan tale e) next in
-    clients_keep setup plan server k (links_are_freed setup (told setup plan tale e)) freed
+  resetting_keeps : (link : LinkId) (wire : Wire) (ending : Ending) (tale : Tale) → Holds tale → Holds (reset_by link wire ending tale)
+  resetting_keeps link wire (Going state) tale holds = holds
+  resetting_keeps link wire (Ended end rest) tale holds = holds
+  resetting_keeps link wire (Failed rest) tale holds = holds
 
-pub kept_from : (setup : Setup) (plan : Plan) (server : Step) (k : Kept setup server) (log : Log) (tale : Tale) → IsHonestFrom setup plan server tale log → IsKept setup server k tale → IsKept setup server k (fold (tale_step setup plan) tale log)
-kept_from setup plan server k [] tale honest holds = holds
-kept_from setup plan server k (e ∷ log) tale honest holds = kept_from setup plan server k log (tale_step setup plan tale e) honest.1 (step_keeps setup plan server k tale e honest.0 holds)
+  -- Each entry.
+
+  losing_keeps : (link : LinkId) (tale : Tale) → Holds tale → Holds (is_lost_or_left link tale)
+  losing_keeps link tale holds =
+      if_either Holds (is_to_server tale link) (tell (Gone link) tale) (fold (client_leaves link) tale tale.clients) (λ is. k.more _ _ tt holds)
+      (λ is. folds Holds (client_leaves link)
+      (λ other client found. if_either Holds (is_link_id client.link link) (tell (Left client.number) other) other (λ it. k.more _ _ tt found)
+      (λ it. found)) tale.clients tale holds)
+
+  saying_keeps : (link : LinkId) (bytes : List ℕ) (tale : Tale) → IsTrueGot setup plan server tale link (wire_with tale link bytes) → Holds tale
+      → Holds (server_says setup plan link bytes tale)
+  saying_keeps link bytes tale got holds =
+      let wire : Wire = wire_with tale link bytes in
+      if_either Holds (not (is_entered tale link)) _ _
+      (λ is. entering_keeps link wire (opening (plan.logins link) wire.unread) tale holds)
+      (λ is. if_either Holds (is_reset_step (tale.wires link).step) _ _
+      (λ resets. resetting_keeps link wire (run (started (reset_sought wire)) wire.unread) tale holds)
+      (λ reads. reading_keeps link wire tale (got.read (not-false (is_entered tale link) is) reads) holds))
+
+  told_keeps : (tale : Tale) (e : Entry) → IsTrue setup plan server tale e → Holds tale → Holds (told setup plan tale e)
+  told_keeps tale (entry.Got link bytes) is holds =
+      if_either Holds (is_to_server tale link) _ _ (λ there. saying_keeps link bytes tale (is there) holds) (λ other. holds)
+  told_keeps tale (entry.Wrote link for bytes) is holds =
+      if_either Holds (is_to_server tale link) _ _ (λ there. writing_keeps link for bytes (tale.wires link) tale holds)
+      (λ other. holds)
+  told_keeps tale (entry.Exec link) is holds =
+      if_either Holds (is_entered tale link) _ _
+      (λ there. if_either Holds (tale.wires link).quits (tell (Dropped link) tale) (tell (Ran link) tale) (λ quits. k.more _ _ tt holds)
+      (λ goes. k.more _ _ ((is there).runs goes).fresh holds)) (λ other. holds)
+  told_keeps tale (entry.Drop link) is holds = k.more _ _ tt holds
+  told_keeps tale (entry.Ended link) is holds = losing_keeps link tale holds
+  told_keeps tale (entry.ReadFailed link) is holds = losing_keeps link tale holds
+  told_keeps tale (entry.WriteFailed link) is holds = losing_keeps link tale holds
+  told_keeps tale (entry.Closed link) is holds = losing_keeps link tale holds
+  told_keeps tale _ is holds = holds
+
+  pub step_keeps : (tale : Tale) (e : Entry) → IsTrue setup plan server tale e → Holds tale → Holds (tale_step setup plan tale e)
+  step_keeps tale e is holds =
+      let next = told_keeps tale e is holds in
+      let ended : Tale = clients_are_ended plan (counted (told setup plan tale e)) in
+      let freed = freeing_keeps ended (ending_keeps (counted (told setup plan tale e)) next) in
+      freeing_keeps (clients_go_on setup plan (view_of setup tale) e (links_are_freed setup plan ended))
+      (clients_keep (view_of setup tale) e (links_are_freed setup plan ended) freed)
+
+  pub kept_from : (log : Log) (tale : Tale) → IsHonestFrom setup plan server tale log → Holds tale → Holds (fold (tale_step setup plan) tale log)
+  kept_from [] tale honest holds = holds
+  kept_from (e ∷ log) tale honest holds =
+      kept_from log (tale_step setup plan tale e) honest.1 (step_keeps tale e honest.0 holds)
 
 -- it stays honest
 abbrev pub honesty : (setup : Setup) (server : Step) → Kept setup server
 honesty setup server = record { holds = IsHonest setup (runs server); more = λ past e is holds. (holds, is) }
 
-pub story_kept : (setup : Setup) (plan : Plan) (server : Step) (log : Log) → IsHonestLog setup plan server log → IsHonest setup (runs server) (story_of setup plan log)
+pub story_kept : (setup : Setup) (plan : Plan) (server : Step) (log : Log) → IsHonestLog setup plan server log
+    → IsHonest setup (runs server) (story_of setup plan log)
 story_kept setup plan server log honest = kept_from setup plan server (honesty setup server) log first_tale honest tt
 
 -- where a longer story is lawful, this one is
 abbrev pub lawful_of : (setup : Setup) (server : Step) (story : Story) → Kept setup server
 lawful_of setup server story = record { holds = λ later. IsLawful setup later → IsLawful setup story; more = λ past e is holds lawful. holds lawful.0 }
 
-pub lawful_before : (setup : Setup) (plan : Plan) (server : Step) (log : Log) (tale : Tale) → IsHonestFrom setup plan server tale log → IsLawful setup (fold (tale_step setup plan) tale log).story → IsLawful setup tale.story
+pub lawful_before : (setup : Setup) (plan : Plan) (server : Step) (log : Log) (tale : Tale) → IsHonestFrom setup plan server tale log
+    → IsLawful setup (fold (tale_step setup plan) tale log).story → IsLawful setup tale.story
 lawful_before setup plan server log tale honest lawful = kept_from setup plan server (lawful_of setup server tale.story) log tale honest (λ is. is) lawful

@@ -4,4 +4,4 @@ pub mod Keeping
 pub mod Due
 pub mod Moments
 pub mod Computed
-pub mod Truth
+pub mod Tested

@@ -24,17 +24,25 @@ use Rattle.log_story.proofs.Keeping.{honesty, lawful_before, running_keeps, step
 
 -- the law of private worlds, of one server
 abbrev pub Law : Setup → Step → Type 0
-Law setup server = (story : Story) → IsLawful setup story → IsHonest setup (runs server) story → MeetsPrivate setup.reads (view_after setup story) (real_after setup (runs server) story) (private_after setup (runs server) story)
+Law setup server = (story : Story) → IsLawful setup story → IsHonest setup (runs server) story
+    → MeetsPrivate setup.reads (view_after setup story) (real_after setup (runs server) story) (private_after setup (runs server) story)
 
-moment : (setup : Setup) (plan : Plan) (server : Step) (tale : Tale) → Law setup server → IsLawful setup tale.story → IsHonest setup (runs server) tale.story → IsPrivateMoment setup plan server tale
+moment : (setup : Setup) (plan : Plan) (server : Step) (tale : Tale) → Law setup server → IsLawful setup tale.story → IsHonest setup (runs server) tale.story
+    → IsPrivateMoment setup plan server tale
 moment setup plan server tale law lawful honest =
     let meets = law tale.story lawful honest in
-    record { replies = meets.replies; due = λ client. due_bytes_front (view_of setup tale).replies (private_of setup server tale).answers plan client meets.replies }
+    record {
+      replies = meets.replies;
+      due = λ client. due_bytes_front (view_of setup tale).replies (private_of setup server tale).answers plan tale.moment
+          client meets.replies;
+    }
 
-read_there : (setup : Setup) (server : Step) (link : LinkId) (wire : Wire) (tale : Tale) → Law setup server → IsLawful setup tale.story → IsHonest setup (runs server) tale.story → IsTrueRead setup server link wire tale → IsPrivateRead setup server link wire tale
-read_there setup server link wire tale law lawful honest read n due ran =
+read_there : (setup : Setup) (plan : Plan) (server : Step) (link : LinkId) (wire : Wire) (tale : Tale) → Law setup server → IsLawful setup tale.story
+    → IsHonest setup (runs server) tale.story → IsTrueRead setup server link wire tale → IsPrivateRead setup server link wire tale
+read_there setup plan server link wire tale law lawful honest read n due ran =
     let before : Tale = with_run setup link tale in
-    let honest_there : IsHonest setup (runs server) before.story = running_keeps setup server (honesty setup server) link wire tale (link_in setup tale link).stage read refl honest in
+    let honest_there : IsHonest setup (runs server) before.story =
+    running_keeps setup plan server (honesty setup server) link wire tale (link_in setup tale link).stage read refl honest in
     let lawful_there : IsLawful setup before.story = running_lawful (link_in setup tale link).stage in
     let meets = law before.story lawful_there honest_there in
     record { reply = ((real_of setup server before).peers link).answer; answer = meets.answers link n due ran; front = read.reply.front }
@@ -44,36 +52,20 @@ read_there setup server link wire tale law lawful honest read n due ran =
     running_lawful (Asked question) = (lawful, tt)
     running_lawful (Answered question) = lawful
 
-entry_there : (setup : Setup) (plan : Plan) (server : Step) (tale : Tale) (e : Entry) → Law setup server → IsLawful setup tale.story → IsHonest setup (runs server) tale.story → IsTrue setup plan server tale e → IsPrivateEntry setup server tale e
-entry_there setup plan server tale (entry.Got link bytes) law lawful honest is = λ there entered. read_there setup server link (wire_with tale link bytes) tale law lawful honest ((is there).read entered)
-entry_there setup plan server tale (entry.Accepted port link salt) law lawful honest is = tt
-entry_there setup plan server tale (entry.Opened at address link) law lawful honest is = tt
-entry_there setup plan server tale (entry.Wrote link for bytes) law lawful honest is = tt
-entry_there setup plan server tale (entry.Exec link) law lawful honest is = tt
-entry_there setup plan server tale (entry.Drop link) law lawful honest is = tt
-entry_there setup plan server tale (entry.Ended link) law lawful honest is = tt
-entry_there setup plan server tale (entry.ReadFailed link) law lawful honest is = tt
-entry_there setup plan server tale (entry.WriteFailed link) law lawful honest is = tt
-entry_there setup plan server tale (entry.Closed link) law lawful honest is = tt
-entry_there setup plan server tale (entry.Listening port address) law lawful honest is = tt
-entry_there setup plan server tale (entry.ListenFailed port) law lawful honest is = tt
-entry_there setup plan server tale (entry.Woke until_ms now_ms) law lawful honest is = tt
-entry_there setup plan server tale entry.WaitFailed law lawful honest is = tt
-entry_there setup plan server tale entry.Over law lawful honest is = tt
-entry_there setup plan server tale (entry.Named link) law lawful honest is = tt
-entry_there setup plan server tale entry.NoneNamed law lawful honest is = tt
-entry_there setup plan server tale (entry.AcceptNothing port) law lawful honest is = tt
-entry_there setup plan server tale (entry.AcceptFailed port) law lawful honest is = tt
-entry_there setup plan server tale (entry.OpenFailed at address) law lawful honest is = tt
-entry_there setup plan server tale (entry.ReadNothing link) law lawful honest is = tt
-entry_there setup plan server tale (entry.WriteNothing link) law lawful honest is = tt
+entry_there : (setup : Setup) (plan : Plan) (server : Step) (tale : Tale) (e : Entry) → Law setup server → IsLawful setup tale.story
+    → IsHonest setup (runs server) tale.story → IsTrue setup plan server tale e → IsPrivateEntry setup server tale e
+entry_there setup plan server tale (entry.Got link bytes) law lawful honest is =
+    λ there entered other. read_there setup plan server link (wire_with tale link bytes) tale law lawful honest ((is there).read entered other)
+entry_there setup plan server tale _ law lawful honest is = tt
 
-pub private_from : (setup : Setup) (plan : Plan) (server : Step) (log : Log) (tale : Tale) → Law setup server → IsLawful setup (fold (tale_step setup plan) tale log).story → IsHonest setup (runs server) tale.story → IsHonestFrom setup plan server tale log
+pub private_from : (setup : Setup) (plan : Plan) (server : Step) (log : Log) (tale : Tale) → Law setup server
+    → IsLawful setup (fold (tale_step setup plan) tale log).story → IsHonest setup (runs server) tale.story → IsHonestFrom setup plan server tale log
     → IsPrivateFrom setup plan server tale log
 private_from setup plan server [] tale law lawful honest all = moment setup plan server tale law lawful honest
 private_from setup plan server (e ∷ log) tale law lawful honest all =
     let here = lawful_before setup plan server (e ∷ log) tale all lawful in (
       moment setup plan server tale law here honest,
       entry_there setup plan server tale e law here honest all.0,
-      private_from setup plan server log (tale_step setup plan tale e) law lawful (step_keeps setup plan server (honesty setup server) tale e all.0 honest) all.1,
+      private_from setup plan server log (tale_step setup plan tale e) law lawful (step_keeps setup plan server (honesty setup server) tale e all.0 honest)
+          all.1,
     )

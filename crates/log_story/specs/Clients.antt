@@ -1,61 +1,77 @@
--- What clients ask: which message arrived and became due when, and when a client leaves.
-use Rattle.std.specs.Prelude.{ℕ, zero, suc, Bool, true, false, not, ◌&&◌, is_some, nat_eq, List, fold, length, slice_get, slice_index_or, Option, Some, None, if◌then◌else◌}
+-- What clients ask: which message is taken up and becomes due when, and when a client leaves.
+use Rattle.std.specs.Prelude.{ℕ, zero, suc, Bool, true, false, not, ◌&&◌, ◌||◌, is_some, nat_eq, List, fold, length, slice_get, slice_index_or, Option, Some}
+use Rattle.std.specs.Prelude.{None, if◌then◌else◌}
+use Rattle.mx_base.specs.declared.names.ClientNo.{ClientNo}
+use Rattle.mx_base.specs.declared.names.Hostgroup.{Hostgroup}
 use Rattle.mx_base.specs.declared.names.LinkId.{LinkId}
+use Rattle.mx_wire.specs.declared.entry.Entry.{Entry}
+use Rattle.mx_wire.specs.declared.entry.Entry.TheVariants.{Woke, Got, Ended, ReadFailed, WriteFailed}
 use Rattle.packet_frame.specs.Packets.{Framed}
-use Rattle.client_session.specs.Answers.{Talk, messages_of}
 use Rattle.session_state.specs.Pins.{is_pinned}
 use Rattle.session_state.specs.declared.names.MessageName.{MessageName}
-use Rattle.private_model.specs.Story.{BecameDue, Left, is_link_id}
-use Rattle.private_model.specs.View.{Held, Setup, View, present}
-use Rattle.log_story.specs.Plan.{Plan, Route, asked_in, com_reset}
+use Rattle.private_model.specs.Commands.{Command}
+use Rattle.private_model.specs.Story.{BecameDue, Left, Mirrored, is_client, is_link_id}
+use Rattle.private_model.specs.View.{Carried, Held, Joined, Lent, Nobody, Setup, View, present}
+use Rattle.log_story.specs.Executes.{Request, requested}
+use Rattle.log_story.specs.Owed.{has_room, messages, name_of}
+use Rattle.log_story.specs.Plan.{Plan, Route, com_reset, is_by_now, is_now, job_of, own_at}
 use Rattle.log_story.specs.Tale.{Client, Tale, tell, view_of, with_client}
 
-abbrev pub talk_of : Plan → Client → Talk
-talk_of plan client = record { setup = plan.service; number = client.number.0; salt = client.salt; read = client.read }
+-- An event of a client: the router is woken, or bytes, their end or a failure come on the client's link or on one that carries it.
 
--- the messages of a client behind its login
-abbrev pub messages : Plan → Client → List Framed
-messages plan client = (messages_of (talk_of plan client)).messages
+abbrev pub carries_client : ClientNo → Carried → Bool
+carries_client client Nobody = false
+carries_client client (Lent n) = is_client n.client client
+carries_client client (Joined n) = is_client n.client client
 
-abbrev pub name_of : Client → (ordinal : ℕ) → MessageName
-name_of client ordinal = record { client = client.number; ordinal = ordinal }
+abbrev pub concerns : View → Client → LinkId → Bool
+concerns view client link = is_link_id client.link link || carries_client client.number (view.links link).carries
 
--- A message is answered where its reply was read, where the link that it was sent on was lost, or where the router answers it
--- itself or not at all.
+abbrev pub is_event_of : View → Client → Entry → Bool
+is_event_of view client (Woke until_ms now_ms) = true
+is_event_of view client (Got link bytes) = concerns view client link
+is_event_of view client (Ended link) = concerns view client link
+is_event_of view client (ReadFailed link) = concerns view client link
+is_event_of view client (WriteFailed link) = concerns view client link
+is_event_of view client _ = false
 
-abbrev pub is_lost : View → Option LinkId → Bool
-is_lost view None = false
-is_lost view (Some link) = not (view.links link).usable
-
-abbrev pub answered_by : View → MessageName → Option Route → Bool
-answered_by view message None = true
-answered_by view message (Some route) = if is_some (view.replies message) then true else is_lost view (view.carriers message)
-
-abbrev pub is_answered : Plan → View → Client → (ordinal : ℕ) → Bool
-is_answered plan view client zero = true
-is_answered plan view client (suc i) = answered_by view (name_of client (suc i)) (plan.routes (name_of client (suc i)))
+-- A message is answered where its reply was read, or the router answered it itself, which may be by nothing.
+abbrev pub is_answered : Plan → Tale → View → Client → (ordinal : ℕ) → Bool
+is_answered plan tale view client zero = true
+is_answered plan tale view client (suc i) = is_some (own_at plan tale.moment (name_of client (suc i))) || is_some (view.replies (name_of client (suc i)))
 
 -- a capture is due first
 abbrev pub captures_first : Held → Bool
 captures_first held = not (is_pinned held.pin) && not (is_some held.id)
 
--- A message is taken up: it becomes due, or the router answers it; a COM_RESET_CONNECTION leaves the client's sessions.
+-- A message is taken up: it becomes due, and with it a copy, as the one statement of a job; or the router answers it; a
+-- COM_RESET_CONNECTION leaves the client's sessions.
 
 abbrev pub after_own : Client → (payload : List ℕ) → Tale → Tale
 after_own client payload tale = if nat_eq (slice_index_or payload 0 0) com_reset then tell (Left client.number) tale else tale
 
-abbrev pub taken_by : Setup → Client → (ordinal : ℕ) → Framed → Option Route → Tale → Option Tale
-taken_by setup client ordinal message None tale = Some (after_own client message.payload tale)
-taken_by setup client ordinal message (Some route) tale =
-    if captures_first ((view_of setup tale).held (present (view_of setup tale) client.number route.hostgroup)) then None
-    else Some (tell (BecameDue client.number route.hostgroup ordinal route.key (asked_in route message.payload) route.multiplex) tale)
+abbrev pub copied : MessageName → Command → Option Hostgroup → Tale → Tale
+copied message command None tale = tale
+copied message command (Some hostgroup) tale =
+    tell (BecameDue (job_of message) hostgroup 1 0 command None) (tell (Mirrored message.client (job_of message)) tale)
 
--- the next message, where it is whole and the one before it is answered
+abbrev pub due_by : Setup → Client → (ordinal : ℕ) → Route → Request → Tale → Option Tale
+due_by setup client ordinal route request tale =
+    if captures_first ((view_of setup tale).held (present (view_of setup tale) client.number route.hostgroup)) then None
+    else Some (copied (name_of client ordinal) request.command route.mirror
+    (tell (BecameDue client.number route.hostgroup ordinal request.key request.command route.multiplex) tale))
+
+abbrev pub taken_by : Setup → Plan → Client → (ordinal : ℕ) → Framed → Option Route → Tale → Option Tale
+taken_by setup plan client ordinal message None tale = Some (after_own client message.payload tale)
+taken_by setup plan client ordinal message (Some route) tale =
+    due_by setup client ordinal route (requested setup (view_of setup tale) plan tale.moment client ordinal route message.payload) tale
+
+-- the next message, where it is whole, the one before it is answered, and there is room
 abbrev pub next_taken : Setup → Plan → Client → Option Framed → Tale → Option Tale
 next_taken setup plan client None tale = None
 next_taken setup plan client (Some message) tale =
-    if is_answered plan (view_of setup tale) client client.taken
-    then taken_by setup client (suc client.taken) message (plan.routes (name_of client (suc client.taken))) tale
+    if is_answered plan tale (view_of setup tale) client client.taken && has_room (view_of setup tale).replies plan tale.moment client
+    then taken_by setup plan client (suc client.taken) message (plan.routes (name_of client (suc client.taken))) tale
     else None
 
 abbrev pub and_on : Option Tale → (old : Tale) → (Tale → Tale) → Tale
@@ -67,13 +83,24 @@ abbrev pub taken_up : (most : ℕ) → Setup → Plan → Client → Tale → Ta
 taken_up zero setup plan client tale = tale
 taken_up (suc most) setup plan client tale =
     let next = record client { taken = suc client.taken } in
-    and_on (next_taken setup plan client (slice_get (messages plan client) client.taken) tale) tale (λ other. taken_up most setup plan next (with_client next other))
+    and_on (next_taken setup plan client (slice_get (messages plan client) client.taken) tale) tale
+    (λ other. taken_up most setup plan next (with_client next other))
 
-abbrev pub client_goes_on : Setup → Plan → Tale → Client → Tale
-client_goes_on setup plan tale client = taken_up (length (messages plan client)) setup plan client tale
+-- as they are at an event of this client, unless the router ended it; the view is that of before
+abbrev pub client_goes_on : Setup → Plan → View → Entry → Tale → Client → Tale
+client_goes_on setup plan view e tale client =
+    if is_event_of view client e && not (is_by_now tale.moment (plan.ends client.number)) then taken_up (length (messages plan client)) setup plan client tale
+    else tale
 
-abbrev pub clients_go_on : Setup → Plan → Tale → Tale
-clients_go_on setup plan tale = fold (client_goes_on setup plan) tale tale.clients
+abbrev pub clients_go_on : Setup → Plan → View → Entry → Tale → Tale
+clients_go_on setup plan view e tale = fold (client_goes_on setup plan view e) tale tale.clients
+
+-- the router ends a client
+abbrev pub ended_if_now : Plan → Tale → Client → Tale
+ended_if_now plan tale client = if is_now tale.moment (plan.ends client.number) then tell (Left client.number) tale else tale
+
+abbrev pub clients_are_ended : Plan → Tale → Tale
+clients_are_ended plan tale = fold (ended_if_now plan) tale tale.clients
 
 -- the client of a link leaves
 abbrev pub client_leaves : LinkId → Tale → Client → Tale

@@ -1,8 +1,12 @@
 pub mod Plan
 pub mod Tale
+pub mod Owed
+pub mod Executes
 pub mod Clients
 pub mod Servers
 pub mod Telling
 pub mod Honest
 pub mod Headline
 pub mod Worked
+pub mod Aside
+pub mod Executed

@@ -1,5 +1,6 @@
 -- What the router decided, of which no byte tells; and what it writes.
-use Rattle.std.specs.Prelude.{ℕ, ◌%◌, ◌/◌, Bool, nat_eq, List, [], ◌∷◌, if◌then◌else◌, Option, Some, None}
+use Rattle.std.specs.Prelude.{ℕ, ◌+◌, ◌*◌, ◌%◌, ◌/◌, Bool, false, nat_eq, nat_le, List, [], ◌∷◌, if◌then◌else◌, Option, Some, None}
+use Rattle.mx_base.specs.declared.names.ClientNo.{ClientNo}
 use Rattle.mx_base.specs.declared.names.Hostgroup.{Hostgroup}
 use Rattle.mx_base.specs.declared.names.LinkId.{LinkId}
 use Rattle.server_side.specs.Account.{Account}
@@ -8,28 +9,60 @@ use Rattle.session_state.specs.declared.names.MessageName.{MessageName}
 use Rattle.server_rule.specs.Texts.{read_id_text, set_id_text}
 use Rattle.private_model.specs.Commands.{Command, Query, InitDb, FieldList, SetId, ReadId, Prepare, Run, Reset, Quit}
 
--- Where a message of a client goes. The key is that of a preparation or an execute, and the number the one by which the
--- client knows what it prepared. What an execute runs stands here, since its types and its long data came with other messages.
+-- Where a message of a client goes, its text as rules rewrite it, and where a copy of it goes; of a STMT_PREPARE also the key of
+-- its text, and the number by which the client knows what it prepared.
 pub record Route : Type 0 where
   pub hostgroup : Hostgroup
+  pub text : Option (List ℕ)
   pub key : ℕ
   pub number : ℕ
   pub multiplex : Option Bool
-  pub executes : Command
+  pub mirror : Option Hostgroup
 
--- a step: a command that is answered, or a STMT_CLOSE of a number
+-- What the router itself answers, maybe nothing, and from which entry of the log on, counted from 1: 0 for a message that it
+-- answers as it takes it up, and a later one for a message that it gives up.
+pub record OwnAnswer : Type 0 where
+  pub from : ℕ
+  pub payloads : List (List ℕ)
+
+-- a step: a command, a STMT_CLOSE or a STMT_RESET of a number
 pub data StepText : Type 0 where
   Asks : Command → StepText
   Closes : (number : ℕ) → StepText
+  Resets : (number : ℕ) → StepText
 
--- By what clients log in; who logs in on each link to a server; where each message goes, if it goes to a server, and what the
--- router answers to the others; and which step it is that begins as so many questions were begun on a link.
+-- By what clients log in; how many bytes for a client are unwritten while its messages wait; who logs in on each link to a
+-- server; where each message goes, if it goes to a server; what the router answers itself; at which entry it ends a client; and
+-- which step it is that begins as so many questions were begun on a link.
 pub record Plan : Type 0 where
   pub service : Service
+  pub room : ℕ
   pub logins : LinkId → Account
   pub routes : MessageName → Option Route
-  pub own : MessageName → List (List ℕ)
+  pub own : MessageName → Option OwnAnswer
+  pub ends : ClientNo → Option ℕ
   pub steps : LinkId → (begun : ℕ) → StepText
+
+-- after so many entries
+abbrev pub own_by : (moment : ℕ) → Option OwnAnswer → Option (List (List ℕ))
+own_by moment None = None
+own_by moment (Some answer) = if nat_le answer.from moment then Some answer.payloads else None
+
+abbrev pub own_at : Plan → (moment : ℕ) → MessageName → Option (List (List ℕ))
+own_at plan moment message = own_by moment (plan.own message)
+
+abbrev pub is_now : (moment : ℕ) → Option ℕ → Bool
+is_now moment None = false
+is_now moment (Some at) = nat_eq at moment
+
+-- it was at an entry before, or is at this one
+abbrev pub is_by_now : (moment : ℕ) → Option ℕ → Bool
+is_by_now moment None = false
+is_by_now moment (Some at) = nat_le at moment
+
+-- The copy of a message is a job, which is a client of its own. Clients have numbers of 64 bits, and ordinals count from 1.
+abbrev pub job_of : MessageName → ClientNo
+job_of message = record { 0 = message.ordinal * 18446744073709551616 + message.client.0 }
 
 -- the first bytes of commands (client/server protocol, "Command Phase")
 
@@ -51,21 +84,17 @@ com_prepare = 0x16
 abbrev pub com_execute : ℕ
 com_execute = 0x17
 
+abbrev pub com_long_data : ℕ
+com_long_data = 0x18
+
+abbrev pub com_close : ℕ
+com_close = 0x19
+
+abbrev pub com_statement_reset : ℕ
+com_statement_reset = 0x1A
+
 abbrev pub com_reset : ℕ
 com_reset = 0x1F
-
--- what a client's message asks for: its command byte, and what stands behind it
-abbrev pub asked_by : Route → (byte : ℕ) → (rest : List ℕ) → Command
-asked_by route byte rest =
-    if nat_eq byte com_query then Query rest
-    else if nat_eq byte com_init_db then InitDb rest
-    else if nat_eq byte com_field_list then FieldList rest
-    else if nat_eq byte com_prepare then Prepare rest
-    else route.executes
-
-abbrev pub asked_in : Route → (payload : List ℕ) → Command
-asked_in route [] = route.executes
-asked_in route (byte ∷ rest) = asked_by route byte rest
 
 -- The payload of a command, but for an execute.
 
@@ -80,7 +109,11 @@ text_payload (Run text schema settings args) = []
 text_payload Reset = com_reset ∷ []
 text_payload Quit = com_quit ∷ []
 
--- an execute begins with the number that its server gave
-abbrev pub execute_front : (number : Option ℕ) → List ℕ
-execute_front None = []
-execute_front (Some number) = com_execute ∷ number % 256 ∷ number / 256 % 256 ∷ number / 65536 % 256 ∷ number / 16777216 % 256 ∷ []
+-- a command for the prepared statement of a number
+abbrev pub with_number : (byte number : ℕ) → List ℕ
+with_number byte number = byte ∷ number % 256 ∷ number / 256 % 256 ∷ number / 65536 % 256 ∷ number / 16777216 % 256 ∷ []
+
+abbrev pub step_payload : StepText → List ℕ
+step_payload (Asks command) = text_payload command
+step_payload (Closes number) = with_number com_close number
+step_payload (Resets number) = with_number com_statement_reset number

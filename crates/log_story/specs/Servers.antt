@@ -1,10 +1,12 @@
 -- What passes on links to servers: which question begins there, whose run it is, and which reply was read.
-use Rattle.std.specs.Prelude.{ℕ, zero, suc, ◌-◌, Bool, true, false, not, ◌&&◌, ◌||◌, is_some, nat_eq, List, [], ◌∷◌, ◌++◌, fold, length, take, Option, Some, None, if◌then◌else◌}
+use Rattle.std.specs.Prelude.{ℕ, suc, ◌-◌, Bool, true, false, not, ◌&&◌, ◌||◌, is_some, nat_eq, List, [], ◌∷◌, ◌++◌, fold, length, take, Option, Some}
+use Rattle.std.specs.Prelude.{None, if◌then◌else◌}
 use Rattle.mx_base.specs.declared.names.ClientNo.{ClientNo}
+use Rattle.mx_base.specs.declared.names.Hostgroup.{Hostgroup}
 use Rattle.mx_base.specs.declared.names.LinkId.{LinkId}
 use Rattle.mx_base.specs.declared.tag.Tag.{Tag}
 use Rattle.mx_base.specs.declared.tag.Tag.TheVariants as tag
-use Rattle.packet_frame.specs.Packets.{Framed, Found, Nothing, Whole, Faulty, Split, first_message, next_id, split}
+use Rattle.packet_frame.specs.Packets.{Framed, Split, next_id, split}
 use Rattle.reply_track.specs.declared.reply.ReplyKind.{ReplyKind}
 use Rattle.reply_track.specs.declared.reply.ReplyKind.TheVariants as kind
 use Rattle.reply_track.specs.Runs.{Ending, Ended, run}
@@ -16,10 +18,11 @@ use Rattle.session_state.specs.Pins.{is_pinned, needs_reset}
 use Rattle.session_state.specs.declared.names.SessionName.{SessionName}
 use Rattle.server_rule.specs.Classes.{is_prepare}
 use Rattle.private_model.specs.Commands.{Account, Command, FieldList, Prepare, Quit, Reply, cmd_of}
-use Rattle.private_model.specs.Story.{Capture, Due, Dropped, End, Freed, Happening, Heard, LoggedIn, Own, Prep, Question, Ran, Sent, Statement, Sync, Unprepared, command_of, is_name}
+use Rattle.private_model.specs.Story.{Capture, Due, Dropped, End, Freed, Happening, Heard, Left, LoggedIn, Own, Prep, Question, Ran, Sent, Statement, Sync}
+use Rattle.private_model.specs.Story.{Unprepared, command_of, is_client, is_name, message_of}
 use Rattle.private_model.specs.View.{Asked, Answered, Carried, Held, Joined, Lent, Link, Nobody, Quiet, Setup, Stage, View, is_quit, present}
-use Rattle.log_story.specs.Plan.{Asks, Closes, Plan, Route, StepText}
-use Rattle.log_story.specs.Tale.{Tale, Wire, link_in, tell, view_of, with_wire}
+use Rattle.log_story.specs.Plan.{Asks, Closes, Plan, Resets, Route, StepText, job_of, own_at}
+use Rattle.log_story.specs.Tale.{Tale, Wire, is_reset_step, link_in, tell, view_of, with_wire}
 
 -- The login.
 
@@ -47,9 +50,14 @@ due_or view client ordinal (Some due) = if nat_eq due.ordinal ordinal then due e
 abbrev pub statement_of : View → (ordinal : ℕ) → SessionName → Question
 statement_of view ordinal n = Statement n (due_or view n.client ordinal (view.dues n))
 
-abbrev pub routed : (Route → Question) → Option Route → Option Happening → (LinkId) → Option Happening
-routed question None other link = other
-routed question (Some route) other link = Some (Sent link (question route))
+-- a QUIT is no step in a session: a rule of sending is broken
+abbrev pub breach : LinkId → ClientNo → Happening
+breach link client = Sent link (Sync (record { client = client; hostgroup = record { 0 = 0 }; life = 0 }) Quit)
+
+-- so it is where a message goes to no server
+abbrev pub routed : LinkId → ClientNo → (Route → List Happening) → Option Route → List Happening
+routed link client happens None = breach link client ∷ []
+routed link client happens (Some route) = happens route
 
 -- the session that the link carries, else the present one
 abbrev pub carried_or : Carried → SessionName → SessionName
@@ -61,26 +69,46 @@ carried_or (Joined who) n = who
 abbrev pub ended_by : View → SessionName → Question
 ended_by view n = if is_name n (present view n.client n.hostgroup) then Capture n else End n
 
-abbrev pub own_step : LinkId → StepText → Option Happening
-own_step link (Asks command) = if is_quit command then None else Some (Sent link (Own command))
-own_step link (Closes number) = Some (Unprepared link number)
+-- a step asks something, but for a STMT_CLOSE, and a STMT_RESET, which is answered and leaves sessions as they are
+abbrev pub stepped : LinkId → (Command → Question) → StepText → List Happening
+stepped link question (Asks command) = Sent link (question command) ∷ []
+stepped link question (Closes number) = Unprepared link number ∷ []
+stepped link question (Resets number) = []
 
-abbrev pub sync_step : LinkId → SessionName → StepText → Option Happening
-sync_step link n (Asks command) = Some (Sent link (Sync n command))
-sync_step link n (Closes number) = Some (Unprepared link number)
+abbrev pub quits_by : StepText → Bool
+quits_by (Asks command) = is_quit command
+quits_by _ = false
 
-abbrev pub begun_by : Setup → Plan → View → LinkId → (begun : ℕ) → Tag → Option Happening
+-- a job sends its one statement and leaves; what it sends behind that ends its session
+abbrev pub copy_by : View → LinkId → SessionName → Carried → List Happening
+copy_by view link n (Joined who) = if is_client who.client n.client then Sent link (End who) ∷ [] else Sent link (statement_of view 1 n) ∷ []
+copy_by view link n _ = Left n.client ∷ Sent link (statement_of view 1 n) ∷ []
+
+abbrev pub copy_begun : View → LinkId → (job : ClientNo) → Option Hostgroup → List Happening
+copy_begun view link job None = breach link job ∷ []
+copy_begun view link job (Some hostgroup) = copy_by view link (present view job hostgroup) (view.links link).carries
+
+-- the text of what is due is prepared first
+abbrev pub prep_for : Setup → LinkId → SessionName → Due → Happening
+prep_for setup link n due = Sent link (Prep n due.key (setup.keys due.key).text)
+
+-- the last first
+abbrev pub begun_by : Setup → Plan → View → LinkId → (begun : ℕ) → Tag → List Happening
 begun_by setup plan view link begun (tag.For client ordinal) =
-    routed (λ route. statement_of view ordinal (present view client route.hostgroup)) (plan.routes (record { client = client; ordinal = ordinal }))
-    (Some (Sent link (Own Quit))) link
+    routed link client (λ route. Sent link (statement_of view ordinal (present view client route.hostgroup)) ∷ [])
+    (plan.routes (record { client = client; ordinal = ordinal }))
 begun_by setup plan view link begun (tag.Prep client ordinal) =
-    routed (λ route. Prep (present view client route.hostgroup) route.key (setup.keys route.key).text) (plan.routes
-    (record { client = client; ordinal = ordinal })) (Some (Sent link (Own Quit))) link
-begun_by setup plan view link begun (tag.Sync client hostgroup) = sync_step link (present view client hostgroup) (plan.steps link begun)
+    routed link client (λ route. prep_for setup link (present view client route.hostgroup)
+    (due_or view client ordinal (view.dues (present view client route.hostgroup))) ∷ [])
+    (plan.routes (record { client = client; ordinal = ordinal }))
+begun_by setup plan view link begun (tag.Mirror client ordinal) =
+    routed link client (λ route. copy_begun view link (job_of (record { client = client; ordinal = ordinal })) route.mirror) (plan.routes
+    (record { client = client; ordinal = ordinal }))
+begun_by setup plan view link begun (tag.Sync client hostgroup) = stepped link (Sync (present view client hostgroup)) (plan.steps link begun)
 begun_by setup plan view link begun (tag.End client hostgroup) =
-    Some (Sent link (ended_by view (carried_or (view.links link).carries (present view client hostgroup))))
-begun_by setup plan view link begun tag.Own = own_step link (plan.steps link begun)
-begun_by setup plan view link begun _ = None
+    Sent link (ended_by view (carried_or (view.links link).carries (present view client hostgroup))) ∷ []
+begun_by setup plan view link begun tag.Own = if quits_by (plan.steps link begun) then [] else stepped link Own (plan.steps link begun)
+begun_by setup plan view link begun tag.Reply = []
 
 -- Bytes go on with a question, or begin one; in a login they are what the router says there.
 
@@ -102,26 +130,31 @@ abbrev pub is_quiet : Stage → Bool
 is_quiet Quiet = true
 is_quiet _ = false
 
-abbrev pub told_if : Option Happening → Tale → Tale
-told_if None tale = tale
-told_if (Some e) tale = tell e tale
+abbrev pub tell_all : List Happening → Tale → Tale
+tell_all happenings tale = record tale { story = happenings ++ tale.story }
 
-abbrev pub quits_by : StepText → Bool
-quits_by (Asks command) = is_quit command
-quits_by (Closes number) = false
+abbrev pub step_for : Tag → StepText → Option StepText
+step_for tag.Own step = Some step
+step_for (tag.Sync client hostgroup) step = Some step
+step_for _ step = None
 
-abbrev pub is_own : Tag → Bool
-is_own tag.Own = true
-is_own _ = false
+abbrev pub quits_for : Tag → StepText → Bool
+quits_for tag.Own step = quits_by step
+quits_for _ step = false
 
 abbrev pub begins : Setup → Plan → LinkId → Tag → List ℕ → Wire → Tale → Tale
 begins setup plan link for bytes wire tale =
-    told_if (begun_by setup plan (view_of setup tale) link wire.begun for)
-    (with_wire link (record wire { written = bytes; begun = suc wire.begun; quits = wire.quits || (is_own for && quits_by (plan.steps link wire.begun)) }) tale)
+    let step = plan.steps link wire.begun in
+    tell_all (begun_by setup plan (view_of setup tale) link wire.begun for)
+    (with_wire link (record wire { written = bytes; step = step_for for step; begun = suc wire.begun; quits = wire.quits || quits_for for step }) tale)
+
+-- one command stands on a link at a time
+abbrev pub may_begin : Setup → LinkId → Wire → Tale → Bool
+may_begin setup link wire tale = wire.entered && (is_quiet (link_in setup tale link).stage && (is_whole wire.written && not (is_reset_step wire.step)))
 
 abbrev pub writes : Setup → Plan → LinkId → Tag → List ℕ → Wire → Tale → Tale
 writes setup plan link for bytes wire tale =
-    if wire.entered && (is_quiet (link_in setup tale link).stage && is_whole wire.written) then begins setup plan link for bytes wire tale
+    if may_begin setup link wire tale then begins setup plan link for bytes wire tale
     else with_wire link (record wire { written = wire.written ++ bytes }) tale
 
 -- The server runs what stands there; a QUIT ends the link.
@@ -172,7 +205,19 @@ with_run setup link tale = runs_first (link_in setup tale link).stage link tale
 abbrev pub reads_on : Setup → LinkId → Wire → Tale → Tale
 reads_on setup link wire tale = hears link wire (link_in setup (with_run setup link tale) link).stage (with_run setup link tale)
 
--- A link is given back: its statement is answered and nothing is left there, or its session was left and needs no reset.
+-- the reply to a STMT_RESET, of which no story tells
+abbrev pub reset_by : LinkId → Wire → Ending → Tale → Tale
+reset_by link wire (Ended end rest) tale = with_wire link (record wire { unread = rest; written = []; step = None }) tale
+reset_by link wire _ tale = with_wire link wire tale
+
+abbrev pub reset_sought : Wire → Sought
+reset_sought wire = record { kind = kind.Command; server = reply_id wire; client = 0; number = 0 }
+
+abbrev pub reads_reset : LinkId → Wire → Tale → Tale
+reads_reset link wire tale = reset_by link wire (run (started (reset_sought wire)) wire.unread) tale
+
+-- A link is given back: its statement is answered, by a reply or, before it was sent, by the router, and nothing is left
+-- there; or its session was left and needs no reset.
 
 abbrev pub is_settled : Held → Bool
 is_settled held = not (is_pinned held.pin) && is_some held.id
@@ -180,16 +225,22 @@ is_settled held = not (is_pinned held.pin) && is_some held.id
 abbrev pub is_left : View → SessionName → Bool
 is_left view n = not (is_name n (present view n.client n.hostgroup))
 
-abbrev pub is_done_by : View → Carried → Bool
-is_done_by view Nobody = false
-is_done_by view (Lent n) = is_left view n && not (needs_reset (view.held n).pin)
-is_done_by view (Joined n) = not (needs_reset (view.held n).pin) && (is_settled (view.held n) || is_left view n)
+abbrev pub is_given_up : Plan → (moment : ℕ) → SessionName → Option Due → Bool
+is_given_up plan moment n None = false
+is_given_up plan moment n (Some due) = is_some (own_at plan moment (message_of n due))
 
-abbrev pub is_done : View → Link → Bool
-is_done view link = link.usable && (is_quiet link.stage && is_done_by view link.carries)
+abbrev pub is_done_by : Plan → (moment : ℕ) → View → Carried → Bool
+is_done_by plan moment view Nobody = false
+is_done_by plan moment view (Lent n) =
+    not (needs_reset (view.held n).pin) && ((is_settled (view.held n) && is_given_up plan moment n (view.dues n)) || is_left view n)
+is_done_by plan moment view (Joined n) = not (needs_reset (view.held n).pin) && (is_settled (view.held n) || is_left view n)
 
-abbrev pub freed_if_done : Setup → Tale → LinkId → Tale
-freed_if_done setup tale link = if is_done (view_of setup tale) (link_in setup tale link) then tell (Freed link) tale else tale
+abbrev pub is_done : Plan → (moment : ℕ) → View → Wire → Link → Bool
+is_done plan moment view wire link = link.usable && (is_quiet link.stage && (not (is_reset_step wire.step) && is_done_by plan moment view link.carries))
 
-abbrev pub links_are_freed : Setup → Tale → Tale
-links_are_freed setup tale = fold (freed_if_done setup) tale tale.links
+abbrev pub freed_if_done : Setup → Plan → Tale → LinkId → Tale
+freed_if_done setup plan tale link =
+    if is_done plan tale.moment (view_of setup tale) (tale.wires link) (link_in setup tale link) then tell (Freed link) tale else tale
+
+abbrev pub links_are_freed : Setup → Plan → Tale → Tale
+links_are_freed setup plan tale = fold (freed_if_done setup plan) tale tale.links

@@ -1,5 +1,5 @@
 -- From a log to a story: what each entry tells. The marks of a log, Exec and Drop, are the run of its servers.
-use Rattle.std.specs.Prelude.{ℕ, ◌+◌, List, [], ◌∷◌, ◌++◌, fold, length, map, if◌then◌else◌}
+use Rattle.std.specs.Prelude.{ℕ, ◌+◌, List, [], ◌∷◌, ◌++◌, fold, length, map, not, if◌then◌else◌}
 use Rattle.mx_base.specs.declared.names.LinkId.{LinkId}
 use Rattle.mx_wire.specs.Log.{Log}
 use Rattle.mx_wire.specs.declared.entry.Entry.{Entry}
@@ -7,9 +7,10 @@ use Rattle.mx_wire.specs.declared.entry.Entry.TheVariants.{Accepted, Opened, Got
 use Rattle.private_model.specs.Story.{Dropped, Gone, Story}
 use Rattle.private_model.specs.View.{Setup}
 use Rattle.log_story.specs.Plan.{Plan}
-use Rattle.log_story.specs.Tale.{Tale, Wire, client_hears, first_tale, is_entered, is_to_server, new_wire, tell, with_wire}
-use Rattle.log_story.specs.Clients.{client_leaves, clients_go_on}
-use Rattle.log_story.specs.Servers.{enters, links_are_freed, reads_on, runs_on, writes}
+use Rattle.log_story.specs.Tale.{Tale, Wire, client_gets, client_hears, counted, first_tale, is_entered, is_reset_step, is_to_server, new_wire, tell, view_of}
+use Rattle.log_story.specs.Tale.{with_wire}
+use Rattle.log_story.specs.Clients.{client_leaves, clients_are_ended, clients_go_on}
+use Rattle.log_story.specs.Servers.{enters, links_are_freed, reads_on, reads_reset, runs_on, writes}
 
 -- with the bytes that were read there
 abbrev pub wire_with : Tale → LinkId → List ℕ → Wire
@@ -17,7 +18,9 @@ wire_with tale link bytes = record (tale.wires link) { unread = (tale.wires link
 
 abbrev pub server_says : Setup → Plan → LinkId → List ℕ → Tale → Tale
 server_says setup plan link bytes tale =
-    if is_entered tale link then reads_on setup link (wire_with tale link bytes) tale else enters plan link (wire_with tale link bytes) tale
+    if not (is_entered tale link) then enters plan link (wire_with tale link bytes) tale
+    else if is_reset_step (tale.wires link).step then reads_reset link (wire_with tale link bytes) tale
+    else reads_on setup link (wire_with tale link bytes) tale
 
 -- a link to a server is lost or closed, or a client leaves
 abbrev pub is_lost_or_left : LinkId → Tale → Tale
@@ -25,11 +28,22 @@ is_lost_or_left link tale = if is_to_server tale link then tell (Gone link) tale
 
 abbrev pub told : Setup → Plan → Tale → Entry → Tale
 told setup plan tale (Accepted port link salt) =
-    record tale { clients = tale.clients ++ record { number = record { 0 = length tale.clients + 1 }; link = link; salt = salt; read = []; taken = 0 } ∷ [] }
+    record tale {
+      clients = tale.clients ++ record {
+        number = record { 0 = length tale.clients + 1 };
+        link = link;
+        salt = salt;
+        read = [];
+        written = 0;
+        taken = 0;
+      } ∷ [];
+    }
 told setup plan tale (Opened server address link) = with_wire link (new_wire server) (record tale { links = tale.links ++ link ∷ [] })
 told setup plan tale (Got link bytes) =
     if is_to_server tale link then server_says setup plan link bytes tale else record tale { clients = map (client_hears link bytes) tale.clients }
-told setup plan tale (Wrote link tag bytes) = if is_to_server tale link then writes setup plan link tag bytes (tale.wires link) tale else tale
+told setup plan tale (Wrote link tag bytes) =
+    if is_to_server tale link then writes setup plan link tag bytes (tale.wires link) tale
+    else record tale { clients = map (client_gets link (length bytes)) tale.clients }
 told setup plan tale (Exec link) = if is_entered tale link then runs_on (tale.wires link) link tale else tale
 told setup plan tale (Drop link) = tell (Dropped link) tale
 told setup plan tale (Ended link) = is_lost_or_left link tale
@@ -38,9 +52,11 @@ told setup plan tale (WriteFailed link) = is_lost_or_left link tale
 told setup plan tale (Closed link) = is_lost_or_left link tale
 told setup plan tale _ = tale
 
--- then links are given back, and messages become due
+-- then clients are ended, links are given back, and messages are taken up, by which links may be given back
 abbrev pub tale_step : Setup → Plan → Tale → Entry → Tale
-tale_step setup plan tale e = clients_go_on setup plan (links_are_freed setup (told setup plan tale e))
+tale_step setup plan tale e =
+    links_are_freed setup plan (clients_go_on setup plan (view_of setup tale) e
+    (links_are_freed setup plan (clients_are_ended plan (counted (told setup plan tale e)))))
 
 abbrev pub tale_of : Setup → Plan → Log → Tale
 tale_of setup plan log = fold (tale_step setup plan) first_tale log

@@ -1,6 +1,6 @@
 -- A worked log: two clients over one link to a small server. The first inserts, and its insert id is asked for; then the link
 -- goes to the second, which first gets its own insert id, and inserts.
-use Rattle.std.specs.Prelude.{ℕ, false, true, List, [], ◌∷◌, ◌++◌, codes, drop, take, Some, None}
+use Rattle.std.specs.Prelude.{ℕ, false, List, [], ◌∷◌, ◌++◌, codes, drop, take, Some, None}
 use Rattle.mx_base.specs.declared.names.Port.TheVariants.{Traffic}
 use Rattle.mx_base.specs.declared.tag.Tag.TheVariants.{For, End as EndTag, Own as OwnTag, Reply as ReplyTag}
 use Rattle.mx_wire.specs.Log.{Log}
@@ -16,11 +16,8 @@ use Rattle.server_side.specs.Login.{response_said}
 use Rattle.client_session.specs.Errors.{own_ok}
 use Rattle.server_rule.specs.Texts.{read_id_text, set_id_text}
 use Rattle.server_rule.specs.Servers.{Step}
-use Rattle.private_model.specs.Commands.{Account, Quit, SetId}
-use Rattle.private_model.specs.Story.{BecameDue, Capture, Freed, LoggedIn, Own, Ran, Sent, Statement, Story}
-use Rattle.private_model.specs.View.{Setup}
-use Rattle.small_server.specs.Stories as stories
-use Rattle.small_server.specs.Stories.{client, due_at, group, heard, insert, link, nowhere, reads, session, zero_id}
+use Rattle.private_model.specs.Commands.{SetId}
+use Rattle.small_server.specs.Stories.{client, group, link, reads, zero_id}
 use Rattle.small_server.specs.Tally.{FirstId, LaterId, NoId, ok, row, tally}
 use Rattle.log_story.specs.Plan.{Asks, Plan, Route}
 use Rattle.log_story.specs.Tale.{Client}
@@ -32,25 +29,21 @@ salt = codes "abcdefghijklmnopqrst"
 abbrev pub login : Login
 login = record { user = codes "app"; password = []; found_rows = false }
 
-abbrev pub account : Account
-account = record { user = codes "app"; found_rows = false }
-
-abbrev pub setup : Setup
-setup = record stories.setup { accounts = λ c. account }
-
 abbrev pub server : Step
 server = tally reads
 
 -- each message goes to the one hostgroup; the third question on the link is the step of the second client's insert id
 abbrev pub route : Route
-route = record { hostgroup = group; key = 0; number = 0; multiplex = None; executes = Quit }
+route = record { hostgroup = group; text = None; key = 0; number = 0; multiplex = None; mirror = None }
 
 abbrev pub plan : Plan
 plan = record {
   service = record { version = codes "8"; users = record { name = codes "app"; password = [] } ∷ []; limit = 1000; max_clients = 9; target = None };
+  room = 1048576;
   logins = λ l. login;
   routes = λ message. Some route;
-  own = λ message. [];
+  own = λ message. None;
+  ends = λ c. None;
   steps = λ l begun. Asks (SetId zero_id);
 }
 
@@ -66,6 +59,10 @@ query = spelling 0 (3 ∷ codes "INSERT")
 
 abbrev pub greeting : Greeting
 greeting = record { version = codes "8"; connection = 7; salt = salt; capabilities = 958991; collation = 45; status = 2; plugin = native_password }
+
+-- what a client is due for its login
+abbrev pub logged_in : (number : ℕ) → List ℕ
+logged_in number = greeting_said number salt plan.service.version ++ spelling 2 own_ok
 
 abbrev pub capture : List ℕ
 capture = spelling 0 (3 ∷ read_id_text)
@@ -128,12 +125,4 @@ log =
 
 -- the second client, by then
 abbrev pub second_client : Client
-second_client = record { number = client 2; link = link 2; salt = salt; read = response ++ query; taken = 1 }
-
--- The story that it tells, the last first.
-abbrev pub told_story : Story
-told_story =
-    heard 3 (ok false LaterId false) ∷ Ran (link 3) ∷ Sent (link 3) (Statement (session 2) (due_at nowhere 1 true insert)) ∷ heard 3
-    (ok false NoId false) ∷ Ran (link 3) ∷ Sent (link 3) (Own (SetId zero_id)) ∷ BecameDue (client 2) group 1 0 insert None
-    ∷ Freed (link 3) ∷ heard 3 (row false 49) ∷ Ran (link 3) ∷ Sent (link 3) (Capture (session 1)) ∷ heard 3 (ok false FirstId false) ∷ Ran (link 3) ∷ Sent (link 3) (Statement (session 1) (due_at nowhere 1 true insert))
-    ∷ LoggedIn (link 3) (record { 0 = 1 }) account ∷ BecameDue (client 1) group 1 0 insert None ∷ []
+second_client = record { number = client 2; link = link 2; salt = salt; read = response ++ query; written = 0; taken = 1 }

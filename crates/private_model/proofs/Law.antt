@@ -15,7 +15,7 @@ use Rattle.private_model.specs.Commands.{Command, Prepare, Quit, ReadId, Reply, 
 use Rattle.private_model.specs.Headline.{MeetsPrivate}
 use Rattle.private_model.specs.Honest.{IsAccepted, IsAnswer, IsHonest, IsTrueOf}
 use Rattle.private_model.specs.Lawful.{IsLawful, MayCome, MaySend}
-use Rattle.private_model.specs.Story.{BecameDue, Capture, Dropped, End, Freed, Gone, Happening, Heard, Left, LoggedIn, Own, Prep, Question, Ran, Sent, Statement, Story, Sync, Unprepared, is_link_id, message_of, put}
+use Rattle.private_model.specs.Story.{BecameDue, Capture, Dropped, End, Freed, Gone, Happening, Heard, Left, LoggedIn, Mirrored, Own, Prep, Question, Ran, Sent, Statement, Story, Sync, Unprepared, is_link_id, message_of, put}
 use Rattle.private_model.specs.View.{Answered, Asked, Carried, Joined, Lent, Link, Nobody, Quiet, Setup, Stage, View, asked, closed_number, freed, heard, new_link, quieted, ran_by, replies_by, view_after, view_step}
 use Rattle.private_model.specs.Worlds.{Peer, Private, Real, decoded, entry_at, new_peer, private_after, private_drop, private_prep, private_run, private_step, real_after, real_drop, real_run, real_step, there_table}
 use Rattle.server_rule.specs.Servers.{Tests}
@@ -38,6 +38,8 @@ stands_next setup tests step tame view real private (Unprepared link number) sta
 stands_next setup tests step tame view real private (Dropped link) stands tabled may honest = dropped_so setup tests step tame view real private stands link
 stands_next setup tests step tame view real private (Gone link) stands tabled may honest = gone_so setup tests step tame view real private stands link
 stands_next setup tests step tame view real private (Left client) stands tabled may honest =
+    record { accepted = stands.accepted; stored = stands.stored; owners = stands.owners; resting = stands.resting; links = stands.links }
+stands_next setup tests step tame view real private (Mirrored client job) stands tabled may honest =
     record { accepted = stands.accepted; stored = stands.stored; owners = stands.owners; resting = stands.resting; links = stands.links }
 
 -- What is prepared.
@@ -67,6 +69,7 @@ tabled_next setup tests step tame view real private (Dropped link) stands tabled
     (drop_tabled setup tests step view real private stands tabled link (view.links link).alive)
 tabled_next setup tests step tame view real private (Gone link) stands tabled may honest = tabled_gone setup tests view real private stands tabled link
 tabled_next setup tests step tame view real private (Left client) stands tabled may honest = tabled
+tabled_next setup tests step tame view real private (Mirrored client job) stands tabled may honest = tabled
 
 -- The answers.
 
@@ -162,6 +165,7 @@ answers_next setup tests step tame view real private (Dropped link) stands table
     (drop_answers setup tests step tame view real private stands tabled answer link (view.links link).alive)
 answers_next setup tests step tame view real private (Gone link) stands tabled answer may honest = are_linked view.links real.peers view.carriers view.replies private.answers answer link (record (view.links link) { usable = false }) (λ m e. e) (λ m e. e)
 answers_next setup tests step tame view real private (Left client) stands tabled answer may honest = answer
+answers_next setup tests step tame view real private (Mirrored client job) stands tabled answer may honest = answer
 
 -- Both, at every moment.
 

@@ -6,7 +6,7 @@ use Rattle.mx_base.specs.declared.names.Hostgroup.{Hostgroup}
 use Rattle.mx_base.specs.declared.names.LinkId.{LinkId}
 use Rattle.mx_base.specs.declared.names.ServerId.{ServerId}
 use Rattle.private_model.specs.Commands.{Account, Command, Prepare, Quit, Reply, Reset, class_of, id_after, is_err, is_made, is_marked, is_ok, number_in, pin_statement}
-use Rattle.private_model.specs.Story.{BecameDue, Capture, Dropped, Due, End, Freed, Gone, Happening, Heard, Key, Left, LoggedIn, Prep, Question, Ran, Sent, Statement, Story, Sync, Unprepared, command_of, is_client, is_link_id, is_message, is_name, message_of, put}
+use Rattle.private_model.specs.Story.{BecameDue, Capture, Dropped, Due, End, Freed, Gone, Happening, Heard, Key, Left, LoggedIn, Mirrored, Prep, Question, Ran, Sent, Statement, Story, Sync, Unprepared, command_of, is_client, is_link_id, is_message, is_name, message_of, put}
 use Rattle.server_rule.specs.Classes.{Reads}
 use Rattle.session_state.specs.Classes.{Effect, Uses, effect_of, schema_by, settings_by}
 use Rattle.session_state.specs.Pins.{is_pinned, no_pin}
@@ -268,6 +268,7 @@ view_step setup view (Unprepared link number) = record view { links = put is_lin
 view_step setup view (Dropped link) = record view { links = put is_link_id view.links link (record (view.links link) { alive = false }) }
 view_step setup view (Gone link) = record view { links = put is_link_id view.links link (record (view.links link) { usable = false }); lives = lives_without (view.links link).carries view.lives }
 view_step setup view (Left client) = record view { lives = lives_left client view.lives; places = put is_client view.places client (record (view.places client) { settings = (setup.places client).settings }) }
+view_step setup view (Mirrored client job) = record view { places = put is_client view.places job (view.places client) }
 
 abbrev pub view_after : Setup → Story → View
 view_after setup [] = first_view setup

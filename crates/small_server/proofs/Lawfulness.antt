@@ -509,7 +509,7 @@ module _ (reads : Reads) where
   shown_law stored s ok Reset p c shown e = let is = ok_shows false NoId false in cc
   shown_law stored s ok Close p c shown e = apart refl c
 
-  params_law : (text : List ℕ) → (reply_end true (prepared (number_of text))).params ≡ 0
+  params_law : (text : List ℕ) → (reply_end true (prepared (number_of text))).params ≡ 1
   unfolding reply_end
   params_law text = refl
 

@@ -1,4 +1,4 @@
--- Stories of two clients and the small server: one that is lawful, and one for each of six rules, which it breaks.
+-- Stories of two clients and the small server: one that is lawful, and one for each of eight rules, which it breaks.
 use Rattle.std.specs.Prelude.{ℕ, Bool, true, false, ◌||◌, bytes_eq, nat_eq, is_some, List, [], ◌∷◌, codes, slice_index_or, Option, Some, None, if◌then◌else◌}
 use Rattle.std.proofs.Common.{arith}
 use Rattle.session_vars.specs.Settings.{defaults}
@@ -41,7 +41,7 @@ abbrev pub link : ℕ → LinkId
 link n = record { 0 = n }
 
 abbrev pub anybody : Account
-anybody = record { user = []; found_rows = false }
+anybody = record { user = codes "app"; found_rows = false }
 
 abbrev pub nowhere : Place
 nowhere = record { schema = []; settings = defaults }
@@ -99,8 +99,10 @@ digit_of (Some reply) = slice_index_or (second_of reply.payloads) 1 0
 
 -- One client inserts, and its insert id is captured; the link goes to the next client, which first gets its own insert id.
 abbrev pub shared : Story
-shared = heard 0 (ok false LaterId false) ∷ Ran (link 0) ∷ Sent (link 0) (Statement (session 2) (due_at nowhere 1 true insert)) ∷ heard 0 (ok false NoId false) ∷ Ran (link 0) ∷ Sent (link 0) (Own (SetId zero_id)) ∷ came 2 1 insert
-    ∷ Freed (link 0) ∷ heard 0 (row false 49) ∷ Ran (link 0) ∷ Sent (link 0) (Capture (session 1)) ∷ heard 0 (ok false FirstId false) ∷ Ran (link 0) ∷ Sent (link 0) (Statement (session 1) (due_at nowhere 1 true insert)) ∷ came 1 1 insert ∷ login 0 ∷ []
+shared = heard 3 (ok false LaterId false) ∷ Ran (link 3) ∷ Sent (link 3) (Statement (session 2) (due_at nowhere 1 true insert))
+    ∷ heard 3 (ok false NoId false) ∷ Ran (link 3) ∷ Sent (link 3) (Own (SetId zero_id)) ∷ came 2 1 insert
+    ∷ Freed (link 3) ∷ heard 3 (row false 49) ∷ Ran (link 3) ∷ Sent (link 3) (Capture (session 1)) ∷ heard 3 (ok false FirstId false)
+    ∷ Ran (link 3) ∷ Sent (link 3) (Statement (session 1) (due_at nowhere 1 true insert)) ∷ login 3 ∷ came 1 1 insert ∷ []
 
 -- A link is given back, and lent to another client, while a transaction is open.
 abbrev pub in_a_transaction : Story

@@ -51,8 +51,9 @@ id_row in_trans last_id =
     else if nat_eq last_id 2 then row in_trans 50
     else refusal
 
+-- what is prepared has one parameter
 abbrev pub prepared : (number : ℕ) → List (List ℕ)
-prepared number = (0 ∷ number ∷ 0 ∷ 0 ∷ 0 ∷ 0 ∷ 0 ∷ 0 ∷ 0 ∷ 0 ∷ 0 ∷ 0 ∷ []) ∷ []
+prepared number = (0 ∷ number ∷ 0 ∷ 0 ∷ 0 ∷ 0 ∷ 0 ∷ 1 ∷ 0 ∷ 0 ∷ 0 ∷ 0 ∷ []) ∷ (3 ∷ []) ∷ (254 ∷ 0 ∷ 0 ∷ 0 ∷ 0 ∷ []) ∷ []
 
 -- Texts.
 
