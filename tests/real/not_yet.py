@@ -6,13 +6,7 @@ from world import World, check, code_of, connect, end, not_yet
 
 with World() as world:
     world.directly("CREATE TABLE d.numbers (n INT)")
-    link = connect()
-    link.cursor().execute("CREATE TABLE d.large (v LONGBLOB)")
-    not_yet("an INSERT of 20 MB", code_of(link.cursor().execute, f"INSERT INTO d.large VALUES ('{'x' * 20_000_000}')"))
     not_yet("a schema that the client names", code_of(connect(database="d").cursor().execute, "DELETE FROM numbers WHERE n = 1"))
-    link = connect()
-    link._execute_command(0x04, "numbers\0")
-    not_yet("COM_FIELD_LIST", code_of(link._read_packet))
     link = connect()
     link._execute_command(0x16, "DO ?")
     not_yet("COM_STMT_PREPARE", code_of(link._read_packet))

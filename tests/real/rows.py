@@ -13,6 +13,16 @@ def rows_of(cursor, statement):
     return cursor.fetchall()
 
 
+def field_list(link, schema, table):
+    """How many columns COM_FIELD_LIST tells of."""
+    link.select_db(schema)
+    link._execute_command(0x04, table + "\0")
+    count = 0
+    while not link._read_packet().is_eof_packet():
+        count += 1
+    return count
+
+
 def command_line(statements, *words):
     """What the command line client prints, which comes through mx_proxy."""
     done = subprocess.run(["mariadb", "--no-defaults", "-h", "127.0.0.1", "-P", str(PORT), "-u", "u", "-psecret", *words],
@@ -45,6 +55,17 @@ with World() as world:
     check("COM_INIT_DB", code_of(link.select_db, "d"), 0)
     check("its schema", rows_of(cursor, "SELECT DATABASE()"), (("d",),))
     check("a schema that isn't there", code_of(link.select_db, "none"), 1049)
+    world.directly("USE d; CREATE TABLE large (v LONGBLOB)")
+    for size in (16_777_000, 16_777_214, 16_777_215, 20_000_000, 40_000_000):
+        cursor.execute(f"INSERT INTO d.large VALUES ('{'x' * size}')")
+        check(f"an INSERT of {size} bytes", rows_of(cursor, f"SELECT COUNT(*) FROM d.large WHERE v = REPEAT('x', {size})"), ((1,),))
+    # The router closes the link while such a client still sends, which then may not read its error.
+    check("one of more than max_packet", code_of(cursor.execute, f"INSERT INTO d.large VALUES ('{'x' * 70_000_000}')") in (1153, 2006, 2013), True)
+    link = connect()
+    cursor = link.cursor()
+    check("COM_FIELD_LIST", field_list(link, "d", "numbers"), 1)
+    check("of a table that isn't there", code_of(field_list, link, "d", "none"), 1146)
+    check("and the next statement", rows_of(cursor, "SELECT 3"), ((3,),))
     cursor.execute("SET @v = 'mine'")
     check("a user variable", rows_of(cursor, "SELECT @v"), (("mine",),))
     link.close()
