@@ -1,12 +1,12 @@
 -- Expressions that are read.
-use Rattle.std.proofs.Common.{◌≡◌, ◌≤◌, ℕ, Bool, Result, IfOk, if◌then◌else◌, ◌+◌, ◌-◌, true, false, nat_eq, ◌&&◌, List, [], ◌∷◌, ◌++◌, Option, Some, None, length, get_or, slice_range, drop, option_map, codes, refl, sym, ◌∙◌, ap, arith, append_assoc}
-use Rattle.std.proofs.lemmas.Bool.{cond-true, cond-false, and_from}
+use Rattle.std.proofs.Common.{◌≡◌, ◌≤◌, ℕ, Bool, Result, IfOk, if◌then◌else◌, ◌+◌, ◌-◌, true, false, nat_eq, List, [], ◌∷◌, ◌++◌, Option, Some, None, length, get_or, slice_range, drop, option_map, refl, sym, ◌∙◌, ap, arith, append_assoc}
+use Rattle.std.proofs.lemmas.Bool.{cond-true, cond-false}
 use Rattle.std.proofs.lemmas.Result.{IfOk-weaker}
 use Rattle.std.proofs.lemmas.List.{take_all, length-drop}
-use Rattle.sql_tokens.specs.Words.{bytes_of, is_symbol, says}
+use Rattle.sql_tokens.specs.Words.{bytes_of, inside, is_symbol}
 use Rattle.sql_tokens.specs.declared.token.Token.{Token}
 use Rattle.session_vars.specs.Assignments.{written}
-use Rattle.session_vars.specs.Modes.{joined, joined_at, list_of, lists_behind, lists_joined}
+use Rattle.session_vars.specs.Modes.{base_of, is_front, is_opening, joined, joined_at, joined_with, list_of, lists_behind, lists_joined, moved_behind}
 use Rattle.session_vars.specs.declared.slot.Slot.{Slot}
 
 pub joined_of : (text : List ℕ) (slot : Slot) (tokens : List Token) → 3 ≤ length tokens → written text slot tokens ≡ joined text slot tokens
@@ -20,12 +20,44 @@ joined_of text slot (a ∷ b ∷ c ∷ tokens) long = refl
 left_is : (n : ℕ) (tokens : List Token) → slice_range tokens n (length tokens) ≡ drop n tokens
 left_is n tokens = take_all (length tokens - n) (drop n tokens) (omega (arith, length-drop n tokens))
 
+-- behind a token
+abbrev pub after_of : List Token → List Token
+after_of tokens = slice_range tokens 1 (length tokens)
+
 -- behind `CONCAT (`
-pub inner_joined : (none : Token) (text : List ℕ) (depth : ℕ) (tokens : List Token) → 2 ≤ length tokens → says text (get_or tokens 0 none) (codes "CONCAT") ≡ true → is_symbol text (get_or tokens 1 none) 40 ≡ true → joined_at text (depth + 1) (slice_range tokens 2 (length tokens)) ≡ joined_at text depth tokens
+pub opening_step : (none : Token) (text : List ℕ) (depth : ℕ) (front : List ℕ) (tokens : List Token) → 1 ≤ length tokens → 1 ≤ length (after_of tokens) → is_opening text (get_or tokens 0 none) (get_or (after_of tokens) 0 none) ≡ true → joined_at text (depth + 1) front (after_of (after_of tokens)) ≡ joined_at text depth front tokens
 unfolding joined_at
-inner_joined none text depth [] long is_concat is_open = absurd (omega arith)
-inner_joined none text depth (a ∷ []) long is_concat is_open = absurd (omega arith)
-inner_joined none text depth (a ∷ b ∷ tokens) long is_concat is_open = ap (joined_at text (depth + 1)) (left_is 2 (a ∷ b ∷ tokens)) ∙ sym (cond-true (says text a (codes "CONCAT") && is_symbol text b 40) _ _ (and_from _ _ is_concat is_open))
+opening_step none text depth front [] long longer is = absurd (omega arith)
+opening_step none text depth front (a ∷ []) long longer is = absurd (omega arith)
+opening_step none text depth front (a ∷ b ∷ tokens) long longer is =
+    let after : after_of (a ∷ b ∷ tokens) ≡ b ∷ tokens = left_is 1 (a ∷ b ∷ tokens) in
+    ap (λ (ts : List Token). joined_at text (depth + 1) front (after_of ts)) after
+    ∙ ap (joined_at text (depth + 1) front) (left_is 1 (b ∷ tokens))
+    ∙ sym (cond-true (is_opening text a b) _ _ (sym (ap (λ (ts : List Token). is_opening text a (get_or ts 0 none)) after) ∙ is))
+
+-- behind a list in front of the mode
+pub front_step : (none : Token) (text : List ℕ) (depth : ℕ) (front : List ℕ) (tokens : List Token) → 1 ≤ length tokens → 1 ≤ length (after_of tokens) → is_opening text (get_or tokens 0 none) (get_or (after_of tokens) 0 none) ≡ false → is_front text depth (get_or tokens 0 none) (get_or (after_of tokens) 0 none) ≡ true → joined_at text depth (front ++ moved_behind (inside (bytes_of text (get_or tokens 0 none)))) (after_of (after_of tokens)) ≡ joined_at text depth front tokens
+unfolding joined_at
+front_step none text depth front [] long longer other is = absurd (omega arith)
+front_step none text depth front (a ∷ []) long longer other is = absurd (omega arith)
+front_step none text depth front (a ∷ b ∷ tokens) long longer other is =
+    let after : after_of (a ∷ b ∷ tokens) ≡ b ∷ tokens = left_is 1 (a ∷ b ∷ tokens) in
+    let grown = front ++ moved_behind (inside (bytes_of text a)) in
+    ap (λ (ts : List Token). joined_at text depth grown (after_of ts)) after
+    ∙ ap (joined_at text depth grown) (left_is 1 (b ∷ tokens))
+    ∙ sym (cond-false (is_opening text a b) _ _ (sym (ap (λ (ts : List Token). is_opening text a (get_or ts 0 none)) after) ∙ other)
+    ∙ cond-true (is_front text depth a b) _ _ (sym (ap (λ (ts : List Token). is_front text depth a (get_or ts 0 none)) after) ∙ is))
+
+-- at the mode
+pub base_step : (none : Token) (text : List ℕ) (depth : ℕ) (front : List ℕ) (tokens : List Token) → 1 ≤ length tokens → 1 ≤ length (after_of tokens) → is_opening text (get_or tokens 0 none) (get_or (after_of tokens) 0 none) ≡ false → is_front text depth (get_or tokens 0 none) (get_or (after_of tokens) 0 none) ≡ false → joined_with (base_of (get_or tokens 0 none).kind (bytes_of text (get_or tokens 0 none))) (option_map (λ lists. front ++ lists) (lists_behind text depth (after_of tokens))) ≡ joined_at text depth front tokens
+unfolding joined_at
+base_step none text depth front [] long longer other is = absurd (omega arith)
+base_step none text depth front (a ∷ []) long longer other is = absurd (omega arith)
+base_step none text depth front (a ∷ b ∷ tokens) long longer other is =
+    let after : after_of (a ∷ b ∷ tokens) ≡ b ∷ tokens = left_is 1 (a ∷ b ∷ tokens) in
+    ap (λ (ts : List Token). joined_with (base_of a.kind (bytes_of text a)) (option_map (λ lists. front ++ lists) (lists_behind text depth ts))) after
+    ∙ sym (cond-false (is_opening text a b) _ _ (sym (ap (λ (ts : List Token). is_opening text a (get_or ts 0 none)) after) ∙ other)
+    ∙ cond-false (is_front text depth a b) _ _ (sym (ap (λ (ts : List Token). is_front text depth a (get_or ts 0 none)) after) ∙ is))
 
 -- behind a bracket that closes
 pub closed_lists : (none : Token) (text : List ℕ) (depth : ℕ) (tokens : List Token) → 1 ≤ length tokens → nat_eq depth 0 ≡ false → is_symbol text (get_or tokens 0 none) 41 ≡ true → lists_behind text (depth - 1) (slice_range tokens 1 (length tokens)) ≡ lists_behind text depth tokens

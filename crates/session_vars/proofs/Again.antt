@@ -1,26 +1,25 @@
 -- The statements that make a difference, read again.
 use Rattle.std.proofs.Common.{◌≡◌, ℕ, ◌+◌, true, false, not, List, [], ◌∷◌, ◌++◌, Some, length, codes, drop, refl, ◌∙◌, ap, inl, arith}
-use Rattle.std.specs.List.{list_all, flat_map}
+use Rattle.std.specs.List.{list_all, list_any, flat_map}
 use Rattle.std.specs.Option.{option_or}
-use Rattle.std.proofs.lemmas.Bool.{cond-true, cond-false, and_parts, not-true}
+use Rattle.std.proofs.lemmas.Bool.{cond-true, cond-false, and_parts, not-true, not_from_false, or_from, or_right}
 use Rattle.sql_tokens.specs.Tokens.{tokens_of}
 use Rattle.sql_tokens.specs.Words.{bytes_of, is_symbol, same_text, says}
 use Rattle.sql_tokens.specs.declared.token.Token.{Token}
 use Rattle.sql_tokens.specs.declared.token.TokenKind.TheVariants.{Word}
 use Rattle.session_vars.specs.Assignments.{assignments}
-use Rattle.session_vars.specs.Names.{names_changes}
 use Rattle.session_vars.specs.Scopes.{sets_server}
-use Rattle.session_vars.specs.Shapes.{tracked_or_other, shape_behind, shape_by, set_shape}
+use Rattle.session_vars.specs.Shapes.{sets_mode_once, tracked_or_other, shape_behind, shape_by, set_shape}
 use Rattle.session_vars.specs.Slots.{name_of}
 use Rattle.session_vars.specs.Statement.{is_comment, without_comments, without_end, statement_of}
-use Rattle.session_vars.specs.Transactions.{transaction_mode, mode_changes}
+use Rattle.session_vars.specs.Transactions.{mode_changes}
 use Rattle.session_vars.specs.declared.change.Change.{Change}
 use Rattle.session_vars.specs.declared.shape.SetShape.TheVariants.{Tracked}
 use Rattle.session_vars.specs.Texts.{assignment_text}
 use Rattle.session_vars.specs.declared.slot.Slot.{Slot}
 use Rattle.session_vars.specs.declared.slot.Slot.TheVariants.{Names}
 use Rattle.session_vars.proofs.Assigned.{IsNamed, AreAssignable, counts, named, scoped, list_read, stops_before}
-use Rattle.session_vars.proofs.Dispatch.{no_names, no_mode}
+use Rattle.session_vars.proofs.Dispatch.{no_mode}
 use Rattle.session_vars.proofs.Joining.{with_comma}
 use Rattle.session_vars.proofs.Pieces.{At, token_of, behind, scanned, said, behind_blank, past_blank}
 use Rattle.session_vars.proofs.Rules.{word_piece}
@@ -44,18 +43,26 @@ statement_is : (text : List ℕ) (tokens : List Token) → tokens_of text ≡ to
 statement_is text tokens scan counting = ap (λ (all : List Token). without_end text (without_comments all)) scan ∙ ap (without_end text) (all_count text tokens counting) ∙ none_ends text tokens counting
 
 -- a statement of assignments
-assignments_shape : (text : List ℕ) (set scope token : Token) (tokens : List Token) (changes : List Change) → statement_of text ≡ set ∷ scope ∷ token ∷ tokens → says text set (codes "SET") ≡ true → says text scope (codes "NAMES") ≡ false → says text scope (codes "TRANSACTION") ≡ false → says text token (codes "TRANSACTION") ≡ false → sets_server text 0 true (scope ∷ token ∷ tokens) ≡ false → assignments text (scope ∷ token ∷ tokens) ≡ Some changes → set_shape text ≡ Tracked changes
+assignments_shape : (text : List ℕ) (set scope token : Token) (tokens : List Token) (changes : List Change) → statement_of text ≡ set ∷ scope ∷ token ∷ tokens → says text set (codes "SET") ≡ true → says text scope (codes "TRANSACTION") ≡ false → says text token (codes "TRANSACTION") ≡ false → sets_server text 0 true (scope ∷ token ∷ tokens) ≡ false → assignments text (scope ∷ token ∷ tokens) ≡ Some changes → sets_mode_once changes ≡ true → set_shape text ≡ Tracked changes
 unfolding shape_behind
-assignments_shape text set scope token tokens changes statement is_set no_names_word no_transaction no_mode_word unscoped gives =
+assignments_shape text set scope token tokens changes statement is_set no_transaction no_mode_word unscoped gives once =
     let behind = scope ∷ token ∷ tokens in
     ap (shape_by text) statement
     ∙ cond-true (says text set (codes "SET")) _ _ is_set
     ∙ cond-false (sets_server text 0 true behind) _ _ unscoped
     ∙ cond-false (says text scope (codes "TRANSACTION")) _ _ no_transaction
     ∙ ap tracked_or_other
-    (ap (λ value. option_or (names_changes value) (option_or (mode_changes (transaction_mode text behind)) (assignments text behind))) (no_names text scope (token ∷ tokens) no_names_word)
-    ∙ ap (λ mode. option_or (mode_changes mode) (assignments text behind)) (no_mode text scope token tokens no_mode_word)
-    ∙ gives)
+    (ap (λ mode. option_or (mode_changes mode) (assignments text behind)) (no_mode text scope token tokens no_mode_word) ∙ gives)
+    ∙ cond-true (sets_mode_once changes) _ _ once
+
+-- none of these adds to the mode before it
+none_adds : (changes : List Change) → AreAssignable changes → list_any (λ change. change.adds) changes ≡ false
+none_adds [] assignable = refl
+none_adds (change ∷ changes) assignable = or_from _ _ assignable.0.1.1 (none_adds changes assignable.1)
+
+assignable_once : (changes : List Change) → AreAssignable changes → sets_mode_once changes ≡ true
+unfolding sets_mode_once
+assignable_once changes assignable = or_right _ _ (not_from_false _ (none_adds changes assignable))
 
 name_no_transaction : (slot : Slot) → same_text (name_of slot) (codes "TRANSACTION") ≡ false
 name_no_transaction Names = refl
@@ -85,8 +92,8 @@ session_again text change changes is assignable =
     assignments_shape text set session name (n.equals ∷ n.values ++ read.0) (change ∷ changes)
     (statement_is text (set ∷ session ∷ name ∷ n.equals ∷ n.values ++ read.0) scan read.1.counting)
     (ap (λ word. same_text word (codes "SET")) set_is)
-    (ap (λ word. same_text word (codes "NAMES")) session_is)
     (ap (λ word. same_text word (codes "TRANSACTION")) session_is)
     (ap (λ word. same_text word (codes "TRANSACTION")) n.name ∙ name_no_transaction change.slot)
     read.1.unscoped
     read.1.gives
+    (assignable_once (change ∷ changes) assignable)

@@ -1,16 +1,16 @@
 -- Assignments that are written for changes, and read again.
-use Rattle.std.proofs.Common.{◌≡◌, ◌⊎◌, ℕ, ◌+◌, Bool, true, false, not, ◌&&◌, ◌||◌, bytes_eq, nat_eq, cond, ◌-◌, List, [], ◌∷◌, ◌++◌, Some, length, codes, slice_index_or, nat_le, Option, None, subst, sym, refl, ◌∙◌, ap, inl, inr, arith, append_assoc, length-append}
+use Rattle.std.proofs.Common.{◌≡◌, ◌⊎◌, ℕ, ◌+◌, Bool, true, false, not, ◌&&◌, ◌||◌, bytes_eq, nat_eq, cond, ◌-◌, List, [], ◌∷◌, ◌++◌, Some, length, codes, slice_index_or, nat_le, Option, None, option_map, subst, sym, refl, ◌∙◌, ap, inl, inr, arith, append_assoc, length-append}
 use Rattle.std.specs.List.{list_all, flat_map}
-use Rattle.std.proofs.lemmas.Bool.{cond-true, cond-false, and_parts, and_from, and_left, not-true, not_from_false, eqb-true, le-leb}
+use Rattle.std.proofs.lemmas.Bool.{cond-true, cond-false, and_parts, and_from, and_left, or_left, not-true, not_from_false, eqb-true, le-leb}
 use Rattle.std.proofs.lemmas.List.{append-nil}
 use Rattle.std.proofs.lemmas.List.Folds.{list_all-append}
 use Rattle.sql_tokens.specs.Tokens.{tokens_behind}
-use Rattle.sql_tokens.specs.Words.{bytes_of, is_symbol_kind, is_symbol, is_word, same_text, says, word_by}
+use Rattle.sql_tokens.specs.Words.{bytes_of, inside, is_symbol_kind, is_symbol, is_word, same_text, says, word_by}
 use Rattle.sql_tokens.specs.declared.token.Token.{Token}
 use Rattle.sql_tokens.specs.declared.token.TokenKind.{TokenKind}
 use Rattle.sql_tokens.specs.declared.token.TokenKind.TheVariants.{Word, Quoted, Number, SysVar, Symbol}
-use Rattle.session_vars.specs.Assignments.{change_to, written, assigned, assignment, assignments, with_change}
-use Rattle.session_vars.specs.Modes.{base_of, is_added_list, is_mode_list, joined, joined_at, joined_change, joined_text, joined_with, list_of, lists_behind, lists_joined, own_mode, takes_modes}
+use Rattle.session_vars.specs.Assignments.{change_to, written, assigned, assignment, assignments, part_changes, with_changes}
+use Rattle.session_vars.specs.Modes.{base_of, ends_with_comma, is_added_list, is_base_list, is_front, is_front_list, is_mode_list, is_opening, is_quoted, joined, joined_at, joined_change, joined_text, joined_with, list_of, lists_behind, lists_joined, may_join, own_mode, takes_modes}
 use Rattle.session_vars.specs.Scopes.{before_comma, behind_comma, is_server_scope, names_server, deeper, divides, sets_server}
 use Rattle.session_vars.specs.Slots.{name_of, slot_named}
 use Rattle.session_vars.specs.Statement.{is_comment, is_session_word}
@@ -26,6 +26,7 @@ use Rattle.session_vars.proofs.Joining.{with_comma}
 use Rattle.session_vars.proofs.OneToken.{IsValueKind, value_kind, value_piece, number_text}
 use Rattle.session_vars.proofs.Parts.{last_assigned, next_assigned}
 use Rattle.session_vars.proofs.Pieces.{Stops, At, IsPiece, token_of, behind, scanned, said, behind_blank, past_blank, at_end}
+use Rattle.session_vars.proofs.Unnamed.{assigned_part}
 use Rattle.session_vars.proofs.Rules.{IsWordText, in_quotes, inside_quotes, number_first, word_piece, symbol_piece, number_piece, minus_piece, quoted_piece, variable_piece}
 
 -- a token within an assignment: no comment, comma, bracket or `;`
@@ -143,6 +144,7 @@ record IsBaseRead (base rest : List ℕ) : Type 0 where
   inner : inner_by kind base 1 ≡ true
   level : deeper_by kind base 1 ≡ 1
   no_word : word_by kind base ≡ None
+  no_front : is_quoted kind && is_front_list (inside base) ≡ false
 
 base_read : (base rest : List ℕ) → IsBase base → Stops rest → IsBaseRead base rest
 unfolding base_of
@@ -153,19 +155,22 @@ base_read base rest (inl is) stops = subst (λ (b : List ℕ). IsBaseRead b rest
   inner = refl;
   level = refl;
   no_word = refl;
+  no_front = refl;
 })
 base_read base rest (inr quoted) stops =
     let list = quoted.0 in
     let is = quoted.1.1 in
-    let plain = (and_parts (list_all is_plain_byte list) (not (has_reading_mode list)) is).0 in
-    let kept : List ℕ → Option (List ℕ) = λ inner. cond (is_mode_list inner) (Some (in_quotes inner)) None in
+    let both = and_parts (not (ends_with_comma list)) (is_mode_list list) is in
+    let plain = (and_parts (list_all is_plain_byte list) (not (has_reading_mode list)) both.1).0 in
+    let kept : List ℕ → Option (List ℕ) = λ inner. cond (is_base_list inner) (Some (in_quotes inner)) None in
     subst (λ (b : List ℕ). IsBaseRead b rest) (sym quoted.1.0) (record {
       kind = Quoted;
       piece = quoted_piece list rest plain stops;
-      gives = ap kept (inside_quotes list) ∙ cond-true (is_mode_list list) _ _ is;
+      gives = ap kept (inside_quotes list) ∙ cond-true (is_base_list list) _ _ is;
       inner = refl;
       level = refl;
       no_word = refl;
+      no_front = ap is_front_list (inside_quotes list) ∙ and_left _ _ (not-true _ both.0);
     })
 
 base_adds_not : (base : List ℕ) → IsBase base → bytes_eq base own_mode ≡ false
@@ -186,10 +191,14 @@ pub mode_slot : (slot : Slot) → takes_modes slot ≡ true → slot ≡ SqlMode
 mode_slot SqlMode is = refl
 mode_slot _ is = absurd (cc)
 
+no_front_by : (here quoted front : Bool) → quoted && front ≡ false → here && quoted && front ≡ false
+no_front_by true quoted front is = is
+no_front_by false quoted front is = refl
+
 -- the tokens of such an expression, read
-joined_gives : (text : List ℕ) (slot : Slot) (concat opening base comma list close : Token) (b lists : List ℕ) → takes_modes slot ≡ true → says text concat (codes "CONCAT") ≡ true → is_symbol text opening 40 ≡ true → word_by base.kind (bytes_of text base) ≡ None → base_of base.kind (bytes_of text base) ≡ Some b → is_symbol text comma 41 ≡ false → is_symbol text comma 44 ≡ true → list_of list.kind (bytes_of text list) ≡ Some lists → is_symbol text close 41 ≡ true → IsBase b → is_added_list lists ≡ true → written text slot (concat ∷ opening ∷ base ∷ comma ∷ list ∷ close ∷ []) ≡ Some (record { slot = slot; value = Text (joined_text b lists); adds = false })
+joined_gives : (text : List ℕ) (slot : Slot) (concat opening base comma list close : Token) (b lists : List ℕ) → takes_modes slot ≡ true → says text concat (codes "CONCAT") ≡ true → is_symbol text opening 40 ≡ true → word_by base.kind (bytes_of text base) ≡ None → base_of base.kind (bytes_of text base) ≡ Some b → is_symbol text comma 41 ≡ false → is_symbol text comma 44 ≡ true → list_of list.kind (bytes_of text list) ≡ Some lists → is_symbol text close 41 ≡ true → is_front text 1 base comma ≡ false → IsBase b → is_added_list lists ≡ true → written text slot (concat ∷ opening ∷ base ∷ comma ∷ list ∷ close ∷ []) ≡ Some (record { slot = slot; value = Text (joined_text b lists); adds = false })
 unfolding written joined joined_at lists_behind
-joined_gives text slot concat opening base comma list close b lists takes is_concat is_open no_word is_base no_close is_comma is_list is_close of_base are =
+joined_gives text slot concat opening base comma list close b lists takes is_concat is_open no_word is_base no_close is_comma is_list is_close no_front of_base are =
     let rest = comma ∷ list ∷ close ∷ [] in
     let end : lists_behind text 1 (close ∷ []) ≡ Some [] = cond-true (is_symbol text close 41) (lists_behind text 0 []) None is_close in
     let behind : lists_behind text 1 rest ≡ Some lists =
@@ -204,11 +213,12 @@ joined_gives text slot concat opening base comma list close b lists takes is_con
     ap (λ (s : Slot). record { slot = s; value = Text (joined_text b lists); adds = bytes_eq b own_mode }) (sym (mode_slot slot takes))
     ∙ ap (λ (adds : Bool). record { slot = slot; value = Text (joined_text b lists); adds = adds }) (base_adds_not b of_base) in
     cond-true (takes_modes slot && true) _ _ (and_from _ _ takes refl)
-    ∙ cond-true (says text concat (codes "CONCAT") && is_symbol text opening 40) _ _ (and_from _ _ is_concat is_open)
-    ∙ cond-false (says text base (codes "CONCAT") && is_symbol text comma 40) _ _ (and_left _ _ no_concat)
-    ∙ ap (λ (found : Option (List ℕ)). joined_with found (lists_behind text 1 rest)) is_base
-    ∙ ap (joined_with (Some b)) behind
-    ∙ cond-true (nat_le 1 (length lists)) _ _ (some_list lists are)
+    ∙ cond-true (is_opening text concat opening) _ _ (and_from _ _ is_concat is_open)
+    ∙ cond-false (is_opening text base comma) _ _ (and_left _ _ no_concat)
+    ∙ cond-false (is_front text 1 base comma) _ _ no_front
+    ∙ ap (λ (found : Option (List ℕ)). joined_with found (option_map (λ lists. [] ++ lists) (lists_behind text 1 rest))) is_base
+    ∙ ap (λ (found : Option (List ℕ)). joined_with (Some b) (option_map (λ lists. [] ++ lists) found)) behind
+    ∙ cond-true (may_join b lists) _ _ (and_from _ _ (some_list lists are) (or_left _ _ (not_from_false _ (base_adds_not b of_base))))
     ∙ ap (λ (found : Change). Some found) same
 
 joined_read : (text : List ℕ) (place : ℕ) (slot : Slot) (value : SlotValue) (rest : List ℕ) → IsJoined slot value → At text place (value_text value ++ rest) → Stops rest → IsValueRead text place slot value
@@ -275,6 +285,7 @@ joined_read text place slot value rest j at stops =
           (ap (λ bytes. bytes_eq bytes (44 ∷ [])) is3)
           (ap (list_of Quoted) is4 ∙ list_again lists j.are_lists)
           (ap (λ bytes. bytes_eq bytes (41 ∷ [])) is5)
+          (no_front_by (nat_le 1 1 && is_symbol text t3 44) (is_quoted b.kind) (is_front_list (inside (bytes_of text t2))) (ap (λ bytes. is_quoted b.kind && is_front_list (inside bytes)) is2 ∙ b.no_front))
           j.of_base
           j.are_lists
           ∙ ap (λ (v : SlotValue). Some (record { slot = slot; value = v; adds = false })) (sym j.is);
@@ -459,7 +470,7 @@ list_read text place size change tokens [] first assignable at = (
   [],
   record {
     scan = first.scan ∙ ap (λ (rest : List Token). tokens ++ rest) (at_end text (place + size) at);
-    gives = last_assigned text (tokens ++ []) change (ap (assignment text) (before_calm text 0 tokens [] first.calm ∙ append-nil tokens) ∙ first.gives) (behind_calm text 0 tokens [] first.calm);
+    gives = last_assigned text (tokens ++ []) (change ∷ []) (ap (part_changes text) (before_calm text 0 tokens [] first.calm ∙ append-nil tokens) ∙ assigned_part text tokens change first.gives) (behind_calm text 0 tokens [] first.calm);
     counting = list_all-append (counts text) tokens [] ∙ and_from _ true (counts_calm text 0 tokens first.calm) refl;
     unscoped = calm_first text tokens [] first.unscoped first.calm;
   },
@@ -487,10 +498,10 @@ list_read text place size change tokens (next ∷ changes) first assignable at =
             (scanned text (place + size) Symbol (44 ∷ []) (32 ∷ there) at_comma (comma_piece (32 ∷ there))
             ∙ ap (λ (tail : List Token). comma ∷ tail) (past_blank text (place + size + 1) there at_gap ∙ following.1.scan));
         gives =
-            next_assigned text (tokens ++ comma ∷ others) others change
-            (ap (assignment text) (before_calm text 0 tokens (comma ∷ others) first.calm ∙ ap (λ (tail : List Token). tokens ++ tail) (cond-true (divides text 0 comma) _ _ is_comma_here) ∙ append-nil tokens) ∙ first.gives)
+            next_assigned text (tokens ++ comma ∷ others) others (change ∷ [])
+            (ap (part_changes text) (before_calm text 0 tokens (comma ∷ others) first.calm ∙ ap (λ (tail : List Token). tokens ++ tail) (cond-true (divides text 0 comma) _ _ is_comma_here) ∙ append-nil tokens) ∙ assigned_part text tokens change first.gives)
             (behind_calm text 0 tokens (comma ∷ others) first.calm ∙ cond-true (divides text 0 comma) _ _ is_comma_here)
-            ∙ ap (with_change (Some change)) following.1.gives;
+            ∙ ap (with_changes (Some (change ∷ []))) following.1.gives;
         counting = list_all-append (counts text) tokens (comma ∷ others) ∙ and_from _ _ (counts_calm text 0 tokens first.calm) (and_from (counts text comma) _ (and_from true _ refl (not_from_false _ no_end)) following.1.counting);
         unscoped =
             calm_first text tokens (comma ∷ others) first.unscoped first.calm

@@ -1,34 +1,19 @@
 -- The first words behind SET tell what a statement can be.
-use Rattle.std.proofs.Common.{◌≡◌, ℕ, true, false, ◌&&◌, bytes_eq, List, [], ◌∷◌, ◌++◌, Option, Some, None, Result, IfOk, map, find, codes, option_and_then, MatchOption, refl, sym, subst, ◌∙◌, ap, inl, inr}
-use Rattle.std.specs.Char.{to_ascii_lowercase}
-use Rattle.std.specs.Cmp.Lexicographic.{bytes_decides}
+use Rattle.std.proofs.Common.{◌≡◌, ℕ, true, false, ◌&&◌, List, [], ◌∷◌, ◌++◌, Option, Some, None, Result, IfOk, codes, option_map, MatchOption, refl, sym, subst, ◌∙◌, ap, inl, inr}
 use Rattle.std.specs.Option.{ForSome, option_or, option_to_list}
-use Rattle.std.proofs.lemmas.Bool.{cond-true, cond-false, and_from, and_left, and_right, or_cases, or_from}
+use Rattle.std.proofs.lemmas.Bool.{cond-true, cond-false, and_from, and_left, and_right, or_cases}
 use Rattle.std.proofs.lemmas.Result.{IfOk-weaker}
-use Rattle.sql_tokens.specs.Words.{bytes_of, inside, is_symbol, is_symbol_kind, word_by, word_of, is_word, says, same_text}
+use Rattle.sql_tokens.specs.Words.{bytes_of, is_symbol, is_symbol_kind, word_of, says}
 use Rattle.sql_tokens.specs.declared.token.Token.{Token}
-use Rattle.sql_tokens.specs.declared.token.TokenKind.{TokenKind}
-use Rattle.sql_tokens.specs.declared.token.TokenKind.TheVariants.{Word, Name}
-use Rattle.session_vars.specs.Assignments.{slot_by, assigned, assignment, assignments}
-use Rattle.session_vars.specs.Names.{names_value, names_changes}
+use Rattle.session_vars.specs.Assignments.{assigned, assignment, part_changes, assignments}
 use Rattle.session_vars.specs.Scopes.{before_comma, deeper, divides}
 use Rattle.session_vars.specs.Shapes.{own_changes}
-use Rattle.session_vars.specs.Slots.{name_of, assigned_slots, slot_named}
 use Rattle.session_vars.specs.Statement.{says_first, is_session_word, begins_with_session}
 use Rattle.session_vars.specs.Transactions.{mode_of, transaction_mode, mode_changes}
 use Rattle.session_vars.specs.declared.change.Change.{Change}
-use Rattle.session_vars.specs.declared.slot.Slot.{Slot}
 use Rattle.session_vars.proofs.First.{no_symbol}
 use Rattle.session_vars.proofs.Parts.{none_assigned}
-
--- what doesn't begin with NAMES is no SET NAMES
-pub no_names : (text : List ℕ) (token : Token) (tokens : List Token) → says text token (codes "NAMES") ≡ false → names_value text (token ∷ tokens) ≡ None
-unfolding names_value
-no_names text token [] other = refl
-no_names text token (a ∷ []) other = cond-false (says text token (codes "NAMES")) _ _ other
-no_names text token (a ∷ b ∷ []) other = refl
-no_names text token (a ∷ b ∷ c ∷ []) other = cond-false (says text token (codes "NAMES") && says text b (codes "COLLATE")) _ _ (and_left _ _ other)
-no_names text token (a ∷ b ∷ c ∷ d ∷ tokens) other = refl
+use Rattle.session_vars.proofs.Unnamed.{one_part, session_no_names, transaction_unnamed}
 
 pub no_mode : (text : List ℕ) (scope token : Token) (tokens : List Token) → says text token (codes "TRANSACTION") ≡ false → transaction_mode text (scope ∷ token ∷ tokens) ≡ None
 unfolding transaction_mode
@@ -38,28 +23,6 @@ no_mode text scope token tokens other = cond-false _ _ _ (and_right _ (says text
 pub ok_is : {T E : Type 0} (read : Result T E) (x y : T) → x ≡ y → IfOk read (λ value. value ≡ x) → IfOk read (λ value. value ≡ y)
 ok_is read x y same is = IfOk-weaker read (λ value. value ≡ x) (λ value. value ≡ y) (λ value e. e ∙ same) is
 
--- a word that is one isn't another
-apart : (named : Option (List ℕ)) (word other : List ℕ) → bytes_eq (map to_ascii_lowercase word) (map to_ascii_lowercase other) ≡ false → is_word named word ≡ true → is_word named other ≡ false
-apart None word other differ is = refl
-apart (Some name) word other differ is = ap (λ lower. bytes_eq lower (map to_ascii_lowercase other)) ((bytes_decides (map to_ascii_lowercase name) (map to_ascii_lowercase word)).0 is) ∙ differ
-
--- and such a word names no setting
-slot_in : List ℕ → Option Slot
-slot_in lower = find (λ slot. bytes_eq lower (map to_ascii_lowercase (name_of slot))) assigned_slots
-
-unnamed : (name word : List ℕ) → slot_in (map to_ascii_lowercase word) ≡ None → same_text name word ≡ true → slot_named name ≡ None
-unfolding slot_in
-unnamed name word none is = ap slot_in ((bytes_decides (map to_ascii_lowercase name) (map to_ascii_lowercase word)).0 is) ∙ none
-
-unnamed_token : (kind : TokenKind) (bytes word : List ℕ) → slot_in (map to_ascii_lowercase word) ≡ None → is_word (word_by kind bytes) word ≡ true → slot_by kind bytes ≡ None
-unnamed_token Word bytes word none is = unnamed bytes word none is
-unnamed_token Name bytes word none is = unnamed (inside bytes) word none is
-unnamed_token _ bytes word none is = absurd (cc)
-
-unnamed_word : (named : Option (List ℕ)) (word : List ℕ) → slot_in (map to_ascii_lowercase word) ≡ None → is_word named word ≡ true → option_and_then slot_named named ≡ None
-unnamed_word None word none is = refl
-unnamed_word (Some name) word none is = unnamed name word none is
-
 -- a word divides nothing
 no_comma : (text : List ℕ) (depth : ℕ) (token : Token) → is_symbol_kind token.kind ≡ false → divides text depth token ≡ false
 no_comma text depth token is = and_left _ _ (and_left _ _ is)
@@ -68,61 +31,21 @@ or_none : {A : Type 0} (found : Option A) → option_or found None ≡ found
 or_none None = refl
 or_none (Some value) = refl
 
--- behind NAMES
-names_no_session : (text : List ℕ) (token : Token) → says text token (codes "NAMES") ≡ true → is_session_word text token ≡ false
-names_no_session text token is = or_from _ _ (apart (word_of text token) (codes "NAMES") (codes "SESSION") refl is) (apart (word_of text token) (codes "NAMES") (codes "LOCAL") refl is)
-
-other_mode : (text : List ℕ) (token : Token) (tokens : List Token) → is_session_word text token ≡ false → transaction_mode text (token ∷ tokens) ≡ None
+-- not behind SESSION or LOCAL
+pub other_mode : (text : List ℕ) (token : Token) (tokens : List Token) → is_session_word text token ≡ false → transaction_mode text (token ∷ tokens) ≡ None
 unfolding transaction_mode
 other_mode text token [] other = refl
 other_mode text token (next ∷ tokens) other = cond-false (is_session_word text token && says text next (codes "TRANSACTION")) _ _ (and_left _ _ other)
-
-unassigned : (text : List ℕ) (token : Token) (tokens : List Token) → is_session_word text token ≡ false → slot_by token.kind (bytes_of text token) ≡ None → assignment text (token ∷ tokens) ≡ None
-unfolding assignment assigned
-unassigned text token [] other none = refl
-unassigned text token (next ∷ tokens) other none = cond-false (is_session_word text token) _ _ other ∙ ap (λ slot. assigned text slot (next ∷ tokens)) none
-
-names_unassigned : (text : List ℕ) (token : Token) (tokens : List Token) → says text token (codes "NAMES") ≡ true → assignments text (token ∷ tokens) ≡ None
-unfolding slot_in
-names_unassigned text token tokens is =
-    none_assigned text (token ∷ tokens)
-    (ap (assignment text) (cond-false (divides text 0 token) _ _ (no_comma text 0 token (no_symbol token.kind (bytes_of text token) (codes "NAMES") is)))
-    ∙ unassigned text token (before_comma text (deeper text token 0) tokens) (names_no_session text token is) (unnamed_token token.kind (bytes_of text token) (codes "NAMES") refl is))
-
-pub names_alone : (text : List ℕ) (tokens : List Token) → says_first text tokens (codes "NAMES") ≡ true → own_changes text tokens ≡ names_changes (names_value text tokens)
-names_alone text [] is = absurd (cc)
-names_alone text (token ∷ tokens) is =
-    let names = names_changes (names_value text (token ∷ tokens)) in
-    ap (λ mode. option_or names (option_or (mode_changes mode) (assignments text (token ∷ tokens)))) (other_mode text token tokens (names_no_session text token is))
-    ∙ ap (option_or names) (names_unassigned text token tokens is)
-    ∙ or_none names
-
--- not behind NAMES
-not_names : (text : List ℕ) (tokens : List Token) → says_first text tokens (codes "NAMES") ≡ false → names_value text tokens ≡ None
-unfolding names_value
-not_names text [] other = refl
-not_names text (token ∷ tokens) other = no_names text token tokens other
-
-mode_or_assigned : (text : List ℕ) (tokens : List Token) → says_first text tokens (codes "NAMES") ≡ false → own_changes text tokens ≡ option_or (mode_changes (transaction_mode text tokens)) (assignments text tokens)
-mode_or_assigned text tokens other = ap (λ value. option_or (names_changes value) (option_or (mode_changes (transaction_mode text tokens)) (assignments text tokens))) (not_names text tokens other)
 
 no_scope : (text : List ℕ) (tokens : List Token) → begins_with_session text tokens ≡ false → transaction_mode text tokens ≡ None
 unfolding transaction_mode
 no_scope text [] other = refl
 no_scope text (token ∷ tokens) other = other_mode text token tokens other
 
-pub assigned_alone : (text : List ℕ) (tokens : List Token) → says_first text tokens (codes "NAMES") ≡ false → begins_with_session text tokens ≡ false → own_changes text tokens ≡ assignments text tokens
-assigned_alone text tokens no_names_word unscoped = mode_or_assigned text tokens no_names_word ∙ ap (λ mode. option_or (mode_changes mode) (assignments text tokens)) (no_scope text tokens unscoped)
+pub assigned_alone : (text : List ℕ) (tokens : List Token) → begins_with_session text tokens ≡ false → own_changes text tokens ≡ assignments text tokens
+assigned_alone text tokens unscoped = ap (λ mode. option_or (mode_changes mode) (assignments text tokens)) (no_scope text tokens unscoped)
 
 -- behind SESSION or LOCAL
-session_no_names : (text : List ℕ) (tokens : List Token) → begins_with_session text tokens ≡ true → says_first text tokens (codes "NAMES") ≡ false
-session_no_names text [] is = refl
-session_no_names text (token ∷ tokens) is =
-    elim (or_cases (says text token (codes "SESSION")) (says text token (codes "LOCAL")) is) [
-      | inl e ↦ apart (word_of text token) (codes "SESSION") (codes "NAMES") refl e
-      | inr e ↦ apart (word_of text token) (codes "LOCAL") (codes "NAMES") refl e
-    ]
-
 session_no_symbol : (text : List ℕ) (token : Token) → is_session_word text token ≡ true → is_symbol_kind token.kind ≡ false
 session_no_symbol text token is =
     elim (or_cases (says text token (codes "SESSION")) (says text token (codes "LOCAL")) is) [
@@ -131,7 +54,7 @@ session_no_symbol text token is =
     ]
 
 transaction_unassigned : (text : List ℕ) (scope token : Token) (tokens : List Token) → is_session_word text scope ≡ true → says text token (codes "TRANSACTION") ≡ true → assignments text (scope ∷ token ∷ tokens) ≡ None
-unfolding slot_in assignment assigned
+unfolding assignment assigned
 transaction_unassigned text scope token tokens is transaction =
     let inner = deeper text scope 0 in
     let rest = before_comma text (deeper text token inner) tokens in
@@ -139,16 +62,16 @@ transaction_unassigned text scope token tokens is transaction =
     cond-false (divides text 0 scope) _ _ (no_comma text 0 scope (session_no_symbol text scope is))
     ∙ ap (λ (behind : List Token). scope ∷ behind) (cond-false (divides text inner token) _ _ (no_comma text inner token (no_symbol token.kind (bytes_of text token) (codes "TRANSACTION") transaction))) in
     none_assigned text (scope ∷ token ∷ tokens)
-    (ap (assignment text) front
-    ∙ cond-true (is_session_word text scope) _ _ is
-    ∙ ap (λ slot. assigned text slot rest) (unnamed_word (word_of text token) (codes "TRANSACTION") refl transaction))
+    (ap (part_changes text) front
+    ∙ one_part text (scope ∷ token ∷ rest) (session_no_names text (scope ∷ token ∷ rest) is)
+    ∙ ap (option_map (λ change. change ∷ []))
+    (cond-true (is_session_word text scope) _ _ is ∙ ap (λ slot. assigned text slot rest) (transaction_unnamed (word_of text token) transaction)))
 
 mode_alone_by : (text : List ℕ) (scope token : Token) (tokens : List Token) → is_session_word text scope ≡ true → says text token (codes "TRANSACTION") ≡ true → own_changes text (scope ∷ token ∷ tokens) ≡ mode_changes (mode_of text tokens)
 unfolding transaction_mode
 mode_alone_by text scope token tokens is transaction =
     let whole = scope ∷ token ∷ tokens in
-    mode_or_assigned text whole (session_no_names text whole is)
-    ∙ ap (λ mode. option_or (mode_changes mode) (assignments text whole)) (cond-true (is_session_word text scope && says text token (codes "TRANSACTION")) _ _ (and_from _ _ is transaction))
+    ap (λ mode. option_or (mode_changes mode) (assignments text whole)) (cond-true (is_session_word text scope && says text token (codes "TRANSACTION")) _ _ (and_from _ _ is transaction))
     ∙ ap (option_or (mode_changes (mode_of text tokens))) (transaction_unassigned text scope token tokens is transaction)
     ∙ or_none (mode_changes (mode_of text tokens))
 
@@ -175,7 +98,6 @@ scoped_alone text tokens left (Some scope) read is first other gives =
     let session : is_session_word text scope ≡ true = sym (ap (begins_with_session text) first) ∙ is in
     let same : own_changes text tokens ≡ assignments text (scope ∷ left) =
     ap (own_changes text) first
-    ∙ mode_or_assigned text (scope ∷ left) (session_no_names text (scope ∷ left) session)
     ∙ ap (λ mode. option_or (mode_changes mode) (assignments text (scope ∷ left))) (not_mode text scope left other) in
     ok_is read (assignments text (scope ∷ left)) (own_changes text tokens) (sym same) gives
 

@@ -6,7 +6,7 @@ use Rattle.sql_tokens.specs.Words.{bytes_of, word_by, is_symbol_kind, is_symbol,
 use Rattle.sql_tokens.specs.declared.token.Token.{Token}
 use Rattle.sql_tokens.specs.declared.token.TokenKind.{TokenKind}
 use Rattle.sql_tokens.specs.declared.token.TokenKind.TheVariants.{Symbol}
-use Rattle.session_vars.specs.Shapes.{own_changes, own_shape, tracked_or_other, shape_behind, shape_by, set_shape}
+use Rattle.session_vars.specs.Shapes.{own_changes, own_shape, sets_mode_once, tracked_or_other, shape_behind, shape_by, set_shape}
 use Rattle.session_vars.specs.Statement.{says_first, without_comments, without_end}
 use Rattle.session_vars.specs.Scopes.{sets_server}
 use Rattle.session_vars.specs.declared.change.Change.{Change}
@@ -31,7 +31,7 @@ is_set_shape NotSet = false
 is_set_shape _ = true
 
 tracked_is_set : (changes : Option (List Change)) → is_set_shape (tracked_or_other changes) ≡ true
-tracked_is_set (Some changes) = refl
+tracked_is_set (Some changes) = cond_both (sets_mode_once changes) _ _ (λ (shape : SetShape). is_set_shape shape ≡ true) (λ _. refl) (λ _. refl)
 tracked_is_set None = refl
 
 behind_is_set : (text : List ℕ) (tokens : List Token) → is_set_shape (shape_behind text tokens) ≡ true

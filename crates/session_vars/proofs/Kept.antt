@@ -12,12 +12,12 @@ use Rattle.sql_tokens.specs.Words.{bytes_of, inside, word_of, is_symbol, same_te
 use Rattle.sql_tokens.specs.declared.token.Token.{Token}
 use Rattle.sql_tokens.specs.declared.token.TokenKind.{TokenKind}
 use Rattle.sql_tokens.specs.declared.token.TokenKind.TheVariants.{Word, Quoted, Name, Number, SysVar}
-use Rattle.session_vars.specs.Assignments.{slot_of_variable, slot_of_name, slot_by, change_to, written, behind_colon, assigned, assignment, all_assigned, assignments, with_change}
+use Rattle.session_vars.specs.Assignments.{slot_of_variable, slot_of_name, slot_by, change_to, written, behind_colon, assigned, assignment, all_assigned, assignments, part_changes, with_changes}
 use Rattle.session_vars.specs.Modes.{added_to}
 use Rattle.session_vars.specs.Names.{is_one_word_by, is_one_word, character_set, collation, lower_case, collated, names_value, names_changes}
 use Rattle.session_vars.specs.Scopes.{deeper, divides, parts_of, sets_server}
 use Rattle.session_vars.specs.Settings.{value_at, value_after, changed, applied, collation_names, collation_settings}
-use Rattle.session_vars.specs.Shapes.{own_changes, own_shape, tracked_or_other, shape_behind, shape_by, set_shape}
+use Rattle.session_vars.specs.Shapes.{own_changes, own_shape, sets_mode_once, tracked_or_other, shape_behind, shape_by, set_shape}
 use Rattle.session_vars.specs.Slots.{name_of, all_slots, assigned_slots, place_of, slot_named, unless_transaction}
 use Rattle.session_vars.specs.Statement.{says_first, is_session_word, spoken_by, statement_of}
 use Rattle.session_vars.specs.Texts.{is_names}
@@ -28,7 +28,7 @@ use Rattle.session_vars.specs.declared.change.Change.{Change}
 use Rattle.session_vars.specs.declared.change.SlotValue.{SlotValue}
 use Rattle.session_vars.specs.declared.change.SlotValue.TheVariants.{Default, Text}
 use Rattle.session_vars.specs.declared.shape.SetShape.{SetShape}
-use Rattle.session_vars.specs.declared.shape.SetShape.TheVariants.{Tracked, Global, NextTransaction, NotSet}
+use Rattle.session_vars.specs.declared.shape.SetShape.TheVariants.{Tracked, Global, NextTransaction, Other, NotSet}
 use Rattle.session_vars.specs.declared.slot.Slot.{Slot}
 use Rattle.session_vars.specs.declared.slot.Slot.TheVariants.{Names, CharacterSetResults, SqlMode, TransactionIsolation, TransactionReadOnly}
 use Rattle.session_vars.specs.declared.transaction.Mode.{Mode}
@@ -157,19 +157,6 @@ split_found text depth (token ∷ tokens) are =
       | inr e ↦ subst (AllFound text) (sym (cond-false (divides text depth token) _ _ e)) (onto_found text token (parts_of text (deeper text token depth) tokens) (are.0, tt) (split_found text (deeper text token depth) tokens are.1))
     ]
 
-with_tracked : (first : Option Change) (rest : Option (List Change)) (changes : List Change) → ((change : Change) → first ≡ Some change → IsTrackedChange change) → ((more : List Change) → rest ≡ Some more → AreTrackedChanges more) → with_change first rest ≡ Some changes → AreTrackedChanges changes
-with_tracked None rest changes one others is = absurd (cc)
-with_tracked (Some change) None changes one others is = absurd (cc)
-with_tracked (Some change) (Some more) changes one others is = let same : change ∷ more ≡ changes = cc in subst AreTrackedChanges same (one change refl, others more refl)
-
-all_tracked : (text : List ℕ) (parts : List (List Token)) (changes : List Change) → AllFound text parts → all_assigned text parts ≡ Some changes → AreTrackedChanges changes
-all_tracked text [] changes are is = let same : [] ≡ changes = cc in subst AreTrackedChanges same tt
-all_tracked text (part ∷ parts) changes are is = with_tracked (assignment text part) (all_assigned text parts) changes (λ change. assignment_tracked text part change are.0) (λ more. all_tracked text parts more are.1) is
-
-assignments_tracked : (text : List ℕ) (tokens : List Token) (changes : List Change) → AreFound text tokens → assignments text tokens ≡ Some changes → AreTrackedChanges changes
-unfolding assignments
-assignments_tracked text tokens changes are is = all_tracked text (parts_of text 0 tokens) changes (split_found text 0 tokens are) is
-
 -- a mode gives a tracked value
 one_digit : IsNumberText (codes "1")
 unfolding number_length hexadecimal_length decimal_length fraction_length exponent_length sign_length
@@ -294,7 +281,7 @@ names_changes_tracked (Some value) changes tracked is =
     let same : record { slot = Names; value = Text value; adds = false } ∷ record { slot = CharacterSetResults; value = Default; adds = false } ∷ [] ≡ changes = cc in
     subst AreTrackedChanges same (inl (refl, tracked value refl), (inl (refl, tt), tt))
 
--- so all that a SET statement gives is tracked
+-- where there are changes, all are
 abbrev AllTracked : Option (List Change) → Type 0
 AllTracked found = (changes : List Change) → found ≡ Some changes → AreTrackedChanges changes
 
@@ -302,18 +289,47 @@ or_tracked : (first second : Option (List Change)) → AllTracked first → AllT
 or_tracked (Some found) second one other changes is = one changes is
 or_tracked None second one other changes is = other changes is
 
+-- one part, and all of them
+both_tracked : (changes more : List Change) → AreTrackedChanges changes → AreTrackedChanges more → AreTrackedChanges (changes ++ more)
+both_tracked [] more one others = others
+both_tracked (change ∷ changes) more one others = (one.0, both_tracked changes more one.1 others)
+
+alone_tracked : (found : Option Change) (changes : List Change) → ((change : Change) → found ≡ Some change → IsTrackedChange change) → option_map (λ change. change ∷ []) found ≡ Some changes → AreTrackedChanges changes
+alone_tracked None changes tracked is = absurd (cc)
+alone_tracked (Some change) changes tracked is = let same : change ∷ [] ≡ changes = cc in subst AreTrackedChanges same (tracked change refl, tt)
+
+part_tracked : (text : List ℕ) (tokens : List Token) (changes : List Change) → AreFound text tokens → part_changes text tokens ≡ Some changes → AreTrackedChanges changes
+part_tracked text tokens changes are is =
+    or_tracked (names_changes (names_value text tokens)) (option_map (λ change. change ∷ []) (assignment text tokens))
+    (λ found. names_changes_tracked (names_value text tokens) found (names_tracked text tokens))
+    (λ found. alone_tracked (assignment text tokens) found (λ change. assignment_tracked text tokens change are)) changes is
+
+with_tracked : (first rest : Option (List Change)) (changes : List Change) → AllTracked first → AllTracked rest → with_changes first rest ≡ Some changes → AreTrackedChanges changes
+with_tracked None rest changes one others is = absurd (cc)
+with_tracked (Some some) None changes one others is = absurd (cc)
+with_tracked (Some some) (Some more) changes one others is = let same : some ++ more ≡ changes = cc in subst AreTrackedChanges same (both_tracked some more (one some refl) (others more refl))
+
+all_tracked : (text : List ℕ) (parts : List (List Token)) (changes : List Change) → AllFound text parts → all_assigned text parts ≡ Some changes → AreTrackedChanges changes
+all_tracked text [] changes are is = let same : [] ≡ changes = cc in subst AreTrackedChanges same tt
+all_tracked text (part ∷ parts) changes are is = with_tracked (part_changes text part) (all_assigned text parts) changes (λ some. part_tracked text part some are.0) (λ more. all_tracked text parts more are.1) is
+
+assignments_tracked : (text : List ℕ) (tokens : List Token) (changes : List Change) → AreFound text tokens → assignments text tokens ≡ Some changes → AreTrackedChanges changes
+unfolding assignments
+assignments_tracked text tokens changes are is = all_tracked text (parts_of text 0 tokens) changes (split_found text 0 tokens are) is
+
+-- so all that a SET statement gives is tracked
 given_tracked : (found : Option (List Change)) (changes : List Change) → AllTracked found → tracked_or_other found ≡ Tracked changes → AreTrackedChanges changes
 given_tracked None changes all is = absurd (cc)
-given_tracked (Some found) changes all is = let same : found ≡ changes = cc in subst AreTrackedChanges same (all found refl)
+given_tracked (Some found) changes all is =
+    cond_both (sets_mode_once found) (Tracked found) Other (λ (shape : SetShape). shape ≡ Tracked changes → AreTrackedChanges changes)
+    (λ _ here. let same : found ≡ changes = cc in subst AreTrackedChanges same (all found refl)) (λ _ apart. absurd (cc)) is
 
 behind_tracked : (text : List ℕ) (tokens : List Token) (changes : List Change) → AreFound text tokens → shape_behind text tokens ≡ Tracked changes → AreTrackedChanges changes
 unfolding shape_behind
 behind_tracked text tokens changes are is =
     let Gives : SetShape → Type 0 = λ shape. shape ≡ Tracked changes → AreTrackedChanges changes in
     let mode = mode_changes (transaction_mode text tokens) in
-    let all = or_tracked (names_changes (names_value text tokens)) (option_or mode (assignments text tokens))
-    (λ found. names_changes_tracked (names_value text tokens) found (names_tracked text tokens))
-    (or_tracked mode (assignments text tokens) (mode_tracked (transaction_mode text tokens)) (λ found. assignments_tracked text tokens found are)) in
+    let all = or_tracked mode (assignments text tokens) (mode_tracked (transaction_mode text tokens)) (λ found. assignments_tracked text tokens found are) in
     cond_both (sets_server text 0 true tokens) Global (own_shape text tokens) Gives (λ _ apart. absurd (cc))
     (λ _. cond_both (says_first text tokens (codes "TRANSACTION")) NextTransaction (tracked_or_other (own_changes text tokens)) Gives (λ _ apart. absurd (cc))
     (λ _. given_tracked (own_changes text tokens) changes all)) is

@@ -10,10 +10,14 @@ pub mod Joining
 pub mod OneToken
 pub mod Kept
 pub mod Leading
+pub mod ModeLists
+pub mod Named
 pub mod NamesAgain
+pub mod NewModes
 pub mod Parts
 pub mod Pieces
 pub mod ReadAgain
 pub mod Rules
 pub mod Settable
 pub mod Sizes
+pub mod Unnamed

@@ -13,17 +13,18 @@ use Rattle.sql_tokens.specs.declared.token.TokenKind.{TokenKind}
 use Rattle.sql_tokens.specs.declared.token.TokenKind.TheVariants.{Word}
 use Rattle.sql_tokens.proofs.OneList.{are_tokens}
 use Rattle.session_vars.specs.Names.{is_word_kind, is_one_word_by, is_one_word, character_set, collation, lower_case, collated, names_value, names_changes}
-use Rattle.session_vars.specs.Scopes.{is_server_scope, sets_server}
-use Rattle.session_vars.specs.Shapes.{tracked_or_other, shape_behind, shape_by, set_shape}
+use Rattle.session_vars.specs.Scopes.{is_server_scope, parts_of, sets_server}
+use Rattle.session_vars.specs.Shapes.{sets_mode_once, tracked_or_other, shape_behind, shape_by, set_shape}
 use Rattle.session_vars.specs.Statement.{statement_of, without_comments, without_end}
 use Rattle.session_vars.specs.Tracked.{IsCharacterSet, IsCollated, IsOneToken}
-use Rattle.session_vars.specs.Transactions.{transaction_mode, mode_changes}
-use Rattle.session_vars.specs.Assignments.{assignments}
+use Rattle.session_vars.specs.Transactions.{mode_changes}
+use Rattle.session_vars.specs.Assignments.{all_assigned, assignment, assignments, with_changes}
 use Rattle.session_vars.specs.Values.{character_sets, is_character_set}
 use Rattle.session_vars.specs.declared.change.Change.{Change}
 use Rattle.session_vars.specs.declared.change.SlotValue.TheVariants.{Default, Text}
 use Rattle.session_vars.specs.declared.slot.Slot.TheVariants.{Names, CharacterSetResults}
 use Rattle.session_vars.specs.declared.shape.SetShape.TheVariants.{Tracked}
+use Rattle.session_vars.proofs.Dispatch.{other_mode}
 use Rattle.session_vars.proofs.OneToken.{word_text}
 use Rattle.session_vars.proofs.Pieces.{At, token_of, behind, scanned, said, behind_blank, past_blank, at_end}
 use Rattle.session_vars.proofs.Rules.{IsWordText, word_piece}
@@ -100,9 +101,9 @@ abbrev pub changes_to : List ℕ → List Change
 changes_to value = record { slot = Names; value = Text value; adds = false } ∷ record { slot = CharacterSetResults; value = Default; adds = false } ∷ []
 
 -- a statement of which SET NAMES reads a value
-names_shape : (text rest value : List ℕ) (tokens : List Token) → IsNamesRead text rest → statement_of text ≡ token_of Word 0 (codes "SET") ∷ token_of Word 4 (codes "NAMES") ∷ tokens → sets_server text 0 false tokens ≡ false → names_value text (token_of Word 4 (codes "NAMES") ∷ tokens) ≡ Some value → set_shape text ≡ Tracked (changes_to value)
-unfolding shape_behind
-names_shape text rest value tokens read statement unscoped gives =
+names_shape : (text rest value : List ℕ) (tokens : List Token) → IsNamesRead text rest → statement_of text ≡ token_of Word 0 (codes "SET") ∷ token_of Word 4 (codes "NAMES") ∷ tokens → sets_server text 0 false tokens ≡ false → parts_of text 0 (token_of Word 4 (codes "NAMES") ∷ tokens) ≡ (token_of Word 4 (codes "NAMES") ∷ tokens) ∷ [] → names_value text (token_of Word 4 (codes "NAMES") ∷ tokens) ≡ Some value → set_shape text ≡ Tracked (changes_to value)
+unfolding shape_behind assignments sets_mode_once
+names_shape text rest value tokens read statement unscoped whole gives =
     let names = token_of Word 4 (codes "NAMES") in
     let behind = names ∷ tokens in
     let no_scope : sets_server text 0 true behind ≡ false = ap (λ word. (true && is_server_scope word) || sets_server text 0 false tokens) read.names ∙ unscoped in
@@ -110,7 +111,9 @@ names_shape text rest value tokens read statement unscoped gives =
     ∙ cond-true (says text (token_of Word 0 (codes "SET")) (codes "SET")) _ _ (ap (λ word. same_text word (codes "SET")) read.set)
     ∙ cond-false (sets_server text 0 true behind) _ _ no_scope
     ∙ cond-false (says text names (codes "TRANSACTION")) _ _ (ap (λ word. same_text word (codes "TRANSACTION")) read.names)
-    ∙ ap (λ value. tracked_or_other (option_or (names_changes value) (option_or (mode_changes (transaction_mode text behind)) (assignments text behind)))) gives
+    ∙ ap (λ mode. tracked_or_other (option_or (mode_changes mode) (assignments text behind))) (other_mode text names tokens (ap (λ word. same_text word (codes "SESSION") || same_text word (codes "LOCAL")) read.names))
+    ∙ ap (λ (parts : List (List Token)). tracked_or_other (all_assigned text parts)) whole
+    ∙ ap (λ value. tracked_or_other (with_changes (option_or (names_changes value) (option_map (λ change. change ∷ []) (assignment text behind))) (Some []))) gives
 
 -- what a word says of the character set and the collation
 set_said : (text set : List ℕ) (place : ℕ) → bytes_of text (token_of Word place set) ≡ set → is_character_set set ≡ true → character_set text (token_of Word place set) ≡ Some set
@@ -133,7 +136,7 @@ plain_again text set is known =
     cond-true (says text names (codes "NAMES")) _ _ (ap (λ word. same_text word (codes "NAMES")) read.names)
     ∙ ap (option_map lower_case) (set_said text set 10 (said text 10 Word set [] at) known.0)
     ∙ ap (λ (name : List ℕ). Some name) known.1 in
-    names_shape text set set (token ∷ []) read (ap (λ (all : List Token). without_end text (without_comments all)) scan) refl gives
+    names_shape text set set (token ∷ []) read (ap (λ (all : List Token). without_end text (without_comments all)) scan) refl refl gives
 
 -- `SET NAMES c COLLATE k`
 collated_again : (text value : List ℕ) → text ≡ codes "SET NAMES " ++ value → IsCollated value → set_shape text ≡ Tracked (changes_to value)
@@ -175,7 +178,7 @@ collated_again text value is collated_value =
     ∙ ap (λ (lower : List ℕ). Some (lower ++ codes " COLLATE " ++ lower_case name)) collated_value.is_set.1
     ∙ ap (λ (lower : List ℕ). Some (set ++ codes " COLLATE " ++ lower)) collated_value.is_lower
     ∙ ap (λ (bytes : List ℕ). Some bytes) (sym collated_value.parts) in
-    names_shape text value value (set_token ∷ collate ∷ token ∷ []) read (ap (λ (all : List Token). without_end text (without_comments all)) scan) refl gives
+    names_shape text value value (set_token ∷ collate ∷ token ∷ []) read (ap (λ (all : List Token). without_end text (without_comments all)) scan) refl refl gives
 
 pub names_again : (text value : List ℕ) → text ≡ codes "SET NAMES " ++ value → IsCharacterSet value ⊎ IsCollated value → set_shape text ≡ Tracked (changes_to value)
 names_again text value is (inl set) = plain_again text value is set

@@ -1,12 +1,14 @@
--- Assignments, one after the other.
+-- The parts of a SET statement, one after the other.
 use Rattle.std.proofs.Common.{◌≡◌, ◌≤◌, ℕ, Bool, true, false, ◌&&◌, nat_eq, nat_le, length, arith, List, [], ◌∷◌, ◌++◌, take, cond, Option, Some, None, option_map, refl, sym, ◌∙◌, ap, inl, inr, append_assoc}
 use Rattle.std.specs.List.{onto_first}
+use Rattle.std.specs.Option.{option_or}
 use Rattle.std.proofs.lemmas.Bool.{cond-true, cond-false, cases_Bool, cases_lt, and_right, lt-leb}
-use Rattle.std.proofs.lemmas.List.{take_all, length-take-le}
+use Rattle.std.proofs.lemmas.List.{append-nil, take_all, length-take-le}
 use Rattle.sql_tokens.specs.declared.token.Token.{Token}
 use Rattle.sql_tokens.specs.Words.{bytes_of, is_symbol}
-use Rattle.session_vars.specs.Assignments.{assigned, assignment, assignments, all_assigned, assigned_behind, behind_colon, slot_by, slot_of_name, with_change, written}
+use Rattle.session_vars.specs.Assignments.{assigned, assignment, assignments, all_assigned, assigned_behind, behind_colon, part_changes, slot_by, slot_of_name, with_changes, written}
 use Rattle.session_vars.specs.Modes.{joined, takes_modes}
+use Rattle.session_vars.specs.Names.{names_value, names_changes}
 use Rattle.session_vars.specs.Scopes.{before_comma, behind_comma, deeper, divides, parts_of}
 use Rattle.session_vars.specs.Statement.{is_session_word}
 use Rattle.session_vars.specs.declared.change.Change.{Change}
@@ -34,37 +36,46 @@ parts_from text depth (token ∷ tokens) =
           ∙ sym (ap (λ (part : List Token). parts part (behind_comma text depth (token ∷ tokens))) (cond-false here _ _ e) ∙ ap (λ (rest : Option (List Token)). parts (token ∷ before_comma text inner tokens) rest) (cond-false here _ _ e))
     ]
 
-behind : (text : List ℕ) (part : List Token) (rest : Option (List Token)) → all_assigned text (part ∷ parts_behind text rest) ≡ with_change (assignment text part) (assigned_behind text rest)
+behind : (text : List ℕ) (part : List Token) (rest : Option (List Token)) → all_assigned text (part ∷ parts_behind text rest) ≡ with_changes (part_changes text part) (assigned_behind text rest)
 unfolding assignments
 behind text part None = refl
 behind text part (Some more) = refl
 
--- the first assignment, and the others
-pub assignments_from : (text : List ℕ) (tokens : List Token) → assignments text tokens ≡ with_change (assignment text (before_comma text 0 tokens)) (assigned_behind text (behind_comma text 0 tokens))
+-- the first part, and the others
+pub assignments_from : (text : List ℕ) (tokens : List Token) → assignments text tokens ≡ with_changes (part_changes text (before_comma text 0 tokens)) (assigned_behind text (behind_comma text 0 tokens))
 unfolding assignments
 assignments_from text tokens = ap (all_assigned text) (parts_from text 0 tokens) ∙ behind text (before_comma text 0 tokens) (behind_comma text 0 tokens)
 
 -- none, where the first is none
-pub none_assigned : (text : List ℕ) (tokens : List Token) → assignment text (before_comma text 0 tokens) ≡ None → assignments text tokens ≡ None
-none_assigned text tokens first = assignments_from text tokens ∙ ap (λ (change : Option Change). with_change change (assigned_behind text (behind_comma text 0 tokens))) first
+pub none_assigned : (text : List ℕ) (tokens : List Token) → part_changes text (before_comma text 0 tokens) ≡ None → assignments text tokens ≡ None
+none_assigned text tokens first = assignments_from text tokens ∙ ap (λ (changes : Option (List Change)). with_changes changes (assigned_behind text (behind_comma text 0 tokens))) first
 
 -- the last one, and one with others behind it
-pub last_assigned : (text : List ℕ) (tokens : List Token) (change : Change) → assignment text (before_comma text 0 tokens) ≡ Some change → behind_comma text 0 tokens ≡ None → assignments text tokens ≡ Some (change ∷ [])
-last_assigned text tokens change first end =
+pub last_assigned : (text : List ℕ) (tokens : List Token) (changes : List Change) → part_changes text (before_comma text 0 tokens) ≡ Some changes → behind_comma text 0 tokens ≡ None → assignments text tokens ≡ Some changes
+last_assigned text tokens changes first end =
     assignments_from text tokens
-    ∙ ap (λ (one : Option Change). with_change one (assigned_behind text (behind_comma text 0 tokens))) first
-    ∙ ap (λ (rest : Option (List Token)). with_change (Some change) (assigned_behind text rest)) end
+    ∙ ap (λ (one : Option (List Change)). with_changes one (assigned_behind text (behind_comma text 0 tokens))) first
+    ∙ ap (λ (rest : Option (List Token)). with_changes (Some changes) (assigned_behind text rest)) end
+    ∙ ap (λ (all : List Change). Some all) (append-nil changes)
 
-pub next_assigned : (text : List ℕ) (tokens rest : List Token) (change : Change) → assignment text (before_comma text 0 tokens) ≡ Some change → behind_comma text 0 tokens ≡ Some rest → assignments text tokens ≡ with_change (Some change) (assignments text rest)
-next_assigned text tokens rest change first more =
+pub next_assigned : (text : List ℕ) (tokens rest : List Token) (changes : List Change) → part_changes text (before_comma text 0 tokens) ≡ Some changes → behind_comma text 0 tokens ≡ Some rest → assignments text tokens ≡ with_changes (Some changes) (assignments text rest)
+next_assigned text tokens rest changes first more =
     assignments_from text tokens
-    ∙ ap (λ (one : Option Change). with_change one (assigned_behind text (behind_comma text 0 tokens))) first
-    ∙ ap (λ (others : Option (List Token)). with_change (Some change) (assigned_behind text others)) more
+    ∙ ap (λ (one : Option (List Change)). with_changes one (assigned_behind text (behind_comma text 0 tokens))) first
+    ∙ ap (λ (others : Option (List Token)). with_changes (Some changes) (assigned_behind text others)) more
 
--- a change before others, behind those that were there
-pub one_more_change : (changes : List Change) (change : Change) (rest : Option (List Change)) → option_map (λ more. changes ++ more) (with_change (Some change) rest) ≡ option_map (λ more. (changes ++ change ∷ []) ++ more) rest
-one_more_change changes change None = refl
-one_more_change changes change (Some rest) = ap (λ (all : List Change). Some all) (sym (append_assoc changes (change ∷ []) rest))
+-- the changes of a part before others, behind those that were there
+onto_changes : (front changes : List Change) (rest : Option (List Change)) → option_map (λ more. front ++ more) (with_changes (Some changes) rest) ≡ option_map (λ more. (front ++ changes) ++ more) rest
+onto_changes front changes None = refl
+onto_changes front changes (Some rest) = ap (λ (all : List Change). Some all) (sym (append_assoc front changes rest))
+
+pub more_changes : (front new : List Change) (first rest : Option (List Change)) → option_map (λ more. front ++ more) first ≡ Some new → option_map (λ more. front ++ more) (with_changes first rest) ≡ option_map (λ more. new ++ more) rest
+more_changes front new None rest is = absurd (cc)
+more_changes front new (Some changes) rest is = let same : front ++ changes ≡ new = cc in onto_changes front changes rest ∙ ap (λ (all : List Change). option_map (λ more. all ++ more) rest) same
+
+pub no_changes : (front : List Change) (first : Option (List Change)) → option_map (λ more. front ++ more) first ≡ None → first ≡ None
+no_changes front None is = refl
+no_changes front (Some changes) is = absurd (cc)
 
 -- what is assigned behind a comma, where there is one
 pub behind_by : (text : List ℕ) (more : Bool) (tokens : List Token) → assigned_behind text (cond more (Some tokens) None) ≡ cond more (assignments text tokens) (Some [])
@@ -115,12 +126,27 @@ long_assignment text (a ∷ b ∷ tokens) long =
       | inr e ↦ cond-false (is_session_word text a) _ _ e ∙ long_assigned text (slot_by a.kind (bytes_of text a)) (b ∷ tokens) (omega arith)
     ]
 
+-- and so many are no SET NAMES
+long_names : (text : List ℕ) (tokens : List Token) → 65 ≤ length tokens → names_value text tokens ≡ None
+unfolding names_value
+long_names text [] long = refl
+long_names text (a ∷ []) long = refl
+long_names text (a ∷ b ∷ []) long = absurd (omega arith)
+long_names text (a ∷ b ∷ c ∷ []) long = refl
+long_names text (a ∷ b ∷ c ∷ d ∷ []) long = absurd (omega arith)
+long_names text (a ∷ b ∷ c ∷ d ∷ e ∷ tokens) long = refl
+
+long_part : (text : List ℕ) (tokens : List Token) → 65 ≤ length tokens → part_changes text tokens ≡ None
+long_part text tokens long =
+    ap (λ value. option_or (names_changes value) (option_map (λ change. change ∷ []) (assignment text tokens))) (long_names text tokens long)
+    ∙ ap (option_map (λ change. change ∷ [])) (long_assignment text tokens long)
+
 -- so those behind the first sixty-five make no difference
-pub assignment_front : (text : List ℕ) (tokens : List Token) → assignment text (take 65 tokens) ≡ assignment text tokens
-assignment_front text tokens =
+pub part_front : (text : List ℕ) (tokens : List Token) → part_changes text (take 65 tokens) ≡ part_changes text tokens
+part_front text tokens =
     elim (cases_lt (length tokens) 65) [
-      | inl short ↦ ap (assignment text) (take_all 65 tokens (omega arith))
-      | inr long ↦ long_assignment text (take 65 tokens) (omega (arith, length-take-le 65 tokens long)) ∙ sym (long_assignment text tokens long)
+      | inl short ↦ ap (part_changes text) (take_all 65 tokens (omega arith))
+      | inr long ↦ long_part text (take 65 tokens) (omega (arith, length-take-le 65 tokens long)) ∙ sym (long_part text tokens long)
     ]
 
 pub nothing : {A : Type 0} (o : Option A) → ((x : A) → o ≡ Some x → ⊥) → o ≡ None

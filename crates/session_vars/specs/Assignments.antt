@@ -1,10 +1,12 @@
 -- Assignments of a SET statement, behind its SET.
-use Rattle.std.specs.Prelude.{ℕ, false, ◌&&◌, nat_eq, List, [], ◌∷◌, take, drop, codes, Option, Some, None, option_and_then, if◌then◌else◌}
+use Rattle.std.specs.Prelude.{ℕ, false, ◌&&◌, nat_eq, List, [], ◌∷◌, ◌++◌, take, drop, codes, Option, Some, None, option_map, option_and_then, if◌then◌else◌}
+use Rattle.std.specs.Option.{option_or}
 use Rattle.sql_tokens.specs.Words.{bytes_of, inside, word_of, same_text, is_symbol}
 use Rattle.sql_tokens.specs.declared.token.Token.{Token}
 use Rattle.sql_tokens.specs.declared.token.TokenKind.{TokenKind}
 use Rattle.sql_tokens.specs.declared.token.TokenKind.TheVariants.{Word, Name, SysVar}
 use Rattle.session_vars.specs.Modes.{joined}
+use Rattle.session_vars.specs.Names.{names_value, names_changes}
 use Rattle.session_vars.specs.Scopes.{parts_of}
 use Rattle.session_vars.specs.Slots.{slot_named, unless_transaction}
 use Rattle.session_vars.specs.Statement.{is_session_word}
@@ -65,17 +67,21 @@ assignment text (scope ∷ name ∷ tokens) =
     else assigned text (slot_by scope.kind (bytes_of text scope)) (name ∷ tokens)
 assignment text _ = None
 
-abbrev pub with_change : Option Change → Option (List Change) → Option (List Change)
-with_change None changes = None
-with_change (Some change) None = None
-with_change (Some change) (Some changes) = Some (change ∷ changes)
+-- one part of a SET statement, which may be that of SET NAMES
+abbrev pub part_changes : (text : List ℕ) → List Token → Option (List Change)
+part_changes text tokens = option_or (names_changes (names_value text tokens)) (option_map (λ change. change ∷ []) (assignment text tokens))
 
--- each of these is an assignment
+abbrev pub with_changes : Option (List Change) → Option (List Change) → Option (List Change)
+with_changes None rest = None
+with_changes (Some changes) None = None
+with_changes (Some changes) (Some rest) = Some (changes ++ rest)
+
+-- each of these is such a part
 abbrev pub all_assigned : (text : List ℕ) → List (List Token) → Option (List Change)
 all_assigned text [] = Some []
-all_assigned text (part ∷ parts) = with_change (assignment text part) (all_assigned text parts)
+all_assigned text (part ∷ parts) = with_changes (part_changes text part) (all_assigned text parts)
 
--- assignments with commas between them, outside brackets
+-- such parts with commas between them, outside brackets
 unfoldable pub assignments : (text : List ℕ) → List Token → Option (List Change)
 assignments text tokens = all_assigned text (parts_of text 0 tokens)
 

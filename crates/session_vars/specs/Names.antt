@@ -1,4 +1,4 @@
--- SET NAMES, behind its SET.
+-- SET NAMES, behind its SET or a comma.
 use Rattle.std.specs.Prelude.{ℕ, Bool, true, false, ◌&&◌, nat_eq, List, [], ◌∷◌, ◌++◌, length, map, codes, Option, Some, None, option_map, option_and_then, if◌then◌else◌}
 use Rattle.std.specs.Char.{to_ascii_lowercase}
 use Rattle.sql_tokens.specs.Tokens.{tokens_of}

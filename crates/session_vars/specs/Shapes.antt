@@ -1,9 +1,10 @@
 -- The shapes of SET statements.
-use Rattle.std.specs.Prelude.{ℕ, true, List, [], ◌∷◌, codes, Option, Some, None, if◌then◌else◌}
+use Rattle.std.specs.Prelude.{ℕ, Bool, true, not, ◌||◌, nat_le, List, [], ◌∷◌, length, filter, codes, Option, Some, None, if◌then◌else◌}
+use Rattle.std.specs.List.{list_any}
 use Rattle.std.specs.Option.{option_or}
 use Rattle.sql_tokens.specs.declared.token.Token.{Token}
 use Rattle.session_vars.specs.Assignments.{assignments}
-use Rattle.session_vars.specs.Names.{names_value, names_changes}
+use Rattle.session_vars.specs.Modes.{takes_modes}
 use Rattle.session_vars.specs.Scopes.{sets_server}
 use Rattle.session_vars.specs.Statement.{says_first, statement_of}
 use Rattle.sql_tokens.specs.Words.{says}
@@ -12,14 +13,18 @@ use Rattle.session_vars.specs.declared.change.Change.{Change}
 use Rattle.session_vars.specs.declared.shape.SetShape.{SetShape}
 use Rattle.session_vars.specs.declared.shape.SetShape.TheVariants.{Tracked, Global, NextTransaction, Other, NotSet}
 
--- the changes of SET NAMES, or else of SET SESSION TRANSACTION, or else of assignments
+-- the changes of SET SESSION TRANSACTION, or else of SET NAMES and assignments
 abbrev pub own_changes : (text : List ℕ) → List Token → Option (List Change)
-own_changes text tokens =
-    option_or (names_changes (names_value text tokens)) (option_or (mode_changes (transaction_mode text tokens)) (assignments text tokens))
+own_changes text tokens = option_or (mode_changes (transaction_mode text tokens)) (assignments text tokens)
+
+-- A server works out each value of a statement before it sets the first: an expression over the mode sees the mode before the
+-- statement, so the mode is set once there.
+unfoldable pub sets_mode_once : List Change → Bool
+sets_mode_once changes = nat_le (length (filter (λ change. takes_modes change.slot) changes)) 1 || not (list_any (λ change. change.adds) changes)
 
 abbrev pub tracked_or_other : Option (List Change) → SetShape
 tracked_or_other None = Other
-tracked_or_other (Some changes) = Tracked changes
+tracked_or_other (Some changes) = if sets_mode_once changes then Tracked changes else Other
 
 -- by what stands behind SET, where nothing is set of the whole server
 abbrev pub own_shape : (text : List ℕ) → List Token → SetShape

@@ -3,7 +3,7 @@ use Rattle.std.specs.Prelude.{◌≡◌, ◌⊎◌, ◌<◌, ℕ, true, List, []
 use Rattle.sql_tokens.specs.Tokens.{token_at}
 use Rattle.sql_tokens.specs.declared.token.TokenKind.{TokenKind}
 use Rattle.sql_tokens.specs.declared.token.TokenKind.TheVariants.{Number}
-use Rattle.session_vars.specs.Modes.{is_mode_list, is_added_list, joined_text, server_mode, takes_modes}
+use Rattle.session_vars.specs.Modes.{is_base_list, is_added_list, joined_text, server_mode, takes_modes}
 use Rattle.session_vars.specs.Names.{is_one_word, lower_case}
 use Rattle.session_vars.specs.Settings.{AreSettings, value_at}
 use Rattle.session_vars.specs.Texts.{value_text}
@@ -30,9 +30,9 @@ pub record IsNegative (slot : Slot) (value : SlotValue) : Type 0 where
   pub token : IsOneToken Number number
   pub gives : negative_value slot Number number ≡ Some value
 
--- a mode that is no session's own: the server's, or a list in quotes
+-- a mode that is no session's own: the server's, or a list in quotes that ends with no comma
 abbrev pub IsBase : List ℕ → Type 0
-IsBase base = (base ≡ server_mode) ⊎ ((list : List ℕ) × ((base ≡ 39 ∷ [] ++ list ++ 39 ∷ []) × (is_mode_list list ≡ true)))
+IsBase base = (base ≡ server_mode) ⊎ ((list : List ℕ) × ((base ≡ 39 ∷ [] ++ list ++ 39 ∷ []) × (is_base_list list ≡ true)))
 
 -- it is such a mode to which lists are added
 pub record IsJoined (slot : Slot) (value : SlotValue) : Type 0 where

@@ -1,16 +1,18 @@
 // Assignments of a SET statement, behind its SET.
-ghost use Rattle.std.specs.Prelude.{◌≡◌, ◌≤◌, ◌<◌, true, false, [], ◌++◌, take, length, Some, None, IfOk, OnOk, if◌then◌else◌};
+ghost use Rattle.std.specs.Prelude.{◌≡◌, ◌≤◌, ◌<◌, true, false, [], ◌++◌, take, length, Some, None, option_map, IfOk, OnOk, if◌then◌else◌};
 ghost use Rattle.std.specs.Option.{ForSome, option_to_list};
-ghost use Rattle.session_vars.specs.Assignments.{slot_of_variable, slot_of_name, slot_by, change_to, written, assigned, assignment, assignments};
+ghost use Rattle.session_vars.specs.Assignments.{slot_of_variable, slot_of_name, slot_by, change_to, written, assigned, assignment, part_changes, assignments};
+ghost use Rattle.session_vars.specs.Names.{names_changes};
 ghost use Rattle.sql_tokens.specs.Words.{is_symbol_kind};
 ghost use Rattle.session_vars.specs.Scopes.{before_comma, behind_comma, server_set};
 
 use crate::modes::joined;
+use crate::names::names_value;
 use crate::set_tokens::SetTokens;
 use crate::statement::is_session_word;
 use crate::value::{negative_value, value_of};
 use crate::{Change, Changes, Slot, SlotValue};
-use mx_base::OutOfMemory;
+use mx_base::{Bytes, OutOfMemory};
 use sql_tokens::{
     Token, TokenKind, behind, bytes_of, front, inside, is_symbol, same_text, word_of,
 };
@@ -140,16 +142,55 @@ fn begun(alloc: Global, taken: Option<Token>) -> Result<Vec<Token>, OutOfMemory>
     Ok(part)
 }
 
-// The next assignment, to the next comma, of which these tokens were taken; and whether a comma was there.
-#[tactic(auto, using(crate::proofs::Parts::assignment_front))]
-fn next_change(
+// Appends the changes of SET NAMES, which sets character_set_results too.
+fn push_names(changes: &mut Changes, value: Bytes) -> Result<(), OutOfMemory>
+    ensures { OnOk result (Some changes.new ≡ option_map (λ more. changes.old ++ more) (names_changes (Some value))) }
+{
+    changes.push(Change {
+        slot: Slot::Names,
+        value: SlotValue::Text(value),
+        adds: false,
+    })?;
+    changes.push(Change {
+        slot: Slot::CharacterSetResults,
+        value: SlotValue::Default,
+        adds: false,
+    })?;
+    Ok(())
+}
+
+// Appends the changes of one part, which may be that of SET NAMES. Whether it is one that is tracked.
+fn push_part(
+    alloc: Global,
+    text: &[u8],
+    tokens: &[Token],
+    changes: &mut Changes,
+) -> Result<bool, OutOfMemory>
+    ensures { IfOk result (λ is. option_map (λ more. changes.old ++ more) (part_changes text.now tokens.now) ≡ (if is then Some changes.new else None)) }
+{
+    if let Some(value) = names_value(alloc, text, tokens)? {
+        push_names(changes, value)?;
+        return Ok(true);
+    }
+    let Some(change) = assignment(alloc, text, tokens)? else {
+        return Ok(false);
+    };
+    changes.push(change)?;
+    Ok(true)
+}
+
+// Appends the changes of the next part, to the next comma, of which these tokens were taken. Whether it is one that is
+// tracked, and whether a comma was there.
+#[tactic(auto, using(crate::proofs::Parts::part_front))]
+fn next_changes(
     alloc: Global,
     text: &[u8],
     part: &mut Vec<Token>,
     tokens: &mut SetTokens,
-) -> Result<(Option<Change>, bool), OutOfMemory>
+    changes: &mut Changes,
+) -> Result<(bool, bool), OutOfMemory>
     requires { length part.old.items ≤ 65 }
-    ensures change { IfOk result (λ next. next.0 ≡ assignment text.now (part.old.items ++ before_comma text.now tokens.old.depth tokens.old.left)) }
+    ensures changes { IfOk result (λ next. option_map (λ more. changes.old ++ more) (part_changes text.now (part.old.items ++ before_comma text.now tokens.old.depth tokens.old.left)) ≡ (if next.0 then Some changes.new else None)) }
     ensures rest { IfOk result (λ next. behind_comma text.now tokens.old.depth tokens.old.left ≡ (if next.1 then Some tokens.new.left else None)) }
     ensures shorter { IfOk result (λ next. next.1 ≡ true → length tokens.new.left < length tokens.old.left) }
     ensures outside { IfOk result (λ next. next.1 ≡ true → tokens.new.depth ≡ 0) }
@@ -157,12 +198,13 @@ fn next_change(
     ensures scope { server_set text.now tokens.new ≡ server_set text.now tokens.old }
 {
     let more = tokens.next_part(text, part)?;
-    let change = assignment(alloc, text, part)?;
+    let is_tracked = push_part(alloc, text, part, changes)?;
     part.clear();
-    Ok((change, more))
+    Ok((is_tracked, more))
 }
 
-// Assignments with commas between them, to the end. Of the first one a token may have been taken, which is no symbol.
+// Assignments and SET NAMES with commas between them, to the end. Of the first one a token may have been taken, which is no
+// symbol.
 pub(crate) fn assignments(
     alloc: Global,
     text: &[u8],
@@ -178,11 +220,10 @@ pub(crate) fn assignments(
     let mut part = begun(alloc, taken)?;
     let mut more = true;
     'parts: while more {
-        let (change, next) = next_change(alloc, text, &mut part, tokens)?;
-        let Some(change) = change else {
+        let (is_tracked, next) = next_changes(alloc, text, &mut part, tokens, &mut changes)?;
+        if !is_tracked {
             return Ok(None);
-        };
-        changes.push(change)?;
+        }
         more = next;
     }
     Ok(Some(changes))

@@ -1,11 +1,13 @@
 // Laws of settings, for whoever stands on this crate.
-ghost use Rattle.std.specs.Prelude.{◌≡◌, ◌≢◌, ℕ, true, false, List, [], ◌∷◌, Some, filter, codes};
+ghost use Rattle.std.specs.Prelude.{◌≡◌, ◌≢◌, ℕ, true, false, nat_eq, List, [], ◌∷◌, Some, filter, codes};
+ghost use Rattle.std.specs.List.{list_all, slice_split};
 ghost use Rattle.sql_tokens.specs.Tokens.{tokens_of};
+ghost use Rattle.session_vars.specs.Modes.{added_to, is_added_list, joined_text, named_by, names_mode, own_mode};
 ghost use Rattle.session_vars.specs.Settings.{AreSettings, applied, collation_settings, difference_of, is_text, value_at};
 ghost use Rattle.session_vars.specs.Shapes.{changes_by, set_shape};
 ghost use Rattle.session_vars.specs.Statement.{says_first, without_comments};
 ghost use Rattle.session_vars.specs.Texts.{CanBeSet, is_assigned, names_text, session_text};
-ghost use Rattle.session_vars.specs.Tracked.{AreTracked};
+ghost use Rattle.session_vars.specs.Tracked.{AreTracked, IsTrackedValue};
 ghost use Rattle.session_vars.specs.declared.change.Change.{Change};
 ghost use Rattle.session_vars.specs.declared.change.SlotValue.{SlotValue};
 
@@ -34,6 +36,14 @@ pub fn difference_read_again()
     ensures names { (from to : List SlotValue) (text : List ℕ) → AreTracked to → names_text (difference_of from to) ≡ Some text → set_shape text ≡ SetShape.Tracked (record { slot = Slot.Names; value = value_at to Slot.Names; adds = false } ∷ record { slot = Slot.CharacterSetResults; value = SlotValue.Default; adds = false } ∷ []) }
     ensures session { (from to : List SlotValue) (text : List ℕ) → AreTracked to → session_text (difference_of from to) ≡ Some text → set_shape text ≡ SetShape.Tracked (filter is_assigned (difference_of from to)) }
     ensures leads { (from to : List SlotValue) → AreSettings from → AreTracked to → applied (applied from (changes_by (names_text (difference_of from to)))) (changes_by (session_text (difference_of from to))) ≡ to }
+{}
+
+/// The modes of a session are a set: what an expression adds is named from then on, and a mode that is named isn't added
+/// again. So a statement that is repeated adds nothing.
+pub fn modes_are_a_set()
+    ensures named { (old : SlotValue) (list : List ℕ) → IsTrackedValue Slot.SqlMode old → is_added_list list ≡ true → list_all (names_mode (named_by (added_to old (SlotValue.Text (joined_text own_mode list))))) (slice_split (λ b. nat_eq b 44) list) ≡ true }
+    ensures stays { (old : SlotValue) (list : List ℕ) → list_all (names_mode (named_by old)) (slice_split (λ b. nat_eq b 44) list) ≡ true → added_to old (SlotValue.Text (joined_text own_mode list)) ≡ old }
+    ensures again { (old : SlotValue) (list : List ℕ) → IsTrackedValue Slot.SqlMode old → is_added_list list ≡ true → added_to (added_to old (SlotValue.Text (joined_text own_mode list))) (SlotValue.Text (joined_text own_mode list)) ≡ added_to old (SlotValue.Text (joined_text own_mode list)) }
 {}
 
 /// What a SET statement gives is tracked, and so is what a collation gives: settings of which this holds stay so under

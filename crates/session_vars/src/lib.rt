@@ -24,7 +24,7 @@ pub use change::{Change, Changes, SlotValue};
 pub use differences::difference;
 pub use laws::{
     difference_can_be_set, difference_leads, difference_read_again, first_word_decides,
-    settings_stay_tracked,
+    modes_are_a_set, settings_stay_tracked,
 };
 pub use long_part::LongPart;
 pub use read::read_set;

@@ -1,7 +1,8 @@
 // Values of sql_mode by an expression: CONCAT, also nested, of a mode and of lists of modes that are added to it.
-ghost use Rattle.std.specs.Prelude.{◌≡◌, ◌+◌, ◌<◌, ◌^◌, [], ◌∷◌, ◌++◌, length, option_copied, Some, None, IfOk, OnOk, option_map, if◌then◌else◌};
+ghost use Rattle.std.specs.Prelude.{◌≡◌, ◌+◌, ◌<◌, ◌^◌, not, nat_eq, [], ◌∷◌, ◌++◌, length, take, fold, option_copied, Some, None, IfOk, OnOk, option_map, if◌then◌else◌};
 ghost use Rattle.sql_tokens.specs.Words.{bytes_of as bytes_at};
-ghost use Rattle.session_vars.specs.Modes.{is_mode_list, is_added_list, base_of, list_of, lists_behind, joined_text, joined_change, joined_with, joined_at, takes_modes, joined, is_joined_text, without_last, as_one_list, added_to_text, added_to};
+ghost use Rattle.session_vars.specs.Modes.{is_mode_list, is_added_list, ends_with_comma, is_front_list, is_base_list, is_front, is_opening, moved_behind, may_join, base_of, list_of, lists_behind, joined_text, joined_change, joined_with, joined_at, takes_modes, joined, names_mode, with_named, as_value, is_joined_text, without_last, with_modes, with_more, grown, named_by, added_to};
+ghost use Rattle.std.specs.List.{prefix_len, slice_split};
 
 use crate::value::{LONGEST_VALUE, has_reading_mode, is_plain_text};
 use crate::{Change, Slot, SlotValue};
@@ -30,6 +31,32 @@ fn is_added_list(list: &[u8]) -> bool
     !list.is_empty() && list[0] == b',' && is_mode_list(list)
 }
 
+fn without_last(bytes: &[u8], count: usize) -> &[u8]
+    ensures { result.now ≡ without_last count bytes.now }
+{
+    &bytes[..bytes.len().saturating_sub(count)]
+}
+
+fn ends_with_comma(list: &[u8]) -> bool
+    ensures { result ≡ ends_with_comma list.now }
+{
+    !list.is_empty() && list[list.len() - 1] == b','
+}
+
+// One that ends with a comma, so that it adds whole modes to whatever stands behind it.
+fn is_front_list(list: &[u8]) -> bool
+    ensures { result ≡ is_front_list list.now }
+{
+    ends_with_comma(list) && is_mode_list(without_last(list, 1))
+}
+
+// One that other lists are added to.
+fn is_base_list(list: &[u8]) -> bool
+    ensures { result ≡ is_base_list list.now }
+{
+    !ends_with_comma(list) && is_mode_list(list)
+}
+
 fn in_quotes(alloc: Global, list: &[u8]) -> Result<Bytes, OutOfMemory>
     ensures { IfOk result (λ text. text ≡ 39 ∷ [] ++ list.now ++ 39 ∷ []) }
 {
@@ -53,7 +80,7 @@ fn variable_mode(variable: &[u8]) -> Option<&'static [u8]>
     }
 }
 
-// What is added to: a mode by its variable, or a quoted list.
+// What is added to: a mode by its variable, or a quoted list that ends with no comma.
 #[tactic(auto, unfolding(crate::specs::Modes::base_of))]
 fn base_of(alloc: Global, kind: TokenKind, bytes: &[u8]) -> Result<Option<Bytes>, OutOfMemory>
     ensures { IfOk result (λ base. base ≡ base_of kind bytes.now) }
@@ -63,7 +90,7 @@ fn base_of(alloc: Global, kind: TokenKind, bytes: &[u8]) -> Result<Option<Bytes>
             Some(mode) => Ok(Some(Bytes::from_slice(alloc, mode)?)),
             None => Ok(None),
         },
-        TokenKind::Quoted if is_mode_list(inside(bytes)) => {
+        TokenKind::Quoted if is_base_list(inside(bytes)) => {
             Ok(Some(in_quotes(alloc, inside(bytes))?))
         }
         _ => Ok(None),
@@ -119,22 +146,29 @@ fn joined_text(alloc: Global, base: &[u8], lists: &[u8]) -> Result<Bytes, OutOfM
     Ok(text)
 }
 
-// A base and lists that are added to it.
+// Something is added, and to the mode before it no more than a value may have.
+fn may_join(base: &[u8], lists: &[u8]) -> bool
+    ensures { result ≡ may_join base.now lists.now }
+{
+    !lists.is_empty() && (base != OWN_MODE || lists.len() <= LONGEST_VALUE)
+}
+
+// A base, lists that were in front of it, and lists behind it.
 #[tactic(auto, unfolding(crate::specs::Modes::joined_at))]
 fn joined_with(
     alloc: Global,
     text: &[u8],
     depth: usize,
+    lists: &mut Bytes,
     token: &Token,
     rest: &[Token],
 ) -> Result<Option<Change>, OutOfMemory>
-    ensures { IfOk result (λ change. change ≡ joined_with (base_of token.now.kind (bytes_at text.now token.now)) (lists_behind text.now depth rest.now)) }
+    ensures { IfOk result (λ change. change ≡ joined_with (base_of token.now.kind (bytes_at text.now token.now)) (option_map (λ more. lists.old ++ more) (lists_behind text.now depth rest.now))) }
 {
     let Some(base) = base_of(alloc, token.kind, bytes_of(text, token))? else {
         return Ok(None);
     };
-    let mut lists = Bytes::new(alloc);
-    if !push_lists(text, depth, rest, &mut lists)? || lists.as_slice().is_empty() {
+    if !push_lists(text, depth, rest, lists)? || !may_join(base.as_slice(), lists.as_slice()) {
         return Ok(None);
     }
     Ok(Some(Change {
@@ -144,27 +178,60 @@ fn joined_with(
     }))
 }
 
-// Behind so many `CONCAT (`.
+// Whether a list stands in front of the mode, within a CONCAT.
+fn is_front(text: &[u8], depth: usize, token: &Token, next: &Token) -> bool
+    ensures { result ≡ is_front text.now depth token.now next.now }
+{
+    depth >= 1
+        && is_symbol(text, next, b',')
+        && token.kind == TokenKind::Quoted
+        && is_front_list(inside(bytes_of(text, token)))
+}
+
+// Appends such a list, as it is kept behind the mode.
+fn push_front(lists: &mut Bytes, list: &[u8]) -> Result<(), OutOfMemory>
+    ensures { OnOk result (lists.new ≡ lists.old ++ moved_behind list.now) }
+{
+    lists.append(b",")?;
+    lists.append(without_last(list, 1))
+}
+
+// `CONCAT (`.
+fn is_opening(text: &[u8], token: &Token, next: &Token) -> bool
+    ensures { result ≡ is_opening text.now token.now next.now }
+{
+    says(text, token, b"CONCAT") && is_symbol(text, next, b'(')
+}
+
+// Behind so many `CONCAT (`, and these lists.
 #[tactic(auto, unfolding(crate::specs::Modes::joined_at))]
 fn joined_at(
     alloc: Global,
     text: &[u8],
     depth: usize,
+    lists: &mut Bytes,
     tokens: &[Token],
 ) -> Result<Option<Change>, OutOfMemory>
     requires { depth + length tokens.now < 2 ^ 64 }
-    ensures { IfOk result (λ change. change ≡ joined_at text.now depth tokens.now) }
+    ensures { IfOk result (λ change. change ≡ joined_at text.now depth lists.old tokens.now) }
 {
-    match tokens {
-        [token, next, rest @ ..] if says(text, token, b"CONCAT") && is_symbol(text, next, b'(') => {
-            joined_at(alloc, text, depth + 1, rest)
-        }
-        [token, rest @ ..] if !rest.is_empty() => joined_with(alloc, text, depth, token, rest),
-        _ => Ok(None),
+    let [token, after @ ..] = tokens else {
+        return Ok(None);
+    };
+    let [next, rest @ ..] = after else {
+        return Ok(None);
+    };
+    if is_opening(text, token, next) {
+        return joined_at(alloc, text, depth + 1, lists, rest);
     }
+    if is_front(text, depth, token, next) {
+        push_front(lists, inside(bytes_of(text, token)))?;
+        return joined_at(alloc, text, depth, lists, rest);
+    }
+    joined_with(alloc, text, depth, lists, token, after)
 }
 
-fn takes_modes(slot: Slot) -> bool
+pub(crate) fn takes_modes(slot: Slot) -> bool
     ensures { result ≡ takes_modes slot }
 {
     slot == Slot::SqlMode
@@ -181,10 +248,55 @@ pub(crate) fn joined(
     ensures { IfOk result (λ change. change ≡ joined text.now slot tokens.now) }
 {
     if takes_modes(slot) && tokens.len() <= LONGEST_EXPRESSION {
-        joined_at(alloc, text, 0, tokens)
+        joined_at(alloc, text, 0, &mut Bytes::new(alloc), tokens)
     } else {
         Ok(None)
     }
+}
+
+// Whether a value names a mode, in any case, between its commas and quotes.
+fn names_mode(value: &[u8], mode: &[u8]) -> bool
+    ensures { result ≡ names_mode value.now mode.now }
+{
+    value
+        .split(|byte| *byte == b',' || *byte == b'\'')
+        .any(|named| same_text(mode, named))
+}
+
+// How many bytes stand before the first comma of a list.
+fn first_size(list: &[u8]) -> usize
+    ensures { result ≡ prefix_len (λ b. not (nat_eq b 44)) list.now }
+{
+    list.iter().take_while(|byte| **byte != b',').count()
+}
+
+// Appends a mode, behind a comma, to a value that doesn't name it.
+fn push_unless_named(value: &mut Bytes, mode: &[u8]) -> Result<(), OutOfMemory>
+    ensures { OnOk result (value.new ≡ with_named value.old mode.now) }
+{
+    if !names_mode(value.as_slice(), mode) {
+        value.append(b",")?;
+        value.append(mode)?;
+    }
+    Ok(())
+}
+
+// A value, and the modes of a list that are new to it.
+fn all_named(alloc: Global, value: &[u8], list: &[u8]) -> Result<Bytes, OutOfMemory>
+    ensures { IfOk result (λ named. named ≡ fold with_named value.now (slice_split (λ b. nat_eq b 44) list.now)) }
+{
+    let mut named = Bytes::from_slice(alloc, value)?;
+    let mut left = Some(list);
+    'modes: while let Some(list) = left {
+        let size = first_size(list);
+        push_unless_named(&mut named, front(list, size))?;
+        left = if size < list.len() {
+            Some(behind(list, size + 1))
+        } else {
+            None
+        };
+    }
+    Ok(named)
 }
 
 fn is_joined_text(bytes: &[u8]) -> bool
@@ -193,37 +305,59 @@ fn is_joined_text(bytes: &[u8]) -> bool
     front(bytes, 7) == b"CONCAT(".as_slice()
 }
 
-fn without_last(bytes: &[u8], count: usize) -> &[u8]
-    ensures { result.now ≡ without_last count bytes.now }
+// A list as a value; one that is too long for that is kept as what it adds to no mode.
+fn as_value(alloc: Global, list: &[u8]) -> Result<Bytes, OutOfMemory>
+    ensures { IfOk result (λ text. text ≡ as_value list.now) }
 {
-    &bytes[..bytes.len().saturating_sub(count)]
+    if list.len() <= LONGEST_VALUE - 2 {
+        return in_quotes(alloc, list);
+    }
+    let mut lists = Bytes::from_slice(alloc, b",")?;
+    lists.append(list)?;
+    joined_text(alloc, b"''", lists.as_slice())
 }
 
-// A list in quotes with the lists in it.
-fn as_one_list(alloc: Global, old: &[u8], added: &[u8]) -> Result<Bytes, OutOfMemory>
-    ensures { IfOk result (λ text. text ≡ as_one_list old.now added.now) }
-{
-    let mut text = Bytes::from_slice(alloc, without_last(old, 1))?;
-    text.append(without_last(behind(added, 20), 1))?;
-    Ok(text)
-}
-
-fn added_to_text(alloc: Global, old: &[u8], added: &[u8]) -> Result<Bytes, OutOfMemory>
-    ensures { IfOk result (λ text. text ≡ added_to_text old.now added.now) }
+// A value with more modes in its last list.
+fn with_modes(alloc: Global, old: &[u8], new: &[u8]) -> Result<Bytes, OutOfMemory>
+    ensures { IfOk result (λ text. text ≡ with_modes old.now new.now) }
 {
     if is_joined_text(old) {
         let mut text = Bytes::from_slice(alloc, without_last(old, 2))?;
-        text.append(behind(added, 20))?;
+        text.append(new)?;
+        text.append(b"')")?;
         return Ok(text);
     }
-    let list = as_one_list(alloc, old, added)?;
-    if list.as_slice().len() <= LONGEST_VALUE {
-        return Ok(list);
+    let mut list = Bytes::from_slice(alloc, inside(old))?;
+    list.append(new)?;
+    as_value(alloc, list.as_slice())
+}
+
+fn with_more(alloc: Global, old: &SlotValue, new: &[u8]) -> Result<Bytes, OutOfMemory>
+    ensures { IfOk result (λ text. text ≡ with_more old.now new.now) }
+{
+    match old {
+        SlotValue::Default => joined_text(alloc, SERVER_MODE, new),
+        SlotValue::Text(old) => with_modes(alloc, old.as_slice(), new),
     }
-    let mut text = Bytes::from_slice(alloc, b"CONCAT(")?;
-    text.append(old)?;
-    text.append(behind(added, 17))?;
-    Ok(text)
+}
+
+fn grown(alloc: Global, old: &SlotValue, new: &[u8]) -> Result<SlotValue, OutOfMemory>
+    ensures { IfOk result (λ value. value ≡ grown old.now new.now) }
+{
+    if new.is_empty() {
+        old.copy(alloc)
+    } else {
+        Ok(SlotValue::Text(with_more(alloc, old, new)?))
+    }
+}
+
+fn named_by(value: &SlotValue) -> &[u8]
+    ensures { result.now ≡ named_by value.now }
+{
+    match value {
+        SlotValue::Default => b"",
+        SlotValue::Text(text) => text.as_slice(),
+    }
 }
 
 // What an expression over the mode before it makes of that mode.
@@ -234,16 +368,11 @@ pub(crate) fn added_to(
 ) -> Result<SlotValue, OutOfMemory>
     ensures { IfOk result (λ value. value ≡ added_to old.now added.now) }
 {
-    match (old, added) {
-        (_, SlotValue::Default) => Ok(SlotValue::Default),
-        (SlotValue::Default, SlotValue::Text(added)) => {
-            let mut text = Bytes::from_slice(alloc, b"CONCAT(")?;
-            text.append(SERVER_MODE)?;
-            text.append(behind(added.as_slice(), 17))?;
-            Ok(SlotValue::Text(text))
-        }
-        (SlotValue::Text(old), SlotValue::Text(added)) => {
-            Ok(SlotValue::Text(added_to_text(alloc, old.as_slice(), added.as_slice())?))
-        }
-    }
+    let SlotValue::Text(added) = added else {
+        return Ok(SlotValue::Default);
+    };
+    let lists = without_last(behind(added.as_slice(), 20), 2);
+    let value = named_by(old);
+    let named = all_named(alloc, value, lists)?;
+    grown(alloc, old, behind(named.as_slice(), value.len()))
 }

@@ -1,10 +1,8 @@
-// SET NAMES, behind its SET.
+// SET NAMES, behind its SET or a comma.
 ghost use Rattle.std.specs.Prelude.{◌≡◌, [], ◌∷◌, ◌++◌, IfOk, codes};
 ghost use Rattle.std.specs.Option.{option_copied};
-ghost use Rattle.session_vars.specs.Scopes.{server_set};
 ghost use Rattle.session_vars.specs.Names.{is_one_word, character_set, collation, lower_case, collated, names_value};
 
-use crate::set_tokens::SetTokens;
 use crate::statement::spoken;
 use crate::value::is_character_set;
 use mx_base::{Bytes, OutOfMemory};
@@ -114,30 +112,18 @@ fn collated_names(
     Ok(Some(collated(alloc, set, name)?))
 }
 
-// What SET NAMES makes of the setting `names`, by what stands behind SET.
+// What SET NAMES makes of the setting `names`, by what stands behind SET or a comma.
 #[tactic(auto, unfolding(crate::specs::Names::names_value))]
 pub(crate) fn names_value(
     alloc: Global,
     text: &[u8],
-    tokens: &mut SetTokens,
+    tokens: &[Token],
 ) -> Result<Option<Bytes>, OutOfMemory>
-    ensures value { IfOk result (λ value. value ≡ names_value text.now tokens.old.left) }
-    ensures scope { server_set text.now tokens.new ≡ server_set text.now tokens.old }
+    ensures { IfOk result (λ value. value ≡ names_value text.now tokens.now) }
 {
-    let Some(names) = tokens.next(text) else {
-        return Ok(None);
-    };
-    let Some(set) = tokens.next(text) else {
-        return Ok(None);
-    };
-    let Some(collate) = tokens.next(text) else {
-        return plain_names(alloc, text, &names, &set);
-    };
-    let Some(name) = tokens.next(text) else {
-        return Ok(None);
-    };
-    match tokens.next(text) {
-        None => collated_names(alloc, text, &names, &set, &collate, &name),
-        Some(_) => Ok(None),
+    match tokens {
+        [names, set] => plain_names(alloc, text, names, set),
+        [names, set, collate, name] => collated_names(alloc, text, names, set, collate, name),
+        _ => Ok(None),
     }
 }

@@ -1,39 +1,19 @@
 // SET statements that are read.
-ghost use Rattle.std.specs.Prelude.{◌≡◌, true, IfOk};
-ghost use Rattle.session_vars.specs.Names.{names_changes};
+ghost use Rattle.std.specs.Prelude.{◌≡◌, true, length, filter, IfOk};
+ghost use Rattle.std.specs.List.{list_any};
+ghost use Rattle.session_vars.specs.Modes.{takes_modes as is_mode};
 ghost use Rattle.session_vars.specs.Scopes.{server_set};
-ghost use Rattle.session_vars.specs.Shapes.{own_changes, own_shape, set_shape};
+ghost use Rattle.session_vars.specs.Shapes.{own_changes, own_shape, set_shape, sets_mode_once};
 ghost use Rattle.session_vars.specs.Statement.{begins_with_session};
 ghost use Rattle.session_vars.specs.Transactions.{mode_changes};
 
 use crate::assignment::assignments;
-use crate::names::names_value;
+use crate::modes::takes_modes;
 use crate::set_tokens::SetTokens;
 use crate::transaction::{Mode, mode_of};
-use crate::{Change, Changes, SetShape, Slot, SlotValue};
+use crate::{Change, Changes, SetShape, SlotValue};
 use mx_base::{Bytes, OutOfMemory};
 use std::alloc::Global;
-
-// SET NAMES sets character_set_results too.
-fn names_changes(alloc: Global, value: Option<Bytes>) -> Result<Option<Changes>, OutOfMemory>
-    ensures { IfOk result (λ changes. changes ≡ names_changes value) }
-{
-    let Some(value) = value else {
-        return Ok(None);
-    };
-    let mut changes = Changes::new(alloc);
-    changes.push(Change {
-        slot: Slot::Names,
-        value: SlotValue::Text(value),
-        adds: false,
-    })?;
-    changes.push(Change {
-        slot: Slot::CharacterSetResults,
-        value: SlotValue::Default,
-        adds: false,
-    })?;
-    Ok(Some(changes))
-}
 
 fn mode_changes(alloc: Global, mode: Option<Mode>) -> Result<Option<Changes>, OutOfMemory>
     ensures { IfOk result (λ changes. changes ≡ mode_changes mode) }
@@ -70,7 +50,7 @@ fn scoped_changes(
     }
 }
 
-// The changes of SET NAMES, SET SESSION TRANSACTION or assignments, by the tokens behind SET.
+// The changes of SET SESSION TRANSACTION, or of SET NAMES and assignments, by the tokens behind SET.
 fn own_changes(
     alloc: Global,
     text: &[u8],
@@ -80,14 +60,35 @@ fn own_changes(
     ensures changes { IfOk result (λ changes. changes ≡ own_changes text.now tokens.old.left) }
     ensures scope { server_set text.now tokens.new ≡ server_set text.now tokens.old }
 {
-    if tokens.begins_with(text, b"NAMES") {
-        let value = names_value(alloc, text, tokens)?;
-        return names_changes(alloc, value);
-    }
     if tokens.begins_with(text, b"SESSION") || tokens.begins_with(text, b"LOCAL") {
         return scoped_changes(alloc, text, tokens);
     }
     assignments(alloc, text, None, tokens)
+}
+
+// Whether the mode is set once, where it is set by an expression over the mode before.
+#[tactic(auto, unfolding(crate::specs::Shapes::sets_mode_once))]
+fn sets_mode_once(changes: &[Change]) -> bool
+    ensures { result ≡ sets_mode_once changes.now }
+{
+    mode_changes_in(changes) <= 1 || !any_adds(changes)
+}
+
+// Whether a value is an expression over the one before it.
+fn any_adds(changes: &[Change]) -> bool
+    ensures { result ≡ list_any (λ change. change.adds) changes.now }
+{
+    changes.iter().any(|change| change.adds)
+}
+
+// How often the mode is set.
+fn mode_changes_in(changes: &[Change]) -> usize
+    ensures { result ≡ length (filter (λ change. is_mode change.slot) changes.now) }
+{
+    changes
+        .iter()
+        .filter(|change| takes_modes(change.slot))
+        .count()
 }
 
 // The shape, by the tokens behind SET, where nothing is set of the whole server.
@@ -100,8 +101,8 @@ fn own_shape(alloc: Global, text: &[u8], tokens: &mut SetTokens) -> Result<SetSh
         return Ok(SetShape::NextTransaction);
     }
     match own_changes(alloc, text, tokens)? {
-        Some(changes) => Ok(SetShape::Tracked(changes)),
-        None => Ok(SetShape::Other),
+        Some(changes) if sets_mode_once(changes.as_slice()) => Ok(SetShape::Tracked(changes)),
+        _ => Ok(SetShape::Other),
     }
 }
 
