@@ -1,7 +1,7 @@
 mod Answering
 mod Decoding
 mod Law
-mod Maps
+pub mod Maps
 mod Meeting
 mod Pairs
 mod Past
