@@ -125,6 +125,7 @@ impl Own {
         ensures run { IfOk result (λ payloads. Runs R.step (R.stored server.old) self.old.session command.now (R.stored server.new) self.new.session payloads) }
         ensures prepared { IfOk result (λ payloads. (k : ℕ) → prepared_at self.new.prepared k ≡ prepared_by command.now (is_err_payload (first_payload payloads)) key self.new.session (prepared_at self.old.prepared) k) }
     {
+        R::tame();
         let reply = server.run(&mut self.session, command)?;
         self.keep(alloc, key, command, reply.as_slice())?;
         Ok(reply)
@@ -177,6 +178,7 @@ impl Own {
         ensures accepted { OnOk result (Accepts R.tests (R.stored server.new) self.new.session) }
         ensures step { OnOk result (RunsStep R.step (R.stored server.old) self.old command.now (R.stored server.new) self.new) }
     {
+        R::tame();
         server.run(&mut self.session, command)
     }
 
@@ -186,6 +188,7 @@ impl Own {
         ensures accepted { OnOk result (Accepts R.tests (R.stored server.new) self.new.session) }
         ensures end { OnOk result (RunsEnd R.step (R.stored server.old) self.old (R.stored server.new) self.new) }
     {
+        R::tame();
         let _reply = server.run(&mut self.session, &Cmd::Reset)?;
         self.prepared = Prepared::new(alloc);
         Ok(())
@@ -198,6 +201,7 @@ impl Own {
         ensures close { OnOk result (RunsClose R.step (R.stored server.old) self.old (R.stored server.new) self.new) }
     {
         let id = self.session.last_id;
+        R::tame();
         let _reply = server.run(&mut self.session, &Cmd::Close)?;
         self.session.last_id = id;
         Ok(())

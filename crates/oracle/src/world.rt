@@ -143,6 +143,7 @@ impl World {
         ensures sessions { OnOk result (AreTaken R.tests self.new) }
         ensures turn { OnOk result (Leads who.now self.old (R.stored server.old) self.new (R.stored server.new) (λ private server. closed (runs R.step) private server who.now.name)) }
     {
+        R::tame();
         let mut own = self.take(alloc, who)?;
         own.close(server)?;
         self.put(who.name, own)
@@ -161,6 +162,7 @@ impl World {
         ensures sessions { OnOk result (AreTaken R.tests self.new) }
         ensures turn { OnOk result (Leads who.now self.old (R.stored server.old) self.new (R.stored server.new) (λ private server. in_table (runs R.step) private server who.now.name (private.sessions who.now.name) Reset (End who.now.name))) }
     {
+        R::tame();
         let mut own = self.take(alloc, who)?;
         own.end(alloc, server)?;
         self.put(who.name, own)
@@ -180,6 +182,7 @@ impl World {
         ensures sessions { OnOk result (AreTaken R.tests self.new) }
         ensures turn { OnOk result ((c : Command) → command.now ≡ cmd_of c → Leads who.now self.old (R.stored server.old) self.new (R.stored server.new) (λ private server. in_session (runs R.step) private server who.now.name (private.sessions who.now.name) c)) }
     {
+        R::tame();
         let mut own = self.take(alloc, who)?;
         let _reply = own.step(server, command)?;
         self.put(who.name, own)
@@ -200,6 +203,7 @@ impl World {
         ensures sessions { OnOk result (AreTaken R.tests self.new) }
         ensures turn { OnOk result (Leads who.now self.old (R.stored server.old) self.new (R.stored server.new) (λ private server. private_prep (runs R.step) private true server who.now.name key text)) }
     {
+        R::tame();
         let mut own = self.take(alloc, who)?;
         let _reply = own.statement(alloc, server, None, key, Cmd::Prepare { text })?;
         self.put(who.name, own)
@@ -219,6 +223,7 @@ impl World {
         ensures sessions { OnOk result (AreTaken R.tests self.new) }
         ensures turn { OnOk result ((due : TheDue) → IsOf due asked.entry → Leads who.now self.old (R.stored server.old) self.new (R.stored server.new) (λ private server. private_statement (runs R.step) private server who.now.name due)) }
     {
+        R::tame();
         let mut own = self.take(alloc, who)?;
         let to_prepare = is_prepare(&asked.command);
         let payloads = own.statement(alloc, server, asked.place, asked.key, asked.command)?;
