@@ -30,15 +30,7 @@ ready : (due : Due) (s : Session) → readied due s ≡ placed_by (taken due) s
 ready due s = ready_by due.anew due.place s
 
 pub decoded_as : (entry : Option Key) (c : Command) → cmd_of (worlds.decoded entry c) ≡ decoded entry (cmd_of c)
-decoded_as None (Query text) = refl
-decoded_as None (InitDb schema) = refl
-decoded_as None (FieldList rest) = refl
-decoded_as None (SetId n) = refl
-decoded_as None ReadId = refl
-decoded_as None (Prepare text) = refl
-decoded_as None (Run text schema settings args) = refl
-decoded_as None Reset = refl
-decoded_as None Quit = refl
+decoded_as None c = refl
 decoded_as (Some entry) (Query text) = refl
 decoded_as (Some entry) (InitDb schema) = refl
 decoded_as (Some entry) (FieldList rest) = refl

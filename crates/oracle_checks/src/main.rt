@@ -1,0 +1,19 @@
+//! Shows what the turns of a private world leave, a line for each case of stdin.
+#![tactic(auto)]
+
+mod turns;
+
+use check_lines::{Case, CaseFault};
+use std::alloc::Global;
+use std::io;
+
+fn answer(alloc: Global, case: &mut Case<'_>) -> Result<String, CaseFault> {
+    match case.reader {
+        "turns" => turns::follow(alloc, case.rest_text()),
+        _ => Err(CaseFault::Bad),
+    }
+}
+
+fn main(rt: HostRuntime) -> io::Result<()> {
+    check_lines::run(&rt, answer)
+}
