@@ -1,5 +1,5 @@
 -- SET SESSION last_insert_id is no SET of tracked settings.
-use Rattle.std.specs.Prelude.{◌≡◌, ℕ, Bool, true, false, ◌&&◌, bytes_eq, find, List, [], ◌∷◌, codes, map, Option, None, Some, option_and_then, if◌then◌else◌}
+use Rattle.std.specs.Prelude.{◌≡◌, ℕ, Bool, true, false, ◌&&◌, bytes_eq, find, List, [], ◌∷◌, codes, map, Option, None, Some, option_and_then, option_map, if◌then◌else◌}
 use Rattle.std.proofs.Common.{refl, ap, ◌∙◌}
 use Rattle.std.proofs.lemmas.Bool.{cond-true, cond-false, and_left, or_from, or_left, or_right}
 use Rattle.std.specs.Char.{to_ascii_lowercase}
@@ -10,16 +10,17 @@ use Rattle.sql_tokens.specs.Words.{bytes_of, inside, is_symbol, is_symbol_kind, 
 use Rattle.sql_tokens.specs.declared.token.Token.{Token}
 use Rattle.sql_tokens.specs.declared.token.TokenKind.{TokenKind}
 use Rattle.sql_tokens.specs.declared.token.TokenKind.TheVariants as kinds
-use Rattle.session_vars.proofs.Dispatch.{no_mode, no_names}
+use Rattle.session_vars.proofs.Dispatch.{no_mode}
 use Rattle.session_vars.proofs.First.{no_symbol}
 use Rattle.session_vars.proofs.Parts.{none_assigned}
-use Rattle.session_vars.specs.Assignments.{assigned, assignment, assignments}
-use Rattle.session_vars.specs.Names.{names_changes}
+use Rattle.session_vars.proofs.Unnamed.{one_part as assigned_part}
+use Rattle.session_vars.specs.Assignments.{assigned, assignment, part_changes, assignments}
 use Rattle.session_vars.specs.Scopes.{before_comma, deeper, divides, names_server, server_scopes, sets_server}
 use Rattle.session_vars.specs.Shapes.{set_shape, shape_behind, shape_by, tracked_or_other}
 use Rattle.session_vars.specs.Slots.{assigned_slots, name_of, slot_named}
 use Rattle.session_vars.specs.Statement.{is_session_word, without_end}
 use Rattle.session_vars.specs.Transactions.{mode_changes, transaction_mode}
+use Rattle.session_vars.specs.declared.change.Change.{Change}
 use Rattle.session_vars.specs.declared.shape.SetShape.TheVariants.{Other}
 use Rattle.pin_classifier.specs.Classes.{is_deep, is_other}
 use Rattle.pin_classifier.specs.Statement.{statement}
@@ -91,12 +92,13 @@ behind_set text scope name equals value is_scope is_name whole =
     let rest : sets_server text (deeper text scope 0) (divides text 0 scope) (name ∷ equals ∷ value ∷ []) ≡ false = ap (λ due. sets_server text (deeper text scope 0) due (name ∷ equals ∷ value ∷ [])) (undivided text 0 scope whole.0) ∙ unscoped text (deeper text scope 0) (name ∷ equals ∷ value ∷ []) whole.1 in
     let none : assignments text tokens ≡ None =
     none_assigned text tokens
-    (ap (assignment text) (one_part text 0 tokens whole) ∙ cond-true (is_session_word text scope) _ _ session ∙ ap (λ slot. assigned text slot (equals ∷ value ∷ [])) (unnamed (word_of text name) is_name)) in
+    (ap (part_changes text) (one_part text 0 tokens whole)
+    ∙ assigned_part text tokens (said_as (word_of text scope) (codes "SESSION") is_scope (codes "NAMES"))
+    ∙ ap (option_map (λ (change : Change). change ∷ [])) (cond-true (is_session_word text scope) _ _ session ∙ ap (λ slot. assigned text slot (equals ∷ value ∷ [])) (unnamed (word_of text name) is_name))) in
     cond-false (sets_server text 0 true tokens) _ _ (or_from _ _ (no_server scope.kind (bytes_of text scope) (codes "SESSION") refl is_scope) rest)
     ∙ cond-false (says text scope (codes "TRANSACTION")) _ _ (said_as (word_of text scope) (codes "SESSION") is_scope (codes "TRANSACTION"))
     ∙ ap tracked_or_other
-    (ap (λ value. option_or (names_changes value) (option_or (mode_changes (transaction_mode text tokens)) (assignments text tokens))) (no_names text scope (name ∷ equals ∷ value ∷ []) (said_as (word_of text scope) (codes "SESSION") is_scope (codes "NAMES")))
-    ∙ ap (λ mode. option_or (mode_changes mode) (assignments text tokens)) (no_mode text scope name (equals ∷ value ∷ []) (said_as (word_of text name) (codes "last_insert_id") is_name (codes "TRANSACTION")))
+    (ap (λ mode. option_or (mode_changes mode) (assignments text tokens)) (no_mode text scope name (equals ∷ value ∷ []) (said_as (word_of text name) (codes "last_insert_id") is_name (codes "TRANSACTION")))
     ∙ none)
 
 abbrev its_pieces : List (List ℕ)

@@ -1,5 +1,5 @@
 -- A link to a server that stays as an entry of it comes, and what a piece says of one.
-use Rattle.std.specs.Prelude.{◌≡◌, ◌<◌, ℕ, false, nat_eq, List, [], ◌∷◌, ◌++◌, length, Some, None, refl}
+use Rattle.std.specs.Prelude.{◌≡◌, ℕ, false, nat_eq, List, [], ◌∷◌, ◌++◌, Some, None, refl}
 use Rattle.std.proofs.Common.{sym, ◌∙◌, ap, subst}
 use Rattle.mx_base.specs.declared.names.LinkId.{LinkId}
 use Rattle.mx_wire.specs.Log.{Log}

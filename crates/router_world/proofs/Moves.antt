@@ -1,5 +1,5 @@
 -- What is done for one client among the links to servers.
-use Rattle.std.specs.Prelude.{◌≡◌, ◌⊎◌, ℕ, false, List, [], Option, Some, None}
+use Rattle.std.specs.Prelude.{◌≡◌, ◌⊎◌, ℕ, false, [], Option, Some, None}
 use Rattle.mx_wire.specs.Log.{Log}
 use Rattle.packet_frame.specs.Packets.{Framed, next_id}
 use Rattle.lend_core.specs.declared.ask.Answered.{Answered}

@@ -1,14 +1,12 @@
 -- What the router lends for a link is all that is owed to it.
-use Rattle.std.specs.Prelude.{◌≡◌, ◌⊎◌, ◌+◌, ◌<◌, ◌≤◌, ℕ, zero, suc, Bool, true, false, nat_eq, cond, List, [], ◌∷◌, ◌++◌, length, take, drop, slice_get, Option, Some, None, refl}
-use Rattle.std.proofs.Common.{sym, ◌∙◌, ap, subst, append_assoc, append-nil, inl, inr, arith, length-append}
+use Rattle.std.specs.Prelude.{◌≡◌, ◌⊎◌, ◌+◌, ◌<◌, ℕ, zero, suc, Bool, true, false, nat_eq, cond, List, [], ◌∷◌, ◌++◌, length, take, drop, slice_get, Option, Some, None, refl}
+use Rattle.std.proofs.Common.{sym, ◌∙◌, ap, inl, inr, arith, length-append}
 use Rattle.std.proofs.Math.Seq.{drop-append_seam}
 use Rattle.std.proofs.lemmas.List.{drop_all, length-take-le}
 use Rattle.mx_base.specs.declared.names.ClientNo.{ClientNo}
 use Rattle.mx_base.specs.declared.names.LinkId.{LinkId}
 use Rattle.mx_base.specs.declared.tag.Tag.TheVariants.{Reply}
-use Rattle.mx_base.specs.declared.names.Port.{Port}
 use Rattle.mx_wire.specs.Log.{Log, written_of}
-use Rattle.mx_wire.specs.Growth.{bool_cases}
 use Rattle.mx_wire.specs.Moments.{AllLawful}
 use Rattle.mx_wire.specs.Tells.{Fits}
 use Rattle.ready_loop.specs.Sent.{Sent}
@@ -17,16 +15,14 @@ use Rattle.packet_frame.specs.Packets.{spelling}
 use Rattle.server_side.specs.Account.{Account}
 use Rattle.server_side.specs.Backend.{BackendState, Left, left}
 use Rattle.server_side.specs.Login.{opening, said_of}
-use Rattle.server_side.specs.declared.command.Command.{Command as Handed}
-use Rattle.client_session.specs.Answers.{is_query}
 use Rattle.client_session.specs.Arrivals.{Arrival, arrivals, arrival_of}
 use Rattle.lend_core.specs.declared.lent.Lent.{Lent}
 use Rattle.lend_core.specs.Events.{left_in}
 use Rattle.exchange.specs.Logins.{IsPrefix, heard_of}
 use Rattle.exchange.specs.Commands.{Command, pieces_of, commands_on}
-use Rattle.exchange.specs.Replies.{Forms, Standing, Clean, Sends, standing_on}
-use Rattle.promises.specs.Service.{Turn, Service, turn_of}
-use Rattle.promises.specs.Owners.{talk_with, user_on}
+use Rattle.exchange.specs.Replies.{Forms, standing_on}
+use Rattle.promises.specs.Service.{Service, turn_of}
+use Rattle.promises.specs.Owners.{user_on}
 use Rattle.promises.specs.Due.{work_of, turned_away, due}
 use Rattle.promises.specs.Sizes.{unwritten, client_at, query_in, last_bytes, owed_standing, login_first, owed_as, owed_by, owed}
 use Rattle.promises.proofs.Causes.{clients-unowned}
@@ -34,7 +30,7 @@ use Rattle.promises.proofs.InWork.{some-same}
 use Rattle.router_world.specs.declared.seat.Parting.{Parting}
 use Rattle.router_world.specs.declared.seat.Seat.{Seat}
 use Rattle.router_world.specs.Acts.{reply_sent, seat_sends, left_sent, sends_by, sends, close_of, farewell_of, IsFarewell}
-use Rattle.router_world.specs.Owed.{IsWhole, Lends, lends}
+use Rattle.router_world.specs.Owed.{IsWhole, lends}
 use Rattle.router_world.specs.Rows.{begun, begun_by, bytes_in, IsInside, LinkAt, Entering, Inside}
 use Rattle.router_world.specs.Tables.{Tables}
 use Rattle.router_world.specs.World.{tables_after}

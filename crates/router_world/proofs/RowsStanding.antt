@@ -6,7 +6,6 @@ use Rattle.std.proofs.Common.{◌∙◌, ap, subst, append-nil, arith, length-ap
 use Rattle.packet_frame.specs.Packets.{first_message, spelling}
 use Rattle.packet_frame.specs.PacketLaws.{nat_eq-true, nat_eq-false}
 use Rattle.packet_frame.specs.SpellingLaws.{spelling-some}
-use Rattle.reply_track.specs.declared.place.State.{State}
 use Rattle.reply_track.specs.Runs.{Ending, Going, Ended, Failed, run}
 use Rattle.reply_track.specs.Tracking.{started}
 use Rattle.reply_track.specs.declared.reply.ReplyKind.{ReplyKind}

@@ -1,13 +1,12 @@
 -- What the bytes of a whole command say of the reply to it is what its message asks for.
-use Rattle.std.proofs.Common.{◌≡◌, ◌≤◌, ◌<◌, ℕ, zero, suc, ◌+◌, ◌-◌, ◌*◌, ◌/◌, ◌%◌, Bool, true, false, nat_eq, cond, List, [], ◌∷◌, ◌++◌, length, take, drop, slice_index_or, Ok, refl, ◌∙◌, sym, ap, subst, arith, length-append, length-drop, length-take-le}
+use Rattle.std.proofs.Common.{◌≡◌, ◌≤◌, ℕ, zero, suc, ◌+◌, ◌-◌, ◌*◌, ◌/◌, ◌%◌, Bool, true, false, nat_eq, cond, List, [], ◌∷◌, length, take, drop, slice_index_or, Ok, refl, ◌∙◌, sym, ap, arith, length-append, length-drop, length-take-le}
 use Rattle.packet_frame.specs.Packets.{Framed, longest, packet, packets, spelling, next_id, id_behind}
 use Rattle.packet_frame.specs.PacketLaws.{nat_eq-true}
 use Rattle.reply_track.specs.declared.reply.ReplyKind.{ReplyKind}
 use Rattle.reply_track.specs.declared.reply.ReplyKind.TheVariants.{Command as Results, Fields}
 use Rattle.reply_track.specs.Replying.{kind_to, id_after}
-use Rattle.command_parse.specs.Meaning.{Meaning, command_of, parsed}
+use Rattle.command_parse.specs.Meaning.{command_of, parsed}
 use Rattle.command_parse.specs.Meaning.Meaning.{Quit, InitDb, Query, FieldList, Ping, Refused}
-use Rattle.exchange.specs.Replies.{Form}
 use Rattle.promises.specs.Sends.{kind_asked, form_of}
 use Rattle.router_world.specs.Rows.{form_at}
 

@@ -1,5 +1,5 @@
 -- How a client's session stands for what was read of it and written to it.
-use Rattle.std.specs.Prelude.{◌≡◌, ◌≤◌, ◌<◌, ℕ, suc, Bool, true, is_some, List, ◌++◌, length, Option, Some, None}
+use Rattle.std.specs.Prelude.{◌≡◌, ◌≤◌, ℕ, suc, Bool, true, is_some, List, ◌++◌, length, Option, Some, None}
 use Rattle.packet_frame.specs.Packets.{Framed, Nothing, split, with_front, first_message, next_id, spelling}
 use Rattle.server_side.specs.Account.{Account}
 use Rattle.client_side.specs.declared.stage.Stage.TheVariants as stage

@@ -55,7 +55,13 @@ fn setup_of(alloc: Global, config: &Config) -> Result<Setup, OutOfMemory>
     let version = Bytes::from_slice(alloc, config.proxy.server_version.as_slice())?;
     let users = users_of(alloc, config.users.as_slice())?;
     let target = first_server(config);
-    Ok(Setup::new(version, users, config.proxy.max_packet, config.proxy.max_clients, target))
+    Ok(Setup::new(
+        version,
+        users,
+        config.proxy.max_packet,
+        config.proxy.max_clients,
+        target,
+    ))
 }
 
 // Who may log in.
