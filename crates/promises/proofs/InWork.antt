@@ -5,6 +5,7 @@ use Rattle.std.specs.List.{cons_option, list_any}
 use Rattle.std.proofs.Common.{sym, ◌∙◌, ap, subst, append-nil, append_assoc, arith}
 use Rattle.std.proofs.lemmas.List.Folds.{list_any-append}
 use Rattle.mx_base.specs.declared.names.LinkId.{LinkId}
+use Rattle.mx_base.specs.declared.tag.Tag.TheVariants.{For}
 use Rattle.mx_wire.specs.Log.{Log}
 use Rattle.mx_wire.specs.declared.entry.Entry.TheVariants.{OpenFailed}
 use Rattle.packet_frame.specs.Packets.{Framed}
@@ -18,7 +19,7 @@ use Rattle.promises.specs.Service.{Turn, Service}
 use Rattle.promises.specs.Owners.{talk_of, refused_by, refused_behind, refused, is_turn, is_refused}
 use Rattle.promises.specs.Due.{Work, route, server_of, reply_to, query_answer, answer_by, message_of, answer_when, answer, first_without, work_in, work_of}
 use Rattle.promises.specs.Follows.{Refuses}
-use Rattle.promises.specs.Sends.{Asks, MayOpen, MaySend}
+use Rattle.promises.specs.Sends.{form_of, Asks, MayOpen, MaySend}
 
 pub none-of : {A : Type 0} (o : Option A) → is_some o ≡ false → o ≡ None
 none-of None is = refl
@@ -133,3 +134,8 @@ open-refuses service at log may = record {
   before = asks-unrefused service may.turn.client may.turn.ordinal may.message may.due log may.asks;
   now = refused-more service log (OpenFailed at.server at.address ∷ []) ∙ ap (λ (o : Option Turn). refused service log ++ cons_option o []) may.is_next;
 }
+
+-- what is sent is answered in the form that its client's message asks for
+pub form-asked : (service : Service) (n i : ℕ) (link : LinkId) (bytes : List ℕ) (log : Log) (message : Framed) → message_of service n i log ≡ Some message → MaySend service n i link bytes log → service.forms (For (record { 0 = n }) i) ≡ form_of message
+form-asked service n i link bytes log message is may =
+    may.form ∙ ap form_of (some-same may.message message (sym (in-work service n log (record { ordinal = i; message = may.message }) may.asks.work).0 ∙ is))

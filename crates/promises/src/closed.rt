@@ -15,7 +15,7 @@ ghost use Rattle.exchange.specs.Replies.{reply_at, Spoilt, Runs, Sends, Enters, 
 ghost use Rattle.promises.specs.Owners.{is_here, user_of, Owner, refused_by, refused, is_refused};
 ghost use Rattle.promises.specs.Closes.{MayDrop};
 ghost use Rattle.promises.specs.Rest.{IsAtRest};
-ghost use Rattle.promises.specs.Sends.{Asks, MayOpen, MaySend};
+ghost use Rattle.promises.specs.Sends.{form_of, Asks, MayOpen, MaySend};
 ghost use Rattle.packet_frame.specs.Packets.{Framed};
 ghost use Rattle.mx_wire.specs.Moments.{AllLawful};
 ghost use Rattle.client_session.specs.Answers.{is_query};
@@ -23,6 +23,7 @@ ghost use Rattle.client_session.specs.Arrivals.{Arrival, arrival_of};
 ghost use Rattle.client_session.specs.Errors.{connection_refused};
 ghost use Rattle.server_side.specs.Account.{Account};
 ghost use Rattle.mx_base.specs.declared.names.LinkId.{LinkId};
+ghost use Rattle.mx_base.specs.declared.tag.Tag.TheVariants.{For};
 ghost use Rattle.mx_wire.specs.Log.{Log};
 ghost use Rattle.mx_wire.specs.declared.entry.Entry.{Entry};
 ghost use Rattle.mx_wire.specs.declared.entry.Entry.TheVariants.{OpenFailed};
@@ -191,4 +192,9 @@ pub fn replay_serves()
 /// A command begins where all before it on the link are whole and answered, and nothing stands behind: so no two overlap.
 pub fn begins_on_a_clean_link()
     ensures { (service : Service) (n i : ℕ) (link : LinkId) (bytes : List ℕ) (user : Account) (log : Log) → user_of service n log ≡ Some user → carrier_of n i log ≡ None → MaySend service n i link bytes log → standing_on service.forms user link log ≡ Clean }
+{}
+
+/// The form of the reply to a command that is sent is the one that its client's message asks for, and no other.
+pub fn form_is_asked_for()
+    ensures { (service : Service) (n i : ℕ) (link : LinkId) (bytes : List ℕ) (log : Log) (message : Framed) → message_of service n i log ≡ Some message → MaySend service n i link bytes log → service.forms (For (record { 0 = n }) i) ≡ form_of message }
 {}
