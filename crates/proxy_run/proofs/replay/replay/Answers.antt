@@ -28,6 +28,7 @@ replay-of words held names entries tape log named configured under playable play
       let out = played-out _ entries log serves.before playable plays serves.keeps.keeps.rests serves.over in
       record {
         opens = serves.keeps.opens;
+        forms = serves.keeps.forms;
         so = record { play = plays; keeps = serves.keeps.keeps; sized = serves.keeps.sized; before = serves.before; over = serves.over; woke = out.woke; accepted = out.accepted; read = out.read };
       };
 }
