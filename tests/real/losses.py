@@ -5,7 +5,7 @@ import socket
 import threading
 import time
 
-from world import PORT, World, check, code_of, connect, end
+from world import PORT, SERVER_PORT, World, check, code_of, connect, end
 
 CLIENTS = 50
 codes = []
@@ -44,6 +44,15 @@ with World() as world:
     check("which is told at once", time.monotonic() - begun < 5, True)
     world.start_server()
     check("the same client, once it is there again", code_of(waiting.execute, "DO 1"), 0)
+
+    world.kill_server()
+    with socket.create_server(("127.0.0.1", SERVER_PORT)):
+        waiting = connect(autocommit=None).cursor()
+        begun = time.monotonic()
+        check("a server that takes connections and says nothing", code_of(waiting.execute, "DO 1"), 9103)
+        check("which is told after ten seconds", 9 < time.monotonic() - begun < 12, True)
+    world.start_server()
+    check("the same client, once the server speaks", code_of(waiting.execute, "DO 1"), 0)
 
     before = threads_of(world)
     gone = []

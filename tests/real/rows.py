@@ -70,7 +70,7 @@ with World() as world:
     check("a user variable", rows_of(cursor, "SELECT @v"), (("mine",),))
     link.close()
     check("the command line client", command_line("SELECT COUNT(*), SUM(n) FROM d.numbers", "-N"), "100000\t5000050000\n")
-    check("its tables", command_line("USE d;\nSHOW TABLES;", "-N", "-A"), "empty_table\nnumbers\n")
+    check("its tables", command_line("USE d;\nSHOW TABLES;", "-N", "-A"), "empty_table\nlarge\nnumbers\n")
     check("the same rows as on the server's own socket", command_line(NUMBERS, "-N") == world.directly(NUMBERS), True)
     check("and errors", command_line("SELECT * FROM d.none", "-N").splitlines()[-1:], ["ERROR 1146 (42S02) at line 1: Table 'd.none' doesn't exist"])
 end()

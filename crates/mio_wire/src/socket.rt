@@ -17,6 +17,10 @@ pub struct Socket {
     writable: bool,
     /// The peer sends no more, or the connection failed: behind the bytes that are left a read tells of it.
     ended: bool,
+    /// Something was read there.
+    heard: bool,
+    /// Nothing is waited for any more: a read fails.
+    given_up: bool,
 }
 
 impl Socket {
@@ -27,7 +31,19 @@ impl Socket {
             readable: false,
             writable: is_there,
             ended: false,
+            heard: false,
+            given_up: false,
         }
+    }
+
+    /// Whether nothing was read there so far.
+    pub fn is_silent(&self) -> bool {
+        !self.heard
+    }
+
+    /// The peer took too long: the next read fails.
+    pub fn give_up(&mut self) {
+        self.given_up = true;
     }
 
     /// The poll has named it. Of one that failed the next call tells.
@@ -49,12 +65,16 @@ impl Socket {
         requires { 0 < length into.old }
         ensures { ReadsAtMost (length into.old) result }
     {
+        if self.given_up {
+            return Got::Failed;
+        }
         if !self.readable {
             return Got::NotReady;
         }
         match self.stream.read(into) {
             Ok(0) => Got::End,
             Ok(n) => {
+                self.heard = true;
                 self.readable = self.ended || n == into.len();
                 Got::Got { n }
             }

@@ -19,7 +19,19 @@ const ADMIN: usize = 1;
 /// How many ports and links one wake names at most. The next wake names the others.
 pub const NAMED_AT_ONCE: usize = 1_024;
 
-/// One poll, the open ports, the links by their numbers, and a queue of those that the last wake named.
+/// How long a server may take until it says something, in milliseconds. One that isn't reached, or takes a connection and says nothing,
+/// would be waited for longer, or without an end.
+const MOST_SILENT_MS: u64 = 10_000;
+
+/// A link to a server, and the moment at which it is given up where nothing was heard of it.
+#[derive(Clone, Copy)]
+struct Awaited {
+    link: LinkId,
+    until_ms: u64,
+}
+
+/// One poll, the open ports, the links by their numbers, a queue of those that the last wake named, and one of those to servers of which
+/// something has to be heard, the oldest first.
 #[derive(Drop)]
 pub struct Sockets {
     poll: Poll,
@@ -27,6 +39,7 @@ pub struct Sockets {
     admin: Option<Door>,
     links: HashMap<u64, Socket>,
     ready: VecDeque<LinkId>,
+    awaited: VecDeque<Awaited>,
     /// The number of the newest link, or of the last port.
     newest: u64,
 }
@@ -40,6 +53,7 @@ impl Sockets {
             admin: None,
             links: HashMap::new(alloc),
             ready: VecDeque::with_capacity(alloc, NAMED_AT_ONCE)?,
+            awaited: VecDeque::new(alloc),
             newest: ADMIN as u64,
         })
     }
@@ -133,10 +147,56 @@ impl Sockets {
         }
     }
 
-    /// Begins to connect to the address.
-    pub fn open<R: Net>(&mut self, rt: &R, address: Address) -> io::Result<LinkId> {
+    /// Begins to connect to the address, at this moment.
+    pub fn open<R: Net>(&mut self, rt: &R, address: Address, now_ms: u64) -> io::Result<LinkId> {
+        self.awaited.reserve(1)?;
         let stream = TcpStream::connect(rt, socket_addr(address))?;
-        self.keep(stream, false)
+        let link = self.keep(stream, false)?;
+        let until_ms = now_ms.saturating_add(MOST_SILENT_MS);
+        self.awaited.push_back(Awaited { link, until_ms })?;
+        Ok(link)
+    }
+
+    /// The moment at which the next link is given up, if nothing is heard of it.
+    pub fn gives_up_at(&mut self) -> Option<u64> {
+        for _ in 0..self.awaited.len() {
+            let first = self.awaited.front().copied()?;
+            if self.is_silent(first.link) {
+                return Some(first.until_ms);
+            }
+            let _ = self.awaited.pop_front();
+        }
+        None
+    }
+
+    // Whether the link is open, and nothing was heard of it.
+    fn is_silent(&self, link: LinkId) -> bool {
+        match self.links.get(&link.0) {
+            Some(socket) => socket.is_silent(),
+            None => false,
+        }
+    }
+
+    /// Gives up the links of which nothing was heard by now, and names them.
+    pub fn give_up(&mut self, now_ms: u64) -> Result<(), AllocError> {
+        for _ in 0..self.awaited.len() {
+            match self.gives_up_at() {
+                Some(until_ms) if until_ms <= now_ms => self.give_up_first()?,
+                _ => return Ok(()),
+            }
+        }
+        Ok(())
+    }
+
+    fn give_up_first(&mut self) -> Result<(), AllocError> {
+        let Some(Awaited { link, .. }) = self.awaited.pop_front() else {
+            return Ok(());
+        };
+        if let Some(socket) = self.links.get_mut(&link.0) {
+            socket.give_up();
+        }
+        self.ready.push_back(link)?;
+        Ok(())
     }
 
     // Keeps a connection under a number of its own. One that is there already has room to write.

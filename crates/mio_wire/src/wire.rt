@@ -111,9 +111,10 @@ impl<R: Net + Clock + RandomSource> Wire for MioWire<'_, R> {
         }
     }
 
-    /// Doesn't wait for the connection: one that fails later is a link that failed.
+    /// Doesn't wait for the connection: one that fails later is a link that failed, and so is one on which nothing was read ten seconds
+    /// after the wake in which it was opened.
     fn open(&mut self, _server: ServerId, address: Address) -> Opened {
-        match self.sockets.open(self.rt, address) {
+        match self.sockets.open(self.rt, address, self.now_ms) {
             Ok(id) => Opened::Link { id },
             Err(_) => {
                 self.failed = self.failed.and(&(), &());
@@ -163,13 +164,17 @@ fn count_write(failed: &mut Log<(), ()>, took: Took)
     }
 }
 
-// Waits until the moment, or until something is ready. The moment of waking.
+// Waits until the moment, or until something is ready or given up. The moment of waking.
 fn sleep<R: Clock>(
     rt: &R,
     sockets: &mut Sockets,
     events: &mut Events,
     until_ms: u64,
 ) -> io::Result<u64> {
+    let until_ms = match sockets.gives_up_at() {
+        Some(at) => until_ms.min(at),
+        None => until_ms,
+    };
     let left = until_ms.saturating_sub(moment(rt)?);
     let most = if sockets.are_owed() {
         left.min(TRY_AGAIN_MS)
@@ -177,7 +182,9 @@ fn sleep<R: Clock>(
         left
     };
     sockets.wait(events, Duration::from_millis(most))?;
-    moment(rt)
+    let now_ms = moment(rt)?;
+    sockets.give_up(now_ms)?;
+    Ok(now_ms)
 }
 
 fn moment<R: Clock>(rt: &R) -> io::Result<u64> {
