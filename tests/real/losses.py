@@ -8,6 +8,9 @@ import time
 from world import PORT, SERVER_PORT, World, check, code_of, connect, end
 
 CLIENTS = 50
+# A server's first packet: version 10, its name, a thread, a salt, what it can do, a character set, a status, and the login method.
+GREETING = (b"\x0a5.5.5-10.11.0\0" + bytes([7, 0, 0, 0]) + b"saltsalt\0" + bytes([0x09, 0xA2, 0x2D, 0x02, 0x00, 0x08, 0x00, 21])
+            + bytes(10) + b"saltsaltsalt\0" + b"mysql_native_password\0")
 codes = []
 started = threading.Barrier(CLIENTS + 1)
 
@@ -22,6 +25,22 @@ def client():
         if code:
             codes.append(code)
             return
+
+
+def greets():
+    """A server that greets the first connection and says nothing more, until it is asked to end."""
+    server = socket.create_server(("127.0.0.1", SERVER_PORT))
+    links = []
+
+    def serve():
+        link = server.accept()[0]
+        links.append(link)
+        link.sendall(len(GREETING).to_bytes(3, "little") + b"\0" + GREETING)
+        while link.recv(4096):
+            links.append(None)
+
+    threading.Thread(target=serve, daemon=True).start()
+    return server, links
 
 
 def threads_of(world):
@@ -51,8 +70,16 @@ with World() as world:
         begun = time.monotonic()
         check("a server that takes connections and says nothing", code_of(waiting.execute, "DO 1"), 9103)
         check("which is told after ten seconds", 9 < time.monotonic() - begun < 12, True)
+    server, links = greets()
+    begun = time.monotonic()
+    check("a server that says nothing to the login", code_of(waiting.execute, "DO 1"), 9103)
+    check("which is told after ten seconds", 9 < time.monotonic() - begun < 12, True)
+    check("the login had been sent there", len(links), 2)
+    for socket_ in [server, links[0]]:
+        socket_.close()
     world.start_server()
     check("the same client, once the server speaks", code_of(waiting.execute, "DO 1"), 0)
+    check("a statement of more than ten seconds", code_of(waiting.execute, "DO SLEEP(11)"), 0)
 
     before = threads_of(world)
     gone = []

@@ -17,8 +17,10 @@ pub struct Socket {
     writable: bool,
     /// The peer sends no more, or the connection failed: behind the bytes that are left a read tells of it.
     ended: bool,
-    /// Something was read there.
-    heard: bool,
+    /// Something was written there.
+    written: bool,
+    /// Something was read there behind what was written.
+    answered: bool,
     /// Nothing is waited for any more: a read fails.
     given_up: bool,
 }
@@ -31,14 +33,15 @@ impl Socket {
             readable: false,
             writable: is_there,
             ended: false,
-            heard: false,
+            written: false,
+            answered: false,
             given_up: false,
         }
     }
 
-    /// Whether nothing was read there so far.
-    pub fn is_silent(&self) -> bool {
-        !self.heard
+    /// Whether something was read there behind what was written.
+    pub fn has_answered(&self) -> bool {
+        self.answered
     }
 
     /// The peer took too long: the next read fails.
@@ -74,7 +77,7 @@ impl Socket {
         match self.stream.read(into) {
             Ok(0) => Got::End,
             Ok(n) => {
-                self.heard = true;
+                self.answered = self.written;
                 self.readable = self.ended || n == into.len();
                 Got::Got { n }
             }
@@ -96,6 +99,7 @@ impl Socket {
         match self.stream.write(piece) {
             Ok(0) => Took::Failed,
             Ok(n) => {
+                self.written = true;
                 self.writable = n == piece.len();
                 Took::Took { n }
             }

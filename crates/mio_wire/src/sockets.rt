@@ -19,19 +19,19 @@ const ADMIN: usize = 1;
 /// How many ports and links one wake names at most. The next wake names the others.
 pub const NAMED_AT_ONCE: usize = 1_024;
 
-/// How long a server may take until it says something, in milliseconds. One that isn't reached, or takes a connection and says nothing,
-/// would be waited for longer, or without an end.
+/// How long a server may take from the connect to its answer to the login, in milliseconds. One that isn't reached, or says nothing, would be
+/// waited for longer, or without an end. ProxySQL documentation, mysql-connect_timeout_server_max.
 const MOST_SILENT_MS: u64 = 10_000;
 
-/// A link to a server, and the moment at which it is given up where nothing was heard of it.
+/// A link to a server, and the moment at which it is given up where it has answered nothing.
 #[derive(Clone, Copy)]
 struct Awaited {
     link: LinkId,
     until_ms: u64,
 }
 
-/// One poll, the open ports, the links by their numbers, a queue of those that the last wake named, and one of those to servers of which
-/// something has to be heard, the oldest first.
+/// One poll, the open ports, the links by their numbers, a queue of those that the last wake named, and one of those to servers that
+/// have to answer what is written first, the oldest first.
 #[derive(Drop)]
 pub struct Sockets {
     poll: Poll,
@@ -157,11 +157,11 @@ impl Sockets {
         Ok(link)
     }
 
-    /// The moment at which the next link is given up, if nothing is heard of it.
+    /// The moment at which the next link is given up, if it answers nothing.
     pub fn gives_up_at(&mut self) -> Option<u64> {
         for _ in 0..self.awaited.len() {
             let first = self.awaited.front().copied()?;
-            if self.is_silent(first.link) {
+            if self.is_awaited(first.link) {
                 return Some(first.until_ms);
             }
             let _ = self.awaited.pop_front();
@@ -169,15 +169,15 @@ impl Sockets {
         None
     }
 
-    // Whether the link is open, and nothing was heard of it.
-    fn is_silent(&self, link: LinkId) -> bool {
+    // Whether the link is open, and has answered nothing.
+    fn is_awaited(&self, link: LinkId) -> bool {
         match self.links.get(&link.0) {
-            Some(socket) => socket.is_silent(),
+            Some(socket) => !socket.has_answered(),
             None => false,
         }
     }
 
-    /// Gives up the links of which nothing was heard by now, and names them.
+    /// Gives up the links that have answered nothing by now, and names them.
     pub fn give_up(&mut self, now_ms: u64) -> Result<(), AllocError> {
         for _ in 0..self.awaited.len() {
             match self.gives_up_at() {

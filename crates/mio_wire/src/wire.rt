@@ -111,8 +111,8 @@ impl<R: Net + Clock + RandomSource> Wire for MioWire<'_, R> {
         }
     }
 
-    /// Doesn't wait for the connection: one that fails later is a link that failed, and so is one on which nothing was read ten seconds
-    /// after the wake in which it was opened.
+    /// Doesn't wait for the connection: one that fails later is a link that failed, and so is one that has answered nothing of what was
+    /// written ten seconds after the wake in which it was opened.
     fn open(&mut self, _server: ServerId, address: Address) -> Opened {
         match self.sockets.open(self.rt, address, self.now_ms) {
             Ok(id) => Opened::Link { id },
