@@ -1,10 +1,10 @@
--- What a client is due, where the replies to its queries are known: the greeting, the answer to its login, and the answers to its messages.
-use Rattle.std.specs.Prelude.{◌≡◌, ℕ, ◌+◌, Bool, true, false, List, [], ◌∷◌, ◌++◌, Option, Some, None, Result, Ok, Err}
+-- What a client says, the answer to its login, and the answer to a message that can't be. What it is due in all stands in promises.
+use Rattle.std.specs.Prelude.{ℕ, Bool, true, false, List, [], ◌++◌, Option, Some, None, Result, Ok}
 use Rattle.packet_frame.specs.declared.fault.FrameFault.{FrameFault}
 use Rattle.packet_frame.specs.declared.fault.FrameFault.TheVariants.{OutOfOrder, TooLarge}
-use Rattle.packet_frame.specs.Packets.{Framed, Split, next_id, split, spelling}
+use Rattle.packet_frame.specs.Packets.{Split, split, spelling}
 use Rattle.command_parse.specs.Meaning.{Meaning, parsed}
-use Rattle.command_parse.specs.Meaning.Meaning.{Query, InitDb, FieldList, Ping, Quit}
+use Rattle.command_parse.specs.Meaning.Meaning.{Query, InitDb, FieldList, Quit}
 use Rattle.command_parse.specs.declared.fault.CommandFault.{CommandFault}
 use Rattle.handshake.specs.declared.response.Response.{Response}
 use Rattle.client_side.specs.declared.step.ClientFault.{ClientFault}
@@ -14,7 +14,7 @@ use Rattle.client_side.specs.Reading.{said}
 use Rattle.server_side.specs.Account.{Account}
 use Rattle.client_session.specs.Setups.{Setup}
 use Rattle.client_session.specs.Accounts.{account_of}
-use Rattle.client_session.specs.Errors.{own_ok, unknown_command, malformed_command, bad_handshake, access_denied, packet_too_large, packet_out_of_order}
+use Rattle.client_session.specs.Errors.{own_ok, bad_handshake, access_denied, packet_too_large, packet_out_of_order}
 
 -- What a client says.
 
@@ -85,7 +85,7 @@ front_in talk (Fails switched fault id) = greeted talk switched ++ spelling id (
 abbrev pub front : Talk → List ℕ
 front talk = front_in talk (opening_of talk)
 
--- The answers to its commands.
+-- Its messages.
 
 -- a query is what a server answers: a text, the choice of a schema, or the question for a table's columns
 abbrev pub query_by : Result Meaning CommandFault → Bool
@@ -104,48 +104,7 @@ quit_by _ = false
 abbrev pub is_quit : List ℕ → Bool
 is_quit payload = quit_by (parsed payload)
 
--- a query is answered by its reply, where there is one yet, and a QUIT isn't
-abbrev pub answer_by : Option (List ℕ) → Result Meaning CommandFault → Option (List ℕ)
-answer_by reply (Err fault) = Some malformed_command
-answer_by reply (Ok (Query text)) = reply
-answer_by reply (Ok (InitDb schema)) = reply
-answer_by reply (Ok (FieldList rest)) = reply
-answer_by reply (Ok Ping) = Some own_ok
-answer_by reply (Ok Quit) = None
-answer_by reply (Ok _) = Some unknown_command
-
--- the payload of the answer to a message
-abbrev pub answer_to : Option (List ℕ) → List ℕ → Option (List ℕ)
-answer_to reply payload = answer_by reply (parsed payload)
-
 -- a message that can't be is answered once, and none after it
 abbrev pub fault_answer : (limit : ℕ) → Option FrameFault → List ℕ
 fault_answer limit None = []
 fault_answer limit (Some fault) = spelling (fault_id 0 fault) (frame_error limit fault)
-
--- an answer as packets, and what comes after it; nothing comes before it is there
-abbrev pub answered : ℕ → Option (List ℕ) → List ℕ → List ℕ
-answered id None later = []
-answered id (Some payload) later = spelling id payload ++ later
-
--- the answers to the messages from the i-th on, as far as they are there, and what comes last
-abbrev pub answers : (ℕ → Option (List ℕ)) → ℕ → List Framed → List ℕ → List ℕ
-answers reply i [] last = last
-answers reply i (message ∷ messages) last = answered (next_id message.last) (answer_to (reply i) message.payload) (answers reply (i + 1) messages last)
-
-abbrev pub answers_to : (limit : ℕ) → (ℕ → Option (List ℕ)) → Split → List ℕ
-answers_to limit reply messages = answers reply 1 messages.messages (fault_answer limit messages.fault)
-
--- the bytes that a client is due
-abbrev pub due_in : (ℕ → Option (List ℕ)) → Talk → List ℕ
-due_in reply talk = front talk ++ answers_to talk.setup.limit reply (messages_of talk)
-
--- the messages from the i-th on are all answered, and these are their answers joined
-abbrev pub AllAnswered : (ℕ → Option (List ℕ)) → ℕ → List Framed → List ℕ → Type 0
-AllAnswered reply i [] bytes = bytes ≡ []
-AllAnswered reply i (message ∷ messages) bytes =
-    (payload : List ℕ) × (later : List ℕ) × (answer_to (reply i) message.payload ≡ Some payload) × (bytes ≡ spelling (next_id message.last) payload ++ later) × AllAnswered reply (i + 1) messages later
-
--- the replies that are there stay, and others may come
-abbrev pub Stay : (old new : ℕ → Option (List ℕ)) → Type 0
-Stay old new = (i : ℕ) (payload : List ℕ) → old i ≡ Some payload → new i ≡ Some payload
