@@ -2,7 +2,8 @@
 use Rattle.std.specs.Prelude.{ℕ, Bool, true, false, List, [], ◌∷◌, length, Option, Some, None}
 use Rattle.mx_base.specs.declared.names.ClientNo.{ClientNo}
 use Rattle.mx_base.specs.declared.names.LinkId.{LinkId}
-use Rattle.server_side.specs.Backend.{new_backend, is_begun, Left, left}
+use Rattle.mx_base.specs.Sent.{Sent}
+use Rattle.server_side.specs.Backend.{new_backend, is_begun, left}
 use Rattle.server_side.specs.Hearing.{got_of}
 use Rattle.client_session.specs.declared.refusal.Refusal.TheVariants.{ConnectionLost}
 use Rattle.lend_core.specs.declared.ask.Ask.{Ask}
@@ -84,7 +85,7 @@ gone client lends = left_own client (waits_no_more client (without_ask client le
 -- What the router does.
 
 -- what is to be written on a link
-abbrev pub left_in : Option Lent → Option Left
+abbrev pub left_in : Option Lent → Option Sent
 left_in None = None
 left_in (Some lent) = left lent.backend
 

@@ -4,8 +4,7 @@ ghost use Rattle.lend_core.specs.Lends.{oldest, others};
 
 use crate::ask::Ask;
 use crate::lent::Lent;
-use mx_base::{ClientNo, LinkId, OutOfMemory};
-use server_side::Outgoing;
+use mx_base::{ClientNo, LinkId, OutOfMemory, Piece};
 use std::alloc::Global;
 use std::collections::{HashMap, VecDeque};
 
@@ -30,7 +29,7 @@ pub struct Lender {
 impl Lender {
     ghost use Rattle.std.specs.Prelude.{◌≡◌, is_some, OnOk};
     ghost use Rattle.std.specs.Option.{option_copied};
-    ghost use Rattle.server_side.specs.Backend.{MayTake, IsLent};
+    ghost use Rattle.mx_base.specs.Sent.{IsLent, MayTake};
     ghost use Rattle.lend_core.specs.Lends.{lends_of, nothing_lent, oldest};
     ghost use Rattle.lend_core.specs.Changes.{with_link, without_link, taken_on, owns, owns_none, with_ask, without_ask, waits, waits_no_more, without_first, without_close, to_close};
     ghost use Rattle.lend_core.specs.Events.{left_in, is_waiting};
@@ -166,7 +165,7 @@ impl Lender {
     }
 
     /// What is to be written on a link, with its tag: the router's login, and behind it a command.
-    pub fn outgoing(&self, link: LinkId) -> Option<Outgoing<'_>>
+    pub fn outgoing(&self, link: LinkId) -> Option<Piece<'_>>
         ensures { IsLent result (left_in ((lends_of self.now).links link.0)) }
     {
         match self.links.get(&link.0) {

@@ -39,9 +39,7 @@ pub fn get_u16(bytes: &[u8], at: usize) -> Option<u16>
 pub fn get_u24(bytes: &[u8], at: usize) -> Option<u32>
     ensures { result ≡ number_at 3 at bytes.now }
 {
-    let low = get_u16(bytes, at)?;
-    let high = get_u8(bytes, at + 2)?;
-    Some(low as u32 + 65_536 * high as u32)
+    Some(get_u16(bytes, at)? as u32 + 65_536 * get_u8(bytes, at + 2)? as u32)
 }
 
 /// The little-endian number of 4 bytes at a place, None exactly where it runs past the end (client/server
@@ -49,9 +47,7 @@ pub fn get_u24(bytes: &[u8], at: usize) -> Option<u32>
 pub fn get_u32(bytes: &[u8], at: usize) -> Option<u32>
     ensures { result ≡ number_at 4 at bytes.now }
 {
-    let low = get_u16(bytes, at)?;
-    let high = get_u16(bytes, at + 2)?;
-    Some(low as u32 + 65_536 * high as u32)
+    Some(get_u16(bytes, at)? as u32 + 65_536 * get_u16(bytes, at + 2)? as u32)
 }
 
 /// The little-endian number of 8 bytes at a place, None exactly where it runs past the end (client/server

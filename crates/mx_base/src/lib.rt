@@ -10,6 +10,7 @@ mod items;
 mod laws;
 mod memory;
 mod names;
+mod piece;
 mod pieces;
 mod tag;
 
@@ -21,5 +22,6 @@ pub use items::Items;
 pub use laws::numbers_again;
 pub use memory::OutOfMemory;
 pub use names::{Address, ClientNo, Hostgroup, LinkId, Port, ServerId, UserId};
+pub use piece::Piece;
 pub use pieces::{first_piece, four_pieces, one_piece, three_pieces, two_pieces};
 pub use tag::Tag;

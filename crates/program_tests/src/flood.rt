@@ -2,9 +2,9 @@
 ghost use Rattle.std.specs.Prelude.{None, Some, [], ◌∷◌, replicate, true, false};
 ghost use Rattle.mx_base.specs.declared.tag.Tag.TheVariants as tag;
 
-use mx_base::{Address, LinkId, OutOfMemory, Port, ServerId, Tag};
+use mx_base::{Address, LinkId, OutOfMemory, Piece, Port, ServerId, Tag};
 use mx_wire::{Accepted, Got, Listened, Opened, Took, Wire, Woke};
-use ready_loop::{Act, Event, Machine, Piece, ServeEnd, serve};
+use ready_loop::{Act, Event, Machine, ServeEnd, serve};
 use std::test::Fail;
 
 const GREETING: &[u8] = &[7];

@@ -12,7 +12,7 @@ use Rattle.mx_wire.specs.Tells.{Appends, Tells}
 use Rattle.mx_wire.specs.Growth.{bool_cases, same_number, nat_eq-sym, step-same, step-other}
 use Rattle.mx_wire.specs.declared.entry.Entry.{Entry}
 use Rattle.mx_wire.specs.declared.entry.Entry.TheVariants as entry
-use Rattle.ready_loop.specs.Sent.{Sent}
+use Rattle.mx_base.specs.Sent.{Sent}
 use Rattle.ready_loop.specs.Drained.{read_step, write_step, read_dry, write_dry, accept_step, name_step, all_accepted, all_named, IsDrained}
 use Rattle.ready_loop.specs.Links.{Dry, wet, dry_at, dry_in, dry_of, dry_step}
 use Rattle.ready_loop.specs.Round.{call_step, wake_step, calls_since_wake, wakes_of, CountsOf, round_step}

@@ -7,7 +7,7 @@ use Rattle.ready_loop.specs.Round.{wake_step, wakes_of, round_step}
 use Rattle.ready_loop.proofs.Counting.{unnamed}
 use Rattle.mx_base.specs.declared.names.LinkId.{LinkId}
 use Rattle.ready_loop.specs.Drained.{DrainedFor}
-use Rattle.ready_loop.specs.Sent.{Sent}
+use Rattle.mx_base.specs.Sent.{Sent}
 use Rattle.ready_loop.specs.Machine.{StandsFor}
 use Rattle.ready_loop.specs.Serving.{TracksFor, WokeFor, EndsWith, IsUnwritten, StoodFor, BusyFor, SpentFor, EndsSo, Ends, Breaks}
 use Rattle.ready_loop.specs.declared.table.Table.{Table}

@@ -11,7 +11,7 @@ use Rattle.ready_loop.specs.Heard.{heard_of}
 use Rattle.ready_loop.specs.Links.{dry_of, dry_step, is_read_dry}
 use Rattle.ready_loop.specs.Machine.{Target, IsToldOf}
 use Rattle.ready_loop.specs.Round.{round_step}
-use Rattle.ready_loop.specs.Sent.{Sent}
+use Rattle.mx_base.specs.Sent.{Sent}
 use Rattle.ready_loop.specs.Serving.{IsUnwritten, call_of}
 use Rattle.ready_loop.specs.declared.heard.Heard.{Heard}
 use Rattle.ready_loop.specs.declared.links.Links.{Links}

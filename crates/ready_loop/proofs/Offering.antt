@@ -11,10 +11,10 @@ use Rattle.mx_wire.specs.declared.entry.Entry.{Entry}
 use Rattle.mx_wire.specs.declared.entry.Entry.TheVariants as entry
 use Rattle.mx_wire.specs.declared.wire.Took.{Took}
 use Rattle.mx_wire.specs.declared.wire.Took.TheVariants as took
-use Rattle.ready_loop.specs.declared.machines.Piece.{Piece}
+use Rattle.mx_base.specs.declared.piece.Piece.{Piece}
 use Rattle.ready_loop.specs.declared.machines.Act.TheVariants as act
-use Rattle.ready_loop.specs.Machine.{StandsFor, IsLent, OwesFarewell}
-use Rattle.ready_loop.specs.Sent.{Sent}
+use Rattle.ready_loop.specs.Machine.{StandsFor, OwesFarewell}
+use Rattle.mx_base.specs.Sent.{IsLent, Sent}
 use Rattle.ready_loop.specs.Serving.{Advances, Proceeds, IsUnwritten, OwedFor}
 use Rattle.ready_loop.proofs.Steps.{IsStill, after_marks}
 

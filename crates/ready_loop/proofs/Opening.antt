@@ -6,7 +6,7 @@ use Rattle.mx_base.specs.declared.names.Port.{Port}
 use Rattle.mx_base.specs.declared.names.Port.TheVariants as port
 use Rattle.mx_wire.specs.Log.{Log, is_open}
 use Rattle.mx_wire.specs.Tells.{OpenFor}
-use Rattle.ready_loop.specs.Sent.{Sent}
+use Rattle.mx_base.specs.Sent.{Sent}
 use Rattle.ready_loop.specs.Drained.{read_dry, write_dry, all_accepted, DrainedFor}
 use Rattle.ready_loop.specs.Links.{Dry, dry_at, dry_mark, dry_of, dry_in, mark_of}
 use Rattle.ready_loop.specs.Round.{CountsOf}

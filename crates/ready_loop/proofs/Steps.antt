@@ -5,9 +5,9 @@ use Rattle.mx_wire.specs.Log.{Log, IsMark, AreMarks}
 use Rattle.mx_wire.specs.Tells.{MayFollow, Tells}
 use Rattle.mx_wire.specs.declared.entry.Entry.{Entry}
 use Rattle.mx_wire.specs.declared.entry.Entry.TheVariants as entry
-use Rattle.ready_loop.specs.declared.machines.Piece.{Piece}
-use Rattle.ready_loop.specs.Machine.{StandsFor, CarriesOver, Keeps, IsQuiet, IsLent, MayTake, Closes}
-use Rattle.ready_loop.specs.Sent.{Sent}
+use Rattle.mx_base.specs.declared.piece.Piece.{Piece}
+use Rattle.ready_loop.specs.Machine.{StandsFor, CarriesOver, Keeps, IsQuiet, Closes}
+use Rattle.mx_base.specs.Sent.{IsLent, MayTake, Sent}
 use Rattle.ready_loop.specs.Drained.{IsDue, MayWait, DrainedFor}
 use Rattle.ready_loop.specs.Serving.{Parts}
 use Rattle.ready_loop.proofs.Counting.{drained-marks}

@@ -7,7 +7,7 @@ use Rattle.std.proofs.lemmas.List.Folds.{list_any-append}
 use Rattle.mx_base.specs.declared.names.LinkId.{LinkId}
 use Rattle.mx_wire.specs.Growth.{bool_cases, same_number}
 use Rattle.ready_loop.specs.Changes.{ChangesOnly, SaysSame, TakesChange}
-use Rattle.ready_loop.specs.Sent.{Sent}
+use Rattle.mx_base.specs.Sent.{Sent}
 use Rattle.ready_loop.specs.Links.{mark_of, is_in_queue, queue_with, Marks}
 use Rattle.ready_loop.specs.Queued.{IsSettled, Watches}
 use Rattle.ready_loop.specs.declared.links.Links.{Links}

@@ -1,7 +1,7 @@
 -- The links that a loop has to look at again after a call of a machine.
 use Rattle.std.specs.Prelude.{◌≡◌, ◌⊎◌, ℕ, Bool, true, false, Option, Some, None, IsSome}
 use Rattle.mx_base.specs.declared.names.LinkId.{LinkId}
-use Rattle.ready_loop.specs.Sent.{Sent}
+use Rattle.mx_base.specs.Sent.{Sent}
 
 -- of a link that isn't among the changed ones, all that is to be read or written was to be before, and was named
 pub record LeavesBe {M : Type 0} (changed reads : M → LinkId → Bool) (sends : M → LinkId → Option Sent) (old new : M) (link : LinkId) : Type 0 where

@@ -6,7 +6,7 @@ use Rattle.mx_base.specs.declared.names.Port.TheVariants.{Traffic, Admin}
 use Rattle.mx_wire.specs.Log.{Log, of_link, is_open}
 use Rattle.mx_wire.specs.declared.entry.Entry.{Entry}
 use Rattle.mx_wire.specs.declared.entry.Entry.TheVariants.{Woke, WaitFailed, Over, Named, NoneNamed, Accepted, AcceptNothing, Opened, Got, ReadNothing, Wrote, WriteNothing}
-use Rattle.ready_loop.specs.Sent.{Sent}
+use Rattle.mx_base.specs.Sent.{Sent}
 
 -- a link is dry for reads where the last read since it came, and since it was last named, found nothing
 abbrev pub read_step : Bool → Entry → Bool

@@ -5,5 +5,4 @@ pub mod Links
 pub mod Machine
 pub mod Queued
 pub mod Round
-pub mod Sent
 pub mod Serving

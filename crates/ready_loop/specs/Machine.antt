@@ -4,7 +4,7 @@ use Rattle.mx_base.specs.declared.names.LinkId.{LinkId}
 use Rattle.mx_base.specs.declared.names.ServerId.{ServerId}
 use Rattle.mx_base.specs.declared.names.Address.{Address}
 use Rattle.mx_base.specs.declared.tag.Tag.{Tag}
-use Rattle.ready_loop.specs.Sent.{Sent}
+use Rattle.mx_base.specs.Sent.{Sent}
 use Rattle.mx_wire.specs.Log.{Log, AreMarks}
 use Rattle.mx_wire.specs.Tells.{IsOpen, MayFollow, Tells}
 use Rattle.mx_wire.specs.declared.entry.Entry.{Entry}
@@ -13,7 +13,6 @@ use Rattle.ready_loop.specs.declared.machines.Event.{Event}
 use Rattle.ready_loop.specs.declared.machines.Event.TheVariants as event
 use Rattle.ready_loop.specs.declared.machines.Act.{Act}
 use Rattle.ready_loop.specs.declared.machines.Act.TheVariants as act
-use Rattle.ready_loop.specs.declared.machines.Piece.{Piece}
 
 -- a server that is to be connected to
 pub record Target : Type 0 where
@@ -109,17 +108,3 @@ IsQuiet (entry.Exec link) = Unit {0}
 IsQuiet (entry.Drop link) = Unit {0}
 IsQuiet _ = ⊥
 
-pub record IsLentPiece (piece : Piece) (sent : Sent) : Type 0 where
-  pub tag : piece.tag ≡ sent.tag
-  pub bytes : piece.bytes.now ≡ sent.bytes
-  pub some : 0 < length sent.bytes
-
-abbrev pub IsLent : Option Piece → Option Sent → Type 0
-IsLent (Some piece) (Some sent) = IsLentPiece piece sent
-IsLent None None = Unit {0}
-IsLent _ _ = ⊥
-
--- no more is taken than the machine has to write
-abbrev pub MayTake : Option Sent → ℕ → Type 0
-MayTake (Some sent) n = n ≤ length sent.bytes
-MayTake None n = ⊥

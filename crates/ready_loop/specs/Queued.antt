@@ -1,7 +1,7 @@
 -- Which links the loop still has to look at.
 use Rattle.std.specs.Prelude.{◌≡◌, Bool, true, false, Option, Some, IsSome}
 use Rattle.mx_base.specs.declared.names.LinkId.{LinkId}
-use Rattle.ready_loop.specs.Sent.{Sent}
+use Rattle.mx_base.specs.Sent.{Sent}
 use Rattle.ready_loop.specs.Links.{mark_of, is_in_queue}
 use Rattle.ready_loop.specs.declared.links.Links.{Links}
 use Rattle.ready_loop.specs.declared.links.Mark.{Mark}

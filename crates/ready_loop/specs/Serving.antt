@@ -9,7 +9,7 @@ use Rattle.mx_wire.specs.Tells.{Appends, Tells}
 use Rattle.mx_wire.specs.Offers.{HasOffered}
 use Rattle.mx_wire.specs.declared.entry.Entry.{Entry}
 use Rattle.mx_wire.specs.declared.entry.Entry.TheVariants as entry
-use Rattle.ready_loop.specs.Sent.{Sent}
+use Rattle.mx_base.specs.Sent.{Sent}
 use Rattle.ready_loop.specs.Machine.{StandsFor, IsFarewell}
 use Rattle.ready_loop.specs.Drained.{IsDrained}
 use Rattle.ready_loop.specs.Links.{dry_in, dry_of, is_read_dry, is_write_dry, mark_of}

@@ -12,5 +12,5 @@ mod serving;
 mod table;
 
 pub use ends::ServeEnd;
-pub use machines::{Act, Event, Machine, Piece};
+pub use machines::{Act, Event, Machine};
 pub use serving::serve;

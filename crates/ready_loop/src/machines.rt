@@ -6,12 +6,12 @@ ghost use Rattle.mx_base.specs.declared.names.Address.{Address};
 ghost use Rattle.mx_wire.specs.Log.{Log};
 ghost use Rattle.mx_wire.specs.declared.entry.Entry.{Entry};
 ghost use Rattle.mx_wire.specs.declared.entry.Entry.TheVariants as entry;
-ghost use Rattle.ready_loop.specs.Machine.{Target, IsHeard, HasActed, IsAwaited, CarriesOver, Keeps, IsToldOf, Acts, OwesFarewell, IsQuiet, IsLent, MayTake};
+ghost use Rattle.ready_loop.specs.Machine.{Target, IsHeard, HasActed, IsAwaited, CarriesOver, Keeps, IsToldOf, Acts, OwesFarewell, IsQuiet};
 ghost use Rattle.ready_loop.specs.Changes.{ChangesOnly, SaysSame, TakesChange};
-ghost use Rattle.ready_loop.specs.Sent.{Sent};
+ghost use Rattle.mx_base.specs.Sent.{Sent, IsLent, MayTake};
 ghost use Rattle.ready_loop.specs.Drained.{IsDue};
 
-use mx_base::{Address, LinkId, OutOfMemory, Port, ServerId, Tag};
+use mx_base::{Address, LinkId, OutOfMemory, Piece, Port, ServerId, Tag};
 
 /// What a machine is told. The bytes of a `Got` stand beside it.
 #[derive(Clone, Copy)]
@@ -49,13 +49,6 @@ pub enum Event {
 pub enum Act {
     Open { server: ServerId, address: Address },
     Close { link: LinkId },
-}
-
-/// Bytes that a machine has to write, at least one, and what they are for.
-#[derive(Clone, Copy)]
-pub struct Piece<'a> {
-    pub tag: Tag,
-    pub bytes: &'a [u8],
 }
 
 /// A machine that stands for a log: each call carries what it says of the log so far over to the log with one

@@ -6,9 +6,9 @@ use Rattle.mx_base.specs.declared.names.LinkId.{LinkId}
 use Rattle.mx_base.specs.declared.tag.Tag.TheVariants.{Own, Reply}
 use Rattle.mx_wire.specs.Log.{Log}
 use Rattle.mx_wire.specs.Tells.{IsOpen}
-use Rattle.ready_loop.specs.Sent.{Sent}
+use Rattle.mx_base.specs.Sent.{Sent}
 use Rattle.ready_loop.specs.Drained.{read_dry, write_dry, IsDrained}
-use Rattle.server_side.specs.Backend.{BackendState, Left, left_by, left}
+use Rattle.server_side.specs.Backend.{BackendState, left_by, left}
 use Rattle.server_side.specs.declared.command.Command.{Command as Handed}
 use Rattle.client_talk.specs.declared.session.Phase.{Phase}
 use Rattle.client_talk.specs.declared.session.Phase.TheVariants as phase
@@ -20,7 +20,7 @@ use Rattle.promises.specs.Rest.{IsEnding}
 use Rattle.promises.proofs.Causes.{none-if}
 use Rattle.router_world.specs.declared.seat.Seat.{Seat}
 use Rattle.router_world.specs.Tables.{Tables}
-use Rattle.router_world.specs.Acts.{reply_sent, seat_sends, left_sent, sends_by, sends, seat_reads, reads_by, reads}
+use Rattle.router_world.specs.Acts.{reply_sent, seat_sends, sends_by, sends, seat_reads, reads_by, reads}
 use Rattle.router_world.proofs.Ending.{ended-seat}
 use Rattle.router_world.proofs.Hands.{none-some}
 use Rattle.router_world.proofs.Owners.{IsOf, OfClient, OfServer, is-of}
@@ -39,14 +39,14 @@ seat-full log tables link client seat byte bytes drained opened number is some =
 unnumbered : (service : Service) (log : Log) (tables : Tables) (link : LinkId) (lent : Lent) → Sound service log None tables → tables.lends.links link.0 ≡ Some lent → tables.numbers link.0 ≡ None
 unnumbered service log tables link lent sound is = none-if (tables.numbers link.0) (λ client number. none-some (tables.lends.links link.0) (sound.unlent link client number) is)
 
-pub row-full : (service : Service) (log : Log) (tables : Tables) (link : LinkId) (lent : Lent) (l : Left) → IsDrained (reads tables) (sends tables) log → Sound service log None tables → IsOpen link log → tables.lends.links link.0 ≡ Some lent → left lent.backend ≡ Some l → write_dry link log ≡ true
+pub row-full : (service : Service) (log : Log) (tables : Tables) (link : LinkId) (lent : Lent) (l : Sent) → IsDrained (reads tables) (sends tables) log → Sound service log None tables → IsOpen link log → tables.lends.links link.0 ≡ Some lent → left lent.backend ≡ Some l → write_dry link log ≡ true
 row-full service log tables link lent l drained sound opened is some = full log tables link (record { tag = l.tag; bytes = l.bytes }) drained opened
-    (ap (sends_by tables link) (unnumbered service log tables link lent sound is) ∙ ap (λ (o : Option Lent). left_sent (left_in o)) is ∙ ap left_sent some)
+    (ap (sends_by tables link) (unnumbered service log tables link lent sound is) ∙ ap left_in is ∙ some)
 
 -- Something is left of a command that wasn't written whole.
-pub left-some : (backend : BackendState) (command : Handed) → backend.command ≡ Some command → nat_lt command.sent (length command.bytes) ≡ true → (l : Left) × (left backend ≡ Some l)
+pub left-some : (backend : BackendState) (command : Handed) → backend.command ≡ Some command → nat_lt command.sent (length command.bytes) ≡ true → (l : Sent) × (left backend ≡ Some l)
 left-some backend command has less = by backend.own refl where
-  by : (own : List ℕ) → backend.own ≡ own → (l : Left) × (left backend ≡ Some l)
+  by : (own : List ℕ) → backend.own ≡ own → (l : Sent) × (left backend ≡ Some l)
   by [] at = (record { tag = command.tag; bytes = drop command.sent command.bytes }, ap (λ own. left_by own backend.command) at ∙ ap (λ (o : Option Handed). left_by [] o) has ∙ ap (λ b. cond b (Some (record { tag = command.tag; bytes = drop command.sent command.bytes })) None) less)
   by (byte ∷ bytes) at = (record { tag = Own; bytes = byte ∷ bytes }, ap (λ own. left_by own backend.command) at)
 

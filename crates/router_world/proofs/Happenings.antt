@@ -25,7 +25,7 @@ use Rattle.promises.proofs.Causes.{none-if}
 use Rattle.router_world.specs.declared.seat.Parting.{Parting}
 use Rattle.router_world.specs.Tables.{Tables, without_seat}
 use Rattle.router_world.specs.World.{on_seat, heard_on, got_on, lost_on, ended_on, failed_on, sent_on, wrote_on, offered_to}
-use Rattle.router_world.specs.Acts.{reply_sent, seat_sends, left_sent, sends_by, sends, close_of, farewell_of, asks, IsFront, IsFarewell}
+use Rattle.router_world.specs.Acts.{reply_sent, seat_sends, sends_by, sends, close_of, farewell_of, asks, IsFront, IsFarewell}
 use Rattle.router_world.proofs.Hands.{none-some}
 use Rattle.router_world.proofs.Sound.{AreFormed, Sound, AtMostOne, Nobody, One}
 use Rattle.router_world.proofs.Moving.{IsPlain}
@@ -152,7 +152,7 @@ written-step service log link tag bytes tables on front = by (whose service log 
         reply : (tag ≡ Rattle.mx_base.specs.declared.tag.Tag.TheVariants.Reply) × (n : ℕ) × (bytes ≡ take n seat.session.client.outgoing)
         reply = reply-front tag bytes seat.session.client.outgoing (subst (λ o. IsFront (seat_sends o) tag bytes) is (subst (λ o. IsFront (sends_by tables link o) tag bytes) number front))
   by (OfServer lent is) = subst (λ o. Sound service then None (wrote_on link (length bytes) o tables)) (sym none) (subst (λ o. Sound service then None (sent_on link (length bytes) o tables)) (sym is)
-      (wrote-step service log link tag bytes lent tables on.happens.sound (on-row service log e link tables lent on is) (subst (λ o. IsFront (left_sent (left_in o)) tag bytes) is (subst (λ o. IsFront (sends_by tables link o) tag bytes) none front)))) where
+      (wrote-step service log link tag bytes lent tables on.happens.sound (on-row service log e link tables lent on is) (subst (λ o. IsFront (left_in o) tag bytes) is (subst (λ o. IsFront (sends_by tables link o) tag bytes) none front)))) where
         none : tables.numbers link.0 ≡ None
         none = unnumbered service log link tables lent on.happens.sound is
 

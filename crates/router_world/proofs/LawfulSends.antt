@@ -2,6 +2,7 @@
 use Rattle.std.specs.Prelude.{◌≡◌, ◌≢◌, ◌<◌, ℕ, zero, suc, Bool, true, false, not, nat_eq, nat_lt, cond, List, [], ◌∷◌, ◌++◌, length, take, drop, Option, Some, None, refl}
 use Rattle.std.proofs.Common.{sym, ◌∙◌, ap, subst, append_assoc, arith}
 use Rattle.std.proofs.lemmas.List.{take-append-drop}
+use Rattle.mx_base.specs.Sent.{Sent}
 use Rattle.mx_base.specs.declared.names.LinkId.{LinkId}
 use Rattle.mx_base.specs.declared.tag.Tag.{Tag}
 use Rattle.mx_base.specs.declared.tag.Tag.TheVariants.{For, Own}
@@ -9,7 +10,7 @@ use Rattle.mx_wire.specs.Log.{Log}
 use Rattle.mx_wire.specs.declared.entry.Entry.TheVariants.{Wrote}
 use Rattle.packet_frame.specs.Packets.{spelling}
 use Rattle.server_side.specs.Account.{Account}
-use Rattle.server_side.specs.Backend.{BackendState, Left, left_by, command_left, left, is_begun}
+use Rattle.server_side.specs.Backend.{BackendState, left_by, command_left, left, is_begun}
 use Rattle.server_side.specs.Login.{opening, said_of}
 use Rattle.server_side.specs.declared.command.Command.{Command as Handed}
 use Rattle.lend_core.specs.declared.lent.Lent.{Lent}
@@ -30,11 +31,11 @@ use Rattle.router_world.proofs.RowsWritten.{begun-some, said-written, said-at}
 use Rattle.router_world.proofs.Sound.{HandedStands, carried_by, Owned, Own as IsOwn, Left as IsLeft, RowStands, Sound}
 
 -- What is left to be written is of the login, or of the command.
-pub data LeftAt (backend : BackendState) (l : Left) : Type 0 where
+pub data LeftAt (backend : BackendState) (l : Sent) : Type 0 where
   OfLogin : 0 < length backend.own → l ≡ record { tag = Own; bytes = backend.own } → LeftAt backend l
   OfCommand : (command : Handed) → backend.own ≡ [] → backend.command ≡ Some command → command.sent < length command.bytes → l ≡ record { tag = command.tag; bytes = drop command.sent command.bytes } → LeftAt backend l
 
-pub left-at : (backend : BackendState) (l : Left) → left backend ≡ Some l → LeftAt backend l
+pub left-at : (backend : BackendState) (l : Sent) → left backend ≡ Some l → LeftAt backend l
 left-at backend l is = by backend.own refl is where
   of-command : backend.own ≡ [] → (o : Option Handed) → backend.command ≡ o → command_left o ≡ Some l → LeftAt backend l
   of-command none None at is = absurd (let no : None ≡ Some l = is in cc)
@@ -136,8 +137,8 @@ may-send service log tables link lent command k sound is none has less = by (sou
     }
 
 -- What is left to be written there.
-pub may-write : (service : Service) (log : Log) (tables : Tables) (link : LinkId) (lent : Lent) (l : Left) (k : ℕ) → Sound service log None tables → tables.lends.links link.0 ≡ Some lent → left lent.backend ≡ Some l → IsLawful service log (Wrote link l.tag (take k l.bytes))
+pub may-write : (service : Service) (log : Log) (tables : Tables) (link : LinkId) (lent : Lent) (l : Sent) (k : ℕ) → Sound service log None tables → tables.lends.links link.0 ≡ Some lent → left lent.backend ≡ Some l → IsLawful service log (Wrote link l.tag (take k l.bytes))
 may-write service log tables link lent l k sound is lefts = by (left-at lent.backend l lefts) where
   by : LeftAt lent.backend l → IsLawful service log (Wrote link l.tag (take k l.bytes))
-  by (OfLogin some same) = subst (λ (l : Left). IsLawful service log (Wrote link l.tag (take k l.bytes))) (sym same) (may-say service log tables link lent k sound is some)
-  by (OfCommand command none has less same) = subst (λ (l : Left). IsLawful service log (Wrote link l.tag (take k l.bytes))) (sym same) (may-send service log tables link lent command k sound is none has less)
+  by (OfLogin some same) = subst (λ (l : Sent). IsLawful service log (Wrote link l.tag (take k l.bytes))) (sym same) (may-say service log tables link lent k sound is some)
+  by (OfCommand command none has less same) = subst (λ (l : Sent). IsLawful service log (Wrote link l.tag (take k l.bytes))) (sym same) (may-send service log tables link lent command k sound is none has less)

@@ -14,9 +14,9 @@ use Rattle.mx_wire.specs.Growth.{bool_cases, same_number}
 use Rattle.mx_wire.specs.declared.entry.Entry.{Entry}
 use Rattle.mx_wire.specs.declared.entry.Entry.TheVariants.{Wrote}
 use Rattle.packet_frame.specs.PacketLaws.{nat_eq-true}
-use Rattle.ready_loop.specs.Sent.{Sent}
+use Rattle.mx_base.specs.Sent.{Sent}
 use Rattle.server_side.specs.Account.{Account}
-use Rattle.server_side.specs.Backend.{BackendState, is_begun, Left as LeftBytes, command_left, left_by, left, command_taken, taken_by, taken}
+use Rattle.server_side.specs.Backend.{BackendState, is_begun, command_left, left_by, left, command_taken, taken_by, taken}
 use Rattle.server_side.specs.declared.command.Command.{Command as Handed}
 use Rattle.server_side.specs.declared.stage.Stage.TheVariants as stage
 use Rattle.lend_core.specs.declared.ask.Ask.{Ask}
@@ -32,7 +32,7 @@ use Rattle.promises.proofs.Beginning.{uncarried}
 use Rattle.promises.proofs.InWork.{some-same}
 use Rattle.promises.proofs.Causes.{and-true}
 use Rattle.promises.proofs.Links.{refused-or-sent, carrier-more}
-use Rattle.router_world.specs.Acts.{left_sent, IsFront}
+use Rattle.router_world.specs.Acts.{IsFront}
 use Rattle.router_world.specs.Replied.{replied}
 use Rattle.router_world.specs.Rows.{is_of, LinkAt, Entering, Inside}
 use Rattle.router_world.proofs.RowsWritten.{taken-at}
@@ -46,15 +46,15 @@ use Rattle.router_world.proofs.LinksRow.{opened-on, lost-on, heard-on, piece-on,
 use Rattle.router_world.proofs.LinksAt.{AtRow, at-busy, came-of, row-later, user-later, calm-own, login-stays, ask-unreplied, handed-unrefused}
 
 -- Of what a link has to write its bytes are, and what is left then.
-pub data LeftIn (backend : BackendState) (l : LeftBytes) : Type 0 where
+pub data LeftIn (backend : BackendState) (l : Sent) : Type 0 where
   OfLogin : l.tag ≡ Own → ((n : ℕ) → (taken n backend).command ≡ backend.command) → LeftIn backend l
   OfCommand : (command : Handed) → backend.command ≡ Some command → l.tag ≡ command.tag → ((n : ℕ) → (taken n backend).command ≡ Some (record command { sent = command.sent + n })) → LeftIn backend l
 
-pub left-in : (backend : BackendState) (l : LeftBytes) → left backend ≡ Some l → LeftIn backend l
+pub left-in : (backend : BackendState) (l : Sent) → left backend ≡ Some l → LeftIn backend l
 left-in backend l is = by backend.own refl is where
   of-command : backend.own ≡ [] → (command : Handed) → backend.command ≡ Some command → (b : Bool) → cond b (Some (record { tag = command.tag; bytes = drop command.sent command.bytes })) None ≡ Some l → LeftIn backend l
   of-command none command has false is = absurd (let no' : None ≡ Some l = is in cc)
-  of-command none command has true is = OfCommand command has (ap (λ (x : LeftBytes). x.tag) (sym (some-same (record { tag = command.tag; bytes = drop command.sent command.bytes }) l is)))
+  of-command none command has true is = OfCommand command has (ap (λ (x : Sent). x.tag) (sym (some-same (record { tag = command.tag; bytes = drop command.sent command.bytes }) l is)))
       (λ n. ap (λ own. (taken_by n own backend).command) none ∙ ap (command_taken n) has)
 
   commanded : backend.own ≡ [] → (o : Option Handed) → backend.command ≡ o → command_left o ≡ Some l → LeftIn backend l
@@ -63,7 +63,7 @@ left-in backend l is = by backend.own refl is where
 
   by : (own : List ℕ) → backend.own ≡ own → left_by own backend.command ≡ Some l → LeftIn backend l
   by [] same is = commanded same backend.command refl is
-  by (byte ∷ bytes) same is = OfLogin (ap (λ (x : LeftBytes). x.tag) (sym (some-same (record { tag = Own; bytes = byte ∷ bytes }) l is))) (λ n. ap (λ own. (taken_by n own backend).command) same)
+  by (byte ∷ bytes) same is = OfLogin (ap (λ (x : Sent). x.tag) (sym (some-same (record { tag = Own; bytes = byte ∷ bytes }) l is))) (λ n. ap (λ own. (taken_by n own backend).command) same)
 
 taken-account : (n : ℕ) (backend : BackendState) → (taken n backend).account ≡ backend.account
 taken-account n backend = by backend.own where
@@ -111,7 +111,7 @@ unasked-beside service log e lends link lent at command has (Parts gone) = gone.
 -- The bytes are of what is left on the row of the link.
 pub record WroteAt (service : Service) (log : Log) (tag : Tag) (bytes : List ℕ) (lends : Lends) (link : LinkId) (lent : Lent) : Type 0 where
   pub at : AtRow service log (Wrote link tag bytes) lends link lent
-  pub l : LeftBytes
+  pub l : Sent
   pub is : left lent.backend ≡ Some l
   pub same : tag ≡ l.tag
   pub some : 0 < length bytes
@@ -281,16 +281,16 @@ wrote-came service log tag bytes lends link lent wrote = by (left-in lent.backen
         silent i (OnHere owns none d staged holds t) = ap (λ k. replied service n k new) (sym (same-ordinal stands.ordinal i c.tag stands.tag (ap (λ (h : Handed). h.tag) (some-same c d (sym has ∙ holds)) ∙ t))) ∙ unreplied
 
 -- what is lent to the link is what is left there
-pub front-left : (o : Option LeftBytes) (tag : Tag) (bytes : List ℕ) → IsFront (left_sent o) tag bytes → (l : LeftBytes) × (o ≡ Some l) × (tag ≡ l.tag) × (length bytes ≤ length l.bytes) × (take (length bytes) l.bytes ≡ bytes)
+pub front-left : (o : Option Sent) (tag : Tag) (bytes : List ℕ) → IsFront o tag bytes → (l : Sent) × (o ≡ Some l) × (tag ≡ l.tag) × (length bytes ≤ length l.bytes) × (take (length bytes) l.bytes ≡ bytes)
 front-left None tag bytes front = absurd (let no' : None ≡ Some front.sent = front.is in cc)
 front-left (Some l) tag bytes front = (let same : record { tag = l.tag; bytes = l.bytes } ≡ front.sent = some-same (record { tag = l.tag; bytes = l.bytes }) front.sent front.is in
     let size = front-size l.bytes bytes front.n (front.front ∙ ap (λ (s : Sent). take front.n s.bytes) (sym same)) in
     (l, refl, front.same_tag ∙ ap (λ (s : Sent). s.tag) (sym same), size.0, size.1))
 
 pub wrote-at : (service : Service) (log : Log) (link : LinkId) (tag : Tag) (bytes : List ℕ) (lends : Lends) (lent : Lent) (row : RowStands service log lends link lent) → AllLawful (IsLawful service) (log ++ Wrote link tag bytes ∷ []) → AllLawful Fits (log ++ Wrote link tag bytes ∷ []) → LendsSound service log lends
-    → lends.waiting ≡ [] → lends.closing ≡ [] → lends.links link.0 ≡ Some lent → IsFront (left_sent (left_in (Some lent))) tag bytes → Holds lends row.turn.client → WroteAt service log tag bytes lends link lent
+    → lends.waiting ≡ [] → lends.closing ≡ [] → lends.links link.0 ≡ Some lent → IsFront (left_in (Some lent)) tag bytes → Holds lends row.turn.client → WroteAt service log tag bytes lends link lent
 wrote-at service log link tag bytes lends lent row lawful fits sound idle unclosed there front holds = record { at = at; l = parts.0; is = parts.1; same = parts.2; some = (lawful-last Fits log (Wrote link tag bytes) fits).1.some; fits = parts.3; front = parts.4; holds = holds } where
-  parts : (l : LeftBytes) × (left lent.backend ≡ Some l) × (tag ≡ l.tag) × (length bytes ≤ length l.bytes) × (take (length bytes) l.bytes ≡ bytes)
+  parts : (l : Sent) × (left lent.backend ≡ Some l) × (tag ≡ l.tag) × (length bytes ≤ length l.bytes) × (take (length bytes) l.bytes ≡ bytes)
   parts = front-left (left lent.backend) tag bytes front
 
   -- no other client's command is written

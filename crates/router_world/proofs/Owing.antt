@@ -9,11 +9,11 @@ use Rattle.mx_base.specs.declared.tag.Tag.TheVariants.{Reply}
 use Rattle.mx_wire.specs.Log.{Log, written_of}
 use Rattle.mx_wire.specs.Moments.{AllLawful}
 use Rattle.mx_wire.specs.Tells.{Fits}
-use Rattle.ready_loop.specs.Sent.{Sent}
+use Rattle.mx_base.specs.Sent.{Sent}
 use Rattle.packet_frame.specs.PacketLaws.{nat_eq-true}
 use Rattle.packet_frame.specs.Packets.{spelling}
 use Rattle.server_side.specs.Account.{Account}
-use Rattle.server_side.specs.Backend.{BackendState, Left, left}
+use Rattle.server_side.specs.Backend.{BackendState, left}
 use Rattle.server_side.specs.Login.{opening, said_of}
 use Rattle.client_session.specs.Arrivals.{Arrival, arrivals, arrival_of}
 use Rattle.lend_core.specs.declared.lent.Lent.{Lent}
@@ -29,7 +29,7 @@ use Rattle.promises.proofs.Causes.{clients-unowned}
 use Rattle.promises.proofs.InWork.{some-same}
 use Rattle.router_world.specs.declared.seat.Parting.{Parting}
 use Rattle.router_world.specs.declared.seat.Seat.{Seat}
-use Rattle.router_world.specs.Acts.{reply_sent, seat_sends, left_sent, sends_by, sends, close_of, farewell_of, IsFarewell}
+use Rattle.router_world.specs.Acts.{reply_sent, seat_sends, sends_by, sends, close_of, farewell_of, IsFarewell}
 use Rattle.router_world.specs.Owed.{IsWhole, lends}
 use Rattle.router_world.specs.Rows.{begun, begun_by, bytes_in, IsInside, LinkAt, Entering, Inside}
 use Rattle.router_world.specs.Tables.{Tables}
@@ -54,10 +54,10 @@ seat-whole : (o : Option Seat) (piece : List ℕ) → IsWhole (seat_sends o) pie
 seat-whole None piece whole = absurd (let none : None ≡ Some whole.sent = whole.is in cc)
 seat-whole (Some seat) piece whole = (seat, refl, whole.bytes ∙ (reply-whole seat.session.client.outgoing whole.sent whole.is).0)
 
-left-whole : (o : Option Lent) (piece : List ℕ) → IsWhole (left_sent (left_in o)) piece → (lent : Lent) × (o ≡ Some lent) × (l : Left) × (left lent.backend ≡ Some l) × (piece ≡ l.bytes)
+left-whole : (o : Option Lent) (piece : List ℕ) → IsWhole (left_in o) piece → (lent : Lent) × (o ≡ Some lent) × (l : Sent) × (left lent.backend ≡ Some l) × (piece ≡ l.bytes)
 left-whole None piece whole = absurd (let none : None ≡ Some whole.sent = whole.is in cc)
 left-whole (Some lent) piece whole = by (left lent.backend) refl whole.is where
-  by : (o : Option Left) → left lent.backend ≡ o → left_sent o ≡ Some whole.sent → (other : Lent) × (Some lent ≡ Some other) × (l : Left) × (left other.backend ≡ Some l) × (piece ≡ l.bytes)
+  by : (o : Option Sent) → left lent.backend ≡ o → o ≡ Some whole.sent → (other : Lent) × (Some lent ≡ Some other) × (l : Sent) × (left other.backend ≡ Some l) × (piece ≡ l.bytes)
   by None at is = absurd (let none : None ≡ Some whole.sent = is in cc)
   by (Some l) at is = (lent, refl, l, at, whole.bytes ∙ ap (λ (s : Sent). s.bytes) (sym (some-same (record { tag = l.tag; bytes = l.bytes }) whole.sent is)))
 
@@ -135,7 +135,7 @@ first-some : (own later : List ℕ) → 0 < length own → login_first own later
 first-some [] later some = absurd (omega arith)
 first-some (byte ∷ own) later some = refl
 
-owed-row : (service : Service) (log : Log) (tables : Tables) (link : LinkId) (lent : Lent) (l : Left) → AllLawful Fits log → RowStands service log tables.lends link lent → left lent.backend ≡ Some l → l.bytes ≡ owed service link log
+owed-row : (service : Service) (log : Log) (tables : Tables) (link : LinkId) (lent : Lent) (l : Sent) → AllLawful Fits log → RowStands service log tables.lends link lent → left lent.backend ≡ Some l → l.bytes ≡ owed service link log
 owed-row service log tables link lent l told row is = by (left-at lent.backend l is) where
   user : Account
   user = lent.backend.account
@@ -160,8 +160,8 @@ owed-row service log tables link lent l told row is = by (left-at lent.backend l
       ∙ ap (λ bytes. login_first bytes rest) own
 
   by : LeftAt lent.backend l → l.bytes ≡ owed service link log
-  by (OfLogin some same) = ap (λ (l : Left). l.bytes) same ∙ sym (whole ∙ first-some lent.backend.own rest some)
-  by (OfCommand command none has less same) = ap (λ (l : Left). l.bytes) same ∙ sym (whole ∙ ap (λ bytes. login_first bytes rest) none ∙ behind command.sent refl) where
+  by (OfLogin some same) = ap (λ (l : Sent). l.bytes) same ∙ sym (whole ∙ first-some lent.backend.own rest some)
+  by (OfCommand command none has less same) = ap (λ (l : Sent). l.bytes) same ∙ sym (whole ∙ ap (λ bytes. login_first bytes rest) none ∙ behind command.sent refl) where
     stands : HandedStands service log n link command
     stands = row.command command has
 

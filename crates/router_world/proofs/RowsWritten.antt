@@ -6,6 +6,7 @@ use Rattle.std.proofs.lemmas.Bool.{or_parts}
 use Rattle.std.proofs.lemmas.List.{nil_from_length}
 use Rattle.std.proofs.lemmas.List.Folds.{list_any-append}
 use Rattle.std.proofs.lemmas.List.Sums.{fold-append}
+use Rattle.mx_base.specs.Sent.{Sent}
 use Rattle.mx_base.specs.declared.tag.Tag.{Tag}
 use Rattle.mx_base.specs.declared.tag.Tag.TheVariants.{Own}
 use Rattle.mx_base.specs.Fields.{AreBytes}
@@ -17,7 +18,7 @@ use Rattle.reply_track.specs.Replying.{to_command}
 use Rattle.server_side.specs.Account.{Account}
 use Rattle.server_side.specs.Login.{Goes, said_of, most_payload, greeting_by, opening}
 use Rattle.server_side.specs.Laws.{opening-new}
-use Rattle.server_side.specs.Backend.{BackendState, new_backend, command_of, Left, command_left, left_by, left, command_taken, taken_by, taken}
+use Rattle.server_side.specs.Backend.{BackendState, new_backend, command_of, command_left, left_by, left, command_taken, taken_by, taken}
 use Rattle.server_side.specs.Handing.{handed}
 use Rattle.server_side.specs.Reading.{IsOpening, IsLoggingIn}
 use Rattle.server_side.specs.declared.command.Command.{Command as Handed}
@@ -213,12 +214,12 @@ command-taken forms user heard pieces backend command n at none is some fits fre
         by (suc sent) was = at.new m i (ap (λ (o : Option Handed). list_any (is_of m i) (begun o)) is ∙ ap (list_any (is_of m i)) (begun-some command (omega arith)) ∙ here)
 
 -- So many bytes of what is left are written, with its tag.
-pub taken-at : (forms : Forms) (user : Account) (heard : List ℕ) (pieces : List Command) (backend : BackendState) (l : Left) (n : ℕ) → LinkAt forms user heard pieces backend → left backend ≡ Some l → 0 < n → n ≤ length l.bytes → IsFresh backend.command pieces
+pub taken-at : (forms : Forms) (user : Account) (heard : List ℕ) (pieces : List Command) (backend : BackendState) (l : Sent) (n : ℕ) → LinkAt forms user heard pieces backend → left backend ≡ Some l → 0 < n → n ≤ length l.bytes → IsFresh backend.command pieces
     → LinkAt forms user heard (pieces ++ record { tag = l.tag; bytes = take n l.bytes } ∷ []) (taken n backend)
 taken-at forms user heard pieces backend l n (Entering at) is some fits fresh = by backend.own refl is where
   by : (own : List ℕ) → backend.own ≡ own → left_by own backend.command ≡ Some l → LinkAt forms user heard (pieces ++ record { tag = l.tag; bytes = take n l.bytes } ∷ []) (taken_by n own backend)
   by [] same left = absurd (let no : None ≡ Some l = sym (ap command_left at.login.idle) ∙ left in cc)
-  by (byte ∷ bytes) same left = subst (λ (o : Left). LinkAt forms user heard (pieces ++ record { tag = o.tag; bytes = take n o.bytes } ∷ []) (record backend { own = drop n (byte ∷ bytes) })) (some-same (record { tag = Own; bytes = byte ∷ bytes }) l left)
+  by (byte ∷ bytes) same left = subst (λ (o : Sent). LinkAt forms user heard (pieces ++ record { tag = o.tag; bytes = take n o.bytes } ∷ []) (record backend { own = drop n (byte ∷ bytes) })) (some-same (record { tag = Own; bytes = byte ∷ bytes }) l left)
       (subst (λ own. LinkAt forms user heard (pieces ++ record { tag = Own; bytes = take n own } ∷ []) (record backend { own = drop n own })) same (Entering (entering-taken user heard pieces backend n at)))
 taken-at forms user heard pieces backend l n (Inside at) is some fits fresh = by backend.own refl is where
   piece : Command
@@ -227,8 +228,8 @@ taken-at forms user heard pieces backend l n (Inside at) is some fits fresh = by
   of-command : backend.own ≡ [] → (command : Handed) → backend.command ≡ Some command → (there : Bool) → cond there (Some (record { tag = command.tag; bytes = drop command.sent command.bytes })) None ≡ Some l
       → LinkAt forms user heard (pieces ++ piece ∷ []) (record backend { command = Some (record command { sent = command.sent + n }) })
   of-command none command same false left = absurd (let no : None ≡ Some l = left in cc)
-  of-command none command same true left = subst (λ (o : Left). LinkAt forms user heard (pieces ++ record { tag = o.tag; bytes = take n o.bytes } ∷ []) (record backend { command = Some (record command { sent = command.sent + n }) })) the
-      (Inside (command-taken forms user heard pieces backend command n at none same some (subst (λ (o : Left). n ≤ length o.bytes) (sym the) fits) fresh)) where
+  of-command none command same true left = subst (λ (o : Sent). LinkAt forms user heard (pieces ++ record { tag = o.tag; bytes = take n o.bytes } ∷ []) (record backend { command = Some (record command { sent = command.sent + n }) })) the
+      (Inside (command-taken forms user heard pieces backend command n at none same some (subst (λ (o : Sent). n ≤ length o.bytes) (sym the) fits) fresh)) where
         the : record { tag = command.tag; bytes = drop command.sent command.bytes } ≡ l
         the = some-same (record { tag = command.tag; bytes = drop command.sent command.bytes }) l left
 
@@ -238,9 +239,9 @@ taken-at forms user heard pieces backend l n (Inside at) is some fits fresh = by
 
   by : (own : List ℕ) → backend.own ≡ own → left_by own backend.command ≡ Some l → LinkAt forms user heard (pieces ++ piece ∷ []) (taken_by n own backend)
   by [] same left = commanded-left same backend.command refl left
-  by (byte ∷ bytes) same left = subst (λ (o : Left). LinkAt forms user heard (pieces ++ record { tag = o.tag; bytes = take n o.bytes } ∷ []) (record backend { own = drop n (byte ∷ bytes) })) the
+  by (byte ∷ bytes) same left = subst (λ (o : Sent). LinkAt forms user heard (pieces ++ record { tag = o.tag; bytes = take n o.bytes } ∷ []) (record backend { own = drop n (byte ∷ bytes) })) the
       (subst (λ own. LinkAt forms user heard (pieces ++ record { tag = Own; bytes = take n own } ∷ []) (record backend { own = drop n own })) same
-      (Inside (own-taken forms user heard pieces backend n at some (subst (λ own. n ≤ length own) (sym same) (subst (λ (o : Left). n ≤ length o.bytes) (sym the) fits))))) where
+      (Inside (own-taken forms user heard pieces backend n at some (subst (λ own. n ≤ length own) (sym same) (subst (λ (o : Sent). n ≤ length o.bytes) (sym the) fits))))) where
         the : record { tag = Own; bytes = byte ∷ bytes } ≡ l
         the = some-same (record { tag = Own; bytes = byte ∷ bytes }) l left
 

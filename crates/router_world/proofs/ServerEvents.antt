@@ -24,7 +24,7 @@ use Rattle.promises.specs.Headline.{IsLawful, IsServed}
 use Rattle.router_world.specs.declared.seat.Seat.{Seat}
 use Rattle.router_world.specs.Tables.{Tables, with_lends}
 use Rattle.router_world.specs.World.{told}
-use Rattle.router_world.specs.Acts.{IsFront, left_sent, closes, opens, asks}
+use Rattle.router_world.specs.Acts.{IsFront, closes, opens, asks}
 use Rattle.router_world.proofs.Sets.{apart-numbers}
 use Rattle.router_world.proofs.Connecting.{counts-all}
 use Rattle.router_world.proofs.Calm.{Leaves, leaves-other}
@@ -131,7 +131,7 @@ holds service log tables n sound = by (tables.seats n) refl where
   by (Some seat) is = serves seat.session.phase seat.session.client.arrived (sound.serves n seat is)
 
 -- Bytes are written to a server.
-pub wrote-step : (service : Service) (log : Log) (link : LinkId) (tag : Tag) (bytes : List ℕ) (lent : Lent) (tables : Tables) → Sound service log None tables → OnRow service log (Wrote link tag bytes) link lent tables → IsFront (left_sent (left_in (Some lent))) tag bytes
+pub wrote-step : (service : Service) (log : Log) (link : LinkId) (tag : Tag) (bytes : List ℕ) (lent : Lent) (tables : Tables) → Sound service log None tables → OnRow service log (Wrote link tag bytes) link lent tables → IsFront (left_in (Some lent)) tag bytes
     → Sound service (log ++ Wrote link tag bytes ∷ []) None (with_lends (taken_on link (length bytes) tables.lends) tables)
 wrote-step service log link tag bytes lent tables sound on front = row-step service log (Wrote link tag bytes) link lent tables (record { lends = taken_on link (length bytes) tables.lends; answer = None }) sound on wrote.at.row wrote.at.writes
     (λ seat is unsent. wrote-early service log tag bytes tables.lends link lent seat.session.client.arrived wrote (early service log tables sound wrote.at.row.turn.client seat is) unsent) (wrote-came service log tag bytes tables.lends link lent wrote) where

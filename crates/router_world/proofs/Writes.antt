@@ -7,8 +7,8 @@ use Rattle.mx_base.specs.declared.tag.Tag.{Tag}
 use Rattle.mx_base.specs.declared.tag.Tag.TheVariants.{Reply}
 use Rattle.mx_wire.specs.Log.{Log}
 use Rattle.mx_wire.specs.declared.entry.Entry.TheVariants.{Wrote}
-use Rattle.ready_loop.specs.Sent.{Sent}
-use Rattle.server_side.specs.Backend.{Left, left}
+use Rattle.mx_base.specs.Sent.{Sent}
+use Rattle.server_side.specs.Backend.{left}
 use Rattle.lend_core.specs.declared.lent.Lent.{Lent}
 use Rattle.lend_core.specs.Events.{left_in}
 use Rattle.promises.specs.Service.{Service}
@@ -17,12 +17,12 @@ use Rattle.router_world.specs.declared.seat.Parting.{Parting}
 use Rattle.router_world.specs.declared.seat.Seat.{Seat}
 use Rattle.router_world.specs.Tables.{Tables}
 use Rattle.router_world.specs.World.{tables_after}
-use Rattle.router_world.specs.Acts.{reply_sent, seat_sends, left_sent, sends_by, sends, close_of, farewell_of, IsFront, IsFarewell, IsOurs}
+use Rattle.router_world.specs.Acts.{reply_sent, seat_sends, sends_by, sends, close_of, farewell_of, IsFront, IsFarewell, IsOurs}
 use Rattle.router_world.proofs.Sound.{Sound, AtMostOne, Nobody, One}
 
 pub data Writes (tables : Tables) (link : LinkId) (tag : Tag) (bytes : List ℕ) : Type 0 where
   ToClient : (client : ClientNo) (seat : Seat) → tables.seats client.0 ≡ Some seat → seat.link ≡ link → tag ≡ Reply → (n : ℕ) → bytes ≡ take n seat.session.client.outgoing → Writes tables link tag bytes
-  ToServer : (lent : Lent) (l : Left) → tables.lends.links link.0 ≡ Some lent → left lent.backend ≡ Some l → tag ≡ l.tag → (n : ℕ) → bytes ≡ take n l.bytes → Writes tables link tag bytes
+  ToServer : (lent : Lent) (l : Sent) → tables.lends.links link.0 ≡ Some lent → left lent.backend ≡ Some l → tag ≡ l.tag → (n : ℕ) → bytes ≡ take n l.bytes → Writes tables link tag bytes
   Farewell : (parting : Parting) → tables.parting ≡ parting ∷ [] → parting.link ≡ link → tag ≡ Reply → (n : ℕ) → bytes ≡ take n parting.bytes → Writes tables link tag bytes
 
 -- the bytes of a reply
@@ -37,12 +37,12 @@ seat-front : (o : Option Seat) (tag : Tag) (bytes : List ℕ) → IsFront (seat_
 seat-front None tag bytes front = absurd (let none : None ≡ Some front.sent = front.is in cc)
 seat-front (Some seat) tag bytes front = (let one = reply-front tag bytes seat.session.client.outgoing front in (seat, refl, one.0, one.1, one.2))
 
-left-front : (o : Option Left) (tag : Tag) (bytes : List ℕ) → IsFront (left_sent o) tag bytes → (l : Left) × (o ≡ Some l) × (tag ≡ l.tag) × (n : ℕ) × (bytes ≡ take n l.bytes)
+left-front : (o : Option Sent) (tag : Tag) (bytes : List ℕ) → IsFront o tag bytes → (l : Sent) × (o ≡ Some l) × (tag ≡ l.tag) × (n : ℕ) × (bytes ≡ take n l.bytes)
 left-front None tag bytes front = absurd (let none : None ≡ Some front.sent = front.is in cc)
 left-front (Some l) tag bytes front = (let the : record { tag = l.tag; bytes = l.bytes } ≡ front.sent = some-same _ front.sent front.is in
     (l, refl, front.same_tag ∙ ap (λ (s : Sent). s.tag) (sym the), front.n, front.front ∙ ap (λ (s : Sent). take front.n s.bytes) (sym the)))
 
-lent-left : (o : Option Lent) (l : Left) → left_in o ≡ Some l → (lent : Lent) × (o ≡ Some lent) × (left lent.backend ≡ Some l)
+lent-left : (o : Option Lent) (l : Sent) → left_in o ≡ Some l → (lent : Lent) × (o ≡ Some lent) × (left lent.backend ≡ Some l)
 lent-left None l is = absurd (let none : None ≡ Some l = is in cc)
 lent-left (Some lent) l is = (lent, refl, is)
 

@@ -8,10 +8,9 @@ use Rattle.mx_base.specs.declared.tag.Tag.TheVariants.{Reply}
 use Rattle.mx_wire.specs.Log.{Log}
 use Rattle.mx_wire.specs.declared.entry.Entry.{Entry}
 use Rattle.mx_wire.specs.declared.entry.Entry.TheVariants as entry
-use Rattle.ready_loop.specs.Sent.{Sent}
+use Rattle.mx_base.specs.Sent.{Sent}
 use Rattle.ready_loop.specs.Machine.{Target}
 use Rattle.ready_loop.specs.Drained.{MayWait}
-use Rattle.server_side.specs.Backend.{Left}
 use Rattle.client_session.specs.declared.setup.ServerAt.{ServerAt}
 use Rattle.client_session.specs.Setups.{Setup, has_server}
 use Rattle.client_talk.specs.Sessions.{is_read}
@@ -32,13 +31,9 @@ abbrev pub seat_sends : Option Seat → Option Sent
 seat_sends None = None
 seat_sends (Some seat) = reply_sent seat.session.client.outgoing
 
-abbrev pub left_sent : Option Left → Option Sent
-left_sent None = None
-left_sent (Some left) = Some (record { tag = left.tag; bytes = left.bytes })
-
 abbrev pub sends_by : Tables → LinkId → Option ClientNo → Option Sent
 sends_by tables link (Some client) = seat_sends (tables.seats client.0)
-sends_by tables link None = left_sent (left_in (tables.lends.links link.0))
+sends_by tables link None = left_in (tables.lends.links link.0)
 
 abbrev pub sends : Tables → LinkId → Option Sent
 sends tables link = sends_by tables link (tables.numbers link.0)

@@ -8,7 +8,7 @@ use Rattle.reply_track.specs.Replying.{to_command}
 use Rattle.reply_track.specs.Tracking.{started}
 use Rattle.server_side.specs.Account.{Account}
 use Rattle.server_side.specs.declared.command.Command.{Command}
-use Rattle.server_side.specs.declared.command.Outgoing.{Outgoing}
+use Rattle.mx_base.specs.Sent.{Sent}
 use Rattle.server_side.specs.declared.stage.Stage.{Stage}
 use Rattle.server_side.specs.declared.stage.Stage.TheVariants.{Greeting}
 use Rattle.server_side.specs.Login.{most_payload}
@@ -37,38 +37,21 @@ command_of tag packets first = record { tag = tag; bytes = packets; sent = 0; fi
 abbrev pub commanded : Tag → List ℕ → (first : ℕ) → BackendState → BackendState
 commanded tag payload first backend = record backend { command = Some (command_of tag (spelling 0 payload) first); reply = [] }
 
--- What is to be written: bytes with their tag.
-pub record Left : Type 0 where
-  pub tag : Tag
-  pub bytes : List ℕ
+-- What is to be written.
 
-abbrev pub left_of : Command → Option Left
+abbrev pub left_of : Command → Option Sent
 left_of command = if nat_lt command.sent (length command.bytes) then Some (record { tag = command.tag; bytes = drop command.sent command.bytes }) else None
 
-abbrev pub command_left : Option Command → Option Left
+abbrev pub command_left : Option Command → Option Sent
 command_left None = None
 command_left (Some command) = left_of command
 
-abbrev pub left_by : (own : List ℕ) → Option Command → Option Left
+abbrev pub left_by : (own : List ℕ) → Option Command → Option Sent
 left_by [] command = command_left command
 left_by (byte ∷ bytes) command = Some (record { tag = Own; bytes = byte ∷ bytes })
 
-abbrev pub left : BackendState → Option Left
+abbrev pub left : BackendState → Option Sent
 left backend = left_by backend.own backend.command
-
-pub record IsLentPiece (outgoing : Outgoing) (left : Left) : Type 0 where
-  pub tag : outgoing.tag ≡ left.tag
-  pub bytes : outgoing.bytes.now ≡ left.bytes
-  pub some : 0 < length left.bytes
-
-abbrev pub IsLent : Option Outgoing → Option Left → Type 0
-IsLent (Some outgoing) (Some left) = IsLentPiece outgoing left
-IsLent None None = Unit {0}
-IsLent _ _ = ⊥
-
-abbrev pub MayTake : Option Left → ℕ → Type 0
-MayTake (Some left) n = n ≤ length left.bytes
-MayTake None n = ⊥
 
 -- so many of these bytes are written
 abbrev pub command_taken : ℕ → Option Command → Option Command

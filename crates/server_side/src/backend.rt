@@ -1,8 +1,8 @@
 // The link to a server.
 use crate::account::Account;
-use crate::command::{Command, Outgoing, command_of};
+use crate::command::{Command, command_of};
 use crate::stage::Stage;
-use mx_base::{ByteQueue, Bytes, OutOfMemory, Tag};
+use mx_base::{ByteQueue, Bytes, OutOfMemory, Piece, Tag};
 use packet_frame::{Framer, write_message};
 use std::alloc::Global;
 use std::marker::Model;
@@ -36,7 +36,8 @@ impl Backend {
     ghost use Rattle.packet_frame.specs.Packets.{spelling};
     ghost use Rattle.handshake.specs.Spelling.{IsText};
     ghost use Rattle.server_side.specs.declared.stage.Stage.TheVariants.{In};
-    ghost use Rattle.server_side.specs.Backend.{BackendState, new_backend, IsLent, left, MayTake, taken, withdrawn, commanded, is_begun, is_sent};
+    ghost use Rattle.mx_base.specs.Sent.{IsLent, MayTake};
+    ghost use Rattle.server_side.specs.Backend.{BackendState, new_backend, left, taken, withdrawn, commanded, is_begun, is_sent};
 
     /// A link on which nothing was heard. The user's name has no NUL.
     pub fn new(
@@ -79,12 +80,12 @@ impl Backend {
     }
 
     /// What is to be written, with its tag: what the router says of its own, and then the command.
-    pub fn outgoing(&self) -> Option<Outgoing<'_>>
+    pub fn outgoing(&self) -> Option<Piece<'_>>
         ensures { IsLent result (left self.now) }
     {
         let own = self.own.as_slice();
         if !own.is_empty() {
-            return Some(Outgoing {
+            return Some(Piece {
                 tag: Tag::Own,
                 bytes: own,
             });
@@ -93,7 +94,7 @@ impl Backend {
             Some(command) => {
                 let bytes = command.bytes.as_slice();
                 if command.sent < bytes.len() {
-                    Some(Outgoing {
+                    Some(Piece {
                         tag: command.tag,
                         bytes: &bytes[command.sent..],
                     })

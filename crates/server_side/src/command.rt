@@ -30,10 +30,3 @@ pub(crate) fn command_of(tag: Tag, packets: Bytes, first: u8) -> Command
         tracker,
     }
 }
-
-/// Bytes that are to be written, never none, and their tag.
-#[derive(Clone, Copy)]
-pub struct Outgoing<'a> {
-    pub tag: Tag,
-    pub bytes: &'a [u8],
-}

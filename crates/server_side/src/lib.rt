@@ -14,7 +14,7 @@ mod stage;
 
 pub use account::Account;
 pub use backend::Backend;
-pub use command::{Command, Outgoing};
+pub use command::Command;
 pub use fault::BackendFault;
 pub use handing::Unsent;
 pub use hear::Heard;

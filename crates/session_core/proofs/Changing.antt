@@ -4,14 +4,13 @@ use Rattle.std.proofs.Common.{sym, ◌∙◌, ap, subst, inl, inr}
 use Rattle.mx_base.specs.declared.names.ClientNo.{ClientNo}
 use Rattle.mx_base.specs.declared.names.LinkId.{LinkId}
 use Rattle.ready_loop.specs.Changes.{ChangesOnly}
-use Rattle.ready_loop.specs.Sent.{Sent}
+use Rattle.mx_base.specs.Sent.{Sent}
 use Rattle.lend_core.specs.declared.lent.Lent.{Lent}
 use Rattle.lend_core.specs.Lends.{Lends, set}
 use Rattle.lend_core.specs.Events.{left_in}
 use Rattle.router_world.specs.declared.seat.Parting.{Parting}
 use Rattle.router_world.specs.declared.seat.Seat.{Seat}
 use Rattle.router_world.specs.Tables.{Tables, with_seat, with_number, with_lends, to_part}
-use Rattle.router_world.specs.Acts.{left_sent}
 use Rattle.session_core.specs.declared.known.Known.{Known}
 use Rattle.session_core.specs.declared.known.Leaver.{Leaver}
 use Rattle.session_core.specs.Known.{tables_of, is_among, is_changed}
@@ -71,7 +70,7 @@ lends-only old new lends links is leaver more leaves = only old new links more (
     (ap (λ (t : Tables). reads_in t link) is ∙ ap (λ (o : Option Lent). is_some o || client_reads link (tables_of old).seats ((tables_of old).numbers link.0)) (leaves link off))
     (ap (λ (t : Tables). or_sent (farewell link new.leaver) (sends_in t link)) is
     ∙ ap (λ (l : Option Leaver). or_sent (farewell link l) (sends_in (with_lends lends (tables_of old)) link)) leaver
-    ∙ ap (λ (o : Option Lent). or_sent (farewell link old.leaver) (or_sent (left_sent (left_in o)) (client_sends link (tables_of old).seats ((tables_of old).numbers link.0)))) (leaves link off)))
+    ∙ ap (λ (o : Option Lent). or_sent (farewell link old.leaver) (or_sent (left_in o) (client_sends link (tables_of old).seats ((tables_of old).numbers link.0)))) (leaves link off)))
 
 -- a client's seat: its link is among them
 off-link : (k : LinkId) (link : LinkId) → is_among k (link ∷ []) ≡ false → nat_eq k.0 link.0 ≡ false
@@ -105,7 +104,7 @@ seat-only old new client seat is leaver more = only old new (seat.link ∷ []) m
       (seat-reads k client seat (tables_of old).seats ((tables_of old).numbers k.0) other)
       (sym (ap (λ (t : Tables). reads_in t k) is) ∙ reads);
   written = λ writes. or-sends (farewell k old.leaver) (sends_in (with_seat client seat (tables_of old)) k) (sends_in (tables_of old) k)
-      (or-sends (left_sent (left_in ((tables_of old).lends.links k.0))) (client_sends k (set (tables_of old).seats client.0 (Some seat)) ((tables_of old).numbers k.0)) (client_sends k (tables_of old).seats ((tables_of old).numbers k.0))
+      (or-sends (left_in ((tables_of old).lends.links k.0)) (client_sends k (set (tables_of old).seats client.0 (Some seat)) ((tables_of old).numbers k.0)) (client_sends k (tables_of old).seats ((tables_of old).numbers k.0))
       (seat-sends k client seat (tables_of old).seats ((tables_of old).numbers k.0) other))
       (subst (λ (l : Option Leaver). IsSome (or_sent (farewell k l) (sends_in (with_seat client seat (tables_of old)) k))) leaver (subst (λ (t : Tables). IsSome (or_sent (farewell k new.leaver) (sends_in t k))) is writes));
 }))
@@ -116,7 +115,7 @@ number-only old new link client is leaver more = only old new (link ∷ []) more
     (ap (λ (t : Tables). reads_in t k) is ∙ ap (λ (n : Option ClientNo). is_some ((tables_of old).lends.links k.0) || client_reads k (tables_of old).seats n) same)
     (ap (λ (t : Tables). or_sent (farewell k new.leaver) (sends_in t k)) is
     ∙ ap (λ (l : Option Leaver). or_sent (farewell k l) (sends_in (with_number link client (tables_of old)) k)) leaver
-    ∙ ap (λ (n : Option ClientNo). or_sent (farewell k old.leaver) (or_sent (left_sent (left_in ((tables_of old).lends.links k.0))) (client_sends k (tables_of old).seats n))) same)))
+    ∙ ap (λ (n : Option ClientNo). or_sent (farewell k old.leaver) (or_sent (left_in ((tables_of old).lends.links k.0)) (client_sends k (tables_of old).seats n))) same)))
 
 -- a link is told something before it is closed
 behind : (a b : Option Sent) → IsSome b → IsSome (or_sent a b)

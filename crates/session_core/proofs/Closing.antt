@@ -15,7 +15,7 @@ use Rattle.mx_wire.specs.declared.entry.Entry.TheVariants as entry
 use Rattle.ready_loop.specs.declared.machines.Act.{Act}
 use Rattle.router_world.specs.Owed.{IsWhole, lends}
 use Rattle.ready_loop.specs.Machine.{Keeps, Closes, Acts, OwesFarewell, IsFarewell}
-use Rattle.ready_loop.specs.Sent.{Sent}
+use Rattle.mx_base.specs.Sent.{Sent}
 use Rattle.client_session.specs.Setups.{Setup}
 use Rattle.client_session.specs.declared.setup.ServerAt.{ServerAt}
 use Rattle.lend_core.specs.declared.lent.Lent.{Lent}
@@ -80,7 +80,7 @@ offered-now link log marks e here write =
 
 none-said : (tables : Tables) (log : Log) (link : LinkId) → IsApart tables log link → sends_in tables link ≡ None
 none-said tables log link apart =
-    ap (λ (o : Option Lent). or_sent (acts.left_sent (left_in o)) (client_sends link tables.seats (tables.numbers link.0))) apart.unlent
+    ap (λ (o : Option Lent). or_sent (left_in o) (client_sends link tables.seats (tables.numbers link.0))) apart.unlent
     ∙ ap (λ (n : Option ClientNo). client_sends link tables.seats n) apart.unnumbered
 
 closed-says : (parting : List Parting) (tables : Tables) (link : LinkId) → sends_in (closed_by parting tables) link ≡ sends_in tables link

@@ -4,7 +4,7 @@ use Rattle.std.proofs.Common.{sym, ◌∙◌, ap, subst, Vec, Global}
 use Rattle.mx_base.specs.declared.names.LinkId.{LinkId}
 use Rattle.ready_loop.specs.declared.machines.Act.{Act}
 use Rattle.ready_loop.specs.Changes.{ChangesOnly}
-use Rattle.ready_loop.specs.Sent.{Sent}
+use Rattle.mx_base.specs.Sent.{Sent}
 use Rattle.router_world.specs.declared.seat.Parting.{Parting}
 use Rattle.router_world.specs.Tables.{Tables}
 use Rattle.router_world.specs.World.{closed_by}

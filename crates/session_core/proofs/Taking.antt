@@ -7,10 +7,9 @@ use Rattle.mx_base.specs.declared.names.ClientNo.{ClientNo}
 use Rattle.mx_base.specs.declared.names.LinkId.{LinkId}
 use Rattle.mx_wire.specs.Log.{Log}
 use Rattle.mx_wire.specs.declared.entry.Entry.TheVariants as entry
-use Rattle.ready_loop.specs.Machine.{CarriesOver, MayTake}
-use Rattle.ready_loop.specs.Sent.{Sent}
+use Rattle.ready_loop.specs.Machine.{CarriesOver}
+use Rattle.mx_base.specs.Sent.{MayTake, Sent}
 use Rattle.server_side.specs.Account.{Account}
-use Rattle.server_side.specs.Backend.{Left}
 use Rattle.client_talk.specs.Sessions.{account_in, is_ending, is_finished}
 use Rattle.client_talk.specs.Going.{still}
 use Rattle.client_talk.specs.Events.{taken}
@@ -82,10 +81,10 @@ nothing sent is = cc
 
 pub took-wrote : (link : LinkId) (n : ℕ) (tables : Tables) (log : Log) (sent : Sent) → Tidy tables log → sends_in tables link ≡ Some sent → took_in link n tables ≡ wrote_on link n (tables.numbers link.0) tables
 took-wrote link n tables log sent tidy some = by (tables.numbers link.0) refl where
-  server : (o : Option Lent) → or_sent (acts.left_sent (left_in o)) None ≡ Some sent → took_by (left_in o) link n tables ≡ sent_on link n o tables
+  server : (o : Option Lent) → or_sent (left_in o) None ≡ Some sent → took_by (left_in o) link n tables ≡ sent_on link n o tables
   server None is = absurd (nothing sent is)
   server (Some lent) is = left (left_in (Some lent)) is where
-    left : (l : Option Left) → or_sent (acts.left_sent l) None ≡ Some sent → took_by l link n tables ≡ sent_on link n (Some lent) tables
+    left : (l : Option Sent) → or_sent l None ≡ Some sent → took_by l link n tables ≡ sent_on link n (Some lent) tables
     left None is = absurd (nothing sent is)
     left (Some l) is = refl
 
@@ -93,7 +92,7 @@ took-wrote link n tables log sent tidy some = by (tables.numbers link.0) refl wh
   by (Some client) at = ap (λ (l : Option Lent). took_by (left_in l) link n tables) (tidy.seated link client at).unlent
       ∙ ap (λ (o : Option ClientNo). client_took link n o tables) at
       ∙ client-took client link n tables log tidy at
-  by None at = server (tables.lends.links link.0) (sym (ap (λ (o : Option ClientNo). or_sent (acts.left_sent (left_in (tables.lends.links link.0))) (client_sends link tables.seats o)) at) ∙ some)
+  by None at = server (tables.lends.links link.0) (sym (ap (λ (o : Option ClientNo). or_sent (left_in (tables.lends.links link.0)) (client_sends link tables.seats o)) at) ∙ some)
 
 pub taken-carries : (old : Core) (known : Known) (link : LinkId) (n : ℕ) (sent : Sent) → asks old ≡ false → MayTake (sends old link) n → sends old link ≡ Some sent → tables_of known ≡ took_in link n (tables_of old.known)
     → CarriesOver Stands due_in old (record old { known = known }) (entry.Wrote link sent.tag (take n sent.bytes))

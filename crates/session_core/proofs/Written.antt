@@ -5,16 +5,15 @@ use Rattle.std.proofs.Common.{sym, ◌∙◌, ap, subst, rules}
 use Rattle.mx_base.specs.declared.names.ClientNo.{ClientNo}
 use Rattle.mx_base.specs.declared.names.LinkId.{LinkId}
 use Rattle.packet_frame.specs.PacketLaws.{nat_eq-true}
-use Rattle.ready_loop.specs.Sent.{Sent}
-use Rattle.server_side.specs.Backend.{Left, MayTake, IsLent}
-use Rattle.server_side.specs.declared.command.Outgoing.{Outgoing}
+use Rattle.mx_base.specs.Sent.{IsLent, MayTake, Sent}
+use Rattle.mx_base.specs.declared.piece.Piece.{Piece}
 use Rattle.lend_core.specs.declared.lent.Lent.{Lent}
 use Rattle.lend_core.specs.Lends.{set}
 use Rattle.lend_core.specs.Changes.{taken_on, took}
 use Rattle.lend_core.specs.Events.{left_in}
 use Rattle.router_world.specs.declared.seat.Seat.{Seat}
 use Rattle.router_world.specs.Tables.{Tables, with_lends}
-use Rattle.router_world.specs.Acts.{left_sent, reply_sent}
+use Rattle.router_world.specs.Acts.{reply_sent}
 use Rattle.session_core.specs.declared.known.Known.{Known}
 use Rattle.session_core.specs.declared.known.Leaver.{Leaver}
 use Rattle.session_core.specs.Known.{tables_of}
@@ -22,13 +21,13 @@ use Rattle.session_core.specs.Says.{seat_reads, seat_sends, client_reads, client
 use Rattle.session_core.proofs.Changing.{Only, Fewer, only-same}
 
 -- a link to a server
-has-left : (o : Option Lent) (n : ℕ) → MayTake (left_in o) n → IsSome (left_sent (left_in o))
+has-left : (o : Option Lent) (n : ℕ) → MayTake (left_in o) n → IsSome (left_in o)
 has-left o n may = by (left_in o) may where
-  by : (l : Option Left) → MayTake l n → IsSome (left_sent l)
+  by : (l : Option Sent) → MayTake l n → IsSome l
   by None may = absurd may
   by (Some left) may = refl
 
-is-there : (o : Option Lent) → IsSome (left_sent (left_in o)) → is_some o ≡ true
+is-there : (o : Option Lent) → IsSome (left_in o) → is_some o ≡ true
 is-there None is = absurd (let no : false ≡ true = is in cc)
 is-there (Some lent) is = refl
 
@@ -48,11 +47,11 @@ or-true false b is = absurd (let no : false ≡ true = is in cc)
 pub server-only : (old new : Known) (link : LinkId) (n : ℕ) → tables_of new ≡ with_lends (taken_on link n (tables_of old).lends) (tables_of old) → new.leaver ≡ old.leaver → new.changed ≡ old.changed
     → MayTake (left_in ((tables_of old).lends.links link.0)) n → Only old new
 server-only old new link n is leaver same may = only-same old new same (λ k. by k (nat_eq k.0 link.0) refl) where
-  some : IsSome (left_sent (left_in ((tables_of old).lends.links link.0)))
+  some : IsSome (left_in ((tables_of old).lends.links link.0))
   some = has-left ((tables_of old).lends.links link.0) n may
 
-  here : (k : LinkId) → nat_eq k.0 link.0 ≡ true → IsSome (left_sent (left_in ((tables_of old).lends.links k.0)))
-  here k at = subst (λ (m : ℕ). IsSome (left_sent (left_in ((tables_of old).lends.links m)))) (sym (nat_eq-true k.0 link.0 at)) some
+  here : (k : LinkId) → nat_eq k.0 link.0 ≡ true → IsSome (left_in ((tables_of old).lends.links k.0))
+  here k at = subst (λ (m : ℕ). IsSome (left_in ((tables_of old).lends.links m))) (sym (nat_eq-true k.0 link.0 at)) some
 
   row : (b : Bool) (k : LinkId) → Option Lent
   row b k = cond b (option_map (took n) ((tables_of old).lends.links link.0)) ((tables_of old).lends.links k.0)
@@ -60,14 +59,14 @@ server-only old new link n is leaver same may = only-same old new same (λ k. by
   by : (k : LinkId) (b : Bool) → nat_eq k.0 link.0 ≡ b → Fewer old new k
   by k true at = record {
     read = λ reads. or-true (is_some ((tables_of old).lends.links k.0)) (client_reads k (tables_of old).seats ((tables_of old).numbers k.0)) (is-there ((tables_of old).lends.links k.0) (here k at));
-    written = λ writes. front (farewell k old.leaver) (left_sent (left_in ((tables_of old).lends.links k.0))) (client_sends k (tables_of old).seats ((tables_of old).numbers k.0)) (here k at);
+    written = λ writes. front (farewell k old.leaver) (left_in ((tables_of old).lends.links k.0)) (client_sends k (tables_of old).seats ((tables_of old).numbers k.0)) (here k at);
   }
   by k false at = record {
     read = λ reads. sym (ap (λ (t : Tables). reads_in t k) is ∙ ap (λ (b : Bool). is_some (row b k) || client_reads k (tables_of old).seats ((tables_of old).numbers k.0)) at) ∙ reads;
     written = λ writes. subst (λ (o : Option Sent). IsSome o)
         (ap (λ (t : Tables). or_sent (farewell k new.leaver) (sends_in t k)) is
         ∙ ap (λ (l : Option Leaver). or_sent (farewell k l) (sends_in (with_lends (taken_on link n (tables_of old).lends) (tables_of old)) k)) leaver
-        ∙ ap (λ (b : Bool). or_sent (farewell k old.leaver) (or_sent (left_sent (left_in (row b k))) (client_sends k (tables_of old).seats ((tables_of old).numbers k.0)))) at)
+        ∙ ap (λ (b : Bool). or_sent (farewell k old.leaver) (or_sent (left_in (row b k)) (client_sends k (tables_of old).seats ((tables_of old).numbers k.0)))) at)
         writes;
   }
 
@@ -115,12 +114,12 @@ pub client-only : (old new : Known) (client : ClientNo) (n : ℕ) → tables_of 
 client-only old new client n is leaver same = only-same old new same (λ k. record {
   read = λ reads. sym (ap (λ (t : Tables). reads_in t k) is ∙ ap (λ (b : Bool). is_some ((tables_of old).lends.links k.0) || b) (client-same k client n (tables_of old).seats ((tables_of old).numbers k.0))) ∙ reads;
   written = λ writes. or-less (farewell k old.leaver) (sends_in (taken_at client n (tables_of old)) k) (sends_in (tables_of old) k)
-      (or-less (left_sent (left_in ((tables_of old).lends.links k.0))) _ _ (client-less k client n (tables_of old).seats ((tables_of old).numbers k.0)))
+      (or-less (left_in ((tables_of old).lends.links k.0)) _ _ (client-less k client n (tables_of old).seats ((tables_of old).numbers k.0)))
       (subst (λ (l : Option Leaver). IsSome (or_sent (farewell k l) (sends_in (taken_at client n (tables_of old)) k))) leaver (subst (λ (t : Tables). IsSome (or_sent (farewell k new.leaver) (sends_in t k))) is writes));
 })
 
 -- nothing is left for a server
-pub none-left : (o : Option Outgoing) (left : Option Left) → is_some o ≡ false → IsLent o left → left ≡ None
+pub none-left : (o : Option Piece) (left : Option Sent) → is_some o ≡ false → IsLent o left → left ≡ None
 none-left None None none lent = refl
 none-left None (Some left) none lent = absurd lent
 none-left (Some outgoing) left none lent = absurd (let no : true ≡ false = none in cc)

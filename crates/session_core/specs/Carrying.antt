@@ -10,7 +10,7 @@ use Rattle.mx_wire.specs.Moments.{lawful-more}
 use Rattle.mx_wire.specs.declared.entry.Entry.{Entry}
 use Rattle.ready_loop.specs.Drained.{MayWait}
 use Rattle.ready_loop.specs.Machine.{CarriesOver, Target}
-use Rattle.ready_loop.specs.Sent.{Sent}
+use Rattle.mx_base.specs.Sent.{Sent}
 use Rattle.client_session.specs.Setups.{Setup}
 use Rattle.lend_core.specs.declared.lent.Lent.{Lent}
 use Rattle.lend_core.specs.Events.{left_in}
@@ -85,10 +85,10 @@ reads-same tables log link tidy = by (tables.numbers link.0) refl where
 
 pub sends-same : (tables : Tables) (log : Log) (link : LinkId) → Tidy tables log → sends_in tables link ≡ acts.sends tables link
 sends-same tables log link tidy = by (tables.numbers link.0) refl where
-  by : (o : Option ClientNo) → tables.numbers link.0 ≡ o → or_sent (acts.left_sent (left_in (tables.lends.links link.0))) (client_sends link tables.seats o) ≡ acts.sends_by tables link o
-  by None at = or-nothing (acts.left_sent (left_in (tables.lends.links link.0)))
+  by : (o : Option ClientNo) → tables.numbers link.0 ≡ o → or_sent (left_in (tables.lends.links link.0)) (client_sends link tables.seats o) ≡ acts.sends_by tables link o
+  by None at = or-nothing (left_in (tables.lends.links link.0))
   by (Some client) at = (let seated = tidy.seated link client at in
-      ap (λ (o : Option Lent). or_sent (acts.left_sent (left_in o)) (seat_sends link (tables.seats client.0))) seated.unlent
+      ap (λ (o : Option Lent). or_sent (left_in o) (seat_sends link (tables.seats client.0))) seated.unlent
       ∙ ap (λ (o : Option Seat). seat_sends link o) seated.is
       ∙ ap (λ (b : Bool). cond b (acts.reply_sent seated.seat.session.client.outgoing) None) (here seated.seat.link link seated.same)
       ∙ sym (ap (λ (o : Option Seat). acts.seat_sends o) seated.is))

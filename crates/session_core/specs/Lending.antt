@@ -3,7 +3,7 @@ use Rattle.std.specs.Prelude.{◌≡◌, false, Some, refl}
 use Rattle.std.proofs.Common.{sym, ◌∙◌, ap, inl}
 use Rattle.mx_base.specs.declared.names.LinkId.{LinkId}
 use Rattle.mx_wire.specs.Log.{Log}
-use Rattle.ready_loop.specs.Sent.{Sent}
+use Rattle.mx_base.specs.Sent.{Sent}
 use Rattle.router_world.specs.Tables.{Tables}
 use Rattle.router_world.specs.Acts as acts
 use Rattle.router_world.specs.Owed.{lends}

@@ -4,8 +4,7 @@ use Rattle.std.specs.Option.{option_map}
 use Rattle.mx_base.specs.declared.names.ClientNo.{ClientNo}
 use Rattle.mx_base.specs.declared.names.LinkId.{LinkId}
 use Rattle.ready_loop.specs.Machine.{Target}
-use Rattle.ready_loop.specs.Sent.{Sent}
-use Rattle.server_side.specs.Backend.{Left}
+use Rattle.mx_base.specs.Sent.{Sent}
 use Rattle.client_talk.specs.Sessions.{is_read, is_finished}
 use Rattle.client_talk.specs.Events.{taken}
 use Rattle.lend_core.specs.Changes.{taken_on}
@@ -48,7 +47,7 @@ or_sent None other = other
 or_sent (Some sent) other = Some sent
 
 abbrev pub sends_in : Tables → LinkId → Option Sent
-sends_in tables link = or_sent (acts.left_sent (left_in (tables.lends.links link.0))) (client_sends link tables.seats (tables.numbers link.0))
+sends_in tables link = or_sent (left_in (tables.lends.links link.0)) (client_sends link tables.seats (tables.numbers link.0))
 
 -- The bytes of a link that is to be closed are its own until the next act.
 
@@ -109,7 +108,7 @@ abbrev pub client_took : LinkId → ℕ → Option ClientNo → Tables → Table
 client_took link n None tables = tables
 client_took link n (Some client) tables = settled client link (taken_at client n tables)
 
-abbrev pub took_by : Option Left → LinkId → ℕ → Tables → Tables
+abbrev pub took_by : Option Sent → LinkId → ℕ → Tables → Tables
 took_by None link n tables = client_took link n (tables.numbers link.0) tables
 took_by (Some left) link n tables = with_lends (taken_on link n tables.lends) tables
 

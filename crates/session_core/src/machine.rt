@@ -15,8 +15,8 @@ ghost use Rattle.session_core.specs.Lending.{lent-whole};
 ghost use Rattle.router_world.specs.Owed.{lends};
 
 use crate::router::Core;
-use mx_base::{Address, LinkId, OutOfMemory, Port};
-use ready_loop::{Act, Event, Machine, Piece};
+use mx_base::{Address, LinkId, OutOfMemory, Piece, Port};
+use ready_loop::{Act, Event, Machine};
 
 /// The links that may be open at a time beside those of clients: links to servers, links of administrators, and one on each port that is
 /// being refused.

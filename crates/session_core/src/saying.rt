@@ -1,12 +1,11 @@
 // What is to be read and written on the links.
 ghost use Rattle.std.specs.Prelude.{◌≡◌};
-ghost use Rattle.ready_loop.specs.Machine.{IsLent};
+ghost use Rattle.mx_base.specs.Sent.{IsLent};
 ghost use Rattle.router_world.specs.Acts.{reply_sent};
 
 use crate::known::Known;
 use client_talk::{is_finished, is_read, left, taken};
-use mx_base::{ClientNo, LinkId, Tag};
-use ready_loop::Piece;
+use mx_base::{ClientNo, LinkId, Piece, Tag};
 
 // Bytes for a client's link, if there are any.
 fn reply(bytes: &[u8]) -> Option<Piece<'_>>
@@ -24,12 +23,10 @@ fn reply(bytes: &[u8]) -> Option<Piece<'_>>
 impl Known {
     ghost use Rattle.std.specs.Prelude.{◌≡◌, ◌≤◌, [], length};
     ghost use Rattle.ready_loop.specs.Changes.{ChangesOnly};
-    ghost use Rattle.ready_loop.specs.Machine.{IsLent, MayTake};
+    ghost use Rattle.mx_base.specs.Sent.{IsLent, MayTake};
     ghost use Rattle.lend_core.specs.Events.{left_in};
-    ghost use Rattle.router_world.specs.Acts.{left_sent};
     ghost use Rattle.session_core.specs.Known.{tables_of, is_changed};
     ghost use Rattle.session_core.specs.Says.{seat_reads, client_reads, seat_sends, client_sends, sends_in, farewell, known_reads, known_sends, taken_at, is_done, settled, parts_if, client_took, took_in, MayTakeOf};
-    ghost use Rattle.server_side.specs.Backend.{MayTake as MayTakeLeft};
     ghost use Rattle.lend_core.specs.Changes.{taken_on};
     ghost use Rattle.router_world.specs.Tables.{with_lends};
 
@@ -83,15 +80,9 @@ impl Known {
     }
 
     fn left_for_server(&self, link: LinkId) -> Option<Piece<'_>>
-        ensures { IsLent result (left_sent (left_in ((tables_of self.now).lends.links link.0))) }
+        ensures { IsLent result (left_in ((tables_of self.now).lends.links link.0)) }
     {
-        match self.lender.outgoing(link) {
-            Some(outgoing) => Some(Piece {
-                tag: outgoing.tag,
-                bytes: outgoing.bytes,
-            }),
-            None => None,
-        }
+        self.lender.outgoing(link)
     }
 
     fn left_for(&self, link: LinkId) -> Option<Piece<'_>>
@@ -186,7 +177,7 @@ impl Known {
     }
 
     fn wrote_server(&mut self, link: LinkId, n: usize)
-        requires { MayTakeLeft (left_in ((tables_of self.old).lends.links link.0)) n }
+        requires { MayTake (left_in ((tables_of self.old).lends.links link.0)) n }
         ensures tables { tables_of self.new ≡ with_lends (taken_on link n (tables_of self.old).lends) (tables_of self.old) }
         ensures changes { ChangesOnly is_changed known_reads known_sends self.old self.new }
     {

@@ -3,4 +3,4 @@ use Rattle.mx_base.proofs.Joined.{joined}
 use Rattle.mx_base.proofs.fields.get_u24.Goals as goal
 
 pub returns : goal.returns
-returns c = sym (joined 2 1 c.args.at c.args.bytes.now c.in_ok-low.low c.in_ok-high.high (sym c.get_u16.ensures ∙ c.in_ok-low.was) (sym c.get_u8.ensures ∙ c.in_ok-high.was))
+returns c = sym (joined 2 1 c.args.at c.args.bytes.now c.in_ok-get_u16.field-0 c.in_ok-get_u8.field-0 (sym c.get_u16.ensures ∙ c.in_ok-get_u16.was) (sym c.get_u8.ensures ∙ c.in_ok-get_u8.was))
