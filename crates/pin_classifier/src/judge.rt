@@ -75,9 +75,10 @@ fn gives_id(text: &[u8], seen: &Seen) -> bool
 
 // Whether something in it lives in a session, or can't be read as a server does.
 #[tactic(auto, unfolding(crate::specs::Classes::is_deep_inside))]
-fn is_deep_inside(text: &[u8], seen: &Seen, verb: Option<&[u8]>) -> bool
+fn is_deep_inside(text: &[u8], seen: &Seen, verb: Option<&[u8]>, gives: bool) -> bool
     requires verb { option_copied verb ≡ first text.now }
     requires seen { seen.now ≡ seen_of text.now (statement text.now) }
+    requires gives { gives ≡ gives_id text.now }
     ensures { result ≡ is_deep_inside text.now }
 {
     seen.hidden
@@ -85,7 +86,7 @@ fn is_deep_inside(text: &[u8], seen: &Seen, verb: Option<&[u8]>) -> bool
         || seen.quoted_call
         || (seen.value && stands(text, Mark::SequenceValue))
         || (has_blank_byte(text) && stands(text, Mark::BlankInWord))
-        || (gives_id(text, seen) && !gives_rows(verb))
+        || (gives && !gives_rows(verb))
 }
 
 // BEGIN but for BEGIN, BEGIN WORK and a `;`.
@@ -122,13 +123,20 @@ fn is_deep_start(text: &[u8], seen: &Seen, verb: Option<&[u8]>) -> bool
 
 // Whether a statement may change its session in a way that isn't tracked.
 #[tactic(auto, using(crate::proofs::Sets::shape_of_set), unfolding(crate::specs::Classes::is_deep, crate::specs::Classes::uses_other))]
-fn is_deep(text: &[u8], seen: &Seen, shape: &Shape, verb: Option<&[u8]>) -> bool
+fn is_deep(
+    text: &[u8],
+    seen: &Seen,
+    shape: &Shape,
+    verb: Option<&[u8]>,
+    gives: bool,
+) -> bool
     requires verb { option_copied verb ≡ first text.now }
     requires seen { seen.now ≡ seen_of text.now (statement text.now) }
+    requires gives { gives ≡ gives_id text.now }
     requires shape { shape.now ≡ shape_of text.now }
     ensures { result ≡ is_deep text.now }
 {
-    is_deep_inside(text, seen, verb)
+    is_deep_inside(text, seen, verb, gives)
         || is_deep_start(text, seen, verb)
         || is_other(shape)
         || (is_word(verb, b"USE") && !is_use(shape))
@@ -145,12 +153,13 @@ fn reads_id(text: &[u8], seen: &Seen) -> bool
 
 // Whether a statement sets the insert id where its reply doesn't show it.
 #[tactic(auto, unfolding(crate::specs::Classes::sets_id))]
-fn sets_id(text: &[u8], seen: &Seen, verb: Option<&[u8]>) -> bool
+fn sets_id(text: &[u8], seen: &Seen, verb: Option<&[u8]>, gives: bool) -> bool
     requires verb { option_copied verb ≡ first text.now }
     requires seen { seen.now ≡ seen_of text.now (statement text.now) }
+    requires gives { gives ≡ gives_id text.now }
     ensures { result ≡ sets_id text.now }
 {
-    (gives_id(text, seen) && gives_rows(verb)) || (returns_rows(verb) && seen.returning)
+    (gives && gives_rows(verb)) || (returns_rows(verb) && seen.returning)
 }
 
 // Whether a statement reads what the statement before it left.
@@ -211,7 +220,8 @@ fn class_by(text: &[u8], seen: &Seen, shape: Shape) -> Class
     let verb = first_word(text, seen.opening.first);
     let second = next_word(text, seen.opening.second);
     let third = next_word(text, seen.opening.third);
-    let deep = is_deep(text, seen, &shape, verb);
+    let gives = gives_id(text, seen);
+    let deep = is_deep(text, seen, &shape, verb, gives);
     let reads_id = reads_id(text, seen);
     Class {
         deep,
@@ -220,7 +230,7 @@ fn class_by(text: &[u8], seen: &Seen, shape: Shape) -> Class
         savepoint: is_savepoint(verb),
         outlasts_reset: outlasts_reset(verb, second, third),
         marks_id: reads_id | deep | makes_id(verb),
-        sets_id: sets_id(text, seen, verb),
+        sets_id: sets_id(text, seen, verb, gives),
         reads_id,
         reads_diag: reads_diagnostics(text, seen, verb),
         calc_rows: seen.calc_rows,
