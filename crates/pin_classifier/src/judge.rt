@@ -123,13 +123,7 @@ fn is_deep_start(text: &[u8], seen: &Seen, verb: Option<&[u8]>) -> bool
 
 // Whether a statement may change its session in a way that isn't tracked.
 #[tactic(auto, using(crate::proofs::Sets::shape_of_set), unfolding(crate::specs::Classes::is_deep, crate::specs::Classes::uses_other))]
-fn is_deep(
-    text: &[u8],
-    seen: &Seen,
-    shape: &Shape,
-    verb: Option<&[u8]>,
-    gives: bool,
-) -> bool
+fn is_deep(text: &[u8], seen: &Seen, shape: &Shape, verb: Option<&[u8]>, gives: bool) -> bool
     requires verb { option_copied verb ≡ first text.now }
     requires seen { seen.now ≡ seen_of text.now (statement text.now) }
     requires gives { gives ≡ gives_id text.now }

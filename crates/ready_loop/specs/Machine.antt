@@ -107,4 +107,3 @@ IsQuiet entry.Over = Unit {0}
 IsQuiet (entry.Exec link) = Unit {0}
 IsQuiet (entry.Drop link) = Unit {0}
 IsQuiet _ = ⊥
-
