@@ -1,5 +1,5 @@
 -- What a link to a server is to its callers.
-use Rattle.std.specs.Prelude.{◌≡◌, ℕ, Bool, false, not, nat_eq, zero, suc, ◌+◌, ◌<◌, ◌≤◌, nat_lt, List, [], ◌∷◌, length, drop, Option, Some, None, if◌then◌else◌}
+use Rattle.std.specs.Prelude.{ℕ, Bool, false, not, nat_eq, zero, suc, ◌+◌, nat_lt, List, [], ◌∷◌, length, drop, Option, Some, None, if◌then◌else◌}
 use Rattle.mx_base.specs.declared.tag.Tag.{Tag}
 use Rattle.mx_base.specs.declared.tag.Tag.TheVariants.{Own}
 use Rattle.packet_frame.specs.FramerState.{FramerState}
