@@ -1,6 +1,6 @@
 use Rattle.std.proofs.Common.{◌≡◌, [], ◌∷◌, option_copied}
 use Rattle.mx_base.specs.Pieces.{pieces_left}
-use Rattle.mem_server.specs.Forms.{fits, fits_from}
+use Rattle.mem_rule.specs.Forms.{fits, fits_from}
 use Rattle.mem_server.proofs.form.fits.Given as goal
 
 -- the tokens that are left fit the pieces that are left just where all fit

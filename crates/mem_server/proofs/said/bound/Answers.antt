@@ -1,5 +1,5 @@
 use Rattle.std.proofs.Common.{◌≡◌, ◌+◌, ◌-◌, ◌++◌, ◌∷◌, ◌∙◌, [], ap, None, Some}
-use Rattle.mem_server.specs.Statements.{bound_at, bound_from}
+use Rattle.mem_rule.specs.Statements.{bound_at, bound_from}
 use Rattle.mem_server.proofs.Bindings.{none_bound, one_bound}
 use Rattle.mem_server.proofs.said.bound.Goals as goal
 

@@ -1,5 +1,5 @@
 use Rattle.std.proofs.Common.{◌≡◌, ◌-◌, []}
-use Rattle.mem_server.specs.Statements.{bound_from}
+use Rattle.mem_rule.specs.Statements.{bound_from}
 use Rattle.mem_server.proofs.said.bound.Given as goal
 
 abbrev pub invariant-loop-parameter : goal.invariant-loop-parameter
