@@ -162,7 +162,7 @@ fn taken_as(
 fn fits(alloc: Global, text: &[u8], pattern: &[u8]) -> Result<Option<Values>, OutOfMemory>
     ensures { IfOk result (λ values. values ≡ fits text.now pattern.now) }
 {
-    let mut items = Vec::new(alloc);
+    let mut values = Values::new(alloc);
     let mut left = Some(pattern);
     for token in Tokens::of(text) {
         let Some(pieces) = left else {
@@ -172,14 +172,14 @@ fn fits(alloc: Global, text: &[u8], pattern: &[u8]) -> Result<Option<Values>, Ou
         match taken_as(alloc, text, piece, &token)? {
             Captured::Differs => return Ok(None),
             Captured::Fixed => {}
-            Captured::Value(bytes) => items.push(Some(bytes))?,
-            Captured::Asked => items.push(None)?,
+            Captured::Value(bytes) => values.push(Some(bytes))?,
+            Captured::Asked => values.push(None)?,
         }
         left = behind;
     }
     match left {
         Some(_) => Ok(None),
-        None => Ok(Some(Values::from_vec(items))),
+        None => Ok(Some(values)),
     }
 }
 

@@ -111,20 +111,20 @@ pub(crate) fn behind(alloc: Global, bytes: &[u8], note: &Note) -> Result<Bytes, 
 pub(crate) fn notes_of(alloc: Global, bytes: &[u8]) -> Result<Notes, OutOfMemory>
     ensures { IfOk result (λ notes. notes ≡ notes_of bytes.now) }
 {
-    let mut items = Vec::new(alloc);
+    let mut notes = Notes::new(alloc);
     let mut at = 0;
     let mut left = bytes.len();
     while left > 0 {
         match note_at(alloc, bytes, at)? {
-            None => return Ok(Notes::from_vec(items)),
+            None => return Ok(notes),
             Some((note, next)) => {
-                items.push(note)?;
+                notes.push(note)?;
                 at = next;
                 left -= 1;
             }
         }
     }
-    Ok(Notes::from_vec(items))
+    Ok(notes)
 }
 
 // Whether a note puts a row.

@@ -1,7 +1,7 @@
 // What commands do to their sessions. All that takes memory comes first, so that OutOfMemory changes nothing.
 ghost use Rattle.std.specs.Prelude.{◌≡◌, ◌++◌, ◌∷◌, [], IfOk, OnOk, OnErr, filter, map};
 ghost use Rattle.session_vars.specs.Settings.{applied};
-ghost use Rattle.mem_rule.specs.Answers.{diag_of, ok_payload, status};
+ghost use Rattle.mem_rule.specs.Answers.{diag_of, ok_payload, payloads_of, status};
 ghost use Rattle.mem_rule.specs.Commands.{chooses, diag_behind, ends, fails, freed, holds_lock, ran_by, tracks};
 ghost use Rattle.mem_rule.specs.Notes.{notes_of};
 ghost use Rattle.mem_rule.specs.Steps.{frees};
@@ -118,6 +118,21 @@ fn diag_behind(
     }
 }
 
+// What a statement that did this leaves to be shown, and its reply.
+fn told(
+    alloc: Global,
+    is_binary: bool,
+    form: Form,
+    s: &Session,
+    did: &Did,
+) -> Result<(Bytes, ReplyList), OutOfMemory>
+    ensures { IfOk result (λ got. (got.0 ≡ diag_behind form s.now.diag (diag_of did.now.answer)) × (got.1 ≡ payloads_of is_binary (status did.now.tx s.now.settings) did.now.answer)) }
+{
+    let diag = diag_behind(alloc, form, &s.diag, &did.answer)?;
+    let reply = payloads(alloc, is_binary, status(&did.tx, &s.settings), &did.answer)?;
+    Ok((diag, reply))
+}
+
 // What a statement did.
 pub(crate) fn ran_by(
     alloc: Global,
@@ -129,8 +144,7 @@ pub(crate) fn ran_by(
     ensures ok { IfOk result (λ out. ran_by is_binary form s.old did ≡ record { writes = out.writes; session = s.new; reply = out.reply }) }
     ensures err { OnErr result (s.new ≡ s.old) }
 {
-    let diag = diag_behind(alloc, form, &s.diag, &did.answer)?;
-    let reply = payloads(alloc, is_binary, status(&did.tx, &s.settings), &did.answer)?;
+    let (diag, reply) = told(alloc, is_binary, form, s, &did)?;
     s.tx = did.tx;
     s.locks = did.locks;
     s.deep = did.deep;

@@ -228,7 +228,7 @@ pub(crate) fn asked(values: &[Option<Bytes>]) -> usize
 fn bound(alloc: Global, b: &Bindings, count: u32) -> Result<Option<Items<Bytes>>, OutOfMemory>
     ensures { IfOk result (λ all. all ≡ bound_from count 0 0 b.now []) }
 {
-    let mut out = Vec::new(alloc);
+    let mut out = Items::new(alloc);
     let mut at = 0;
     for parameter in 0..count {
         match bound_at(alloc, b, parameter as usize, at)? {
@@ -239,7 +239,7 @@ fn bound(alloc: Global, b: &Bindings, count: u32) -> Result<Option<Items<Bytes>>
             }
         }
     }
-    Ok(Some(Items::from_vec(out)))
+    Ok(Some(out))
 }
 
 fn bound_or_none(
