@@ -16,7 +16,7 @@ use Rattle.mem_rule.specs.Forms.{all_forms, captured_by, first_fit, fit_or, fits
 use Rattle.mem_rule.specs.Statements.{Binding, asked, bound, filled_from, id_at, id_place, said_by, said_in, said_with}
 use Rattle.mem_rule.specs.declared.did.Said.{Said}
 use Rattle.mem_rule.specs.declared.form.Captured.{Captured}
-use Rattle.mem_rule.specs.declared.form.Captured.TheVariants.{Differs, Fixed, Value, Asked}
+use Rattle.mem_rule.specs.declared.form.Captured.TheVariants.{Differs, Fixed, Value}
 use Rattle.mem_rule.specs.declared.form.Form.{Form}
 
 abbrev pub is_taken : Captured → Bool
@@ -42,8 +42,7 @@ Values = List (Option (List ℕ))
 goes_on : (got : Captured) (values all : Values) (onward : Values → Option Values) → with_captured got values onward ≡ Some all → (is_taken got ≡ true) × ((more : Values) × (onward more ≡ Some all))
 goes_on Differs values all onward is = absurd (cc)
 goes_on Fixed values all onward is = (refl, (values, is))
-goes_on (Value bytes) values all onward is = (refl, (values ++ Some bytes ∷ [], is))
-goes_on Asked values all onward is = (refl, (values ++ None ∷ [], is))
+goes_on (Value value) values all onward is = (refl, (values ++ value ∷ [], is))
 
 takes : (text : List ℕ) (tokens : List Token) (pieces : List (List ℕ)) (values all : Values) → fits_from text tokens pieces values ≡ Some all → Takes text tokens pieces
 takes text [] [] values all is = tt

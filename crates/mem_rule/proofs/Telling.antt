@@ -20,7 +20,7 @@ use Rattle.pin_classifier.specs.Statement.{first_word, has_hidden, has_word, is_
 use Rattle.pin_classifier.specs.declared.class.Locking.TheVariants.{Takes as Locks}
 use Rattle.pin_classifier.specs.declared.class.Shape.TheVariants.{ConnectionId}
 use Rattle.mem_rule.specs.Forms.{captured_by, fixed_if, is_word_piece, taken_as}
-use Rattle.mem_rule.specs.declared.form.Captured.TheVariants.{Asked}
+use Rattle.mem_rule.specs.declared.form.Captured.TheVariants.{Value}
 use Rattle.mem_rule.specs.declared.form.Form.{Form}
 use Rattle.mem_rule.specs.declared.form.Form.TheVariants as forms
 use Rattle.mem_rule.proofs.Taking.{HasForm, Takes, is_taken, pieces_of, stated}
@@ -114,7 +114,7 @@ inserts text has = or_right _ _ (or_left _ _ (or_left _ _ (first_is text forms.I
 opens_by : (kind : TokenKind) (text : List ℕ) (token : Token) → is_taken (captured_by kind text (codes "(") token) ≡ true → (is_symbol_kind kind && bytes_eq (bytes_of text token) (codes "(")) ≡ true
 opens_by kinds.Symbol text token is = opens (bytes_eq (bytes_of text token) (codes "?")) (bytes_eq (bytes_of text token) (codes "(")) is
   where
-    opens : (asks same : Bool) → is_taken (if asks && (bytes_eq (codes "(") (codes "<n>") || bytes_eq (codes "(") (codes "<x>")) then Asked else fixed_if (nat_eq (length (codes "(")) 1 && same)) ≡ true → same ≡ true
+    opens : (asks same : Bool) → is_taken (if asks && (bytes_eq (codes "(") (codes "<n>") || bytes_eq (codes "(") (codes "<x>")) then Value None else fixed_if (nat_eq (length (codes "(")) 1 && same)) ≡ true → same ≡ true
     opens true same is = when_fixed same is
     opens false same is = when_fixed same is
 opens_by kinds.Quoted text token is = absurd (cc)
@@ -154,7 +154,7 @@ names_by : (kind : TokenKind) (text : List ℕ) (token : Token) → is_taken (ca
 names_by kinds.UserVar text token is = refl
 names_by kinds.Symbol text token is = asks (bytes_eq (bytes_of text token) (codes "?")) is
   where
-    asks : (asks : Bool) → is_taken (if asks && false then Asked else fixed_if false) ≡ true → false ≡ true
+    asks : (asks : Bool) → is_taken (if asks && false then Value None else fixed_if false) ≡ true → false ≡ true
     asks true is = is
     asks false is = is
 names_by kinds.Executed text token is = refl

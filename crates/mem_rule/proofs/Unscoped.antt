@@ -25,7 +25,7 @@ use Rattle.session_vars.specs.declared.shape.SetShape.TheVariants.{Other}
 use Rattle.pin_classifier.specs.Classes.{is_deep, is_other}
 use Rattle.pin_classifier.specs.Statement.{statement}
 use Rattle.mem_rule.specs.Forms.{captured_by, fixed_if}
-use Rattle.mem_rule.specs.declared.form.Captured.TheVariants.{Asked}
+use Rattle.mem_rule.specs.declared.form.Captured.TheVariants.{Value}
 use Rattle.mem_rule.specs.declared.form.Form.TheVariants as forms
 use Rattle.mem_rule.proofs.Taking.{HasForm, Takes, is_taken, stated}
 use Rattle.mem_rule.proofs.Telling.{said_as, says_piece, when_fixed}
@@ -41,7 +41,7 @@ when_same bytes piece byte is other = ap (λ these. bytes_eq these (byte ∷ [])
 equals_by : (kind : TokenKind) (text : List ℕ) (token : Token) → is_taken (captured_by kind text (codes "=") token) ≡ true → is_byte_by kind (bytes_of text token) 44 ≡ false
 equals_by kinds.Symbol text token is = when_same (bytes_of text token) (codes "=") 44 (one (bytes_eq (bytes_of text token) (codes "?")) (bytes_eq (bytes_of text token) (codes "=")) is) refl
   where
-    one : (asks same : Bool) → is_taken (if asks && false then Asked else fixed_if (true && same)) ≡ true → same ≡ true
+    one : (asks same : Bool) → is_taken (if asks && false then Value None else fixed_if (true && same)) ≡ true → same ≡ true
     one true same is = when_fixed same is
     one false same is = when_fixed same is
 equals_by _ text token is = refl
@@ -49,7 +49,7 @@ equals_by _ text token is = refl
 value_by : (kind : TokenKind) (text : List ℕ) (token : Token) (byte : ℕ) → bytes_eq (codes "?") (byte ∷ []) ≡ false → is_taken (captured_by kind text (codes "<n>") token) ≡ true → is_byte_by kind (bytes_of text token) byte ≡ false
 value_by kinds.Symbol text token byte other is = when_same (bytes_of text token) (codes "?") byte (asks (bytes_eq (bytes_of text token) (codes "?")) is) other
   where
-    asks : (asks : Bool) → is_taken (if asks && true then Asked else fixed_if false) ≡ true → asks ≡ true
+    asks : (asks : Bool) → is_taken (if asks && true then Value None else fixed_if false) ≡ true → asks ≡ true
     asks true is = refl
     asks false is = is
 value_by _ text token byte other is = refl

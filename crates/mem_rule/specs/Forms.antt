@@ -7,7 +7,7 @@ use Rattle.sql_tokens.specs.declared.token.Token.{Token}
 use Rattle.sql_tokens.specs.declared.token.TokenKind.{TokenKind}
 use Rattle.sql_tokens.specs.declared.token.TokenKind.TheVariants as kinds
 use Rattle.mem_rule.specs.declared.form.Captured.{Captured}
-use Rattle.mem_rule.specs.declared.form.Captured.TheVariants.{Differs, Fixed, Value, Asked}
+use Rattle.mem_rule.specs.declared.form.Captured.TheVariants.{Differs, Fixed, Value}
 use Rattle.mem_rule.specs.declared.form.Form.{Form}
 use Rattle.mem_rule.specs.declared.form.Form.TheVariants.{CreateTable, CreateTemporary, InsertAt, Insert, Select, Count, Update, Delete, Begin, Commit, Rollback, Setting, SetVariable, Variable, SetId, Id, Lock, LockTables, UnlockTables, Warnings, Do}
 
@@ -39,17 +39,17 @@ abbrev pub all_forms : List Form
 all_forms = CreateTable ∷ CreateTemporary ∷ InsertAt ∷ Insert ∷ Select ∷ Count ∷ Update ∷ Delete ∷ Begin ∷ Commit ∷ Rollback ∷ Setting ∷ SetVariable ∷ Variable ∷ SetId ∷ Id ∷ Lock ∷ LockTables ∷ UnlockTables ∷ Warnings ∷ Do ∷ []
 
 abbrev pub value_if : Bool → List ℕ → Captured
-value_if fits bytes = if fits then Value bytes else Differs
+value_if fits bytes = if fits then Value (Some bytes) else Differs
 
 abbrev pub fixed_if : Bool → Captured
 fixed_if fits = if fits then Fixed else Differs
 
 abbrev pub symbol_as : (piece bytes : List ℕ) → Captured
-symbol_as piece bytes = if bytes_eq bytes (codes "?") && (bytes_eq piece (codes "<n>") || bytes_eq piece (codes "<x>")) then Asked else fixed_if (nat_eq (length piece) 1 && bytes_eq bytes piece)
+symbol_as piece bytes = if bytes_eq bytes (codes "?") && (bytes_eq piece (codes "<n>") || bytes_eq piece (codes "<x>")) then Value None else fixed_if (nat_eq (length piece) 1 && bytes_eq bytes piece)
 
 -- the one number that a form has
 abbrev pub number_as : (piece bytes : List ℕ) → Captured
-number_as piece bytes = if bytes_eq piece (codes "<n>") then Value bytes else fixed_if (bytes_eq piece (codes "0") && bytes_eq bytes piece)
+number_as piece bytes = if bytes_eq piece (codes "<n>") then Value (Some bytes) else fixed_if (bytes_eq piece (codes "0") && bytes_eq bytes piece)
 
 abbrev pub is_single_quoted : List ℕ → Bool
 is_single_quoted bytes = nat_eq (slice_index_or bytes 0 0) 39
@@ -73,8 +73,7 @@ taken_as text piece token = if is_word_piece piece then fixed_if (says text toke
 abbrev pub with_captured : Captured → List (Option (List ℕ)) → (onward : List (Option (List ℕ)) → Option (List (Option (List ℕ)))) → Option (List (Option (List ℕ)))
 with_captured Differs values onward = None
 with_captured Fixed values onward = onward values
-with_captured (Value bytes) values onward = onward (values ++ Some bytes ∷ [])
-with_captured Asked values onward = onward (values ++ None ∷ [])
+with_captured (Value value) values onward = onward (values ++ value ∷ [])
 
 -- these values and those of the tokens, None for a `?`, where each token is what its piece of the form says
 abbrev pub fits_from : (text : List ℕ) → List Token → (pieces : List (List ℕ)) → List (Option (List ℕ)) → Option (List (Option (List ℕ)))

@@ -35,8 +35,6 @@ pub enum Captured {
     Differs,
     /// The word or the symbol that the form has there.
     Fixed,
-    /// A value.
-    Value(Bytes),
-    /// A `?`, for a value that is bound later.
-    Asked,
+    /// A value, None for a `?`, whose value is bound later.
+    Value(Option<Bytes>),
 }

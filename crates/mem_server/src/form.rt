@@ -68,7 +68,7 @@ fn value(alloc: Global, fits: bool, bytes: &[u8]) -> Result<Captured, OutOfMemor
     ensures { IfOk result (λ got. got ≡ value_if fits bytes.now) }
 {
     if fits {
-        Ok(Captured::Value(Bytes::from_slice(alloc, bytes)?))
+        Ok(Captured::Value(Some(Bytes::from_slice(alloc, bytes)?)))
     } else {
         Ok(Captured::Differs)
     }
@@ -89,7 +89,7 @@ fn symbol(piece: &[u8], bytes: &[u8]) -> Captured
     ensures { result ≡ symbol_as piece.now bytes.now }
 {
     if bytes == b"?".as_slice() && (piece == b"<n>".as_slice() || piece == b"<x>".as_slice()) {
-        Captured::Asked
+        Captured::Value(None)
     } else {
         fixed(piece.len() == 1 && bytes == piece)
     }
@@ -100,7 +100,7 @@ fn number(alloc: Global, piece: &[u8], bytes: &[u8]) -> Result<Captured, OutOfMe
     ensures { IfOk result (λ got. got ≡ number_as piece.now bytes.now) }
 {
     if piece == b"<n>".as_slice() {
-        Ok(Captured::Value(Bytes::from_slice(alloc, bytes)?))
+        Ok(Captured::Value(Some(Bytes::from_slice(alloc, bytes)?)))
     } else {
         Ok(fixed(piece == b"0".as_slice() && bytes == piece))
     }
@@ -162,7 +162,7 @@ fn taken_as(
 fn fits(alloc: Global, text: &[u8], pattern: &[u8]) -> Result<Option<Values>, OutOfMemory>
     ensures { IfOk result (λ values. values ≡ fits text.now pattern.now) }
 {
-    let mut values = Values::new(alloc);
+    let mut values = Vec::new(alloc);
     let mut left = Some(pattern);
     for token in Tokens::of(text) {
         let Some(pieces) = left else {
@@ -172,14 +172,13 @@ fn fits(alloc: Global, text: &[u8], pattern: &[u8]) -> Result<Option<Values>, Ou
         match taken_as(alloc, text, piece, &token)? {
             Captured::Differs => return Ok(None),
             Captured::Fixed => {}
-            Captured::Value(bytes) => values.push(Some(bytes))?,
-            Captured::Asked => values.push(None)?,
+            Captured::Value(value) => values.push(value)?,
         }
         left = behind;
     }
     match left {
         Some(_) => Ok(None),
-        None => Ok(Some(values)),
+        None => Ok(Some(Values::from_vec(values))),
     }
 }
 
