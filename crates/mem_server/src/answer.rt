@@ -1,5 +1,5 @@
 // The payloads of answers.
-ghost use Rattle.std.specs.Prelude.{◌≡◌, ◌<◌, ◌++◌, ◌∷◌, [], IfOk, OnOk, length, if◌then◌else◌};
+ghost use Rattle.std.specs.Prelude.{◌≡◌, ◌<◌, ◌++◌, ◌∷◌, [], IfOk, OnOk, if◌then◌else◌};
 ghost use Rattle.mx_base.specs.Fields.{lenenc};
 ghost use Rattle.mem_rule.specs.Answers.{binary_row, diag_of, ok_payload, payloads_of, row_payloads, status, table_payloads};
 
@@ -8,7 +8,7 @@ use crate::fault::{err_payload, fault_bytes};
 use crate::scene::is_off;
 use mem_rule::Answer;
 use mx_base::{Bytes, OutOfMemory, put_lenenc};
-use server_rule::{ReplyList, Session};
+use server_rule::ReplyList;
 use session_vars::Settings;
 use std::alloc::Global;
 

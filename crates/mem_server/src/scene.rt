@@ -3,7 +3,7 @@ ghost use Rattle.std.specs.Prelude.{◌≡◌, ◌≤◌, ◌<◌, ◌^◌, ◌&
 ghost use Rattle.std.specs.List.{list_any};
 ghost use Rattle.mem_rule.specs.Answers.{is_off_in};
 ghost use Rattle.mem_rule.specs.Scenes as scenes;
-ghost use Rattle.mem_rule.specs.Scenes.{added, creates, greater, is_last, is_locked, is_put_kind, named_lock, names, place_by, put_text, row_by, table_lock, taken, takes};
+ghost use Rattle.mem_rule.specs.Scenes.{added, creates, greater, is_last, is_locked, is_put_kind, named_lock, names, place_by, put_text, table_lock, taken, takes};
 ghost use Rattle.mem_rule.specs.Notes.{is_row};
 ghost use Rattle.mem_rule.specs.Tables.{greatest, row_at};
 

@@ -1,5 +1,5 @@
 // Tables, and what notes do to them.
-ghost use Rattle.std.specs.Prelude.{◌≡◌, ◌<◌, ◌^◌, [], IfOk, OnOk, OnErr, bytes_eq, length, option_copied};
+ghost use Rattle.std.specs.Prelude.{◌≡◌, ◌<◌, ◌^◌, [], OnOk, OnErr, bytes_eq, length, option_copied};
 ghost use Rattle.mem_rule.specs.Tables.{row_at, greatest, rows_after};
 
 use mem_rule::{Note, NoteKind};
