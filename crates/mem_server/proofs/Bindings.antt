@@ -1,7 +1,7 @@
 -- One more value is bound.
 use Rattle.std.specs.Prelude.{◌≡◌, ℕ, zero, suc, ◌+◌, ◌-◌, ◌<◌, List, [], ◌∷◌, ◌++◌, Option, None, Some}
 use Rattle.std.proofs.Common.{refl, sym, ap, ◌∙◌, arith}
-use Rattle.mem_server.specs.Statements.{Binding, bound_at, bound_from, bound_with}
+use Rattle.mem_rule.specs.Statements.{Binding, bound_at, bound_from, bound_with}
 
 bound_step : (left p at : ℕ) (b : Binding) (done : List (List ℕ)) → 0 < left → bound_from left p at b done ≡ bound_with (bound_at b p at) (λ value next. bound_from (left - 1) (p + 1) next b (done ++ value ∷ []))
 bound_step zero p at b done some = absurd (omega arith)

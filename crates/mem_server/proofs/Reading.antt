@@ -1,8 +1,8 @@
 -- One more note is read.
 use Rattle.std.specs.Prelude.{◌≡◌, ℕ, zero, suc, ◌-◌, ◌<◌, List, [], ◌∷◌, ◌++◌, None, Some}
 use Rattle.std.proofs.Common.{refl, sym, ap, ◌∙◌, arith, append_assoc, append-nil}
-use Rattle.mem_server.specs.Notes.{note_at, notes_from, notes_of, notes_with}
-use Rattle.mem_server.specs.declared.note.Note.{Note}
+use Rattle.mem_rule.specs.Notes.{note_at, notes_from, notes_of, notes_with}
+use Rattle.mem_rule.specs.declared.note.Note.{Note}
 
 notes_step : (left at : ℕ) (bytes : List ℕ) → 0 < left → notes_from left at bytes ≡ notes_with (note_at at bytes) (λ next. notes_from (left - 1) next bytes)
 notes_step zero at bytes some = absurd (omega arith)

@@ -1,137 +1,74 @@
 // The forms of statements.
 ghost use Rattle.std.specs.Prelude.{◌≡◌, IfOk, drop};
-ghost use Rattle.mem_server.specs.Forms.{taken_as, first_fit, fits, fixed_if, form_of, is_single_quoted, is_word_piece, number_as, pattern_of, symbol_as, value_if};
+ghost use Rattle.mem_rule.specs.Forms.{taken_as, first_fit, fits, fixed_if, form_of, is_single_quoted, is_word_piece, number_as, pattern_of, symbol_as, value_if};
 
-use mx_base::{Bytes, OutOfMemory, first_piece};
+use mem_rule::{Captured, Form};
+use mx_base::{Bytes, Items, OutOfMemory, first_piece};
 use sql_tokens::{Token, TokenKind, Tokens, bytes_of, inside, says};
 use std::alloc::Global;
-use std::marker::Model;
 
-/// What a statement is (MySQL Reference Manual, "SQL Statements"). Tracked SET statements and USE are told apart by the
-/// statement's class.
-#[derive(Clone, Copy, PartialEq, Eq)]
-pub enum Form {
-    CreateTable,
-    CreateTemporary,
-    InsertAt,
-    Insert,
-    Select,
-    Count,
-    Update,
-    Delete,
-    Begin,
-    Commit,
-    Rollback,
-    Setting,
-    SetVariable,
-    Variable,
-    SetId,
-    Id,
-    Lock,
-    LockTables,
-    UnlockTables,
-    Warnings,
-    Do,
-}
+const ALL: [Form; 21] = [
+    Form::CreateTable,
+    Form::CreateTemporary,
+    Form::InsertAt,
+    Form::Insert,
+    Form::Select,
+    Form::Count,
+    Form::Update,
+    Form::Delete,
+    Form::Begin,
+    Form::Commit,
+    Form::Rollback,
+    Form::Setting,
+    Form::SetVariable,
+    Form::Variable,
+    Form::SetId,
+    Form::Id,
+    Form::Lock,
+    Form::LockTables,
+    Form::UnlockTables,
+    Form::Warnings,
+    Form::Do,
+];
 
-impl Form {
-    /// All of them.
-    pub const ALL: [Form; 21] = [
-        Form::CreateTable,
-        Form::CreateTemporary,
-        Form::InsertAt,
-        Form::Insert,
-        Form::Select,
-        Form::Count,
-        Form::Update,
-        Form::Delete,
-        Form::Begin,
-        Form::Commit,
-        Form::Rollback,
-        Form::Setting,
-        Form::SetVariable,
-        Form::Variable,
-        Form::SetId,
-        Form::Id,
-        Form::Lock,
-        Form::LockTables,
-        Form::UnlockTables,
-        Form::Warnings,
-        Form::Do,
-    ];
-
-    /// Its tokens, with a blank between them. `<n>` stands for a number, `<x>` for a text in `'`, `<a>` for a user
-    /// variable and `<s>` for a system variable. Takes no memory.
-    pub fn pattern(self) -> &'static [u8]
-        ensures { result.now ≡ pattern_of self }
-    {
-        match self {
-            Form::CreateTable => b"CREATE TABLE t",
-            Form::CreateTemporary => b"CREATE TEMPORARY TABLE t",
-            Form::InsertAt => b"INSERT INTO t ( id , v ) VALUES ( <n> , <x> )",
-            Form::Insert => b"INSERT INTO t ( v ) VALUES ( <x> )",
-            Form::Select => b"SELECT v FROM t WHERE id = <n>",
-            Form::Count => b"SELECT COUNT ( * ) FROM t",
-            Form::Update => b"UPDATE t SET v = <x> WHERE id = <n>",
-            Form::Delete => b"DELETE FROM t WHERE id = <n>",
-            Form::Begin => b"BEGIN",
-            Form::Commit => b"COMMIT",
-            Form::Rollback => b"ROLLBACK",
-            Form::Setting => b"SELECT <s>",
-            Form::SetVariable => b"SET <a> = <n>",
-            Form::Variable => b"SELECT <a>",
-            Form::SetId => b"SET SESSION last_insert_id = <n>",
-            Form::Id => b"SELECT LAST_INSERT_ID ( )",
-            Form::Lock => b"SELECT GET_LOCK ( <x> , 0 )",
-            Form::LockTables => b"LOCK TABLES t WRITE",
-            Form::UnlockTables => b"UNLOCK TABLES",
-            Form::Warnings => b"SHOW WARNINGS",
-            Form::Do => b"DO <n>",
-        }
+// The tokens of a form, with a blank between them. `<n>` stands for a number, `<x>` for a text in `'`, `<a>` for a user
+// variable and `<s>` for a system variable.
+fn pattern(form: Form) -> &'static [u8]
+    ensures { result.now ≡ pattern_of form }
+{
+    match form {
+        Form::CreateTable => b"CREATE TABLE t",
+        Form::CreateTemporary => b"CREATE TEMPORARY TABLE t",
+        Form::InsertAt => b"INSERT INTO t ( id , v ) VALUES ( <n> , <x> )",
+        Form::Insert => b"INSERT INTO t ( v ) VALUES ( <x> )",
+        Form::Select => b"SELECT v FROM t WHERE id = <n>",
+        Form::Count => b"SELECT COUNT ( * ) FROM t",
+        Form::Update => b"UPDATE t SET v = <x> WHERE id = <n>",
+        Form::Delete => b"DELETE FROM t WHERE id = <n>",
+        Form::Begin => b"BEGIN",
+        Form::Commit => b"COMMIT",
+        Form::Rollback => b"ROLLBACK",
+        Form::Setting => b"SELECT <s>",
+        Form::SetVariable => b"SET <a> = <n>",
+        Form::Variable => b"SELECT <a>",
+        Form::SetId => b"SET SESSION last_insert_id = <n>",
+        Form::Id => b"SELECT LAST_INSERT_ID ( )",
+        Form::Lock => b"SELECT GET_LOCK ( <x> , 0 )",
+        Form::LockTables => b"LOCK TABLES t WRITE",
+        Form::UnlockTables => b"UNLOCK TABLES",
+        Form::Warnings => b"SHOW WARNINGS",
+        Form::Do => b"DO <n>",
     }
 }
 
-/// What a token is in a form.
-#[derive(Drop)]
-pub enum Captured {
-    /// Another token than the form has there.
-    Differs,
-    /// The word or the symbol that the form has there.
-    Fixed,
-    /// A value.
-    Value(Bytes),
-    /// A `?`, for a value that is bound later.
-    Asked,
-}
-
-/// The values of a statement in order, None where a `?` stands. A contract sees them as a list.
-#[derive(Drop)]
-pub struct Values {
-    items: Vec<Option<Bytes>>,
-}
-
-impl Model for Values {
-    ghost use Rattle.std.specs.Prelude.{List, Option, ℕ};
-
-    ghost Value = { List (Option (List ℕ)) };
-
-    ghost view = { λ v. v.items.items };
-}
-
-impl Values {
-    /// The values. Takes no memory.
-    pub fn as_slice(&self) -> &[Option<Bytes>]
-        ensures { result.now ≡ self.now }
-    {
-        &self.items
-    }
-}
+/// The values of a statement in order, None where a `?` stands.
+pub type Values = Items<Option<Bytes>>;
 
 fn value(alloc: Global, fits: bool, bytes: &[u8]) -> Result<Captured, OutOfMemory>
     ensures { IfOk result (λ got. got ≡ value_if fits bytes.now) }
 {
     if fits {
-        Ok(Captured::Value(Bytes::from_slice(alloc, bytes)?))
+        Ok(Captured::Value(Some(Bytes::from_slice(alloc, bytes)?)))
     } else {
         Ok(Captured::Differs)
     }
@@ -152,7 +89,7 @@ fn symbol(piece: &[u8], bytes: &[u8]) -> Captured
     ensures { result ≡ symbol_as piece.now bytes.now }
 {
     if bytes == b"?".as_slice() && (piece == b"<n>".as_slice() || piece == b"<x>".as_slice()) {
-        Captured::Asked
+        Captured::Value(None)
     } else {
         fixed(piece.len() == 1 && bytes == piece)
     }
@@ -163,7 +100,7 @@ fn number(alloc: Global, piece: &[u8], bytes: &[u8]) -> Result<Captured, OutOfMe
     ensures { IfOk result (λ got. got ≡ number_as piece.now bytes.now) }
 {
     if piece == b"<n>".as_slice() {
-        Ok(Captured::Value(Bytes::from_slice(alloc, bytes)?))
+        Ok(Captured::Value(Some(Bytes::from_slice(alloc, bytes)?)))
     } else {
         Ok(fixed(piece == b"0".as_slice() && bytes == piece))
     }
@@ -225,7 +162,7 @@ fn taken_as(
 fn fits(alloc: Global, text: &[u8], pattern: &[u8]) -> Result<Option<Values>, OutOfMemory>
     ensures { IfOk result (λ values. values ≡ fits text.now pattern.now) }
 {
-    let mut items = Vec::new(alloc);
+    let mut values = Vec::new(alloc);
     let mut left = Some(pattern);
     for token in Tokens::of(text) {
         let Some(pieces) = left else {
@@ -235,14 +172,13 @@ fn fits(alloc: Global, text: &[u8], pattern: &[u8]) -> Result<Option<Values>, Ou
         match taken_as(alloc, text, piece, &token)? {
             Captured::Differs => return Ok(None),
             Captured::Fixed => {}
-            Captured::Value(bytes) => items.push(Some(bytes))?,
-            Captured::Asked => items.push(None)?,
+            Captured::Value(value) => values.push(value)?,
         }
         left = behind;
     }
     match left {
         Some(_) => Ok(None),
-        None => Ok(Some(Values { items })),
+        None => Ok(Some(Values::from_vec(values))),
     }
 }
 
@@ -255,7 +191,7 @@ fn first_fit(
     ensures { IfOk result (λ form. form ≡ first_fit text.now forms.now) }
 {
     for form in forms {
-        if let Some(values) = fits(alloc, text, form.pattern())? {
+        if let Some(values) = fits(alloc, text, pattern(*form))? {
             return Ok(Some((*form, values)));
         }
     }
@@ -266,5 +202,5 @@ fn first_fit(
 pub fn form_of(alloc: Global, text: &[u8]) -> Result<Option<(Form, Values)>, OutOfMemory>
     ensures { IfOk result (λ form. form ≡ form_of text.now) }
 {
-    first_fit(alloc, text, &Form::ALL)
+    first_fit(alloc, text, &ALL)
 }

@@ -1,7 +1,8 @@
 // The server as one of which the laws hold.
-ghost use Rattle.mem_server.specs.Stored.{step, tables_out, tests};
+ghost use Rattle.mem_rule.specs.Stored.{step, tables_out, tests};
 
 use crate::MemServer;
+use mem_rule::{stored_again, tame};
 use mx_base::OutOfMemory;
 use server_rule::{Cmd, ReplyList, Session, TameServer};
 
@@ -13,11 +14,14 @@ impl TameServer for MemServer {
 
     ghost step = { step };
 
-    fn tame() {}
+    fn tame() {
+        tame();
+    }
 
     fn run(&mut self, session: &mut Session, cmd: &Cmd) -> Result<ReplyList, OutOfMemory> {
         let alloc = self.alloc();
         let reply = MemServer::run(self, alloc, session, cmd)?;
+        stored_again();
         Ok(reply)
     }
 }

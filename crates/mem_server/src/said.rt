@@ -1,10 +1,12 @@
 // The statement of a text.
 ghost use Rattle.std.specs.Prelude.{◌≡◌, ◌∷◌, [], IfOk, IfSome, ◌+◌, ◌*◌, ◌<◌, ◌^◌, nat_eq, find, option_copied, slice_index_or};
-ghost use Rattle.mem_server.specs.Statements.{asked, bound, bound_at, bound_by_type, bound_from, filled_from, id_at, id_place, is_null, name_place, numeral, said_by, said_in, text_place, value_at};
+ghost use Rattle.mem_rule.specs.Statements.{asked, bound, bound_at, bound_by_type, bound_from, filled_from, id_at, id_place, is_null, name_place, numeral, said_by, said_in, said_of, said_with, text_place, value_at};
 
+use crate::column::put_copy;
+use crate::form::form_of;
 use crate::note::text_at;
-use crate::{Form, Said, form_of};
 use itoa::Buffer;
+use mem_rule::{Form, Said};
 use mx_base::{Bytes, Items, OutOfMemory, get_u8, get_u16, get_u32, get_u64, read_number};
 use session_vars::LongPart;
 use std::alloc::Global;
@@ -20,7 +22,7 @@ pub(crate) struct Bindings<'a> {
 }
 
 impl<'a> Model for Bindings<'a> {
-    ghost use Rattle.mem_server.specs.Statements.{Binding};
+    ghost use Rattle.mem_rule.specs.Statements.{Binding};
 
     ghost Value = { Binding };
 
@@ -113,21 +115,21 @@ fn filled(
 ) -> Result<Option<Items<Bytes>>, OutOfMemory>
     ensures { IfOk result (λ all. all ≡ filled_from values.now bound.now []) }
 {
-    let mut out = Vec::new(alloc);
+    let mut out = Items::new(alloc);
     let mut left = bound;
     for value in values {
         match value {
-            Some(bytes) => out.push(Bytes::from_slice(alloc, bytes.as_slice())?)?,
+            Some(bytes) => put_copy(alloc, &mut out, bytes.as_slice())?,
             None => {
                 let [first, more @ ..] = left else {
                     return Ok(None);
                 };
-                out.push(Bytes::from_slice(alloc, first.as_slice())?)?;
+                put_copy(alloc, &mut out, first.as_slice())?;
                 left = more;
             }
         }
     }
-    Ok(Some(Items::from_vec(out)))
+    Ok(Some(out))
 }
 
 fn is_null(nulls: &[u8], at: usize) -> bool
@@ -226,7 +228,7 @@ pub(crate) fn asked(values: &[Option<Bytes>]) -> usize
 fn bound(alloc: Global, b: &Bindings, count: u32) -> Result<Option<Items<Bytes>>, OutOfMemory>
     ensures { IfOk result (λ all. all ≡ bound_from count 0 0 b.now []) }
 {
-    let mut out = Vec::new(alloc);
+    let mut out = Items::new(alloc);
     let mut at = 0;
     for parameter in 0..count {
         match bound_at(alloc, b, parameter as usize, at)? {
@@ -237,7 +239,7 @@ fn bound(alloc: Global, b: &Bindings, count: u32) -> Result<Option<Items<Bytes>>
             }
         }
     }
-    Ok(Some(Items::from_vec(out)))
+    Ok(Some(out))
 }
 
 fn bound_or_none(
@@ -256,7 +258,35 @@ fn bound_or_none(
     bound(alloc, b, count as u32)
 }
 
-/// The statement of a text, with what is bound. None where the server doesn't know it.
+fn said_of(
+    alloc: Global,
+    form: Form,
+    values: &[Option<Bytes>],
+    bound: &[Bytes],
+) -> Result<Option<Said>, OutOfMemory>
+    ensures { IfOk result (λ said. said ≡ said_of form values.now bound.now) }
+{
+    match filled(alloc, values, bound)? {
+        None => Ok(None),
+        Some(all) => said_by(alloc, form, all.as_slice()),
+    }
+}
+
+fn said_with(
+    alloc: Global,
+    form: Form,
+    values: &[Option<Bytes>],
+    b: Option<&Bindings>,
+) -> Result<Option<Said>, OutOfMemory>
+    ensures { IfOk result (λ said. said ≡ said_with (option_copied b.entry) (form, values.now)) }
+{
+    match bound_or_none(alloc, b, asked(values))? {
+        None => Ok(None),
+        Some(bound) => said_of(alloc, form, values, bound.as_slice()),
+    }
+}
+
+// The statement of a text, with what is bound. None where the server doesn't know it.
 pub(crate) fn said_in(
     alloc: Global,
     text: &[u8],
@@ -264,14 +294,8 @@ pub(crate) fn said_in(
 ) -> Result<Option<Said>, OutOfMemory>
     ensures { IfOk result (λ said. said ≡ said_in text.now (option_copied b.entry)) }
 {
-    let Some((form, values)) = form_of(alloc, text)? else {
-        return Ok(None);
-    };
-    let Some(bound) = bound_or_none(alloc, b, asked(values.as_slice()))? else {
-        return Ok(None);
-    };
-    let Some(all) = filled(alloc, values.as_slice(), bound.as_slice())? else {
-        return Ok(None);
-    };
-    said_by(alloc, form, all.as_slice())
+    match form_of(alloc, text)? {
+        None => Ok(None),
+        Some((form, values)) => said_with(alloc, form, values.as_slice(), b),
+    }
 }

@@ -1,35 +1,22 @@
 // What a session sees of the table of a schema.
-ghost use Rattle.std.specs.Prelude.{◌≡◌, ◌≤◌, ◌<◌, ◌^◌, IfOk, find, fold, length, option_copied, reverse};
+ghost use Rattle.std.specs.Prelude.{◌≡◌, ◌≤◌, ◌<◌, ◌^◌, ◌&&◌, IfOk, find, fold, is_some, length, not, option_copied, reverse};
 ghost use Rattle.std.specs.List.{list_any};
-ghost use Rattle.mem_server.specs.Answers.{is_off_in};
-ghost use Rattle.mem_server.specs.Scenes as scenes;
-ghost use Rattle.mem_server.specs.Scenes.{added, creates, greater, is_last, is_locked, named_lock, names, place_by, put_text, row_by, table_lock, taken, takes};
-ghost use Rattle.mem_server.specs.Notes.{is_row};
-ghost use Rattle.mem_server.specs.Tables.{greatest, row_at};
+ghost use Rattle.mem_rule.specs.Answers.{is_off_in};
+ghost use Rattle.mem_rule.specs.Scenes as scenes;
+ghost use Rattle.mem_rule.specs.Scenes.{added, creates, greater, is_last, is_locked, is_put_kind, named_lock, names, place_by, put_text, table_lock, taken, takes};
+ghost use Rattle.mem_rule.specs.Notes.{is_row};
+ghost use Rattle.mem_rule.specs.Tables.{greatest, row_at};
 
-use crate::note::has_row;
+use crate::note::{has_row, is_row, notes_of, puts};
 use crate::store::Base;
 use crate::table::Table;
-use crate::{Note, NoteKind, Notes};
+use mem_rule::{Note, NoteKind, Notes, Place};
 use mx_base::{Bytes, OutOfMemory};
 use server_rule::Session;
 use session_vars::{Settings, Slot, SlotValue};
 use sql_tokens::same_text;
 use std::alloc::Global;
 use std::marker::Model;
-
-/// Where the table is that a session sees.
-#[derive(Clone, Copy, PartialEq, Eq)]
-pub enum Place {
-    /// In the session itself.
-    Temporary,
-    /// Nowhere.
-    Absent,
-    /// Another session holds its lock.
-    Locked,
-    /// It is this one of the data.
-    There(usize),
-}
 
 // A statement in its session.
 #[derive(Drop)]
@@ -44,8 +31,8 @@ pub(crate) struct Scene<'a> {
 
 impl<'a> Model for Scene<'a> {
     ghost use Rattle.std.specs.Prelude.{◌≡◌};
-    ghost use Rattle.mem_server.specs.Notes.{notes_of};
-    ghost use Rattle.mem_server.specs.Scenes.{Scene, place_in};
+    ghost use Rattle.mem_rule.specs.Notes.{notes_of};
+    ghost use Rattle.mem_rule.specs.Scenes.{Scene, place_in};
 
     ghost Value = { Scene };
 
@@ -83,7 +70,7 @@ fn is_locked(alloc: Global, base: &Base, locks: &Bytes, schema: &[u8]) -> Result
 fn creates(notes: &[Note], schema: &[u8]) -> bool
     ensures { result ≡ list_any (creates schema.now) notes.now }
 {
-    notes.iter().any(|note| note.kind == NoteKind::Created && note.key.as_slice() == schema)
+    notes.iter().any(|note| matches!(note.kind, NoteKind::Created) && note.key.as_slice() == schema)
 }
 
 fn place_by(temporary: bool, locked: bool, at: Option<usize>) -> Place
@@ -135,14 +122,14 @@ fn row_at<'a>(table: Option<&'a Table>, id: u64) -> Option<&'a Bytes>
 fn last_note<'a>(notes: &'a [Note], schema: &[u8], id: u64) -> Option<&'a Note>
     ensures { option_copied result ≡ find (is_row schema.now id) (reverse notes.now) }
 {
-    notes.iter().rev().find(|note| note.is_of_row(schema, id))
+    notes.iter().rev().find(|note| is_row(note, schema, id))
 }
 
 // The greater of a number and of the id of a row that a note puts.
 fn greater(schema: &[u8], most: u64, note: &Note) -> u64
     ensures { result ≡ greater schema.now most note.now }
 {
-    if note.kind == NoteKind::Put && note.key.as_slice() == schema && most < note.id {
+    if puts(note) && note.key.as_slice() == schema && most < note.id {
         note.id
     } else {
         most
@@ -185,7 +172,21 @@ fn count_rows(table: Option<&Table>) -> usize
 fn is_last(schema: &[u8], note: &Note, later: &[Note]) -> bool
     ensures { result ≡ is_last schema.now note.now later.now }
 {
-    note.is_of_row(schema, note.id) && !has_row(later, schema, note.id)
+    is_row(note, schema, note.id) && !has_row(later, schema, note.id)
+}
+
+// Whether a note is the last one of its row, and adds it to those of a table.
+fn adds(table: Option<&Table>, schema: &[u8], note: &Note, later: &[Note]) -> bool
+    ensures { result ≡ is_last schema.now note.now later.now && is_put_kind note.now.kind && not (is_some (row_at (scenes.rows_of (option_copied table.entry)) note.now.id)) }
+{
+    is_last(schema, note, later) && puts(note) && row_at(table, note.id).is_none()
+}
+
+// Whether a note is the last one of its row, and takes it away.
+fn takes_away(table: Option<&Table>, schema: &[u8], note: &Note, later: &[Note]) -> bool
+    ensures { result ≡ is_last schema.now note.now later.now && not (is_put_kind note.now.kind) && is_some (row_at (scenes.rows_of (option_copied table.entry)) note.now.id) }
+{
+    is_last(schema, note, later) && !puts(note) && row_at(table, note.id).is_some()
 }
 
 // How many rows notes add to those of a table.
@@ -196,10 +197,7 @@ fn added(table: Option<&Table>, schema: &[u8], notes: &[Note]) -> usize
     let mut count = 0;
     let mut left = notes;
     while let [note, later @ ..] = left {
-        if is_last(schema, note, later)
-            && note.kind == NoteKind::Put
-            && row_at(table, note.id).is_none()
-        {
+        if adds(table, schema, note, later) {
             count += 1;
         }
         left = later;
@@ -215,10 +213,7 @@ fn taken(table: Option<&Table>, schema: &[u8], notes: &[Note]) -> usize
     let mut count = 0;
     let mut left = notes;
     while let [note, later @ ..] = left {
-        if is_last(schema, note, later)
-            && note.kind != NoteKind::Put
-            && row_at(table, note.id).is_some()
-        {
+        if takes_away(table, schema, note, later) {
             count += 1;
         }
         left = later;
@@ -235,8 +230,8 @@ impl<'a> Scene<'a> {
     ) -> Result<Self, OutOfMemory>
         ensures { IfOk result (λ c. c ≡ record { tables = base.now; tx = session.now.tx; locks = session.now.locks; deep = session.now.deep; settings = session.now.settings; last_id = session.now.last_id; diag = session.now.diag; schema = schema.now }) }
     {
-        let kept = Notes::read(alloc, session.tx.as_slice())?;
-        let deep = Notes::read(alloc, session.deep.as_slice())?;
+        let kept = notes_of(alloc, session.tx.as_slice())?;
+        let deep = notes_of(alloc, session.deep.as_slice())?;
         let locked = is_locked(alloc, base, &session.locks, schema.as_slice())?;
         let temporary = creates(deep.as_slice(), schema.as_slice());
         let place = place_by(temporary, locked, base.place(schema.as_slice()));
@@ -326,7 +321,7 @@ impl<'a> Scene<'a> {
     pub(crate) fn takes(&self, name: &[u8]) -> bool
         ensures { result ≡ list_any (takes name.now) (scenes.deep_notes self.now) }
     {
-        self.deep.as_slice().iter().any(|note| note.kind == NoteKind::Held
+        self.deep.as_slice().iter().any(|note| matches!(note.kind, NoteKind::Held)
             && note.key.as_slice() == name)
     }
 
@@ -334,7 +329,7 @@ impl<'a> Scene<'a> {
     pub(crate) fn named(&self, name: &[u8]) -> Option<&Note>
         ensures { option_copied result ≡ find (names name.now) (reverse (scenes.deep_notes self.now)) }
     {
-        self.deep.as_slice().iter().rev().find(|note| note.kind == NoteKind::Named
+        self.deep.as_slice().iter().rev().find(|note| matches!(note.kind, NoteKind::Named)
             && note.key.as_slice() == name)
     }
 

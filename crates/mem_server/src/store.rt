@@ -1,9 +1,9 @@
 // The data of the server.
 ghost use Rattle.std.specs.Prelude.{◌≡◌, ◌≤◌, OnOk, OnErr, drop, length, option_copied, slice_get};
-ghost use Rattle.mem_server.specs.Tables.{after, after_all, created, holds, no_tables, place_of, written};
+ghost use Rattle.mem_rule.specs.Tables.{after, after_all, created, holds, no_tables, place_of, written};
 
 use crate::table::Table;
-use crate::{Note, NoteKind, Notes};
+use mem_rule::{Note, NoteKind, Notes};
 use mx_base::{Bytes, OutOfMemory};
 use std::alloc::Global;
 use std::collections::BTreeSet;
@@ -17,7 +17,7 @@ pub(crate) struct Base {
 }
 
 impl Model for Base {
-    ghost use Rattle.mem_server.specs.Tables.{Tables};
+    ghost use Rattle.mem_rule.specs.Tables.{Tables};
 
     ghost Value = { Tables };
 

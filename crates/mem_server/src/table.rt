@@ -1,8 +1,8 @@
 // Tables, and what notes do to them.
-ghost use Rattle.std.specs.Prelude.{◌≡◌, ◌<◌, ◌^◌, [], IfOk, OnOk, OnErr, bytes_eq, length, option_copied};
-ghost use Rattle.mem_server.specs.Tables.{row_at, greatest, rows_after};
+ghost use Rattle.std.specs.Prelude.{◌≡◌, ◌<◌, ◌^◌, [], OnOk, OnErr, bytes_eq, length, option_copied};
+ghost use Rattle.mem_rule.specs.Tables.{row_at, greatest, rows_after};
 
-use crate::{Note, NoteKind};
+use mem_rule::{Note, NoteKind};
 use mx_base::{Bytes, OutOfMemory};
 use std::alloc::Global;
 use std::collections::BTreeMap;
@@ -16,7 +16,7 @@ pub struct Table {
 }
 
 impl Model for Table {
-    ghost use Rattle.mem_server.specs.Tables.{TableRows};
+    ghost use Rattle.mem_rule.specs.Tables.{TableRows};
 
     ghost Value = { TableRows };
 

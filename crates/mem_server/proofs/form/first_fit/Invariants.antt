@@ -1,5 +1,5 @@
 use Rattle.std.proofs.Common.{◌≡◌, drop}
-use Rattle.mem_server.specs.Forms.{first_fit}
+use Rattle.mem_rule.specs.Forms.{first_fit}
 use Rattle.mem_server.proofs.form.first_fit.Given as goal
 
 -- the forms that are left decide

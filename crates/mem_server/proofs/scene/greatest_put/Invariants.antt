@@ -1,6 +1,6 @@
 use Rattle.std.proofs.Common.{◌≡◌, drop}
 use Rattle.std.specs.Prelude.{fold}
-use Rattle.mem_server.specs.Scenes.{greater}
+use Rattle.mem_rule.specs.Scenes.{greater}
 use Rattle.mem_server.proofs.scene.greatest_put.Given as goal
 
 abbrev pub invariant-loop-note : goal.invariant-loop-note

@@ -1,5 +1,5 @@
 use Rattle.std.proofs.Common.{◌≡◌, ◌+◌, ◌≤◌, length, option_copied}
-use Rattle.mem_server.specs.Scenes.{taken, rows_of}
+use Rattle.mem_rule.specs.Scenes.{taken, rows_of}
 use Rattle.mem_server.proofs.scene.taken.Given as goal
 
 -- what is counted, with what is left, is all of it

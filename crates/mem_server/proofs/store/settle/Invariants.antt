@@ -1,5 +1,5 @@
 use Rattle.std.proofs.Common.{◌≡◌, ◌≤◌, ◌-◌, drop, length}
-use Rattle.mem_server.specs.Tables.{after_all}
+use Rattle.mem_rule.specs.Tables.{after_all}
 use Rattle.mem_server.proofs.store.settle.Given as goal
 
 -- with the notes that are left the data are the same

@@ -1,5 +1,0 @@
-use Rattle.mem_server.proofs.Keeping.{keeps_tests}
-use Rattle.mem_server.proofs.laws.keeps_tests_law.Goals as goal
-
-pub returns : goal.returns
-returns c = keeps_tests

@@ -1,6 +1,0 @@
-use Rattle.std.proofs.Common.{◌≡◌, ◌++◌, filter, map, take}
-use Rattle.mem_server.specs.Commands.{freed, holds_lock}
-use Rattle.mem_server.proofs.server.put_all_freed.Given as goal
-
-abbrev pub invariant-loop-note : goal.invariant-loop-note
-invariant-loop-note l = l.out ≡ l.initial.out ++ map freed (filter holds_lock (take l.note-index l.notes))

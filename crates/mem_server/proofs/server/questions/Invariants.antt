@@ -1,5 +1,0 @@
-use Rattle.std.proofs.Common.{◌≡◌, replicate, codes}
-use Rattle.mem_server.proofs.server.questions.Given as goal
-
-abbrev pub invariant-loop : goal.invariant-loop
-invariant-loop l = l.out ≡ replicate l.counter (codes "?")
