@@ -11,7 +11,8 @@ use Rattle.private_model.specs.Commands.{Command, Query, InitDb, FieldList, SetI
 use Rattle.private_model.specs.Story.{BecameDue, Capture, Dropped, End, Freed, Gone, Happening, Heard, Key, Left, LoggedIn, Mirrored, Own, Prep, Question, Ran}
 use Rattle.private_model.specs.Story.{Sent, Statement, Story, Sync, Unprepared, command_of, is_link_id, put}
 use Rattle.private_model.specs.View.{Answered, Asked, Link, Quiet, Setup, Stage, View, quieted, ran_by, view_after, view_step}
-use Rattle.private_model.specs.Worlds.{Peer, Real, decoded, entry_at, real_after, real_drop, real_run, real_step, there_command}
+use Rattle.private_model.specs.Worlds.{Peer, Real, decoded, real_after, real_drop, real_run, real_step, there_command}
+use Rattle.std.specs.Option.{option_and_then}
 
 abbrev pub HasForm : Stage → Reply → Type 0
 HasForm (Answered question) answer = answer.to_prepare ≡ is_prepare (cmd_of (command_of question))
@@ -31,7 +32,7 @@ decoded_form (Some entry) Quit = refl
 
 there_form : (question : Question) (live : ℕ → Option ℕ) (table : ℕ → Option Key)
     → is_prepare (cmd_of (there_command question live table)) ≡ is_prepare (cmd_of (command_of question))
-there_form (Statement n due) live table = decoded_form (entry_at (live due.key) table) due.command
+there_form (Statement n due) live table = decoded_form (option_and_then table (live due.key)) due.command
 there_form (Prep n key text) live table = refl
 there_form (Sync n command) live table = refl
 there_form (Own command) live table = refl

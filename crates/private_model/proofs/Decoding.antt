@@ -10,14 +10,15 @@ use Rattle.private_model.proofs.Running.{after_decoded, asks, asks_lent, before,
 use Rattle.private_model.proofs.Stands.{AreKept, AreMatched, AreTabled, AreTabledBy, IfAlive, IsAskedJoined, IsMatch, IsUsual, Stands}
 use Rattle.private_model.proofs.Tabling.{decoded_alike, kept_by, keyed_told, matched_by, matched_of, prepared_schema, prepared_settings, tabled_moved, told_place}
 use Rattle.private_model.proofs.Tame.{Tame}
-use Rattle.private_model.specs.Commands.{Command, Outcome, Prepare, ReadId, Reset, Step, is_err, is_made, number_in, pin_statement}
+use Rattle.private_model.specs.Commands.{Command, Outcome, Prepare, ReadId, Reset, Step, is_err, is_made, number_in, pin_statement, is_prepare}
 use Rattle.private_model.specs.Story.{Capture, Due, End, Key, Own, Prep, Question, Ran, Statement, Sync, is_link_id, is_name, put}
-use Rattle.private_model.specs.View.{Answered, Asked, Carried, Joined, Lent, Link, Nobody, Quiet, Setup, Stage, View, is_prepare, is_quit, lived, ran_by, soon_live, text_of, view_step}
-use Rattle.private_model.specs.Worlds.{Peer, Private, Real, decoded, entry_at, private_prep, private_run, private_step, readied, real_run, real_step, table_after, tabled, there_table}
+use Rattle.private_model.specs.View.{Answered, Asked, Carried, Joined, Lent, Link, Nobody, Quiet, Setup, Stage, View, is_quit, lived, ran_by, soon_live, text_of, view_step}
+use Rattle.private_model.specs.Worlds.{Peer, Private, Real, decoded, private_prep, private_run, private_step, readied, real_run, real_step, table_after, tabled, there_table}
 use Rattle.server_rule.specs.Servers.{Tests}
 use Rattle.server_rule.specs.declared.session.Session.{Session}
 use Rattle.session_state.specs.Pins.{is_pinned}
 use Rattle.session_state.specs.declared.names.SessionName.{SessionName}
+use Rattle.std.specs.Option.{option_and_then}
 
 if_alive : (b : Bool) (A : Type 0) → A → IfAlive b A (Unit {0})
 if_alive true A x = x
@@ -35,11 +36,11 @@ module _ (setup : Setup) (tests : Tests) (step : Step) (tame : Tame setup.reads 
     | inr joined ↦ alive_joined setup tests view real private stands are number m alive (Statement m due) is joined
   ]
 
-  pub are_decoded : (m : SessionName) (due : Due) → (view.links number).alive ≡ true → (view.links number).stage ≡ Asked (Statement m due) → IsDecoded setup.reads (decoded (entry_at ((view.links number).live due.key) (real.peers number).table) due.command) (decoded (private.tables m due.key) due.command) × IsTextOf (decoded (entry_at ((view.links number).live due.key) (real.peers number).table) due.command) due.command
+  pub are_decoded : (m : SessionName) (due : Due) → (view.links number).alive ≡ true → (view.links number).stage ≡ Asked (Statement m due) → IsDecoded setup.reads (decoded (option_and_then (real.peers number).table ((view.links number).live due.key)) due.command) (decoded (private.tables m due.key) due.command) × IsTextOf (decoded (option_and_then (real.peers number).table ((view.links number).live due.key)) due.command) due.command
   are_decoded m due alive is =
-      decoded_alike setup due.key due.command (view.links number).told (view.links number).live (entry_at ((view.links number).live due.key) (real.peers number).table) (private.tables m due.key)
+      decoded_alike setup due.key due.command (view.links number).told (view.links number).live (option_and_then (real.peers number).table ((view.links number).live due.key)) (private.tables m due.key)
       (met_there setup tests step tame view real private stands number m due alive is).keyed
-      (λ n live. subst (λ x. IsMatch setup due.key x (private.tables m due.key)) (sym (ap (λ x. entry_at x (real.peers number).table) live)) ((matched_there m due alive is).match due.key n live))
+      (λ n live. subst (λ x. IsMatch setup due.key x (private.tables m due.key)) (sym (ap (λ x. option_and_then (real.peers number).table x) live)) ((matched_there m due alive is).match due.key n live))
 
   abbrev RanTabled : (alive : Bool) → Stage → Type 0
   RanTabled alive stage = AreTabled setup (put is_link_id view.links number (ran_by setup.reads alive stage (view.links number))) (real_run step real number (view.links number).live alive stage (view.links number).server).peers view.held (private_run step view.held private alive stage (view.links number).server).tables
@@ -72,7 +73,7 @@ module _ (setup : Setup) (tests : Tests) (step : Step) (tame : Tame setup.reads 
       let d = data_there setup tests step tame view real private stands number in
       let s0 = (real.peers number).session in
       let p0 = readied due (private.sessions m) in
-      let c' = decoded (entry_at (l.live due.key) t) c in
+      let c' = decoded (option_and_then t (l.live due.key)) c in
       let there = step d s0 c' in
       let here = step d p0 c' in
       let met = met_there setup tests step tame view real private stands number m due alive is in
@@ -86,7 +87,7 @@ module _ (setup : Setup) (tests : Tests) (step : Step) (tame : Tame setup.reads 
       (λ makes. (keyed_told setup c due.key l.told l.live makes met.keyed).text_is)
       (sym (ap (λ (x : Session). x.schema) alike.rest)) (sym (ap (λ (x : Session). x.settings) alike.rest)) shallow
       (λ makes e. told_place setup due.key (text_of c) l.told s0 there.session (keyed_told setup c due.key l.told l.live makes met.keyed) (met.met.follows (shallow e))
-      (prepared_schema setup.reads tests step tame d s0 ok c (entry_at (l.live due.key) t) makes) (prepared_settings setup.reads tests step tame d s0 ok c (entry_at (l.live due.key) t) makes))
+      (prepared_schema setup.reads tests step tame d s0 ok c (option_and_then t (l.live due.key)) makes) (prepared_settings setup.reads tests step tame d s0 ok c (option_and_then t (l.live due.key)) makes))
       (matched_there m due alive is) in
       let own : ℕ → Option Key = tabled (is_prepare c) (is_made here.reply) due.key (text_of c) here.session (private.tables m) in
       let right = subst (λ b. AreMatched setup (lived (is_prepare c) (is_made there.reply) due.key (number_in there.reply) l.live) deep (tabled (is_prepare c) (is_made there.reply) (number_in there.reply) (text_of c) there.session t) (tabled (is_prepare c) b due.key (text_of c) here.session (private.tables m))) (sym (ap is_made alike.reply)) matched in

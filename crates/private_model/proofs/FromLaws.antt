@@ -12,8 +12,8 @@ use Rattle.server_rule.specs.Servers as server
 use Rattle.server_rule.specs.declared.command.Cmd.TheVariants as cmd
 use Rattle.server_rule.specs.declared.session.Session.{Session}
 use Rattle.server_rule.proofs.Ends.{Shows, nothing_shows, shown_end}
-use Rattle.private_model.specs.Commands.{Number, Command, Query, InitDb, FieldList, SetId, ReadId, Prepare, Run, Reset, Quit, Outcome, account_of, brings_id, class_of, cmd_of, end_of, flags, hides_of, is_err, is_ok, outcome_of, outcome_with_id, runs}
-use Rattle.private_model.proofs.Tame.{ResetLaw, Tame, is_flagged, is_text}
+use Rattle.private_model.specs.Commands.{Number, Command, Query, InitDb, FieldList, SetId, ReadId, Prepare, Run, Reset, Quit, Outcome, class_of, cmd_of, end_of, hides_of, is_err, is_ok, outcome_of, runs}
+use Rattle.private_model.proofs.Tame.{ResetLaw, Tame, is_flagged, is_text, account_of, brings_id, flags, outcome_with_id}
 use Rattle.private_model.proofs.Sessions.{apart, bool_cases}
 
 neither_tracked : {A : Type 0} {changes : List Change} → Neither ≡ Tracked changes → A

@@ -15,13 +15,14 @@ use Rattle.private_model.specs.Commands.{Command, Prepare, Quit, ReadId, Reply, 
 use Rattle.private_model.specs.Headline.{MeetsPrivate}
 use Rattle.private_model.specs.Honest.{IsAccepted, IsAnswer, IsHonest, IsTrueOf}
 use Rattle.private_model.specs.Lawful.{IsLawful, MayCome, MaySend}
-use Rattle.private_model.specs.Story.{BecameDue, Capture, Dropped, End, Freed, Gone, Happening, Heard, Left, LoggedIn, Mirrored, Own, Prep, Question, Ran, Sent, Statement, Story, Sync, Unprepared, is_link_id, message_of, put}
-use Rattle.private_model.specs.View.{Answered, Asked, Carried, Joined, Lent, Link, Nobody, Quiet, Setup, Stage, View, asked, closed_number, freed, heard, new_link, quieted, ran_by, replies_by, view_after, view_step}
-use Rattle.private_model.specs.Worlds.{Peer, Private, Real, decoded, entry_at, new_peer, private_after, private_drop, private_prep, private_run, private_step, real_after, real_drop, real_run, real_step, there_table}
+use Rattle.private_model.specs.Story.{BecameDue, Capture, Dropped, End, Freed, Gone, Happening, Heard, Left, LoggedIn, Mirrored, Own, Prep, Question, Ran, Sent, Statement, Story, Sync, Unprepared, is_link_id, is_message, message_of, put}
+use Rattle.private_model.specs.View.{Answered, Asked, Carried, Joined, Lent, Link, Nobody, Quiet, Setup, Stage, View, asked, closed_number, freed, heard, new_link, quieted, ran_by, for_reply, view_after, view_step}
+use Rattle.private_model.specs.Worlds.{Peer, Private, Real, decoded, new_peer, private_after, private_drop, private_prep, private_run, private_step, real_after, real_drop, real_run, real_step, there_table}
 use Rattle.server_rule.specs.Servers.{Tests}
 use Rattle.session_state.specs.Pins.{is_pinned}
 use Rattle.session_state.specs.declared.names.MessageName.{MessageName}
 use Rattle.session_state.specs.declared.names.SessionName.{SessionName}
+use Rattle.std.specs.Option.{option_and_then}
 
 -- The data and the sessions.
 
@@ -112,7 +113,7 @@ module _ (setup : Setup) (tests : Tests) (step : Step) (tame : Tame setup.reads 
   ran_answers true Quiet alive is = are_linked view.links real.peers view.carriers view.replies private.answers answer number now (λ m e. e) (λ m e. e)
   ran_answers true (Answered question) alive is = are_linked view.links real.peers view.carriers view.replies private.answers answer number now (λ m e. e) (λ m e. e)
   ran_answers true (Asked (Statement n due)) alive is =
-      are_ran view.links real.peers view.carriers view.replies private.answers answer number (ran_by setup.reads true (Asked (Statement n due)) now) (peer_after (Statement n due) (decoded (entry_at ((view.links number).live due.key) (real.peers number).table) due.command)) (message_of n due) _ (ap message_on is) refl (same_reply setup tests step tame view real private stands number (are_decoded setup tests step tame view real private stands tabled number) n due alive is) (λ m e. cc)
+      are_ran view.links real.peers view.carriers view.replies private.answers answer number (ran_by setup.reads true (Asked (Statement n due)) now) (peer_after (Statement n due) (decoded (option_and_then (real.peers number).table ((view.links number).live due.key)) due.command)) (message_of n due) _ (ap message_on is) refl (same_reply setup tests step tame view real private stands number (are_decoded setup tests step tame view real private stands tabled number) n due alive is) (λ m e. cc)
   ran_answers true (Asked (Prep n key text)) alive is =
       subst (λ a. AreAnswered (put is_link_id view.links number (ran_by setup.reads true (Asked (Prep n key text)) now)) (put is_link_id real.peers number (peer_after (Prep n key text) (Prepare text))) view.carriers view.replies a) (sym (prep_leaves step private (is_pinned (view.held n).pin) now.server n key text))
       (are_still view.links real.peers view.carriers view.replies private.answers answer number (ran_by setup.reads true (Asked (Prep n key text)) now) (peer_after (Prep n key text) (Prepare text)) (λ m e. cc) (λ m e. absurd (no_message m e)))
@@ -125,7 +126,7 @@ module _ (setup : Setup) (tests : Tests) (step : Step) (tame : Tame setup.reads 
   answers_ran = ran_answers now.alive now.stage refl refl
 
   heard_answers : (question : Question) → (view.links number).stage ≡ Answered question
-      → Answer (record (view_step setup view (Heard number (real.peers number).answer)) { replies = replies_by (Answered question) (real.peers number).answer view.replies }) real private
+      → Answer (record (view_step setup view (Heard number (real.peers number).answer)) { replies = for_reply (Answered question) (λ n due. put is_message view.replies (message_of n due) (Some (real.peers number).answer)) view.replies }) real private
   heard_answers (Statement n due) is = are_heard view.links real.peers view.carriers view.replies private.answers answer number (heard setup.reads (real.peers number).answer now) (message_of n due) (ap ran_on is) (ap message_on is) (ap (λ st. message_on (quieted st)) is) (ap (λ st. ran_on (quieted st)) is)
   heard_answers (Prep n key text) is = quiet_answers (Prep n key text) is
   heard_answers (Sync n c) is = quiet_answers (Sync n c) is
@@ -137,7 +138,7 @@ module _ (setup : Setup) (tests : Tests) (step : Step) (tame : Tame setup.reads 
   answers_heard reply is =
       let a = (real.peers number).answer in
       subst (λ r. Answer (view_step setup view (Heard number r)) real private) (sym is.same)
-      (subst (λ st. Answer (record (view_step setup view (Heard number a)) { replies = replies_by st a view.replies }) real private) (sym is.ran) (heard_answers is.question is.ran))
+      (subst (λ st. Answer (record (view_step setup view (Heard number a)) { replies = for_reply st (λ n due. put is_message view.replies (message_of n due) (Some a)) view.replies }) real private) (sym is.ran) (heard_answers is.question is.ran))
 
   drop_answers : (alive : Bool) → Answer (record view { links = put is_link_id view.links number (record now { alive = false }) }) (real_drop step real number alive now.server) private
   drop_answers false = are_linked view.links real.peers view.carriers view.replies private.answers answer number (record now { alive = false }) (λ m e. e) (λ m e. e)

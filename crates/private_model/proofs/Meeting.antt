@@ -5,8 +5,8 @@ use Rattle.pin_classifier.specs.declared.class.Class.{Class}
 use Rattle.private_model.proofs.Pairs.{IsAlikeAfter, alike_after, alike_set, reset_session}
 use Rattle.private_model.proofs.Sessions.{apart, follows_after, follows_reset, is_empty, knows_after, or_left, or_right, plain_suits, read_knows, refused_reply, suits_after, suits_reset, suits_step, unpinned_harmless}
 use Rattle.private_model.proofs.Stands.{Follows, IfAlive, IsFree, IsJoined, IsPlain, IsTogether, Knows, Suits}
-use Rattle.private_model.proofs.Tame.{Tame}
-use Rattle.private_model.specs.Commands.{Number, Account, Args, Command, FieldList, InitDb, Prepare, Query, Quit, ReadId, Reply, Reset, Run, SetId, Step, account_of, brings_id, class_of, end_of, flags, id_after, is_err, is_marked, is_ok, pin_statement}
+use Rattle.private_model.proofs.Tame.{Tame, account_of, brings_id, flags}
+use Rattle.private_model.specs.Commands.{Number, Account, Args, Command, FieldList, InitDb, Prepare, Query, Quit, ReadId, Reply, Reset, Run, SetId, Step, class_of, end_of, id_after, is_err, is_marked, is_ok, pin_statement}
 use Rattle.private_model.specs.Lawful.{Begins, GoesOn, IsOwnStep, IsStepOf, is_statement}
 use Rattle.private_model.specs.Story.{Due}
 use Rattle.private_model.specs.View.{Setup, is_quit, is_reset, told_after}

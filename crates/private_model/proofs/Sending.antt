@@ -4,12 +4,12 @@ use Rattle.std.proofs.Common.{refl, sym, ap, ◌∙◌, subst, inl, inr}
 use Rattle.mx_base.specs.declared.names.LinkId.{LinkId}
 use Rattle.private_model.proofs.Maps.{IsElsewhere, at_each, frame, link_ids, names, no_home, no_other, put-other, put-same, still_resting}
 use Rattle.private_model.proofs.Sessions.{harmless_shallow, suits_plain}
-use Rattle.private_model.proofs.Stands.{IfAlive, IsAskedFree, IsAskedJoined, IsAskedLent, IsAt, IsAtBy, IsFree, IsFreeLink, IsJoined, IsJoinedLink, IsLentLink, IsPlain, IsPreparing, IsResting, Stands}
+use Rattle.private_model.proofs.Stands.{IfAlive, IsAskedFree, IsAskedJoined, IsAskedLent, IsAt, IsAtBy, IsFree, IsFreeLink, IsJoined, IsJoinedLink, IsLentLink, IsPlain, IsPreparing, IsResting, Stands, soon_pin}
 use Rattle.private_model.specs.Commands.{Account, Command, Reply, is_err}
 use Rattle.private_model.specs.Honest.{IsAnswer}
 use Rattle.private_model.specs.Lawful.{BeginsThere, GoesOnThere, IsOwn, MayFree, MayLend, MaySend, PreparesFirst, PreparesThere}
 use Rattle.private_model.specs.Story.{Capture, Due, End, Freed, Heard, Own, Prep, Question, Sent, Statement, Sync, is_link_id, is_name, put}
-use Rattle.private_model.specs.View.{Answered, Asked, Carried, Held, Joined, Lent, Link, Nobody, Quiet, Setup, View, asked, carried_for, freed, heard, held_by, held_for, held_freed, held_heard, quieted, soon_id, soon_pin, soon_told, view_step}
+use Rattle.private_model.specs.View.{Answered, Asked, Carried, Held, Joined, Lent, Link, Nobody, Quiet, Setup, View, asked, carried_for, freed, heard, held_by, held_for, held_freed, held_heard, quieted, soon_id, soon_told, view_step}
 use Rattle.private_model.specs.Worlds.{Private, Real}
 use Rattle.server_rule.specs.Servers.{Tests}
 use Rattle.server_rule.specs.declared.session.Session.{Session}

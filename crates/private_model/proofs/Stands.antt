@@ -2,10 +2,10 @@
 use Rattle.std.specs.Prelude.{◌≡◌, ℕ, Bool, true, false, List, [], Option, Some, None}
 use Rattle.mx_base.specs.declared.names.LinkId.{LinkId}
 use Rattle.mx_base.specs.declared.names.ServerId.{ServerId}
-use Rattle.private_model.specs.Commands.{Account, Reply, account_of}
+use Rattle.private_model.specs.Commands.{Account, Reply}
 use Rattle.private_model.specs.Lawful.{Begins, GoesOn, IsOwnStep, IsStepOf, IsToldKey}
 use Rattle.private_model.specs.Story.{Capture, Due, End, Key, Own, Prep, Statement, Sync, message_of}
-use Rattle.private_model.specs.View.{Answered, Asked, Carried, Held, Joined, Lent, Link, Nobody, Quiet, Setup, Stage, View, soon_id, soon_live, soon_pin, soon_told}
+use Rattle.private_model.specs.View.{Answered, Asked, Carried, Held, Joined, Lent, Link, Nobody, Quiet, Setup, Stage, View, for_answered, pin_heard, soon_id, soon_live, soon_told}
 use Rattle.private_model.specs.Worlds.{Peer, Private, Real}
 use Rattle.server_rule.specs.Classes.{Reads, core}
 use Rattle.server_rule.specs.Servers.{Tests, is_brief, is_some_of, with_diag, with_id}
@@ -15,6 +15,11 @@ use Rattle.session_state.specs.declared.names.MessageName.{MessageName}
 use Rattle.session_state.specs.declared.names.SessionName.{SessionName}
 use Rattle.session_state.specs.declared.pin.Pin.{Pin}
 use Rattle.session_state.specs.declared.place.Told.{Told}
+use Rattle.private_model.proofs.Tame.{account_of}
+
+-- What the router will know of a Pin once it has read the reply.
+abbrev pub soon_pin : Reads → Stage → Reply → Pin → Pin
+soon_pin reads stage reply pin = for_answered stage (λ question. pin_heard reads question reply pin) pin
 
 -- Facts of one session.
 

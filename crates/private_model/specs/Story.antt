@@ -57,6 +57,11 @@ pub data Question : Type 0 where
 abbrev pub message_of : SessionName → Due → MessageName
 message_of n due = record { client = n.client; ordinal = due.ordinal }
 
+-- what a client's statement makes of something, which every other question leaves as it is
+abbrev pub for_statement : {A : Type 0} → Question → (SessionName → Due → A) → A → A
+for_statement (Statement n due) changed old = changed n due
+for_statement _ changed old = old
+
 abbrev pub command_of : Question → Command
 command_of (Statement n due) = due.command
 command_of (Prep n key text) = Prepare text
