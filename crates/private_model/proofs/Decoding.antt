@@ -7,12 +7,12 @@ use Rattle.private_model.proofs.Maps.{link_ids, names, no_other, put-other, put-
 use Rattle.private_model.proofs.Meeting.{IsDecoded, IsTextOf, prep_after, shallow_before}
 use Rattle.private_model.proofs.Preparing.{alive_joined, alive_lent, others_table, resting_table, stands_at, tabled_at, tabled_still}
 use Rattle.private_model.proofs.Running.{after_decoded, asks, asks_lent, before, before_free, capture_name, data_there, end_name, met_there, ok_here, ok_ready, ok_there, prep_name, ran_own_same, statement_name, sync_name, with_data}
-use Rattle.private_model.proofs.Stands.{AreKept, AreMatched, AreTabled, AreTabledBy, IfAlive, IsAskedJoined, IsMatch, IsUsual, Stands}
+use Rattle.private_model.proofs.Stands.{AreKept, AreMatched, AreTabled, AreTabledBy, IfAlive, IsAskedJoined, IsMatch, IsUsual, Stands, soon_live}
 use Rattle.private_model.proofs.Tabling.{decoded_alike, kept_by, keyed_told, matched_by, matched_of, prepared_schema, prepared_settings, tabled_moved, told_place}
 use Rattle.private_model.proofs.Tame.{Tame}
 use Rattle.private_model.specs.Commands.{Command, Outcome, Prepare, ReadId, Reset, Step, is_err, is_made, number_in, pin_statement, is_prepare}
 use Rattle.private_model.specs.Story.{Capture, Due, End, Key, Own, Prep, Question, Ran, Statement, Sync, is_link_id, is_name, put}
-use Rattle.private_model.specs.View.{Answered, Asked, Carried, Joined, Lent, Link, Nobody, Quiet, Setup, Stage, View, is_quit, lived, ran_by, soon_live, text_of, view_step}
+use Rattle.private_model.specs.View.{Answered, Asked, Carried, Joined, Lent, Link, Nobody, Quiet, Setup, Stage, View, is_quit, lived, ran_by, text_of, view_step}
 use Rattle.private_model.specs.Worlds.{Peer, Private, Real, decoded, private_prep, private_run, private_step, readied, real_run, real_step, table_after, tabled, there_table}
 use Rattle.server_rule.specs.Servers.{Tests}
 use Rattle.server_rule.specs.declared.session.Session.{Session}

@@ -9,14 +9,14 @@ use Rattle.private_model.proofs.Meeting.{mark_of}
 use Rattle.private_model.proofs.Preparing.{Tabled, tabled_closed, tabled_dead, tabled_dropped, tabled_freed, tabled_gone, tabled_heard, tabled_login, tabled_sent}
 use Rattle.private_model.proofs.Running.{closed_so, dropped_so, gone_so, logged_in_so, met_there, ran_so, same_reply, stands_first}
 use Rattle.private_model.proofs.Sending.{freed_so, heard_so, sent}
-use Rattle.private_model.proofs.Stands.{AreAnswered, AreTabled, Stands, message_on, ran_on}
+use Rattle.private_model.proofs.Stands.{AreAnswered, AreTabled, Stands, message_on, ran_on, heard, quieted, heard_now}
 use Rattle.private_model.proofs.Tame.{Tame}
 use Rattle.private_model.specs.Commands.{Command, Prepare, Quit, ReadId, Reply, Reset, Step}
 use Rattle.private_model.specs.Headline.{MeetsPrivate}
 use Rattle.private_model.specs.Honest.{IsAccepted, IsAnswer, IsHonest, IsTrueOf}
 use Rattle.private_model.specs.Lawful.{IsLawful, MayCome, MaySend}
-use Rattle.private_model.specs.Story.{BecameDue, Capture, Dropped, End, Freed, Gone, Happening, Heard, Left, LoggedIn, Mirrored, Own, Prep, Question, Ran, Sent, Statement, Story, Sync, Unprepared, is_link_id, is_message, message_of, put}
-use Rattle.private_model.specs.View.{Answered, Asked, Carried, Joined, Lent, Link, Nobody, Quiet, Setup, Stage, View, asked, closed_number, freed, heard, new_link, quieted, ran_by, for_reply, view_after, view_step}
+use Rattle.private_model.specs.Story.{BecameDue, Capture, Dropped, End, Freed, Gone, Happening, Heard, Left, LoggedIn, Mirrored, Own, Prep, Question, Ran, Sent, Statement, Story, Sync, Unprepared, for_statement, is_link_id, is_message, message_of, put}
+use Rattle.private_model.specs.View.{Answered, Asked, Carried, Joined, Lent, Link, Nobody, Quiet, Setup, Stage, View, asked, closed_number, freed, new_link, ran_by, view_heard, view_after, view_step}
 use Rattle.private_model.specs.Worlds.{Peer, Private, Real, decoded, new_peer, private_after, private_drop, private_prep, private_run, private_step, real_after, real_drop, real_run, real_step, there_table}
 use Rattle.server_rule.specs.Servers.{Tests}
 use Rattle.session_state.specs.Pins.{is_pinned}
@@ -126,7 +126,7 @@ module _ (setup : Setup) (tests : Tests) (step : Step) (tame : Tame setup.reads 
   answers_ran = ran_answers now.alive now.stage refl refl
 
   heard_answers : (question : Question) → (view.links number).stage ≡ Answered question
-      → Answer (record (view_step setup view (Heard number (real.peers number).answer)) { replies = for_reply (Answered question) (λ n due. put is_message view.replies (message_of n due) (Some (real.peers number).answer)) view.replies }) real private
+      → AreAnswered (put is_link_id view.links number (heard setup.reads (real.peers number).answer now)) real.peers view.carriers (for_statement question (λ n due. put is_message view.replies (message_of n due) (Some (real.peers number).answer)) view.replies) private.answers
   heard_answers (Statement n due) is = are_heard view.links real.peers view.carriers view.replies private.answers answer number (heard setup.reads (real.peers number).answer now) (message_of n due) (ap ran_on is) (ap message_on is) (ap (λ st. message_on (quieted st)) is) (ap (λ st. ran_on (quieted st)) is)
   heard_answers (Prep n key text) is = quiet_answers (Prep n key text) is
   heard_answers (Sync n c) is = quiet_answers (Sync n c) is
@@ -138,7 +138,8 @@ module _ (setup : Setup) (tests : Tests) (step : Step) (tame : Tame setup.reads 
   answers_heard reply is =
       let a = (real.peers number).answer in
       subst (λ r. Answer (view_step setup view (Heard number r)) real private) (sym is.same)
-      (subst (λ st. Answer (record (view_step setup view (Heard number a)) { replies = for_reply st (λ n due. put is_message view.replies (message_of n due) (Some a)) view.replies }) real private) (sym is.ran) (heard_answers is.question is.ran))
+      (subst (λ st. Answer (view_heard setup view number a st) real private) (sym is.ran)
+      (subst (λ l. Answer (record (view_heard setup view number a (Answered is.question)) { links = put is_link_id view.links number l }) real private) (heard_now setup.reads is.question a now is.ran) (heard_answers is.question is.ran)))
 
   drop_answers : (alive : Bool) → Answer (record view { links = put is_link_id view.links number (record now { alive = false }) }) (real_drop step real number alive now.server) private
   drop_answers false = are_linked view.links real.peers view.carriers view.replies private.answers answer number (record now { alive = false }) (λ m e. e) (λ m e. e)

@@ -7,13 +7,13 @@ use Rattle.private_model.proofs.Maps.{IsElsewhere, at_each, both_put, frame, lin
 use Rattle.private_model.proofs.Meeting.{IsDecoded, IsMet, IsTextOf, back_text, capture_after, end_after, met_after, met_alike, met_joined, met_lent, of_text, own_after, own_calm, own_same, prep_after, prep_free, step_after}
 use Rattle.private_model.proofs.Pairs.{IsAlikeAfter, quit_stored, reset_stored}
 use Rattle.private_model.proofs.Sessions.{plain_quit}
-use Rattle.private_model.proofs.Stands.{IfAlive, IsAskedFree, IsAskedJoined, IsAskedLent, IsAt, IsAtBy, IsFree, IsFreeLink, IsGood, IsJoined, IsJoinedLink, IsLentLink, IsPlain, IsResting, Stands, soon_pin}
+use Rattle.private_model.proofs.Stands.{IfAlive, IsAskedFree, IsAskedJoined, IsAskedLent, IsAt, IsAtBy, IsFree, IsFreeLink, IsGood, IsJoined, IsJoinedLink, IsLentLink, IsPlain, IsResting, Stands, soon_pin, soon_id, soon_told}
 use Rattle.private_model.proofs.Tame.{Tame, account_of}
 use Rattle.private_model.specs.Commands.{Account, Command, Outcome, Prepare, Quit, ReadId, Reply, Reset, Step, id_after, is_marked, pin_statement}
 use Rattle.private_model.specs.Honest.{IsAccepted}
 use Rattle.private_model.specs.Lawful.{IsKeyed, IsOwnStep, IsPlaced, is_statement}
 use Rattle.private_model.specs.Story.{Capture, Dropped, Due, End, Gone, Key, LoggedIn, Own, Prep, Question, Ran, Statement, Sync, Unprepared, is_link_id, is_message, is_name, is_server, message_of, put}
-use Rattle.private_model.specs.View.{Answered, Asked, Carried, Held, Joined, Lent, Link, Nobody, Quiet, Setup, Stage, View, closed_number, is_marking, is_quit, new_link, ran, ran_by, soon_id, soon_told, told_after, view_after, view_step}
+use Rattle.private_model.specs.View.{Answered, Asked, Carried, Held, Joined, Lent, Link, Nobody, Quiet, Setup, Stage, View, closed_number, is_marking, is_quit, new_link, ran, ran_by, told_after, view_after, view_step}
 use Rattle.private_model.specs.Worlds.{Peer, Private, Real, closed, decoded, new_peer, placed, private_after, private_drop, private_prep, private_run, private_step, readied, real_after, real_drop, real_run, real_step, table_after, there_table}
 use Rattle.server_rule.specs.Classes.{Reads}
 use Rattle.server_rule.specs.Servers.{Accepts, Tests, with_id}

@@ -4,12 +4,12 @@ use Rattle.std.proofs.Common.{refl, sym, ap, ◌∙◌, subst, inl, inr}
 use Rattle.mx_base.specs.declared.names.LinkId.{LinkId}
 use Rattle.private_model.proofs.Maps.{IsElsewhere, at_each, frame, link_ids, names, no_home, no_other, put-other, put-same, still_resting}
 use Rattle.private_model.proofs.Sessions.{harmless_shallow, suits_plain}
-use Rattle.private_model.proofs.Stands.{IfAlive, IsAskedFree, IsAskedJoined, IsAskedLent, IsAt, IsAtBy, IsFree, IsFreeLink, IsJoined, IsJoinedLink, IsLentLink, IsPlain, IsPreparing, IsResting, Stands, soon_pin}
+use Rattle.private_model.proofs.Stands.{IfAlive, IsAskedFree, IsAskedJoined, IsAskedLent, IsAt, IsAtBy, IsFree, IsFreeLink, IsJoined, IsJoinedLink, IsLentLink, IsPlain, IsPreparing, IsResting, Stands, soon_pin, heard, quieted, soon_id, soon_told, heard_now}
 use Rattle.private_model.specs.Commands.{Account, Command, Reply, is_err}
 use Rattle.private_model.specs.Honest.{IsAnswer}
 use Rattle.private_model.specs.Lawful.{BeginsThere, GoesOnThere, IsOwn, MayFree, MayLend, MaySend, PreparesFirst, PreparesThere}
 use Rattle.private_model.specs.Story.{Capture, Due, End, Freed, Heard, Own, Prep, Question, Sent, Statement, Sync, is_link_id, is_name, put}
-use Rattle.private_model.specs.View.{Answered, Asked, Carried, Held, Joined, Lent, Link, Nobody, Quiet, Setup, View, asked, carried_for, freed, heard, held_by, held_for, held_freed, held_heard, quieted, soon_id, soon_told, view_step}
+use Rattle.private_model.specs.View.{Answered, Asked, Carried, Held, Joined, Lent, Link, Nobody, Quiet, Setup, View, asked, carried_for, freed, held_by, held_for, held_freed, held_heard, view_step, view_heard}
 use Rattle.private_model.specs.Worlds.{Private, Real}
 use Rattle.server_rule.specs.Servers.{Tests}
 use Rattle.server_rule.specs.declared.session.Session.{Session}
@@ -243,7 +243,7 @@ module _ (setup : Setup) (tests : Tests) (view : View) (real : Real) (private : 
 
   heard_by_stage : (to : View) (question : Question) → (view.links number).stage ≡ Answered question
       → (carried : Carried) → (view.links number).carries ≡ carried → IsAtBy setup carried number (view.links number) (real.peers number) view.held private.sessions
-      → Stands setup tests (record to { links = put is_link_id view.links number (heard setup.reads (real.peers number).answer (view.links number)); held = held_by setup.reads (Answered question) (real.peers number).answer view.held }) real private
+      → Stands setup tests (record to { links = put is_link_id view.links number (heard setup.reads (real.peers number).answer (view.links number)); held = held_by setup.reads question (real.peers number).answer view.held }) real private
   heard_by_stage to (Own command) ran (Lent n) carries at =
       moved to (heard setup.reads (real.peers number).answer (view.links number)) view.held (heard_lent n (Own command) view.held ran carries refl) (λ j other. stands.links j) stands.resting
   heard_by_stage to (Prep m key text) ran (Lent n) carries at = heard_lent_prep to n m key text ran carries (subst (λ st. IsAskedLent setup n st (view.links number).account (view.links number).told (view.links number).id (view.links number).live (view.held n)) ran at.asked)
@@ -269,8 +269,9 @@ module _ (setup : Setup) (tests : Tests) (view : View) (real : Real) (private : 
   heard_so reply is =
       let a = (real.peers number).answer in
       subst (λ r. Stands setup tests (view_step setup view (Heard number r)) real private) (sym is.same)
-      (subst (λ st. Stands setup tests (record (view_step setup view (Heard number a)) { held = held_by setup.reads st a view.held }) real private) (sym is.ran)
-      (heard_by_stage (view_step setup view (Heard number a)) is.question is.ran (view.links number).carries refl (stands.links number)))
+      (subst (λ st. Stands setup tests (view_heard setup view number a st) real private) (sym is.ran)
+      (subst (λ l. Stands setup tests (record (view_heard setup view number a (Answered is.question)) { links = put is_link_id view.links number l }) real private) (heard_now setup.reads is.question a (view.links number) is.ran)
+      (heard_by_stage (view_heard setup view number a (Answered is.question)) is.question is.ran (view.links number).carries refl (stands.links number))))
 
   -- A link is given back.
 

@@ -5,12 +5,12 @@ use Rattle.mx_base.specs.declared.names.LinkId.{LinkId}
 use Rattle.private_model.proofs.Maps.{at_each, link_ids, names, numbers, put-other, put-same}
 use Rattle.private_model.proofs.Meeting.{IsDecoded, IsRunLike, IsRunOf, IsTextOf}
 use Rattle.private_model.proofs.Sessions.{apart}
-use Rattle.private_model.proofs.Stands.{AreKept, AreMatched, AreTabled, AreTabledBy, Follows, IfAlive, IsAtBy, IsKept, IsMatch, IsOfKey, IsUsual, soon_pin}
+use Rattle.private_model.proofs.Stands.{AreKept, AreMatched, AreTabled, AreTabledBy, Follows, IfAlive, IsAtBy, IsKept, IsMatch, IsOfKey, IsUsual, soon_pin, soon_live}
 use Rattle.private_model.proofs.Tame.{Tame}
 use Rattle.private_model.specs.Commands.{Args, Command, FieldList, InitDb, Prepare, Query, Quit, ReadId, Reset, Run, SetId, Step, is_prepare}
 use Rattle.private_model.specs.Lawful.{IsKeyed, IsLiveRun, IsToldKey}
 use Rattle.private_model.specs.Story.{Key, is_link_id, is_name, put}
-use Rattle.private_model.specs.View.{Carried, Held, Joined, Lent, Link, Nobody, Setup, lived, soon_live, text_of, without}
+use Rattle.private_model.specs.View.{Carried, Held, Joined, Lent, Link, Nobody, Setup, lived, text_of, without}
 use Rattle.private_model.specs.Worlds.{Peer, decoded, tabled}
 use Rattle.server_rule.specs.Classes.{Reads, core}
 use Rattle.server_rule.specs.Servers.{Accepts, Tests}

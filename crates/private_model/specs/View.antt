@@ -130,22 +130,10 @@ told_after reads command reply told = if is_reset command
     then record { schema = None; settings = defaults }
     else record { schema = told_schema (effect_of (class_of reads command)) (is_ok reply) told.schema; settings = settings_by (effect_of (class_of reads command)) (is_ok reply) told.settings }
 
--- What the router will know of the link once it has read the reply; before a run it is what it knows.
-
-abbrev pub for_answered : {A : Type 0} → Stage → (Question → A) → A → A
-for_answered (Answered question) changed old = changed question
-for_answered _ changed old = old
-
-abbrev pub soon_told : Reads → Stage → Reply → Told → Told
-soon_told reads stage reply told = for_answered stage (λ question. told_after reads (command_of question) reply told) told
-
 -- a preparation on the way leaves the insert id
 abbrev pub id_heard : Reads → Question → Reply → Option ℕ → Option ℕ
 id_heard reads (Prep n key text) reply id = id
 id_heard reads question reply id = id_after reads (command_of question) reply id
-
-abbrev pub soon_id : Reads → Stage → Reply → Option ℕ → Option ℕ
-soon_id reads stage reply id = for_answered stage (λ question. id_heard reads question reply id) id
 
 -- what a question and its answer do to what is prepared
 
@@ -162,18 +150,12 @@ live_after (Prep n key text) reply live = lived true (is_made reply) key (number
 live_after (End n) reply live = λ key. None
 live_after _ reply live = live
 
-abbrev pub soon_live : Stage → Reply → (ℕ → Option ℕ) → ℕ → Option ℕ
-soon_live stage reply live = for_answered stage (λ question. live_after question reply live) live
-
-abbrev pub quieted : Stage → Stage
-quieted stage = for_answered stage (λ question. Quiet) stage
-
-abbrev pub heard : Reads → Reply → Link → Link
-heard reads reply link = record link {
-  stage = quieted link.stage;
-  told = soon_told reads link.stage reply link.told;
-  id = soon_id reads link.stage reply link.id;
-  live = soon_live link.stage reply link.live;
+abbrev pub heard : Reads → Question → Reply → Link → Link
+heard reads question reply link = record link {
+  stage = Quiet;
+  told = told_after reads (command_of question) reply link.told;
+  id = id_heard reads question reply link.id;
+  live = live_after question reply link.live;
 }
 
 abbrev pub pin_heard : Reads → Question → Reply → Pin → Pin
@@ -187,20 +169,26 @@ abbrev pub held_heard : Reads → Question → Reply → Held → Held
 held_heard reads question reply held = record held { pin = pin_heard reads question reply held.pin; id = id_heard reads question reply held.id }
 
 -- whose reply it is
-abbrev pub held_by : Reads → Stage → Reply → (SessionName → Held) → SessionName → Held
-held_by reads (Answered (Statement n due)) reply held = put is_name held n (held_heard reads (Statement n due) reply (held n))
-held_by reads (Answered (Prep n key text)) reply held = put is_name held n (held_heard reads (Prep n key text) reply (held n))
-held_by reads (Answered (Sync n command)) reply held = put is_name held n (held_heard reads (Sync n command) reply (held n))
-held_by reads (Answered (End n)) reply held = put is_name held n (held_heard reads (End n) reply (held n))
-held_by reads (Answered (Capture n)) reply held = put is_name held n (held_heard reads (Capture n) reply (held n))
+abbrev pub held_by : Reads → Question → Reply → (SessionName → Held) → SessionName → Held
+held_by reads (Statement n due) reply held = put is_name held n (held_heard reads (Statement n due) reply (held n))
+held_by reads (Prep n key text) reply held = put is_name held n (held_heard reads (Prep n key text) reply (held n))
+held_by reads (Sync n command) reply held = put is_name held n (held_heard reads (Sync n command) reply (held n))
+held_by reads (End n) reply held = put is_name held n (held_heard reads (End n) reply (held n))
+held_by reads (Capture n) reply held = put is_name held n (held_heard reads (Capture n) reply (held n))
 held_by reads _ reply held = held
 
 abbrev pub place_after : Reads → Command → Reply → Place → Place
 place_after reads command reply place = record { schema = schema_by (effect_of (class_of reads command)) (is_ok reply) place.schema; settings = settings_by (effect_of (class_of reads command)) (is_ok reply) place.settings }
 
--- to a statement
-abbrev pub for_reply : {A : Type 0} → Stage → (SessionName → Due → A) → A → A
-for_reply stage changed old = for_answered stage (λ question. for_statement question changed old) old
+abbrev pub view_heard : Setup → View → (link : LinkId) → Reply → Stage → View
+view_heard setup view link reply (Answered question) = record view {
+  links = put is_link_id view.links link (heard setup.reads question reply (view.links link));
+  held = held_by setup.reads question reply view.held;
+  places = for_statement question
+      (λ n due. put is_client view.places n.client (place_after setup.reads due.command reply (view.places n.client))) view.places;
+  replies = for_statement question (λ n due. put is_message view.replies (message_of n due) (Some reply)) view.replies;
+}
+view_heard setup view link reply _ = view
 
 -- what a STMT_CLOSE of this number leaves
 abbrev pub without : (number : ℕ) → Option ℕ → Option ℕ
@@ -244,13 +232,7 @@ view_step setup view (Sent link question) = record view {
   carriers = for_statement question (λ n due. put is_message view.carriers (message_of n due) (Some link)) view.carriers;
 }
 view_step setup view (Ran link) = record view { links = put is_link_id view.links link (ran setup.reads (view.links link)) }
-view_step setup view (Heard link reply) = record view {
-  links = put is_link_id view.links link (heard setup.reads reply (view.links link));
-  held = held_by setup.reads (view.links link).stage reply view.held;
-  places = for_reply (view.links link).stage
-      (λ n due. put is_client view.places n.client (place_after setup.reads due.command reply (view.places n.client))) view.places;
-  replies = for_reply (view.links link).stage (λ n due. put is_message view.replies (message_of n due) (Some reply)) view.replies;
-}
+view_step setup view (Heard link reply) = view_heard setup view link reply (view.links link).stage
 view_step setup view (Freed link) =
     record view { links = put is_link_id view.links link (freed (view.links link)); held = held_freed (view.links link).carries view.held }
 view_step setup view (Unprepared link number) = record view { links = put is_link_id view.links link (closed_number number (view.links link)) }
