@@ -10,7 +10,7 @@ use Rattle.server_rule.specs.Servers.{Step}
 use Rattle.private_model.specs.Commands.{Command, Query, InitDb, FieldList, SetId, ReadId, Prepare, Run, Reset, Quit, Reply, cmd_of, runs}
 use Rattle.private_model.specs.Story.{BecameDue, Capture, Dropped, End, Freed, Gone, Happening, Heard, Key, Left, LoggedIn, Mirrored, Own, Prep, Question, Ran}
 use Rattle.private_model.specs.Story.{Sent, Statement, Story, Sync, Unprepared, command_of, is_link_id, put}
-use Rattle.private_model.specs.View.{Answered, Asked, Link, Quiet, Setup, Stage, View, quieted, ran_by, view_after, view_step}
+use Rattle.private_model.specs.View.{Answered, Asked, Link, Quiet, Setup, Stage, View, ran_by, view_after, view_heard, view_step}
 use Rattle.private_model.specs.Worlds.{Peer, Real, decoded, real_after, real_drop, real_run, real_step, there_command}
 use Rattle.std.specs.Option.{option_and_then}
 
@@ -66,11 +66,6 @@ both_formed : (b : Bool) (new old : Link) (next peer : Peer) → HasForm new.sta
 both_formed true new old next peer now holds = now
 both_formed false new old next peer now holds = holds
 
-quiet_form : (stage : Stage) (answer : Reply) → HasForm (quieted stage) answer
-quiet_form Quiet answer = tt
-quiet_form (Asked question) answer = tt
-quiet_form (Answered question) answer = tt
-
 -- a link of another kind in the same stage
 still_formed : (links : LinkId → Link) (peers : LinkId → Peer) (l : LinkId) (value : Link) → value.stage ≡ (links l).stage → AreFormed links peers
     → AreFormed (put is_link_id links l value) peers
@@ -91,6 +86,13 @@ dropped_answer : (server : Step) (real : Real) (l : LinkId) (alive : Bool) (at :
 dropped_answer server real l true at link = put_kept (λ (p : Peer). p.answer) real.peers l _ refl link
 dropped_answer server real l false at link = refl
 
+heard_formed : (setup : Setup) (view : View) (real : Real) (l : LinkId) (reply : Reply) (stage : Stage) → AreFormed view.links real.peers
+    → AreFormed (view_heard setup view l reply stage).links real.peers
+heard_formed setup view real l reply Quiet holds link = holds link
+heard_formed setup view real l reply (Asked question) holds link = holds link
+heard_formed setup view real l reply (Answered question) holds link =
+    put_formed (is_link_id link l) _ (view.links link) (real.peers link) (λ answer. tt) (holds link)
+
 step_formed : (setup : Setup) (server : Step) (view : View) (real : Real) (e : Happening) → AreFormed view.links real.peers
     → AreFormed (view_step setup view e).links (real_step (runs server) view real e).peers
 step_formed setup server view real (LoggedIn l at account) holds link = both_formed (is_link_id link l) _ (view.links link) _ (real.peers link) tt (holds link)
@@ -99,8 +101,7 @@ step_formed setup server view real (Sent l question) holds link =
     put_formed (is_link_id link l) _ (view.links link) (real.peers link) (λ answer. tt) (holds link)
 step_formed setup server view real (Ran l) holds link =
     run_formed setup.reads server view real l (view.links l).live (view.links l).alive (view.links l).stage (view.links l).server holds link
-step_formed setup server view real (Heard l reply) holds link =
-    put_formed (is_link_id link l) _ (view.links link) (real.peers link) (quiet_form (view.links l).stage) (holds link)
+step_formed setup server view real (Heard l reply) holds link = heard_formed setup view real l reply (view.links l).stage holds link
 step_formed setup server view real (Freed l) holds link = still_formed view.links real.peers l _ refl holds link
 step_formed setup server view real (Unprepared l number) holds link =
     both_kept (view.links link).stage _ (real.peers link).answer _ (put_kept (λ (a : Link). a.stage) view.links l _ refl link)
