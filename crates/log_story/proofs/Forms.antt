@@ -5,9 +5,9 @@ use Rattle.std.proofs.lemmas.Bool.{cases_Bool}
 use Rattle.mx_base.specs.declared.names.LinkId.{LinkId}
 use Rattle.mx_base.specs.declared.names.ServerId.{ServerId}
 use Rattle.packet_frame.specs.PacketLaws.{nat_eq-true}
-use Rattle.server_rule.specs.Classes.{Reads, is_prepare}
+use Rattle.server_rule.specs.Classes.{Reads}
 use Rattle.server_rule.specs.Servers.{Step}
-use Rattle.private_model.specs.Commands.{Command, Query, InitDb, FieldList, SetId, ReadId, Prepare, Run, Reset, Quit, Reply, cmd_of, runs}
+use Rattle.private_model.specs.Commands.{Command, Query, InitDb, FieldList, SetId, ReadId, Prepare, Run, Reset, Quit, Reply, is_prepare, runs}
 use Rattle.private_model.specs.Story.{BecameDue, Capture, Dropped, End, Freed, Gone, Happening, Heard, Key, Left, LoggedIn, Mirrored, Own, Prep, Question, Ran}
 use Rattle.private_model.specs.Story.{Sent, Statement, Story, Sync, Unprepared, command_of, is_link_id, put}
 use Rattle.private_model.specs.View.{Answered, Asked, Link, Quiet, Setup, Stage, View, ran_by, view_after, view_heard, view_step}
@@ -15,10 +15,10 @@ use Rattle.private_model.specs.Worlds.{Peer, Real, decoded, real_after, real_dro
 use Rattle.std.specs.Option.{option_and_then}
 
 abbrev pub HasForm : Stage → Reply → Type 0
-HasForm (Answered question) answer = answer.to_prepare ≡ is_prepare (cmd_of (command_of question))
+HasForm (Answered question) answer = answer.to_prepare ≡ is_prepare (command_of question)
 HasForm _ answer = Unit {0}
 
-decoded_form : (entry : Option Key) (command : Command) → is_prepare (cmd_of (decoded entry command)) ≡ is_prepare (cmd_of command)
+decoded_form : (entry : Option Key) (command : Command) → is_prepare (decoded entry command) ≡ is_prepare command
 decoded_form None command = refl
 decoded_form (Some entry) (Query text) = refl
 decoded_form (Some entry) (InitDb schema) = refl
@@ -31,7 +31,7 @@ decoded_form (Some entry) Reset = refl
 decoded_form (Some entry) Quit = refl
 
 there_form : (question : Question) (live : ℕ → Option ℕ) (table : ℕ → Option Key)
-    → is_prepare (cmd_of (there_command question live table)) ≡ is_prepare (cmd_of (command_of question))
+    → is_prepare (there_command question live table) ≡ is_prepare (command_of question)
 there_form (Statement n due) live table = decoded_form (option_and_then table (live due.key)) due.command
 there_form (Prep n key text) live table = refl
 there_form (Sync n command) live table = refl

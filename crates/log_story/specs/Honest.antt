@@ -12,7 +12,7 @@ use Rattle.server_side.specs.Login.{LogsIn, opening}
 use Rattle.server_rule.specs.Servers.{Step}
 use Rattle.private_model.specs.Commands.{Args, Command, Quit, Reply, Run, runs}
 use Rattle.private_model.specs.Honest.{IsTrueOf}
-use Rattle.private_model.specs.Story.{Question, Ran, Statement, command_of}
+use Rattle.private_model.specs.Story.{Question, Ran, command_of, for_statement}
 use Rattle.private_model.specs.View.{Answered, Asked, Setup}
 use Rattle.private_model.specs.Worlds.{Real, real_after}
 use Rattle.log_story.specs.Executes.{args_in, is_for}
@@ -44,8 +44,7 @@ IsWritten (Run text schema settings args) number written = IsExecute number args
 IsWritten command number written = written ≡ spelling 0 (text_payload command)
 
 abbrev pub number_for : Question → (live : ℕ → Option ℕ) → Option ℕ
-number_for (Statement n due) live = live due.key
-number_for _ live = None
+number_for question live = for_statement question (λ n due. live due.key) None
 
 abbrev pub real_of : Setup → Step → Tale → Real
 real_of setup server tale = real_after setup (runs server) tale.story

@@ -1,5 +1,6 @@
 -- What the router decided, of which no byte tells; and what it writes.
 use Rattle.std.specs.Prelude.{ℕ, ◌+◌, ◌*◌, ◌%◌, ◌/◌, Bool, false, nat_eq, nat_le, List, [], ◌∷◌, if◌then◌else◌, Option, Some, None}
+use Rattle.std.specs.Option.{option_and_then, option_map_or}
 use Rattle.mx_base.specs.declared.names.ClientNo.{ClientNo}
 use Rattle.mx_base.specs.declared.names.Hostgroup.{Hostgroup}
 use Rattle.mx_base.specs.declared.names.LinkId.{LinkId}
@@ -44,21 +45,15 @@ pub record Plan : Type 0 where
   pub steps : LinkId → (begun : ℕ) → StepText
 
 -- after so many entries
-abbrev pub own_by : (moment : ℕ) → Option OwnAnswer → Option (List (List ℕ))
-own_by moment None = None
-own_by moment (Some answer) = if nat_le answer.from moment then Some answer.payloads else None
-
 abbrev pub own_at : Plan → (moment : ℕ) → MessageName → Option (List (List ℕ))
-own_at plan moment message = own_by moment (plan.own message)
+own_at plan moment message = option_and_then (λ answer. if nat_le answer.from moment then Some answer.payloads else None) (plan.own message)
 
 abbrev pub is_now : (moment : ℕ) → Option ℕ → Bool
-is_now moment None = false
-is_now moment (Some at) = nat_eq at moment
+is_now moment at = option_map_or (λ n. nat_eq n moment) at false
 
 -- it was at an entry before, or is at this one
 abbrev pub is_by_now : (moment : ℕ) → Option ℕ → Bool
-is_by_now moment None = false
-is_by_now moment (Some at) = nat_le at moment
+is_by_now moment at = option_map_or (λ n. nat_le n moment) at false
 
 -- The copy of a message is a job, which is a client of its own. Clients have numbers of 64 bits, and ordinals count from 1.
 abbrev pub job_of : MessageName → ClientNo

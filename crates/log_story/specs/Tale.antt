@@ -28,6 +28,9 @@ pub record Client : Type 0 where
   pub written : ℕ
   pub taken : ℕ
 
+abbrev pub new_client : (number : ℕ) → LinkId → (salt : List ℕ) → Client
+new_client number link salt = record { number = record { 0 = number }; link = link; salt = salt; read = []; written = 0; taken = 0 }
+
 -- how many entries there were; clients, and links to servers, in the order in which they came
 pub record Tale : Type 0 where
   pub moment : ℕ

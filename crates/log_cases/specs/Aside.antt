@@ -18,8 +18,8 @@ use Rattle.small_server.specs.Stories.{came, client, due_at, group, heard, inser
 use Rattle.small_server.specs.Tally.{FirstId, NoId, ok}
 use Rattle.log_story.specs.Plan.{Closes, OwnAnswer, Plan, Resets, job_of, step_payload, text_payload}
 use Rattle.log_story.specs.Tale.{Client}
-use Rattle.log_story.specs.Worked as worked
-use Rattle.log_story.specs.Worked.{first_comes, first_is_heard, first_is_read, first_ok, first_runs, query, response, router_enters, salt}
+use Rattle.log_cases.specs.Worked as worked
+use Rattle.log_cases.specs.Worked.{first_comes, first_is_heard, first_is_read, first_ok, first_runs, query, response, router_enters, salt}
 
 -- A client sends a PING and two inserts at once. The PING is answered as it is taken up; the first insert becomes due once that
 -- answer is written and the router is woken, and is given up as no link can be opened; then the second becomes due.

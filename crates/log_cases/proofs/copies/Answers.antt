@@ -2,10 +2,10 @@ use Rattle.std.proofs.Common.{refl, sym, subst}
 use Rattle.private_model.specs.Lawful.{IsLawful}
 use Rattle.small_server.specs.Stories.{reads, setup}
 use Rattle.small_server.specs.Tally.{tests}
-use Rattle.log_story.specs.Worked.{server}
-use Rattle.log_story.specs.Aside.{copy_log, copy_plan}
-use Rattle.log_story.proofs.Computed.{copy_computed, copy_honest, copy_lawful}
-use Rattle.log_story.proofs.worked.copies.Goals as goal
+use Rattle.log_cases.specs.Worked.{server}
+use Rattle.log_cases.specs.Aside.{copy_log, copy_plan}
+use Rattle.log_cases.proofs.Computed.{copy_computed, copy_honest, copy_lawful}
+use Rattle.log_cases.proofs.copies.Goals as goal
 
 pub returns-clause-told : goal.returns-clause-told
 returns-clause-told c = copy_computed.0

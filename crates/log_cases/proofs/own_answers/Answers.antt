@@ -2,10 +2,10 @@ use Rattle.std.proofs.Common.{refl, sym, subst}
 use Rattle.private_model.specs.Lawful.{IsLawful}
 use Rattle.small_server.specs.Stories.{reads, setup}
 use Rattle.small_server.specs.Tally.{tests}
-use Rattle.log_story.specs.Worked.{server}
-use Rattle.log_story.specs.Aside.{goes_on, own_plan}
-use Rattle.log_story.proofs.Computed.{own_computed, own_honest, own_lawful}
-use Rattle.log_story.proofs.worked.own_answers.Goals as goal
+use Rattle.log_cases.specs.Worked.{server}
+use Rattle.log_cases.specs.Aside.{goes_on, own_plan}
+use Rattle.log_cases.proofs.Computed.{own_computed, own_honest, own_lawful}
+use Rattle.log_cases.proofs.own_answers.Goals as goal
 
 pub returns-clause-waits : goal.returns-clause-waits
 returns-clause-waits c = own_computed.0

@@ -2,10 +2,10 @@ use Rattle.std.proofs.Common.{refl, sym, subst}
 use Rattle.private_model.specs.Lawful.{IsLawful}
 use Rattle.small_server.specs.Stories.{reads, setup}
 use Rattle.small_server.specs.Tally.{tests}
-use Rattle.log_story.specs.Worked.{server}
-use Rattle.log_story.specs.Aside.{ended_log, ended_plan}
-use Rattle.log_story.proofs.Computed.{ended_computed, ended_honest, ended_lawful}
-use Rattle.log_story.proofs.worked.client_ended.Goals as goal
+use Rattle.log_cases.specs.Worked.{server}
+use Rattle.log_cases.specs.Aside.{ended_log, ended_plan}
+use Rattle.log_cases.proofs.Computed.{ended_computed, ended_honest, ended_lawful}
+use Rattle.log_cases.proofs.client_ended.Goals as goal
 
 pub returns-clause-told : goal.returns-clause-told
 returns-clause-told c = ended_computed.0

@@ -2,10 +2,10 @@ use Rattle.std.proofs.Common.{refl, sym, subst}
 use Rattle.private_model.specs.Lawful.{IsLawful}
 use Rattle.small_server.specs.Stories.{reads, setup}
 use Rattle.small_server.specs.Tally.{tests}
-use Rattle.log_story.specs.Worked.{server}
-use Rattle.log_story.specs.Executed.{execute_log, execute_plan}
-use Rattle.log_story.proofs.Computed.{execute_computed, execute_honest, execute_lawful}
-use Rattle.log_story.proofs.worked.executes.Goals as goal
+use Rattle.log_cases.specs.Worked.{server}
+use Rattle.log_cases.specs.Executed.{execute_log, execute_plan}
+use Rattle.log_cases.proofs.Computed.{execute_computed, execute_honest, execute_lawful}
+use Rattle.log_cases.proofs.executes.Goals as goal
 
 pub returns-clause-told : goal.returns-clause-told
 returns-clause-told c = execute_computed.0

@@ -2,10 +2,10 @@ use Rattle.std.proofs.Common.{refl, sym, subst}
 use Rattle.private_model.specs.Lawful.{IsLawful}
 use Rattle.small_server.specs.Stories.{reads, setup}
 use Rattle.small_server.specs.Tally.{tests}
-use Rattle.log_story.specs.Worked.{server}
-use Rattle.log_story.specs.Worked.{log, plan}
-use Rattle.log_story.proofs.Computed.{log_honest, worked_computed}
-use Rattle.log_story.proofs.worked.worked_log.Goals as goal
+use Rattle.log_cases.specs.Worked.{server}
+use Rattle.log_cases.specs.Worked.{log, plan}
+use Rattle.log_cases.proofs.Computed.{log_honest, worked_computed}
+use Rattle.log_cases.proofs.worked_log.Goals as goal
 
 pub returns-clause-told : goal.returns-clause-told
 returns-clause-told c = worked_computed.0

@@ -2,10 +2,10 @@ use Rattle.std.proofs.Common.{refl, sym, subst}
 use Rattle.private_model.specs.Lawful.{IsLawful}
 use Rattle.small_server.specs.Stories.{reads, setup}
 use Rattle.small_server.specs.Tally.{tests}
-use Rattle.log_story.specs.Worked.{server}
-use Rattle.log_story.specs.Aside.{beside_log, beside_plan}
-use Rattle.log_story.proofs.Computed.{beside_computed, beside_honest, beside_lawful}
-use Rattle.log_story.proofs.worked.beside_questions.Goals as goal
+use Rattle.log_cases.specs.Worked.{server}
+use Rattle.log_cases.specs.Aside.{beside_log, beside_plan}
+use Rattle.log_cases.proofs.Computed.{beside_computed, beside_honest, beside_lawful}
+use Rattle.log_cases.proofs.beside_questions.Goals as goal
 
 pub returns-clause-told : goal.returns-clause-told
 returns-clause-told c = beside_computed.0
