@@ -264,7 +264,7 @@ module _ (setup : Setup) (plan : Plan) (server : Step) (k : Kept setup server) w
       (λ other. holds)
   told_keeps tale (entry.Exec link) is holds =
       if_either Holds (is_entered tale link) _ _
-      (λ there. if_either Holds (tale.wires link).quits (tell (Dropped link) tale) (tell (Ran link) tale) (λ quits. k.more _ _ tt holds)
+      (λ there. if_either (λ e. Holds (tell e tale)) (tale.wires link).quits (Dropped link) (Ran link) (λ quits. k.more _ _ tt holds)
       (λ goes. k.more _ _ ((is there).runs goes).fresh holds)) (λ other. holds)
   told_keeps tale (entry.Drop link) is holds = k.more _ _ tt holds
   told_keeps tale (entry.Ended link) is holds = losing_keeps link tale holds

@@ -18,19 +18,15 @@ is_for byte number payload = nat_eq (slice_index_or payload 0 0) byte && option_
 
 -- The arguments in an execute of a statement with so many parameters: behind the number, a byte of flags and four of an
 -- iteration count stand a bitmap of NULLs, a byte that is 1 where types follow, the types, two bytes each, and the values.
-pub record Given : Type 0 where
-  pub types : Option (List ℕ)
-  pub nulls : List ℕ
-  pub values : List ℕ
 
-abbrev pub typed : (params : ℕ) → (nulls rest : List ℕ) → Given
-typed params nulls [] = record { types = None; nulls = nulls; values = [] }
+abbrev pub typed : (params : ℕ) → (nulls rest : List ℕ) → Args
+typed params nulls [] = record { types = None; nulls = nulls; values = []; long = [] }
 typed params nulls (sends ∷ rest) =
-    if nat_eq sends 1 then record { types = Some (take (2 * params) rest); nulls = nulls; values = drop (2 * params) rest }
-    else record { types = None; nulls = nulls; values = rest }
+    if nat_eq sends 1 then record { types = Some (take (2 * params) rest); nulls = nulls; values = drop (2 * params) rest; long = [] }
+    else record { types = None; nulls = nulls; values = rest; long = [] }
 
-abbrev pub given_in : (params : ℕ) → (payload : List ℕ) → Given
-given_in zero payload = record { types = None; nulls = []; values = [] }
+abbrev pub given_in : (params : ℕ) → (payload : List ℕ) → Args
+given_in zero payload = record { types = None; nulls = []; values = []; long = [] }
 given_in (suc more) payload =
     let size = (suc more + 7) / 8 in
     typed (suc more) (take size (drop 10 payload)) (drop (10 + size) payload)
@@ -68,7 +64,7 @@ abbrev pub args_in : (params number : ℕ) → (refused : ℕ → Bool) → (bef
 args_in params number refused before payload =
     let sent = given_in params payload in
     let bound = bound_by params number refused 1 before (record { types = None; long = [] }) in
-    record { types = option_or sent.types bound.types; nulls = sent.nulls; values = sent.values; long = bound.long }
+    record sent { types = option_or sent.types bound.types; long = bound.long }
 
 -- The preparation of a number: the client's STMT_PREPARE, which was answered, and by whose answer the client knows it.
 pub record Prepared : Type 0 where
@@ -92,10 +88,6 @@ pub record Request : Type 0 where
   pub command : Command
   pub key : ℕ
 
--- an execute of what isn't prepared: a rule of sending is broken
-abbrev pub no_execute : Request
-no_execute = record { command = Quit; key = 0 }
-
 abbrev pub run_of : Setup → Args → (key : ℕ) → Request
 run_of setup args key =
     record { command = Run (setup.keys key).text (setup.keys key).place.schema (setup.keys key).place.settings args; key = key }
@@ -114,8 +106,10 @@ text_asked byte rest =
     else if nat_eq byte com_prepare then Prepare rest
     else Quit
 
+-- an execute of what isn't prepared asks for a Quit: a rule of sending is broken
 abbrev pub requested : Setup → View → Plan → (moment : ℕ) → Client → (ordinal : ℕ) → Route → (payload : List ℕ) → Request
 requested setup view plan moment client ordinal route payload =
     if nat_eq (slice_index_or payload 0 0) com_execute
-    then unwrap_or (option_and_then (executed_by setup view plan moment client ordinal payload) (number_at 4 1 payload)) no_execute
+    then unwrap_or (option_and_then (executed_by setup view plan moment client ordinal payload) (number_at 4 1 payload))
+    (record { command = Quit; key = 0 })
     else record { command = text_asked (slice_index_or payload 0 0) (unwrap_or route.text (drop 1 payload)); key = route.key }

@@ -59,10 +59,7 @@ is_by_now moment at = option_map_or (λ n. nat_le n moment) at false
 abbrev pub job_of : MessageName → ClientNo
 job_of message = record { 0 = message.ordinal * 18446744073709551616 + message.client.0 }
 
--- the first bytes of commands (client/server protocol, "Command Phase")
-
-abbrev pub com_quit : ℕ
-com_quit = 0x01
+-- the first bytes of commands, where they are written and read (client/server protocol, "Command Phase")
 
 abbrev pub com_init_db : ℕ
 com_init_db = 0x02
@@ -82,9 +79,6 @@ com_execute = 0x17
 abbrev pub com_long_data : ℕ
 com_long_data = 0x18
 
-abbrev pub com_close : ℕ
-com_close = 0x19
-
 abbrev pub com_statement_reset : ℕ
 com_statement_reset = 0x1A
 
@@ -102,7 +96,7 @@ text_payload ReadId = com_query ∷ read_id_text
 text_payload (Prepare text) = com_prepare ∷ text
 text_payload (Run text schema settings args) = []
 text_payload Reset = com_reset ∷ []
-text_payload Quit = com_quit ∷ []
+text_payload Quit = 0x01 ∷ []
 
 -- a command for the prepared statement of a number
 abbrev pub with_number : (byte number : ℕ) → List ℕ
@@ -110,5 +104,5 @@ with_number byte number = byte ∷ number % 256 ∷ number / 256 % 256 ∷ numbe
 
 abbrev pub step_payload : StepText → List ℕ
 step_payload (Asks command) = text_payload command
-step_payload (Closes number) = with_number com_close number
+step_payload (Closes number) = with_number 0x19 number
 step_payload (Resets number) = with_number com_statement_reset number

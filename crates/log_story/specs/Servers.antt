@@ -76,17 +76,13 @@ abbrev pub copy_by : View → LinkId → SessionName → Carried → List Happen
 copy_by view link n (Joined who) = if is_client who.client n.client then Sent link (End who) ∷ [] else Sent link (statement_of view 1 n) ∷ []
 copy_by view link n _ = Left n.client ∷ Sent link (statement_of view 1 n) ∷ []
 
--- the text of what is due is prepared first
-abbrev pub prep_for : Setup → SessionName → Due → Question
-prep_for setup n due = Prep n due.key (setup.keys due.key).text
-
 -- the last first; what ends is the session that the link carries, else the present one
 abbrev pub begun_by : Setup → Plan → View → LinkId → (begun : ℕ) → Tag → List Happening
 begun_by setup plan view link begun (tag.For client ordinal) =
     routed plan link client ordinal (λ route. Sent link (statement_of view ordinal (present view client route.hostgroup)) ∷ [])
 begun_by setup plan view link begun (tag.Prep client ordinal) =
     routed plan link client ordinal (λ route. let n = present view client route.hostgroup in
-    Sent link (prep_for setup n (due_or view client ordinal (view.dues n))) ∷ [])
+    let key = (due_or view client ordinal (view.dues n)).key in Sent link (Prep n key (setup.keys key).text) ∷ [])
 begun_by setup plan view link begun (tag.Mirror client ordinal) =
     let job = job_of (record { client = client; ordinal = ordinal }) in
     routed plan link client ordinal (λ route. option_map_or (λ hostgroup. copy_by view link (present view job hostgroup) (view.links link).carries)
@@ -99,13 +95,9 @@ begun_by setup plan view link begun tag.Reply = []
 
 -- Bytes go on with a question, or begin one; in a login they are what the router says there.
 
--- the messages that were written, of at most a gibibyte each, and whether none is written in part
-
+-- the messages that were written, of at most a gibibyte each
 abbrev pub written_in : List ℕ → Split
 written_in written = split 1073741824 0 written
-
-abbrev pub is_whole : List ℕ → Bool
-is_whole written = not (is_some_of (written_in written).rest)
 
 abbrev pub is_quiet : Stage → Bool
 is_quiet Quiet = true
@@ -129,18 +121,15 @@ begins setup plan link for bytes wire tale =
     tell_all (begun_by setup plan (view_of setup tale) link wire.begun for)
     (with_wire link (record wire { written = bytes; step = step_for for step; begun = suc wire.begun; quits = wire.quits || quits_for for step }) tale)
 
--- one command stands on a link at a time
+-- one command stands on a link at a time, and none is written in part
 abbrev pub may_begin : Setup → LinkId → Wire → Tale → Bool
-may_begin setup link wire tale = wire.entered && (is_quiet (link_in setup tale link).stage && (is_whole wire.written && not (is_reset_step wire.step)))
+may_begin setup link wire tale =
+    wire.entered && (is_quiet (link_in setup tale link).stage && (not (is_some_of (written_in wire.written).rest) && not (is_reset_step wire.step)))
 
 abbrev pub writes : Setup → Plan → LinkId → Tag → List ℕ → Wire → Tale → Tale
 writes setup plan link for bytes wire tale =
     if may_begin setup link wire tale then begins setup plan link for bytes wire tale
     else with_wire link (record wire { written = wire.written ++ bytes }) tale
-
--- The server runs what stands there; a QUIT ends the link.
-abbrev pub runs_on : Wire → LinkId → Tale → Tale
-runs_on wire link tale = if wire.quits then tell (Dropped link) tale else tell (Ran link) tale
 
 -- what hasn't run as the first byte of its reply is read runs then
 abbrev pub runs_first : Stage → LinkId → Tale → Tale

@@ -1,4 +1,5 @@
--- From a log to a story: what each entry tells. The marks of a log, Exec and Drop, are the run of its servers.
+-- From a log to a story: what each entry tells. The marks of a log, Exec and Drop, are the run of its servers: one runs what
+-- stands there, and a QUIT ends the link.
 use Rattle.std.specs.Prelude.{ℕ, ◌+◌, List, [], ◌∷◌, ◌++◌, fold, length, map, not, if◌then◌else◌}
 use Rattle.mx_base.specs.declared.names.LinkId.{LinkId}
 use Rattle.mx_wire.specs.Log.{Log}
@@ -6,13 +7,13 @@ use Rattle.mx_wire.specs.declared.entry.Entry.{Entry}
 use Rattle.mx_wire.specs.declared.entry.Entry.TheVariants.{Accepted, Opened, Got, Ended, ReadFailed, Wrote, WriteFailed, Closed, Exec, Drop}
 use Rattle.reply_track.specs.declared.reply.ReplyKind.TheVariants as kind
 use Rattle.server_side.specs.Login.{opening}
-use Rattle.private_model.specs.Story.{Dropped, Gone, Story}
+use Rattle.private_model.specs.Story.{Dropped, Gone, Ran, Story}
 use Rattle.private_model.specs.View.{Setup}
 use Rattle.log_story.specs.Plan.{Plan}
 use Rattle.log_story.specs.Tale.{Tale, Wire, client_gets, client_hears, counted, first_tale, is_entered, is_reset_step, is_to_server, new_client, new_wire, tell, view_of}
 use Rattle.log_story.specs.Tale.{with_wire}
 use Rattle.log_story.specs.Clients.{client_leaves, clients_are_ended, clients_go_on}
-use Rattle.log_story.specs.Servers.{entered_by, links_are_freed, read_as, reads_on, reset_by, runs_on, writes}
+use Rattle.log_story.specs.Servers.{entered_by, links_are_freed, read_as, reads_on, reset_by, writes}
 
 -- with the bytes that were read there
 abbrev pub wire_with : Tale → LinkId → List ℕ → Wire
@@ -37,7 +38,8 @@ told setup plan tale (Got link bytes) =
 told setup plan tale (Wrote link tag bytes) =
     if is_to_server tale link then writes setup plan link tag bytes (tale.wires link) tale
     else record tale { clients = map (client_gets link (length bytes)) tale.clients }
-told setup plan tale (Exec link) = if is_entered tale link then runs_on (tale.wires link) link tale else tale
+told setup plan tale (Exec link) =
+    if is_entered tale link then tell (if (tale.wires link).quits then Dropped link else Ran link) tale else tale
 told setup plan tale (Drop link) = tell (Dropped link) tale
 told setup plan tale (Ended link) = is_lost_or_left link tale
 told setup plan tale (ReadFailed link) = is_lost_or_left link tale

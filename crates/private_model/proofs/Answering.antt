@@ -1,7 +1,7 @@
 -- Which statement was sent where, and what was answered to it in both worlds.
 use Rattle.std.specs.Prelude.{◌≡◌, Bool, true, false, Option, Some, None}
 use Rattle.std.proofs.Common.{refl, sym, ap, ◌∙◌, subst}
-use Rattle.mx_base.specs.declared.names.LinkId.{LinkId}
+use Rattle.private_model.specs.Names.{LinkId, MessageName}
 use Rattle.private_model.proofs.Maps.{at_each, link_ids, messages, no_other, put-other, put-same}
 use Rattle.private_model.proofs.Stands.{AreAnswered, message_on, ran_on}
 use Rattle.private_model.specs.Commands.{Reply}
@@ -9,7 +9,6 @@ use Rattle.private_model.specs.Story.{Capture, End, Own, Prep, Statement, Sync, 
 use Rattle.private_model.specs.View.{Answered, Asked, Link, Quiet, Stage}
 use Rattle.private_model.specs.Worlds.{Peer}
 use Rattle.server_rule.specs.Servers.{fresh}
-use Rattle.session_state.specs.declared.names.MessageName.{MessageName}
 
 module _ (links : LinkId → Link) (peers : LinkId → Peer) (carriers : MessageName → Option LinkId) (replies answers : MessageName → Option Reply) (are : AreAnswered links peers carriers replies answers) (number : LinkId) where
   -- a message on another link is another message

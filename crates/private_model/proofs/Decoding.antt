@@ -1,8 +1,8 @@
 -- What is prepared, as a command runs; and that both worlds decode a Run alike.
+use Rattle.private_model.specs.Names.{LinkId, SessionName}
 use Rattle.private_model.specs.Honest.{IsTrueRun}
 use Rattle.std.specs.Prelude.{◌≡◌, ◌⊎◌, ℕ, Bool, true, false, not, if◌then◌else◌, ◌||◌, List, Option, Some, None}
 use Rattle.std.proofs.Common.{refl, sym, ap, ◌∙◌, subst, inl, inr}
-use Rattle.mx_base.specs.declared.names.LinkId.{LinkId}
 use Rattle.private_model.proofs.Maps.{link_ids, names, no_other, put-other, put-same}
 use Rattle.private_model.proofs.Meeting.{IsDecoded, IsTextOf, prep_after, shallow_before}
 use Rattle.private_model.proofs.Preparing.{alive_joined, alive_lent, others_table, resting_table, stands_at, tabled_at, tabled_still}
@@ -17,7 +17,6 @@ use Rattle.private_model.specs.Worlds.{Peer, Private, Real, decoded, private_pre
 use Rattle.server_rule.specs.Servers.{Tests}
 use Rattle.server_rule.specs.declared.session.Session.{Session}
 use Rattle.session_state.specs.Pins.{is_pinned}
-use Rattle.session_state.specs.declared.names.SessionName.{SessionName}
 use Rattle.std.specs.Option.{option_and_then}
 
 if_alive : (b : Bool) (A : Type 0) → A → IfAlive b A (Unit {0})

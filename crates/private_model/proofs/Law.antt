@@ -1,8 +1,7 @@
 -- The law: by induction on the story.
 use Rattle.std.specs.Prelude.{nat_eq, List, ◌≡◌, ℕ, Bool, true, false, [], ◌∷◌, Some, None}
 use Rattle.std.proofs.Common.{refl, sym, ap, ◌∙◌, subst}
-use Rattle.mx_base.specs.declared.names.LinkId.{LinkId}
-use Rattle.mx_base.specs.declared.names.ServerId.{ServerId}
+use Rattle.private_model.specs.Names.{LinkId, ServerId, MessageName, SessionName}
 use Rattle.private_model.proofs.Answering.{are_heard, are_linked, are_ran, are_sent, are_still}
 use Rattle.private_model.proofs.Decoding.{are_decoded, tabled_ran}
 use Rattle.private_model.proofs.Meeting.{mark_of}
@@ -20,8 +19,6 @@ use Rattle.private_model.specs.View.{Answered, Asked, Carried, Joined, Lent, Lin
 use Rattle.private_model.specs.Worlds.{Peer, Private, Real, decoded, new_peer, private_after, private_drop, private_prep, private_run, private_step, real_after, real_drop, real_run, real_step, there_table}
 use Rattle.server_rule.specs.Servers.{Tests}
 use Rattle.session_state.specs.Pins.{is_pinned}
-use Rattle.session_state.specs.declared.names.MessageName.{MessageName}
-use Rattle.session_state.specs.declared.names.SessionName.{SessionName}
 use Rattle.std.specs.Option.{option_and_then}
 
 -- The data and the sessions.

@@ -1,8 +1,7 @@
 -- What is prepared, at each kind of happening.
 use Rattle.std.specs.Prelude.{Bool, None, Option, Some, false, nat_eq, true, ℕ, ◌≡◌}
 use Rattle.std.proofs.Common.{refl, sym, ap, ◌∙◌, subst, inl, inr}
-use Rattle.mx_base.specs.declared.names.LinkId.{LinkId}
-use Rattle.mx_base.specs.declared.names.ServerId.{ServerId}
+use Rattle.private_model.specs.Names.{LinkId, ServerId, SessionName}
 use Rattle.private_model.proofs.Maps.{at_each, link_ids, names, no_home, no_other, put-other, put-same}
 use Rattle.private_model.proofs.Sessions.{harmless_shallow}
 use Rattle.private_model.proofs.Stands.{AreKept, AreMatched, AreTabled, AreTabledBy, IfAlive, IsAskedFree, IsAskedJoined, IsAskedLent, IsAtBy, IsUsual, Stands, soon_pin, heard, quieted, soon_live, heard_now}
@@ -14,7 +13,6 @@ use Rattle.private_model.specs.Story.{Capture, End, Freed, Heard, Key, Own, Prep
 use Rattle.private_model.specs.View.{Stage, Answered, Asked, Carried, Held, Joined, Lent, Nobody, Quiet, Setup, View, asked, carried_for, closed_number, freed, held_by, held_freed, held_heard, new_link, view_step, without, view_heard}
 use Rattle.private_model.specs.Worlds.{Peer, Private, Real, new_peer}
 use Rattle.server_rule.specs.Servers.{Tests}
-use Rattle.session_state.specs.declared.names.SessionName.{SessionName}
 
 abbrev pub Tabled : Setup → View → Real → Private → Type 0
 Tabled setup view real private = AreTabled setup view.links real.peers view.held private.tables

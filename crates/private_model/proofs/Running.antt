@@ -1,8 +1,7 @@
 -- What happens at a server: a command runs, a link is dropped; and the rest of what can happen.
 use Rattle.std.specs.Prelude.{Bool, List, None, Option, Some, [], false, if◌then◌else◌, nat_eq, not, true, ℕ, ◌||◌, ◌≡◌, ◌⊎◌}
 use Rattle.std.proofs.Common.{refl, sym, ap, ◌∙◌, subst, inl, inr}
-use Rattle.mx_base.specs.declared.names.LinkId.{LinkId}
-use Rattle.mx_base.specs.declared.names.ServerId.{ServerId}
+use Rattle.private_model.specs.Names.{LinkId, ServerId, MessageName, SessionName}
 use Rattle.private_model.proofs.Maps.{IsElsewhere, at_each, both_put, frame, link_ids, names, no_other, one_put, put-other, put-same, put_all, servers, still_resting}
 use Rattle.private_model.proofs.Meeting.{IsDecoded, IsMet, IsTextOf, back_text, capture_after, end_after, met_after, met_alike, met_joined, met_lent, of_text, own_after, own_calm, own_same, prep_after, prep_free, step_after}
 use Rattle.private_model.proofs.Pairs.{IsAlikeAfter, quit_stored, reset_stored}
@@ -13,14 +12,12 @@ use Rattle.private_model.specs.Commands.{Account, Command, Outcome, Prepare, Qui
 use Rattle.private_model.specs.Honest.{IsAccepted}
 use Rattle.private_model.specs.Lawful.{IsKeyed, IsOwnStep, IsPlaced, is_statement}
 use Rattle.private_model.specs.Story.{Capture, Dropped, Due, End, Gone, Key, LoggedIn, Own, Prep, Question, Ran, Statement, Sync, Unprepared, is_link_id, is_message, is_name, is_server, message_of, put}
-use Rattle.private_model.specs.View.{Answered, Asked, Carried, Held, Joined, Lent, Link, Nobody, Quiet, Setup, Stage, View, closed_number, is_marking, is_quit, new_link, ran, ran_by, told_after, view_after, view_step}
+use Rattle.private_model.specs.View.{Answered, Asked, Carried, Held, Joined, Lent, Link, Nobody, Quiet, Setup, Stage, View, closed_number, is_quit, new_link, ran, ran_by, told_after, view_after, view_step}
 use Rattle.private_model.specs.Worlds.{Peer, Private, Real, closed, decoded, new_peer, placed, private_after, private_drop, private_prep, private_run, private_step, readied, real_after, real_drop, real_run, real_step, table_after, there_table}
 use Rattle.server_rule.specs.Classes.{Reads}
 use Rattle.server_rule.specs.Servers.{Accepts, Tests, with_id}
 use Rattle.server_rule.specs.declared.session.Session.{Session}
 use Rattle.session_state.specs.Pins.{is_pinned}
-use Rattle.session_state.specs.declared.names.MessageName.{MessageName}
-use Rattle.session_state.specs.declared.names.SessionName.{SessionName}
 use Rattle.session_state.specs.declared.pin.Pin.{Pin}
 use Rattle.std.specs.Option.{option_and_then}
 
@@ -272,7 +269,7 @@ module _ (setup : Setup) (tests : Tests) (step : Step) (tame : Tame setup.reads 
       let there = met_there m due alive asked in
       let d = data_there in
       let question = Statement m due in
-      let l' : Link = record l { stage = Answered question; carries = Joined m; marked = is_marking setup.reads question || l.marked; alive = not (is_quit due.command) } in
+      let l' : Link = record l { stage = Answered question; carries = Joined m; marked = is_marked setup.reads due.command || l.marked; alive = not (is_quit due.command) } in
       let after = after_decoded are m due alive asked in
       let is_text = (are m due alive asked).1 in
       let statement : is_statement c ≡ true = back_text (λ x. is_statement x ≡ true) (λ t a b a' b' g x. x) c due.command is_text there.statement in

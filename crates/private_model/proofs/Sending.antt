@@ -1,7 +1,7 @@
 -- What happens at the router: a question goes out, a reply is read, a link is given back.
 use Rattle.std.specs.Prelude.{if◌then◌else◌, ◌||◌, List, ◌≡◌, ◌⊎◌, ℕ, Bool, true, false, Option, Some, None}
 use Rattle.std.proofs.Common.{refl, sym, ap, ◌∙◌, subst, inl, inr}
-use Rattle.mx_base.specs.declared.names.LinkId.{LinkId}
+use Rattle.private_model.specs.Names.{LinkId, SessionName}
 use Rattle.private_model.proofs.Maps.{IsElsewhere, at_each, frame, link_ids, names, no_home, no_other, put-other, put-same, still_resting}
 use Rattle.private_model.proofs.Sessions.{harmless_shallow, suits_plain}
 use Rattle.private_model.proofs.Stands.{IfAlive, IsAskedFree, IsAskedJoined, IsAskedLent, IsAt, IsAtBy, IsFree, IsFreeLink, IsJoined, IsJoinedLink, IsLentLink, IsPlain, IsPreparing, IsResting, Stands, soon_pin, heard, quieted, soon_id, soon_told, heard_now}
@@ -14,7 +14,6 @@ use Rattle.private_model.specs.Worlds.{Private, Real}
 use Rattle.server_rule.specs.Servers.{Tests}
 use Rattle.server_rule.specs.declared.session.Session.{Session}
 use Rattle.session_state.specs.Pins.{needs_reset}
-use Rattle.session_state.specs.declared.names.SessionName.{SessionName}
 use Rattle.session_state.specs.declared.pin.Pin.{Pin}
 use Rattle.session_state.specs.declared.place.Told.{Told}
 
@@ -112,10 +111,10 @@ module _ (setup : Setup) (tests : Tests) (view : View) (real : Real) (private : 
         subst (λ c. IsAtBy setup c number l (real.peers number) view.held private.sessions) (sym free) there
     | inr lent ↦
         let l = asked (Own command) (view.links number) in
-        let is = at_lent lent.who lent.carries in
-        let there : IsLentLink setup number lent.who l (real.peers number) (view.held lent.who) (private.sessions lent.who) =
-        record { home = is.home; unmarked = is.unmarked; asked = own.fits; session = quiet_lent lent.who lent.carries quiet; plain = is.plain; id = is.id } in
-        subst (λ c. IsAtBy setup c number l (real.peers number) view.held private.sessions) (sym lent.carries) there
+        let is = at_lent lent.0 lent.1 in
+        let there : IsLentLink setup number lent.0 l (real.peers number) (view.held lent.0) (private.sessions lent.0) =
+        record { home = is.home; unmarked = is.unmarked; asked = own.fits; session = quiet_lent lent.0 lent.1 quiet; plain = is.plain; id = is.id } in
+        subst (λ c. IsAtBy setup c number l (real.peers number) view.held private.sessions) (sym lent.1) there
   ]
 
   kept_home : (n : SessionName) → (view.links number).carries ≡ Joined n → put is_name view.held n (record (view.held n) { home = Some number }) n ≡ view.held n

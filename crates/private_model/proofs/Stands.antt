@@ -1,8 +1,7 @@
 -- What holds at every moment between the two worlds.
 use Rattle.std.specs.Prelude.{◌≡◌, ℕ, Bool, true, false, List, [], Option, Some, None}
 use Rattle.std.proofs.Common.{ap}
-use Rattle.mx_base.specs.declared.names.LinkId.{LinkId}
-use Rattle.mx_base.specs.declared.names.ServerId.{ServerId}
+use Rattle.private_model.specs.Names.{LinkId, ServerId, MessageName, SessionName}
 use Rattle.private_model.specs.Commands.{Account, Reply}
 use Rattle.private_model.specs.Lawful.{Begins, GoesOn, IsOwnStep, IsStepOf, IsToldKey}
 use Rattle.private_model.specs.Story.{Capture, Due, End, Key, Own, Prep, Question, Statement, Sync, command_of, message_of}
@@ -13,8 +12,6 @@ use Rattle.server_rule.specs.Classes.{Reads, core}
 use Rattle.server_rule.specs.Servers.{Tests, is_brief, is_some_of, with_diag, with_id}
 use Rattle.server_rule.specs.declared.session.Session.{Session}
 use Rattle.session_state.specs.Pins.{is_pinned}
-use Rattle.session_state.specs.declared.names.MessageName.{MessageName}
-use Rattle.session_state.specs.declared.names.SessionName.{SessionName}
 use Rattle.session_state.specs.declared.pin.Pin.{Pin}
 use Rattle.session_state.specs.declared.place.Told.{Told}
 use Rattle.private_model.proofs.Tame.{account_of}

@@ -1,7 +1,7 @@
 -- What is prepared, on links and in sessions.
 use Rattle.std.specs.Prelude.{if◌then◌else◌, ◌≡◌, ℕ, Bool, true, false, nat_eq, List, Option, Some, None}
 use Rattle.std.proofs.Common.{refl, sym, ap, ◌∙◌, subst, inl, inr}
-use Rattle.mx_base.specs.declared.names.LinkId.{LinkId}
+use Rattle.private_model.specs.Names.{LinkId, SessionName}
 use Rattle.private_model.proofs.Maps.{at_each, link_ids, names, numbers, put-other, put-same}
 use Rattle.private_model.proofs.Meeting.{IsDecoded, IsRunLike, IsRunOf, IsTextOf}
 use Rattle.private_model.proofs.Sessions.{apart}
@@ -15,7 +15,6 @@ use Rattle.private_model.specs.Worlds.{Peer, decoded, tabled}
 use Rattle.server_rule.specs.Classes.{Reads, core}
 use Rattle.server_rule.specs.Servers.{Accepts, Tests}
 use Rattle.server_rule.specs.declared.session.Session.{Session}
-use Rattle.session_state.specs.declared.names.SessionName.{SessionName}
 use Rattle.session_state.specs.declared.place.Told.{Told}
 use Rattle.session_vars.specs.declared.change.SlotValue.{SlotValue}
 

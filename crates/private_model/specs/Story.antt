@@ -1,12 +1,7 @@
 -- What happens between the router and the servers.
 use Rattle.std.specs.Prelude.{ℕ, Bool, ◌&&◌, nat_eq, if◌then◌else◌, List, Option}
-use Rattle.mx_base.specs.declared.names.ClientNo.{ClientNo}
-use Rattle.mx_base.specs.declared.names.Hostgroup.{Hostgroup}
-use Rattle.mx_base.specs.declared.names.LinkId.{LinkId}
-use Rattle.mx_base.specs.declared.names.ServerId.{ServerId}
+use Rattle.private_model.specs.Names.{ClientNo, Hostgroup, LinkId, ServerId, MessageName, SessionName}
 use Rattle.private_model.specs.Commands.{Account, Command, Prepare, ReadId, Reply, Reset}
-use Rattle.session_state.specs.declared.names.MessageName.{MessageName}
-use Rattle.session_state.specs.declared.names.SessionName.{SessionName}
 use Rattle.session_state.specs.declared.place.Place.{Place}
 
 abbrev pub is_link_id : LinkId → LinkId → Bool

@@ -2,17 +2,12 @@
 use Rattle.std.specs.Prelude.{ℕ, suc, Bool, true, false, not, ◌&&◌, ◌||◌, nat_eq, if◌then◌else◌, List, [], ◌∷◌, Option, Some, None}
 use Rattle.std.specs.Option.{option_and_then, option_map_or}
 use Rattle.session_vars.specs.Settings.{defaults}
-use Rattle.mx_base.specs.declared.names.ClientNo.{ClientNo}
-use Rattle.mx_base.specs.declared.names.Hostgroup.{Hostgroup}
-use Rattle.mx_base.specs.declared.names.LinkId.{LinkId}
-use Rattle.mx_base.specs.declared.names.ServerId.{ServerId}
+use Rattle.private_model.specs.Names.{ClientNo, Hostgroup, LinkId, ServerId, MessageName, SessionName}
 use Rattle.private_model.specs.Commands.{Account, Command, Prepare, Quit, Reply, Reset, class_of, id_after, is_err, is_made, is_marked, is_ok, is_prepare, number_in, pin_statement}
 use Rattle.private_model.specs.Story.{BecameDue, Capture, Dropped, Due, End, Freed, Gone, Happening, Heard, Key, Left, LoggedIn, Mirrored, Prep, Question, Ran, Sent, Statement, Story, Sync, Unprepared, command_of, for_statement, is_client, is_link_id, is_message, is_name, message_of, put}
 use Rattle.server_rule.specs.Classes.{Reads}
 use Rattle.session_state.specs.Classes.{Effect, Uses, effect_of, schema_by, settings_by}
 use Rattle.session_state.specs.Pins.{is_pinned, no_pin}
-use Rattle.session_state.specs.declared.names.MessageName.{MessageName}
-use Rattle.session_state.specs.declared.names.SessionName.{SessionName}
 use Rattle.session_state.specs.declared.pin.Pin.{Pin}
 use Rattle.session_state.specs.declared.place.Place.{Place}
 use Rattle.session_state.specs.declared.place.Told.{Told}
@@ -96,9 +91,6 @@ held_for _ link held = held
 
 -- The server runs it.
 
-abbrev pub is_marking : Reads → Question → Bool
-is_marking reads question = for_statement question (λ n due. is_marked reads due.command) false
-
 abbrev pub is_quit : Command → Bool
 is_quit Quit = true
 is_quit _ = false
@@ -107,7 +99,7 @@ abbrev pub ran_by : Reads → (alive : Bool) → Stage → Link → Link
 ran_by reads true (Asked question) link = record link {
   stage = Answered question;
   carries = for_statement question (λ n due. Joined n) link.carries;
-  marked = is_marking reads question || link.marked;
+  marked = for_statement question (λ n due. is_marked reads due.command) false || link.marked;
   alive = not (is_quit (command_of question));
 }
 ran_by reads _ _ link = link

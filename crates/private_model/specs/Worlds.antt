@@ -1,16 +1,13 @@
 -- The real world and the private one, both told by one story.
 use Rattle.std.specs.Option.{option_and_then, option_map_or}
 use Rattle.std.specs.Prelude.{nat_eq, ℕ, Bool, ◌&&◌, true, false, if◌then◌else◌, List, [], ◌∷◌, Option, Some, None}
-use Rattle.mx_base.specs.declared.names.LinkId.{LinkId}
-use Rattle.mx_base.specs.declared.names.ServerId.{ServerId}
+use Rattle.private_model.specs.Names.{LinkId, ServerId, MessageName, SessionName}
 use Rattle.private_model.specs.Commands.{Account, Command, Outcome, Prepare, Quit, Reply, Reset, Run, Step, fresh_of, is_made, number_in, is_prepare}
 use Rattle.private_model.specs.Story.{Dropped, Due, End, Happening, Key, LoggedIn, Prep, Question, Ran, Statement, Story, Sync, Unprepared, command_of, for_statement, is_link_id, is_message, is_name, is_server, message_of, put}
 use Rattle.private_model.specs.View.{Asked, Carried, Held, Setup, Stage, View, session_in, text_of, view_after}
 use Rattle.server_rule.specs.Servers.{with_id}
 use Rattle.server_rule.specs.declared.session.Session.{Session}
 use Rattle.session_state.specs.Pins.{is_pinned}
-use Rattle.session_state.specs.declared.names.MessageName.{MessageName}
-use Rattle.session_state.specs.declared.names.SessionName.{SessionName}
 use Rattle.session_state.specs.declared.place.Place.{Place}
 
 -- The real world: a session on each link, and the last answer there.
@@ -142,11 +139,8 @@ private_step step view private _ = private
 
 -- Both after a story.
 
-abbrev pub first_real : Setup → Real
-first_real setup = record { stored = setup.stored; peers = λ link. new_peer (record { user = []; found_rows = false }) }
-
 abbrev pub real_after : Setup → Step → Story → Real
-real_after setup step [] = first_real setup
+real_after setup step [] = record { stored = setup.stored; peers = λ link. new_peer (record { user = []; found_rows = false }) }
 real_after setup step (e ∷ past) = real_step step (view_after setup past) (real_after setup step past) e
 
 abbrev pub first_private : Setup → Private
