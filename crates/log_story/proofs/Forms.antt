@@ -33,11 +33,7 @@ decoded_form (Some entry) Quit = refl
 there_form : (question : Question) (live : ℕ → Option ℕ) (table : ℕ → Option Key)
     → is_prepare (there_command question live table) ≡ is_prepare (command_of question)
 there_form (Statement n due) live table = decoded_form (option_and_then table (live due.key)) due.command
-there_form (Prep n key text) live table = refl
-there_form (Sync n command) live table = refl
-there_form (Own command) live table = refl
-there_form (End n) live table = refl
-there_form (Capture n) live table = refl
+there_form _ live table = refl
 
 same_link : (a b : LinkId) → is_link_id a b ≡ true → b ≡ a
 same_link a b is = ap (λ n. record { 0 = n }) (sym (nat_eq-true a.0 b.0 is))
@@ -88,10 +84,9 @@ dropped_answer server real l false at link = refl
 
 heard_formed : (setup : Setup) (view : View) (real : Real) (l : LinkId) (reply : Reply) (stage : Stage) → AreFormed view.links real.peers
     → AreFormed (view_heard setup view l reply stage).links real.peers
-heard_formed setup view real l reply Quiet holds link = holds link
-heard_formed setup view real l reply (Asked question) holds link = holds link
 heard_formed setup view real l reply (Answered question) holds link =
     put_formed (is_link_id link l) _ (view.links link) (real.peers link) (λ answer. tt) (holds link)
+heard_formed setup view real l reply _ holds link = holds link
 
 step_formed : (setup : Setup) (server : Step) (view : View) (real : Real) (e : Happening) → AreFormed view.links real.peers
     → AreFormed (view_step setup view e).links (real_step (runs server) view real e).peers
@@ -110,8 +105,7 @@ step_formed setup server view real (Dropped l) holds link =
     both_kept (view.links link).stage _ (real.peers link).answer _ (put_kept (λ (a : Link). a.stage) view.links l _ refl link)
     (dropped_answer server real l (view.links l).alive (view.links l).server link) (holds link)
 step_formed setup server view real (Gone l) holds link = still_formed view.links real.peers l _ refl holds link
-step_formed setup server view real (Left client) holds link = holds link
-step_formed setup server view real (Mirrored client job) holds link = holds link
+step_formed setup server view real _ holds link = holds link
 
 pub story_formed : (setup : Setup) (server : Step) (story : Story) → AreFormed (view_after setup story).links (real_after setup (runs server) story).peers
 story_formed setup server [] link = tt

@@ -140,17 +140,15 @@ module _ (setup : Setup) (plan : Plan) (server : Step) (k : Kept setup server) w
 
   stepped_keeps : (link : LinkId) (question : Command → Question) (step : StepText) (tale : Tale) → Holds tale
       → Holds (tell_all (stepped link question step) tale)
-  stepped_keeps link question (Asks command) tale holds = k.more _ _ tt holds
-  stepped_keeps link question (Closes number) tale holds = k.more _ _ tt holds
   stepped_keeps link question (Resets number) tale holds = holds
+  stepped_keeps link question _ tale holds = k.more _ _ tt holds
 
   copy_by_keeps : (view : View) (link : LinkId) (n : SessionName) (carried : Carried) (tale : Tale) → Holds tale
       → Holds (tell_all (copy_by view link n carried) tale)
-  copy_by_keeps view link n Nobody tale holds = k.more _ _ tt (k.more _ _ tt holds)
-  copy_by_keeps view link n (Lent who) tale holds = k.more _ _ tt (k.more _ _ tt holds)
   copy_by_keeps view link n (Joined who) tale holds =
       if_either (λ es. Holds (tell_all es tale)) (is_client who.client n.client) (Sent link (End who) ∷ [])
       (Sent link (statement_of view 1 n) ∷ []) (λ is. k.more _ _ tt holds) (λ is. k.more _ _ tt holds)
+  copy_by_keeps view link n _ tale holds = k.more _ _ tt (k.more _ _ tt holds)
 
   begun_keeps : (view : View) (link : LinkId) (begun : ℕ) (for : Tag) (tale : Tale) → Holds tale
       → Holds (tell_all (begun_by setup plan view link begun for) tale)
@@ -233,9 +231,8 @@ module _ (setup : Setup) (plan : Plan) (server : Step) (k : Kept setup server) w
       (hearing_keeps link wire read.question (read_as (kind_by (command_of read.question)) wire) before read.answered read.reply refl ran)
 
   resetting_keeps : (link : LinkId) (wire : Wire) (ending : Ending) (tale : Tale) → Holds tale → Holds (reset_by link wire ending tale)
-  resetting_keeps link wire (Going state) tale holds = holds
   resetting_keeps link wire (Ended end rest) tale holds = holds
-  resetting_keeps link wire (Failed rest) tale holds = holds
+  resetting_keeps link wire _ tale holds = holds
 
   -- Each entry.
 

@@ -29,8 +29,7 @@ isnt is = absurd (cc)
 
 quiet_so : (stage : Stage) → is_quiet stage ≡ true → stage ≡ Quiet
 quiet_so Quiet is = refl
-quiet_so (Asked question) is = isnt is
-quiet_so (Answered question) is = isnt is
+quiet_so _ is = isnt is
 
 settled_so : (held : Held) → is_settled held ≡ true → IsSettled held
 settled_so held is = known held.id refl (and_parts _ _ is).1 where

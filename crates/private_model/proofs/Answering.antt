@@ -102,12 +102,6 @@ module _ (links : LinkId → Link) (peers : LinkId → Peer) (carriers : Message
   }
     where
       is_on : (stage : Stage) (m : MessageName) → ran_on stage ≡ Some m → message_on stage ≡ Some m
-      is_on (Answered (Statement n due)) m e = e
-      is_on (Answered (Prep n key text)) m e = e
-      is_on (Answered (Sync n c)) m e = e
-      is_on (Answered (Own c)) m e = e
-      is_on (Answered (End n)) m e = e
-      is_on (Answered (Capture n)) m e = e
       is_on (Asked (Statement n due)) m e = cc
       is_on (Asked (Prep n key text)) m e = e
       is_on (Asked (Sync n c)) m e = e
@@ -115,6 +109,7 @@ module _ (links : LinkId → Link) (peers : LinkId → Peer) (carriers : Message
       is_on (Asked (End n)) m e = e
       is_on (Asked (Capture n)) m e = e
       is_on Quiet m e = e
+      is_on _ m e = e
 
       to_key : (m : MessageName) → message_on link.stage ≡ Some m → message_on (links number).stage ≡ Some m
       to_key m e = was ∙ sym on ∙ e

@@ -53,12 +53,7 @@ module _ (reads : Reads) (tests : Tests) (rule : server.Step) (tame : IsTame rea
   tracked_law stored s ok (Run text schema settings args) changes e calm =
       let c = cmd_of (Run text schema settings args) in (tame.tracked.calm stored s ok c changes e calm, tame.tracked.calm_tx stored s ok c changes e calm)
   tracked_law stored s ok (InitDb schema) changes e calm = uses_tracked e
-  tracked_law stored s ok (FieldList rest) changes e calm = neither_tracked e
-  tracked_law stored s ok (SetId n) changes e calm = neither_tracked e
-  tracked_law stored s ok ReadId changes e calm = neither_tracked e
-  tracked_law stored s ok (Prepare text) changes e calm = neither_tracked e
-  tracked_law stored s ok Reset changes e calm = neither_tracked e
-  tracked_law stored s ok Quit changes e calm = neither_tracked e
+  tracked_law stored s ok _ changes e calm = neither_tracked e
 
   uses_law : (stored : List ℕ) (s : Session) → Accepts tests stored s → (c : Command) (schema : List ℕ) → effect_of (class_of reads c) ≡ Uses schema
       → ((step stored s c).stored ≡ stored) × ((step stored s c).session ≡ record s { schema = schema_by (Uses schema) (is_ok (step stored s c).reply) s.schema; diag = (step stored s c).session.diag })
@@ -66,12 +61,7 @@ module _ (reads : Reads) (tests : Tests) (rule : server.Step) (tame : IsTame rea
   uses_law stored s ok (Run text schema' settings args) schema e =
       let c = cmd_of (Run text schema' settings args) in (tame.schemas.stored stored s ok c schema e, tame.schemas.session stored s ok c schema e)
   uses_law stored s ok (InitDb schema') schema e = (tame.schemas.stored stored s ok (cmd.InitDb schema') schema e, tame.schemas.session stored s ok (cmd.InitDb schema') schema e)
-  uses_law stored s ok (FieldList rest) schema e = neither_uses e
-  uses_law stored s ok (SetId n) schema e = neither_uses e
-  uses_law stored s ok ReadId schema e = neither_uses e
-  uses_law stored s ok (Prepare text) schema e = neither_uses e
-  uses_law stored s ok Reset schema e = neither_uses e
-  uses_law stored s ok Quit schema e = neither_uses e
+  uses_law stored s ok _ schema e = neither_uses e
 
   -- the session after the text that sets the insert id, but for that and the diagnostics
   set_leaves : {A : Type 0} (f : Session → A) → ((n : ℕ) (diag : List ℕ) (x : Session) → f (with_diag diag (with_id n x)) ≡ f x) → ((diag : List ℕ) (x : Session) → f (with_diag diag x) ≡ f x)
@@ -106,8 +96,7 @@ module _ (reads : Reads) (tests : Tests) (rule : server.Step) (tame : IsTame rea
   schema_after stored s ok (SetId n) shallow = set_leaves (λ (x : Session). x.schema) (λ n d x. refl) (λ d x. refl) stored s ok n
   schema_after stored s ok ReadId shallow = ap (λ (x : Session). x.schema) (tame.insert_id.read_session stored s ok)
   schema_after stored s ok (Prepare text) shallow = ap (λ (x : Session). x.schema) (tame.preparing.session stored s ok text)
-  schema_after stored s ok Reset shallow = apart refl shallow
-  schema_after stored s ok Quit shallow = apart refl shallow
+  schema_after stored s ok _ shallow = apart refl shallow
 
   settings_after : (stored : List ℕ) (s : Session) → Accepts tests stored s → (c : Command) → (class_of reads c).deep ≡ false → (step stored s c).session.settings ≡ settings_by (effect_of (class_of reads c)) (is_ok (step stored s c).reply) s.settings
   settings_after stored s ok (Query text) shallow = settings_text stored s ok (Query text) (effect_of (reads.class text)) refl (λ changes e. tame.tracked.settings stored s ok (cmd.Query text) changes e) (λ e. tame.texts.settings stored s ok (cmd.Query text) text refl shallow e)
@@ -119,8 +108,7 @@ module _ (reads : Reads) (tests : Tests) (rule : server.Step) (tame : IsTame rea
   settings_after stored s ok (SetId n) shallow = set_leaves (λ (x : Session). x.settings) (λ n d x. refl) (λ d x. refl) stored s ok n
   settings_after stored s ok ReadId shallow = ap (λ (x : Session). x.settings) (tame.insert_id.read_session stored s ok)
   settings_after stored s ok (Prepare text) shallow = ap (λ (x : Session). x.settings) (tame.preparing.session stored s ok text)
-  settings_after stored s ok Reset shallow = apart refl shallow
-  settings_after stored s ok Quit shallow = apart refl shallow
+  settings_after stored s ok _ shallow = apart refl shallow
 
   -- what every command but a text leaves of a session
   abbrev IsKeptBy : {A : Type 0} → (Session → A) → Command → Type 0
@@ -134,8 +122,7 @@ module _ (reads : Reads) (tests : Tests) (rule : server.Step) (tame : IsTame rea
   locks_after stored s ok (SetId n) shallow takes none = set_leaves (λ (x : Session). x.locks) (λ n d x. refl) (λ d x. refl) stored s ok n ∙ none
   locks_after stored s ok ReadId shallow takes none = ap (λ (x : Session). x.locks) (tame.insert_id.read_session stored s ok) ∙ none
   locks_after stored s ok (Prepare text) shallow takes none = ap (λ (x : Session). x.locks) (tame.preparing.session stored s ok text) ∙ none
-  locks_after stored s ok Reset shallow takes none = apart refl shallow
-  locks_after stored s ok Quit shallow takes none = apart refl shallow
+  locks_after stored s ok _ shallow takes none = apart refl shallow
 
   none_after : (stored : List ℕ) (s : Session) → Accepts tests stored s → (c : Command) → (class_of reads c).deep ≡ false → sets_next (class_of reads c) (end_of (step stored s c).reply) ≡ false → is_lone_savepoint (class_of reads c) (is_some_of s.tx) ≡ false → s.deep ≡ [] → (step stored s c).session.deep ≡ []
   none_after stored s ok (Query text) shallow next inside none = tame.texts.none stored s ok (cmd.Query text) text refl shallow next inside none
@@ -145,8 +132,7 @@ module _ (reads : Reads) (tests : Tests) (rule : server.Step) (tame : IsTame rea
   none_after stored s ok (SetId n) shallow next inside none = set_leaves (λ (x : Session). x.deep) (λ n d x. refl) (λ d x. refl) stored s ok n ∙ none
   none_after stored s ok ReadId shallow next inside none = ap (λ (x : Session). x.deep) (tame.insert_id.read_session stored s ok) ∙ none
   none_after stored s ok (Prepare text) shallow next inside none = ap (λ (x : Session). x.deep) (tame.preparing.session stored s ok text) ∙ none
-  none_after stored s ok Reset shallow next inside none = apart refl shallow
-  none_after stored s ok Quit shallow next inside none = apart refl shallow
+  none_after stored s ok _ shallow next inside none = apart refl shallow
 
   brief_after : (stored : List ℕ) (s : Session) → Accepts tests stored s → (c : Command) → (class_of reads c).deep ≡ false → is_lone_savepoint (class_of reads c) (is_some_of s.tx) ≡ false → is_brief s.deep ≡ true → is_brief (step stored s c).session.deep ≡ true
   brief_after stored s ok (Query text) shallow inside brief = tame.texts.brief stored s ok (cmd.Query text) text refl shallow inside brief
@@ -156,8 +142,7 @@ module _ (reads : Reads) (tests : Tests) (rule : server.Step) (tame : IsTame rea
   brief_after stored s ok (SetId n) shallow inside brief = ap is_brief (set_leaves (λ (x : Session). x.deep) (λ n d x. refl) (λ d x. refl) stored s ok n) ∙ brief
   brief_after stored s ok ReadId shallow inside brief = ap (λ (x : Session). is_brief x.deep) (tame.insert_id.read_session stored s ok) ∙ brief
   brief_after stored s ok (Prepare text) shallow inside brief = ap (λ (x : Session). is_brief x.deep) (tame.preparing.session stored s ok text) ∙ brief
-  brief_after stored s ok Reset shallow inside brief = apart refl shallow
-  brief_after stored s ok Quit shallow inside brief = apart refl shallow
+  brief_after stored s ok _ shallow inside brief = apart refl shallow
 
   -- a transaction that such a command leaves doesn't end
   still_open : {A : Type 0} (c : Command) (stored : List ℕ) (s : Session) → (step stored s c).session.tx ≡ s.tx → is_some_of s.tx ≡ true → is_some_of (step stored s c).session.tx ≡ false → A
@@ -171,8 +156,7 @@ module _ (reads : Reads) (tests : Tests) (rule : server.Step) (tame : IsTame rea
   ended_after stored s ok (SetId n) shallow there over brief = still_open (SetId n) stored s (set_leaves (λ (x : Session). x.tx) (λ n d x. refl) (λ d x. refl) stored s ok n) there over
   ended_after stored s ok ReadId shallow there over brief = still_open ReadId stored s (ap (λ (x : Session). x.tx) (tame.insert_id.read_session stored s ok)) there over
   ended_after stored s ok (Prepare text) shallow there over brief = still_open (Prepare text) stored s (ap (λ (x : Session). x.tx) (tame.preparing.session stored s ok text)) there over
-  ended_after stored s ok Reset shallow there over brief = apart refl shallow
-  ended_after stored s ok Quit shallow there over brief = apart refl shallow
+  ended_after stored s ok _ shallow there over brief = apart refl shallow
 
   diag_law : (stored : List ℕ) (s : Session) → Accepts tests stored s → (c : Command) (diag : List ℕ) → Accepts tests stored (with_diag diag s) → (class_of reads c).reads_diag ≡ false → step stored (with_diag diag s) c ≡ step stored s c
   diag_law stored s ok (Query text) diag there e = ap (outcome_of (Query text)) (tame.blind.diag stored s ok (cmd.Query text) diag there e)
@@ -182,19 +166,17 @@ module _ (reads : Reads) (tests : Tests) (rule : server.Step) (tame : IsTame rea
   diag_law stored s ok (SetId n) diag there e = ap (outcome_of (SetId n)) (tame.insert_id.set_blind stored s ok n.value n.fits diag there)
   diag_law stored s ok ReadId diag there e = ap (outcome_of ReadId) (tame.insert_id.read_blind stored s ok diag there)
   diag_law stored s ok (Prepare text) diag there e = ap (outcome_of (Prepare text)) (tame.blind.diag stored s ok (cmd.Prepare text) diag there refl)
-  diag_law stored s ok Reset diag there e = apart refl e
-  diag_law stored s ok Quit diag there e = apart refl e
+  diag_law stored s ok _ diag there e = apart refl e
 
   id_law : (stored : List ℕ) (s : Session) → Accepts tests stored s → (c : Command) (n : ℕ) → (class_of reads c).marks_id ≡ false → step stored (with_id n s) c ≡ outcome_with_id n (step stored s c)
   id_law stored s ok (Query text) n e = ap (outcome_of (Query text)) (tame.blind.last_id stored s ok (cmd.Query text) n e)
   id_law stored s ok (Run text schema settings args) n e = ap (outcome_of (Run text schema settings args)) (tame.blind.last_id stored s ok (cmd_of (Run text schema settings args)) n e)
   id_law stored s ok (InitDb schema) n e = ap (outcome_of (InitDb schema)) (tame.blind.last_id stored s ok (cmd.InitDb schema) n refl)
   id_law stored s ok (FieldList rest) n e = ap (outcome_of (FieldList rest)) (tame.blind.last_id stored s ok (cmd.FieldList rest) n refl)
-  id_law stored s ok (SetId k) n e = apart refl e
-  id_law stored s ok ReadId n e = apart refl e
   id_law stored s ok (Prepare text) n e = ap (outcome_of (Prepare text)) (tame.blind.last_id stored s ok (cmd.Prepare text) n refl)
   id_law stored s ok Reset n e = apart refl e
   id_law stored s ok Quit n e = apart refl e
+  id_law stored s ok _ n e = apart refl e
 
   kept_text : (stored : List ℕ) (s : Session) → Accepts tests stored s → (c : Command) → ((class_of reads c).marks_id ≡ true → (step stored s c).session.last_id ≡ s.last_id) → (step stored s c).session.last_id ≡ s.last_id
   kept_text stored s ok c marked = elim (bool_cases (class_of reads c).marks_id) [
@@ -205,13 +187,7 @@ module _ (reads : Reads) (tests : Tests) (rule : server.Step) (tame : IsTame rea
   id_kept : (stored : List ℕ) (s : Session) → Accepts tests stored s → (c : Command) → is_text c ≡ true → (class_of reads c).deep ≡ false → hides_of reads c ≡ false → brings_id (step stored s c).reply ≡ false → (step stored s c).session.last_id ≡ s.last_id
   id_kept stored s ok (Query text) is shallow shown none = kept_text stored s ok (Query text) (λ marks. tame.insert_id.kept stored s ok (cmd.Query text) text refl marks shallow shown none)
   id_kept stored s ok (Run text schema settings args) is shallow shown none = kept_text stored s ok (Run text schema settings args) (λ marks. tame.insert_id.kept stored s ok (cmd_of (Run text schema settings args)) text refl marks shallow shown none)
-  id_kept stored s ok (InitDb schema) is shallow shown none = apart is refl
-  id_kept stored s ok (FieldList rest) is shallow shown none = apart is refl
-  id_kept stored s ok (SetId n) is shallow shown none = apart is refl
-  id_kept stored s ok ReadId is shallow shown none = apart is refl
-  id_kept stored s ok (Prepare text) is shallow shown none = apart is refl
-  id_kept stored s ok Reset is shallow shown none = apart is refl
-  id_kept stored s ok Quit is shallow shown none = apart is refl
+  id_kept stored s ok _ is shallow shown none = apart is refl
 
   -- after the end of a connection no transaction is open
   closed_tx : (stored : List ℕ) (s : Session) → Accepts tests stored s → (step stored s Quit).session.tx ≡ []
@@ -245,13 +221,7 @@ module _ (reads : Reads) (tests : Tests) (rule : server.Step) (tame : IsTame rea
   frees_law : (stored : List ℕ) (s : Session) → Accepts tests stored s → (c : Command) → frees_locks (class_of reads c) (end_of (step stored s c).reply) ≡ true → (step stored s c).session.locks ≡ []
   frees_law stored s ok (Query text) e = tame.unlock.frees stored s ok (cmd.Query text) text refl e
   frees_law stored s ok (Run text schema settings args) e = tame.unlock.frees stored s ok (cmd_of (Run text schema settings args)) text refl e
-  frees_law stored s ok (InitDb schema) e = apart e refl
-  frees_law stored s ok (FieldList rest) e = apart e refl
-  frees_law stored s ok (SetId n) e = apart e refl
-  frees_law stored s ok ReadId e = apart e refl
-  frees_law stored s ok (Prepare text) e = apart e refl
-  frees_law stored s ok Reset e = apart e refl
-  frees_law stored s ok Quit e = apart e refl
+  frees_law stored s ok _ e = apart e refl
 
   pub tame_runs : Tame reads tests step
   tame_runs = record {

@@ -66,8 +66,7 @@ tabled_next setup tests step tame view real private (Dropped link) stands tabled
     subst (λ t. AreTabled setup (view_step setup view (Dropped link)).links (real_step step view real (Dropped link)).peers view.held t) (sym (drop_keeps step private (view.links link).alive (view.links link).carries (view.links link).server))
     (drop_tabled setup tests step view real private stands tabled link (view.links link).alive)
 tabled_next setup tests step tame view real private (Gone link) stands tabled may honest = tabled_gone setup tests view real private stands tabled link
-tabled_next setup tests step tame view real private (Left client) stands tabled may honest = tabled
-tabled_next setup tests step tame view real private (Mirrored client job) stands tabled may honest = tabled
+tabled_next setup tests step tame view real private _ stands tabled may honest = tabled
 
 -- The answers.
 
@@ -163,8 +162,7 @@ answers_next setup tests step tame view real private (Dropped link) stands table
     subst (λ a. AreAnswered (view_step setup view (Dropped link)).links (real_step step view real (Dropped link)).peers view.carriers view.replies a) (sym (drop_leaves step private (view.links link).alive (view.links link).carries (view.links link).server))
     (drop_answers setup tests step tame view real private stands tabled answer link (view.links link).alive)
 answers_next setup tests step tame view real private (Gone link) stands tabled answer may honest = are_linked view.links real.peers view.carriers view.replies private.answers answer link (record (view.links link) { usable = false }) (λ m e. e) (λ m e. e)
-answers_next setup tests step tame view real private (Left client) stands tabled answer may honest = answer
-answers_next setup tests step tame view real private (Mirrored client job) stands tabled answer may honest = answer
+answers_next setup tests step tame view real private _ stands tabled answer may honest = answer
 
 -- Both, at every moment.
 

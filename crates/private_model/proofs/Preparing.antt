@@ -160,20 +160,13 @@ module _ (setup : Setup) (tests : Tests) (view : View) (real : Real) (private : 
   heard_tabled : (question : Question) → (view.links number).stage ≡ Answered question → (carried : Carried) → (view.links number).carries ≡ carried → IsAtBy setup carried number (view.links number) (real.peers number) view.held private.sessions
       → AreTabled setup (put is_link_id view.links number (heard setup.reads (real.peers number).answer (view.links number))) real.peers (held_by setup.reads question (real.peers number).answer view.held) private.tables
   heard_tabled (Own c) ran Nobody carries at = heard_still Nobody carries (heard_kept (Own c) ran (tabled_at Nobody carries))
-  heard_tabled (Statement m due) ran Nobody carries at = absurd (subst (IsAskedFree setup.reads) ran at.asked)
-  heard_tabled (Prep m key text) ran Nobody carries at = absurd (subst (IsAskedFree setup.reads) ran at.asked)
-  heard_tabled (Sync m c) ran Nobody carries at = absurd (subst (IsAskedFree setup.reads) ran at.asked)
-  heard_tabled (End m) ran Nobody carries at = absurd (subst (IsAskedFree setup.reads) ran at.asked)
-  heard_tabled (Capture m) ran Nobody carries at = absurd (subst (IsAskedFree setup.reads) ran at.asked)
+  heard_tabled _ ran Nobody carries at = absurd (subst (IsAskedFree setup.reads) ran at.asked)
   heard_tabled (Own c) ran (Lent n) carries at = let was = tabled_at (Lent n) carries in heard_still (Lent n) carries (heard_kept (Own c) ran was.0, was.1)
   heard_tabled (Prep m key text) ran (Lent n) carries at =
       let was = tabled_at (Lent n) carries in
       let preparing = subst (λ st. IsAskedLent setup n st (view.links number).account (view.links number).told (view.links number).id (view.links number).live (view.held n)) ran at.asked in
       heard_named m (Prep m key text) (Lent n) carries (subst (λ x. (view.held x).home ≡ Some number) (sym preparing.same) at.home) (heard_kept (Prep m key text) ran was.0, was.1)
-  heard_tabled (Statement m due) ran (Lent n) carries at = absurd (subst (λ st. IsAskedLent setup n st (view.links number).account (view.links number).told (view.links number).id (view.links number).live (view.held n)) ran at.asked)
-  heard_tabled (Sync m c) ran (Lent n) carries at = absurd (subst (λ st. IsAskedLent setup n st (view.links number).account (view.links number).told (view.links number).id (view.links number).live (view.held n)) ran at.asked)
-  heard_tabled (End m) ran (Lent n) carries at = absurd (subst (λ st. IsAskedLent setup n st (view.links number).account (view.links number).told (view.links number).id (view.links number).live (view.held n)) ran at.asked)
-  heard_tabled (Capture m) ran (Lent n) carries at = absurd (subst (λ st. IsAskedLent setup n st (view.links number).account (view.links number).told (view.links number).id (view.links number).live (view.held n)) ran at.asked)
+  heard_tabled _ ran (Lent n) carries at = absurd (subst (λ st. IsAskedLent setup n st (view.links number).account (view.links number).told (view.links number).id (view.links number).live (view.held n)) ran at.asked)
   heard_tabled (Own c) ran (Joined n) carries at = absurd (subst (λ st. IsAskedJoined setup n st (view.links number).marked (view.links number).told (view.links number).id (view.links number).live (view.held n)) ran at.asked)
   heard_tabled (Statement m due) ran (Joined n) carries at = heard_joined n m (Statement m due) ran carries (subst (λ st. IsAskedJoined setup n st (view.links number).marked (view.links number).told (view.links number).id (view.links number).live (view.held n)) ran at.asked)
   heard_tabled (Prep m key text) ran (Joined n) carries at = heard_joined n m (Prep m key text) ran carries (subst (λ st. IsAskedJoined setup n st (view.links number).marked (view.links number).told (view.links number).id (view.links number).live (view.held n)) ran at.asked)
@@ -239,8 +232,7 @@ module _ (setup : Setup) (tests : Tests) (view : View) (real : Real) (private : 
 
   gone_by : (carried : Carried) → AreTabledBy setup carried (view.links number) (real.peers number) view.held private.tables → AreTabledBy setup carried (record (view.links number) { usable = false }) (real.peers number) view.held private.tables
   gone_by Nobody x = x
-  gone_by (Lent n) x = x
-  gone_by (Joined n) x = x
+  gone_by _ x = x
 
   pub tabled_gone : AreTabled setup (put is_link_id view.links number (record (view.links number) { usable = false })) real.peers view.held private.tables
   tabled_gone = tabled_moved setup view.links real.peers view.held private.tables are number (record (view.links number) { usable = false }) real.peers view.held private.tables

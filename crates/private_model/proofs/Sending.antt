@@ -246,17 +246,10 @@ module _ (setup : Setup) (tests : Tests) (view : View) (real : Real) (private : 
   heard_by_stage to (Own command) ran (Lent n) carries at =
       moved to (heard setup.reads (real.peers number).answer (view.links number)) view.held (heard_lent n (Own command) view.held ran carries refl) (λ j other. stands.links j) stands.resting
   heard_by_stage to (Prep m key text) ran (Lent n) carries at = heard_lent_prep to n m key text ran carries (subst (λ st. IsAskedLent setup n st (view.links number).account (view.links number).told (view.links number).id (view.links number).live (view.held n)) ran at.asked)
-  heard_by_stage to (Statement m due) ran (Lent n) carries at = absurd (subst (λ st. IsAskedLent setup n st (view.links number).account (view.links number).told (view.links number).id (view.links number).live (view.held n)) ran at.asked)
-  heard_by_stage to (Sync m command) ran (Lent n) carries at = absurd (subst (λ st. IsAskedLent setup n st (view.links number).account (view.links number).told (view.links number).id (view.links number).live (view.held n)) ran at.asked)
-  heard_by_stage to (End m) ran (Lent n) carries at = absurd (subst (λ st. IsAskedLent setup n st (view.links number).account (view.links number).told (view.links number).id (view.links number).live (view.held n)) ran at.asked)
-  heard_by_stage to (Capture m) ran (Lent n) carries at = absurd (subst (λ st. IsAskedLent setup n st (view.links number).account (view.links number).told (view.links number).id (view.links number).live (view.held n)) ran at.asked)
+  heard_by_stage to _ ran (Lent n) carries at = absurd (subst (λ st. IsAskedLent setup n st (view.links number).account (view.links number).told (view.links number).id (view.links number).live (view.held n)) ran at.asked)
   heard_by_stage to (Own command) ran Nobody carries at =
       moved to (heard setup.reads (real.peers number).answer (view.links number)) view.held (heard_own (Own command) ran carries tt) (λ j other. stands.links j) stands.resting
-  heard_by_stage to (Statement m due) ran Nobody carries at = absurd (subst (IsAskedFree setup.reads) ran at.asked)
-  heard_by_stage to (Prep m key text) ran Nobody carries at = absurd (subst (IsAskedFree setup.reads) ran at.asked)
-  heard_by_stage to (Sync m command) ran Nobody carries at = absurd (subst (IsAskedFree setup.reads) ran at.asked)
-  heard_by_stage to (End m) ran Nobody carries at = absurd (subst (IsAskedFree setup.reads) ran at.asked)
-  heard_by_stage to (Capture m) ran Nobody carries at = absurd (subst (IsAskedFree setup.reads) ran at.asked)
+  heard_by_stage to _ ran Nobody carries at = absurd (subst (IsAskedFree setup.reads) ran at.asked)
   heard_by_stage to (Own command) ran (Joined n) carries at = absurd (subst (λ st. IsAskedJoined setup n st (view.links number).marked (view.links number).told (view.links number).id (view.links number).live (view.held n)) ran at.asked)
   heard_by_stage to (Statement m due) ran (Joined n) carries at = heard_name to n m (Statement m due) ran carries (subst (λ st. IsAskedJoined setup n st (view.links number).marked (view.links number).told (view.links number).id (view.links number).live (view.held n)) ran at.asked)
   heard_by_stage to (Prep m key text) ran (Joined n) carries at = heard_name to n m (Prep m key text) ran carries (subst (λ st. IsAskedJoined setup n st (view.links number).marked (view.links number).told (view.links number).id (view.links number).live (view.held n)) ran at.asked)

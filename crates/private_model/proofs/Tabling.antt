@@ -118,14 +118,7 @@ told_place setup key text told s s' told_key follows schema settings = record {
 
 pub keyed_told : (setup : Setup) (c : Command) (key : ℕ) (told : Told) (live : ℕ → Option ℕ) → is_prepare c ≡ true → IsKeyed setup c key told live → IsToldKey setup key (text_of c) told
 keyed_told setup (Prepare text) key told live is keyed = keyed
-keyed_told setup (Query text) key told live is keyed = apart is refl
-keyed_told setup (InitDb schema) key told live is keyed = apart is refl
-keyed_told setup (FieldList rest) key told live is keyed = apart is refl
-keyed_told setup (SetId n) key told live is keyed = apart is refl
-keyed_told setup ReadId key told live is keyed = apart is refl
-keyed_told setup (Run text schema settings args) key told live is keyed = apart is refl
-keyed_told setup Reset key told live is keyed = apart is refl
-keyed_told setup Quit key told live is keyed = apart is refl
+keyed_told setup _ key told live is keyed = apart is refl
 
 -- Runs are decoded alike.
 
@@ -138,8 +131,7 @@ decoded_other (Some place) (SetId n) no_run = refl
 decoded_other (Some place) ReadId no_run = refl
 decoded_other (Some place) (Prepare text) no_run = refl
 decoded_other (Some place) (Run text schema settings args) no_run = absurd (no_run text schema settings args refl)
-decoded_other (Some place) Reset no_run = refl
-decoded_other (Some place) Quit no_run = refl
+decoded_other (Some place) _ no_run = refl
 
 run_like : (setup : Setup) (key : ℕ) (text schema : List ℕ) (settings : List SlotValue) (args : Args) (there here : Option Key) (live : ℕ → Option ℕ) → IsLiveRun setup key text schema settings live → IsMatch setup key there here
     → IsRunLike setup.reads (decoded there (Run text schema settings args)) (decoded here (Run text schema settings args))
@@ -193,25 +185,11 @@ decoded_alike setup key Quit told live there here keyed match = (inl (decoded_ot
 module _ (reads : Reads) (tests : Tests) (step : Step) (tame : Tame reads tests step) (stored : List ℕ) (s : Session) (ok : Accepts tests stored s) where
   pub prepared_schema : (c : Command) (entry : Option Key) → is_prepare c ≡ true → (step stored s (decoded entry c)).session.schema ≡ s.schema
   prepared_schema (Prepare text) entry is = ap (λ c. (step stored s c).session.schema) (decoded_other entry (Prepare text) (λ a b d e f. cc)) ∙ ap (λ (x : Session). x.schema) (tame.prepare.session stored s ok text)
-  prepared_schema (Query text) entry is = apart is refl
-  prepared_schema (InitDb schema) entry is = apart is refl
-  prepared_schema (FieldList rest) entry is = apart is refl
-  prepared_schema (SetId n) entry is = apart is refl
-  prepared_schema ReadId entry is = apart is refl
-  prepared_schema (Run text schema settings args) entry is = apart is refl
-  prepared_schema Reset entry is = apart is refl
-  prepared_schema Quit entry is = apart is refl
+  prepared_schema _ entry is = apart is refl
 
   pub prepared_settings : (c : Command) (entry : Option Key) → is_prepare c ≡ true → (step stored s (decoded entry c)).session.settings ≡ s.settings
   prepared_settings (Prepare text) entry is = ap (λ c. (step stored s c).session.settings) (decoded_other entry (Prepare text) (λ a b d e f. cc)) ∙ ap (λ (x : Session). x.settings) (tame.prepare.session stored s ok text)
-  prepared_settings (Query text) entry is = apart is refl
-  prepared_settings (InitDb schema) entry is = apart is refl
-  prepared_settings (FieldList rest) entry is = apart is refl
-  prepared_settings (SetId n) entry is = apart is refl
-  prepared_settings ReadId entry is = apart is refl
-  prepared_settings (Run text schema settings args) entry is = apart is refl
-  prepared_settings Reset entry is = apart is refl
-  prepared_settings Quit entry is = apart is refl
+  prepared_settings _ entry is = apart is refl
 
 -- One link changes.
 
