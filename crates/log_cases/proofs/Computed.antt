@@ -25,10 +25,8 @@ use Rattle.private_model.specs.View.{present}
 use Rattle.small_server.proofs.Told.{begins_at, begins_with, begun_so, settled_so, told}
 use Rattle.small_server.specs.Stories.{anybody, came, due_at, insert, link, nowhere, session, setup, shared}
 use Rattle.log_cases.specs.Aside.{asker, asks, begin, beside_log, beside_plan, beside_story, copy_log, copy_plan, copy_story, given_up, goes_on, is_answered}
-use Rattle.log_cases.specs.Aside.{is_given_up, is_woken, job_session, own_plan}
-use Rattle.log_cases.specs.Aside.{ended_log, ended_plan, ended_story}
+use Rattle.log_cases.specs.Aside.{is_given_up, is_woken, job_session, own_plan, ended_log, ended_plan, ended_story}
 use Rattle.log_cases.specs.Executed.{done, due_with, execute_log, execute_plan, execute_story, first_run, first_story, prepared_story, preparer, runs_with}
-use Rattle.log_cases.specs.Aside.{ended_log, ended_plan, ended_story}
 use Rattle.log_cases.specs.Executed.{second_run, text}
 use Rattle.log_story.specs.Honest.{IsHonestLog}
 use Rattle.log_story.specs.Owed.{due_bytes}

@@ -1,15 +1,12 @@
 -- Whether a log is honest, by a test that can be computed.
-use Rattle.std.specs.Prelude.{◌≡◌, ◌<◌, ℕ, zero, suc, Bool, true, false, not, ◌&&◌, ◌||◌, is_some, nat_eq, nat_lt, bytes_eq, ◌/◌, drop, length, take, List, [], ◌∷◌, ◌++◌}
-use Rattle.std.specs.Prelude.{Option}
-use Rattle.std.specs.Prelude.{Some, None}
+use Rattle.std.specs.Prelude.{◌≡◌, ◌<◌, ℕ, zero, suc, Bool, true, false, not, ◌&&◌, ◌||◌, is_some, nat_eq, nat_lt, bytes_eq, ◌/◌, drop, length, take, List, []}
+use Rattle.std.specs.Prelude.{◌∷◌, ◌++◌, Option, Some, None}
 use Rattle.std.specs.List.{list_all}
 use Rattle.std.proofs.Common.{refl, sym, ap, append-nil, arith, lit<, subst, ◌∙◌}
 use Rattle.std.proofs.lemmas.Bool.{and_from, and_parts, ltb-true}
 use Rattle.mx_base.specs.Fields.{AreBytes}
 use Rattle.std.proofs.lemmas.List.{take-append-drop}
 use Rattle.std.proofs.lemmas.Slice.Eq.{bytes_eq-Decides}
-use Rattle.mx_base.specs.declared.names.LinkId.{LinkId}
-use Rattle.mx_base.specs.declared.names.ServerId.{ServerId}
 use Rattle.mx_wire.specs.Log.{Log}
 use Rattle.mx_wire.specs.declared.entry.Entry.{Entry}
 use Rattle.mx_wire.specs.declared.entry.Entry.TheVariants as entry
@@ -27,6 +24,7 @@ use Rattle.reply_track.proofs.Replying.{handed-on, payloads-again}
 use Rattle.session_vars.specs.declared.long_part.LongPart.{LongPart}
 use Rattle.server_side.specs.Login.{Opening, Goes, LogsIn, Fails, opening}
 use Rattle.server_rule.specs.Servers.{Step, is_some_of}
+use Rattle.private_model.specs.Names.{LinkId, ServerId}
 use Rattle.private_model.specs.Commands.{Args, Command, Quit, Reply, Run, is_made, number_in, runs}
 use Rattle.private_model.specs.Honest as model
 use Rattle.private_model.specs.Honest.{IsFreshNumber, prepares}
@@ -35,13 +33,11 @@ use Rattle.private_model.specs.View.{Answered, Asked, Quiet, Setup, Stage}
 use Rattle.private_model.specs.Worlds.{Real, at_link, there_command}
 use Rattle.log_story.specs.Executes.{args_in, is_for}
 use Rattle.log_story.specs.Plan.{Asks, Closes, Plan, Resets, StepText, com_execute, step_payload, text_payload}
-use Rattle.log_story.specs.Tale.{Tale, Wire, is_entered, is_reset_step, is_to_server, link_in}
+use Rattle.log_story.specs.Tale.{Tale, Wire, is_reset_step, is_to_server, link_in}
 use Rattle.log_story.specs.Servers.{kind_by, may_begin, reply_id, with_run, written_in}
 use Rattle.log_story.specs.Telling.{tale_step, wire_with}
 use Rattle.log_story.specs.Honest.{IsExecute, IsFront, IsHonestFrom, IsStep, IsTrue, IsTrueExec, IsTrueGot, IsTrueLogin, IsTrueRead, IsTrueReply, IsTrueReset}
-use Rattle.log_story.specs.Honest.{IsTrueRun}
-use Rattle.log_story.specs.Honest.{IsWritten}
-use Rattle.log_story.specs.Honest.{number_for, real_of, spelled}
+use Rattle.log_story.specs.Honest.{IsTrueRun, IsWritten, number_for, real_of, spelled}
 
 isnt : {A : Type 0} → false ≡ true → A
 isnt is = absurd (cc)
@@ -378,9 +374,9 @@ unless_so false test so p = isnt p
 
 abbrev got_tested : Setup → Plan → Step → Tale → LinkId → Wire → Bool
 got_tested setup plan server tale link wire =
-    unless (not (is_entered tale link)) (login_tested wire.written (opening (plan.logins link) wire.unread))
-    && (unless (is_entered tale link && not (is_reset_step wire.step)) (read_tested setup server link wire tale)
-    && unless (is_entered tale link && is_reset_step wire.step) (reset_tested wire))
+    unless (not (tale.wires link).entered) (login_tested wire.written (opening (plan.logins link) wire.unread))
+    && (unless ((tale.wires link).entered && not (is_reset_step wire.step)) (read_tested setup server link wire tale)
+    && unless ((tale.wires link).entered && is_reset_step wire.step) (reset_tested wire))
 
 got_so : (setup : Setup) (plan : Plan) (server : Step) (tale : Tale) (link : LinkId) (wire : Wire) → got_tested setup plan server tale link wire ≡ true
     → IsTrueGot setup plan server tale link wire
@@ -407,7 +403,7 @@ exec_so setup server tale link so =
     }
 
 abbrev entry_tested : Setup → Plan → Step → Tale → Entry → Bool
-entry_tested setup plan server tale (entry.Exec link) = unless (is_entered tale link) (exec_tested setup server tale link)
+entry_tested setup plan server tale (entry.Exec link) = unless (tale.wires link).entered (exec_tested setup server tale link)
 entry_tested setup plan server tale (entry.Got link bytes) =
     unless (is_to_server tale link) (got_tested setup plan server tale link (wire_with tale link bytes))
 entry_tested setup plan server tale (entry.Wrote link for bytes) =

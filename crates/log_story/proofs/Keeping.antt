@@ -5,9 +5,6 @@ use Rattle.std.specs.Option.{option_map_or}
 use Rattle.std.proofs.Common.{refl, sym, ap, ◌∙◌, subst, arith}
 use Rattle.std.proofs.lemmas.Bool.{not-false}
 use Rattle.std.proofs.lemmas.List.{take_all}
-use Rattle.mx_base.specs.declared.names.ClientNo.{ClientNo}
-use Rattle.mx_base.specs.declared.names.Hostgroup.{Hostgroup}
-use Rattle.mx_base.specs.declared.names.LinkId.{LinkId}
 use Rattle.mx_base.specs.declared.tag.Tag.{Tag}
 use Rattle.mx_base.specs.declared.tag.Tag.TheVariants as tag
 use Rattle.mx_wire.specs.Log.{Log}
@@ -20,8 +17,7 @@ use Rattle.reply_track.specs.Tracking.{Sought, started}
 use Rattle.reply_track.specs.declared.reply.ReplyKind.TheVariants as kind
 use Rattle.server_side.specs.Login.{Opening, Goes, LogsIn, Fails, opening}
 use Rattle.server_rule.specs.Servers.{Step}
-use Rattle.session_state.specs.declared.names.MessageName.{MessageName}
-use Rattle.session_state.specs.declared.names.SessionName.{SessionName}
+use Rattle.private_model.specs.Names.{ClientNo, Hostgroup, LinkId, MessageName, SessionName}
 use Rattle.private_model.specs.Commands.{Command, Reply, is_prepare, runs}
 use Rattle.private_model.specs.Honest.{IsHonest, IsTrueOf}
 use Rattle.private_model.specs.Lawful.{IsLawful}
@@ -30,16 +26,14 @@ use Rattle.private_model.specs.Story.{BecameDue, Dropped, End, Freed, Gone, Happ
 use Rattle.private_model.specs.Story.{is_link_id}
 use Rattle.private_model.specs.View.{Answered, Asked, Carried, Joined, Lent, Nobody, Quiet, Setup, Stage, View, present, view_after}
 use Rattle.log_story.specs.Plan.{Asks, Closes, Plan, Resets, Route, StepText, com_reset, is_by_now, is_now, job_of}
-use Rattle.log_story.specs.Tale.{Client, Tale, Wire, counted, first_tale, is_entered, is_reset_step, is_to_server, link_in, tell, view_of, with_client}
-use Rattle.log_story.specs.Tale.{with_wire}
+use Rattle.log_story.specs.Tale.{Client, Tale, Wire, counted, first_tale, is_reset_step, is_to_server, link_in, tell, view_of, with_client, with_wire}
 use Rattle.log_story.specs.Executes.{Request, requested}
 use Rattle.log_story.specs.Owed.{has_room, messages, name_of}
-use Rattle.log_story.specs.Clients.{captures_first, client_goes_on, client_leaves, clients_are_ended, clients_go_on, copied, due_by, ended_if_now}
-use Rattle.log_story.specs.Clients.{is_answered}
+use Rattle.log_story.specs.Clients.{captures_first, client_goes_on, client_leaves, clients_are_ended, clients_go_on, copied, due_by, ended_if_now, is_answered}
 use Rattle.log_story.specs.Clients.{is_event_of, next_taken, taken_by, taken_up}
-use Rattle.log_story.specs.Servers.{begins, begun_by, breach, copy_by, entered_by, freed_if_done, heard_by, hears, is_done, kind_by, links_are_freed}
-use Rattle.log_story.specs.Servers.{may_begin, quits_by, quits_for, read_as, reads_on, reply_id, reply_in, reset_by, runs_first, statement_of}
-use Rattle.log_story.specs.Servers.{step_for, stepped, tell_all, with_run, writes}
+use Rattle.log_story.specs.Servers.{begins, begun_by, breach, copy_by, entered_by, freed_if_done, heard_by, hears, is_done, kind_by, links_are_freed, may_begin}
+use Rattle.log_story.specs.Servers.{quits_by, quits_for, read_as, reads_on, reply_id, reply_in, reset_by, runs_first, statement_of, step_for, stepped, tell_all}
+use Rattle.log_story.specs.Servers.{with_run, writes}
 use Rattle.log_story.specs.Telling.{is_lost_or_left, server_says, story_of, tale_step, told, wire_with}
 use Rattle.log_story.specs.Honest.{IsHonestFrom, IsHonestLog, IsTrue, IsTrueGot, IsTrueRead, IsTrueReply, real_of, spelled}
 use Rattle.log_story.proofs.Forms.{HasForm, story_formed}
@@ -247,11 +241,11 @@ module _ (setup : Setup) (plan : Plan) (server : Step) (k : Kept setup server) w
       → Holds (server_says setup plan link bytes tale)
   saying_keeps link bytes tale got holds =
       let wire : Wire = wire_with tale link bytes in
-      if_either Holds (not (is_entered tale link)) _ _
+      if_either Holds (not (tale.wires link).entered) _ _
       (λ is. entering_keeps link wire (opening (plan.logins link) wire.unread) tale holds)
       (λ is. if_either Holds (is_reset_step (tale.wires link).step) _ _
       (λ resets. resetting_keeps link wire (read_as kind.Command wire) tale holds)
-      (λ reads. reading_keeps link wire tale (got.read (not-false (is_entered tale link) is) reads) holds))
+      (λ reads. reading_keeps link wire tale (got.read (not-false (tale.wires link).entered is) reads) holds))
 
   told_keeps : (tale : Tale) (e : Entry) → IsTrue setup plan server tale e → Holds tale → Holds (told setup plan tale e)
   told_keeps tale (entry.Got link bytes) is holds =
@@ -260,7 +254,7 @@ module _ (setup : Setup) (plan : Plan) (server : Step) (k : Kept setup server) w
       if_either Holds (is_to_server tale link) _ _ (λ there. writing_keeps link for bytes (tale.wires link) tale holds)
       (λ other. holds)
   told_keeps tale (entry.Exec link) is holds =
-      if_either Holds (is_entered tale link) _ _
+      if_either Holds (tale.wires link).entered _ _
       (λ there. if_either (λ e. Holds (tell e tale)) (tale.wires link).quits (Dropped link) (Ran link) (λ quits. k.more _ _ tt holds)
       (λ goes. k.more _ _ ((is there).runs goes).fresh holds)) (λ other. holds)
   told_keeps tale (entry.Drop link) is holds = k.more _ _ tt holds

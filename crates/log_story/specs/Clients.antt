@@ -2,14 +2,11 @@
 use Rattle.std.specs.Prelude.{ℕ, zero, suc, Bool, true, false, not, ◌&&◌, ◌||◌, is_some, nat_eq, List, fold, length, slice_get, slice_index_or, Option, Some}
 use Rattle.std.specs.Prelude.{None, if◌then◌else◌}
 use Rattle.std.specs.Option.{option_map_or}
-use Rattle.mx_base.specs.declared.names.ClientNo.{ClientNo}
-use Rattle.mx_base.specs.declared.names.Hostgroup.{Hostgroup}
-use Rattle.mx_base.specs.declared.names.LinkId.{LinkId}
 use Rattle.mx_wire.specs.declared.entry.Entry.{Entry}
 use Rattle.mx_wire.specs.declared.entry.Entry.TheVariants.{Woke, Got, Ended, ReadFailed, WriteFailed}
 use Rattle.packet_frame.specs.Packets.{Framed}
 use Rattle.session_state.specs.Pins.{is_pinned}
-use Rattle.session_state.specs.declared.names.MessageName.{MessageName}
+use Rattle.private_model.specs.Names.{ClientNo, Hostgroup, LinkId, MessageName}
 use Rattle.private_model.specs.Commands.{Command}
 use Rattle.private_model.specs.Story.{BecameDue, Left, Mirrored, is_client, is_link_id}
 use Rattle.private_model.specs.View.{Held, Setup, View, present, session_in}

@@ -1,7 +1,7 @@
 -- What a client's message asks for; an execute, by its own bytes and the messages before it (client/server protocol, "COM_STMT_EXECUTE",
 -- "COM_STMT_SEND_LONG_DATA", "COM_STMT_RESET").
-use Rattle.std.specs.Prelude.{ℕ, zero, suc, ◌+◌, ◌*◌, ◌/◌, ◌-◌, Bool, false, not, is_some, ◌&&◌, nat_eq, nat_lt, if◌then◌else◌, List, [], ◌∷◌, ◌++◌}
-use Rattle.std.specs.Prelude.{drop, slice_index_or, take, unwrap_or, Option, Some, None}
+use Rattle.std.specs.Prelude.{ℕ, zero, suc, ◌+◌, ◌*◌, ◌/◌, ◌-◌, Bool, false, not, is_some, ◌&&◌, nat_eq, nat_lt, if◌then◌else◌, List, [], ◌∷◌, ◌++◌, drop}
+use Rattle.std.specs.Prelude.{slice_index_or, take, unwrap_or, Option, Some, None}
 use Rattle.std.specs.Option.{option_and_then, option_map, option_map_or, option_or}
 use Rattle.mx_base.specs.Fields.{number_at}
 use Rattle.packet_frame.specs.Packets.{Framed}

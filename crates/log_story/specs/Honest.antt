@@ -17,7 +17,7 @@ use Rattle.private_model.specs.View.{Answered, Asked, Setup}
 use Rattle.private_model.specs.Worlds.{Real, real_after}
 use Rattle.log_story.specs.Executes.{args_in, is_for}
 use Rattle.log_story.specs.Plan.{Closes, Plan, Resets, StepText, com_execute, step_payload, text_payload}
-use Rattle.log_story.specs.Tale.{Tale, Wire, first_tale, is_entered, is_reset_step, is_to_server, link_in, view_of}
+use Rattle.log_story.specs.Tale.{Tale, Wire, first_tale, is_reset_step, is_to_server, link_in, view_of}
 use Rattle.log_story.specs.Servers.{kind_by, may_begin, reply_id, with_run, written_in}
 use Rattle.log_story.specs.Telling.{tale_step, wire_with}
 
@@ -97,12 +97,12 @@ pub record IsTrueReset (wire : Wire) : Type 0 where
   pub front : IsFront wire.unread (spelling (reply_id wire) answer)
 
 pub record IsTrueGot (setup : Setup) (plan : Plan) (server : Step) (tale : Tale) (link : LinkId) (wire : Wire) : Type 0 where
-  pub login : is_entered tale link ≡ false → IsTrueLogin plan link wire
-  pub read : is_entered tale link ≡ true → is_reset_step wire.step ≡ false → IsTrueRead setup server link wire tale
-  pub reset : is_entered tale link ≡ true → is_reset_step wire.step ≡ true → IsTrueReset wire
+  pub login : (tale.wires link).entered ≡ false → IsTrueLogin plan link wire
+  pub read : (tale.wires link).entered ≡ true → is_reset_step wire.step ≡ false → IsTrueRead setup server link wire tale
+  pub reset : (tale.wires link).entered ≡ true → is_reset_step wire.step ≡ true → IsTrueReset wire
 
 abbrev pub IsTrue : Setup → Plan → Step → Tale → Entry → Type 0
-IsTrue setup plan server tale (Exec link) = is_entered tale link ≡ true → IsTrueExec setup server tale link
+IsTrue setup plan server tale (Exec link) = (tale.wires link).entered ≡ true → IsTrueExec setup server tale link
 IsTrue setup plan server tale (Got link bytes) = is_to_server tale link ≡ true → IsTrueGot setup plan server tale link (wire_with tale link bytes)
 IsTrue setup plan server tale (Wrote link tag bytes) =
     is_to_server tale link ≡ true → may_begin setup link (tale.wires link) tale ≡ true → IsStep (tale.wires link).step (tale.wires link).written

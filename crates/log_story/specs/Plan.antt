@@ -1,13 +1,10 @@
 -- What the router decided, of which no byte tells; and what it writes.
 use Rattle.std.specs.Prelude.{ℕ, ◌+◌, ◌*◌, ◌%◌, ◌/◌, Bool, false, nat_eq, nat_le, List, [], ◌∷◌, if◌then◌else◌, Option, Some, None}
 use Rattle.std.specs.Option.{option_and_then, option_map_or}
-use Rattle.mx_base.specs.declared.names.ClientNo.{ClientNo}
-use Rattle.mx_base.specs.declared.names.Hostgroup.{Hostgroup}
-use Rattle.mx_base.specs.declared.names.LinkId.{LinkId}
 use Rattle.server_side.specs.Account.{Account}
 use Rattle.client_session.specs.Setups.{Setup as Service}
-use Rattle.session_state.specs.declared.names.MessageName.{MessageName}
 use Rattle.server_rule.specs.Texts.{read_id_text, set_id_text}
+use Rattle.private_model.specs.Names.{ClientNo, Hostgroup, LinkId, MessageName}
 use Rattle.private_model.specs.Commands.{Command, Query, InitDb, FieldList, SetId, ReadId, Prepare, Run, Reset, Quit}
 
 -- Where a message of a client goes, its text as rules rewrite it, and where a copy of it goes; of a STMT_PREPARE also the key of

@@ -1,11 +1,8 @@
 -- What passes on links to servers: which question begins there, whose run it is, and which reply was read.
-use Rattle.std.specs.Prelude.{ℕ, suc, ◌-◌, Bool, true, false, not, ◌&&◌, ◌||◌, is_some, nat_eq, List, [], ◌∷◌, ◌++◌, fold, length, take, unwrap_or, Option, Some}
-use Rattle.std.specs.Prelude.{None, if◌then◌else◌}
+use Rattle.std.specs.Prelude.{ℕ, suc, ◌-◌, Bool, true, false, not, ◌&&◌, ◌||◌, is_some, nat_eq, List, [], ◌∷◌, ◌++◌, fold, length, take, unwrap_or, Option}
+use Rattle.std.specs.Prelude.{Some, None, if◌then◌else◌}
 use Rattle.std.specs.List.{last_or}
 use Rattle.std.specs.Option.{option_map_or}
-use Rattle.mx_base.specs.declared.names.ClientNo.{ClientNo}
-use Rattle.mx_base.specs.declared.names.Hostgroup.{Hostgroup}
-use Rattle.mx_base.specs.declared.names.LinkId.{LinkId}
 use Rattle.mx_base.specs.declared.tag.Tag.{Tag}
 use Rattle.mx_base.specs.declared.tag.Tag.TheVariants as tag
 use Rattle.packet_frame.specs.Packets.{Framed, Split, next_id, split}
@@ -17,8 +14,8 @@ use Rattle.reply_track.specs.Tracking.{started}
 use Rattle.server_side.specs.Account.{Account as Login}
 use Rattle.server_side.specs.Login.{Opening, LogsIn, opening}
 use Rattle.session_state.specs.Pins.{is_pinned, needs_reset}
-use Rattle.session_state.specs.declared.names.SessionName.{SessionName}
 use Rattle.server_rule.specs.Servers.{is_some_of}
+use Rattle.private_model.specs.Names.{ClientNo, Hostgroup, LinkId, SessionName}
 use Rattle.private_model.specs.Commands.{Command, FieldList, Prepare, Quit, Reply, is_prepare}
 use Rattle.private_model.specs.Story.{Capture, Due, Dropped, End, Freed, Happening, Heard, Left, LoggedIn, Own, Prep, Question, Ran, Sent, Statement, Sync}
 use Rattle.private_model.specs.Story.{Unprepared, command_of, is_client, is_name, message_of}

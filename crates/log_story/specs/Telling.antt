@@ -10,7 +10,7 @@ use Rattle.server_side.specs.Login.{opening}
 use Rattle.private_model.specs.Story.{Dropped, Gone, Ran, Story}
 use Rattle.private_model.specs.View.{Setup}
 use Rattle.log_story.specs.Plan.{Plan}
-use Rattle.log_story.specs.Tale.{Tale, Wire, client_gets, client_hears, counted, first_tale, is_entered, is_reset_step, is_to_server, new_client, new_wire, tell, view_of}
+use Rattle.log_story.specs.Tale.{Tale, Wire, client_gets, client_hears, counted, first_tale, is_reset_step, is_to_server, new_client, new_wire, tell, view_of}
 use Rattle.log_story.specs.Tale.{with_wire}
 use Rattle.log_story.specs.Clients.{client_leaves, clients_are_ended, clients_go_on}
 use Rattle.log_story.specs.Servers.{entered_by, links_are_freed, read_as, reads_on, reset_by, writes}
@@ -22,7 +22,7 @@ wire_with tale link bytes = record (tale.wires link) { unread = (tale.wires link
 abbrev pub server_says : Setup → Plan → LinkId → List ℕ → Tale → Tale
 server_says setup plan link bytes tale =
     let wire = wire_with tale link bytes in
-    if not (is_entered tale link) then entered_by plan link wire (opening (plan.logins link) wire.unread) tale
+    if not (tale.wires link).entered then entered_by plan link wire (opening (plan.logins link) wire.unread) tale
     else if is_reset_step (tale.wires link).step then reset_by link wire (read_as kind.Command wire) tale
     else reads_on setup link wire tale
 
@@ -39,7 +39,7 @@ told setup plan tale (Wrote link tag bytes) =
     if is_to_server tale link then writes setup plan link tag bytes (tale.wires link) tale
     else record tale { clients = map (client_gets link (length bytes)) tale.clients }
 told setup plan tale (Exec link) =
-    if is_entered tale link then tell (if (tale.wires link).quits then Dropped link else Ran link) tale else tale
+    if (tale.wires link).entered then tell (if (tale.wires link).quits then Dropped link else Ran link) tale else tale
 told setup plan tale (Drop link) = tell (Dropped link) tale
 told setup plan tale (Ended link) = is_lost_or_left link tale
 told setup plan tale (ReadFailed link) = is_lost_or_left link tale

@@ -104,9 +104,6 @@ ran_by reads true (Asked question) link = record link {
 }
 ran_by reads _ _ link = link
 
-abbrev pub ran : Reads → Link → Link
-ran reads link = ran_by reads link.alive link.stage link
-
 -- Its reply is read.
 
 abbrev pub is_reset : Command → Bool
@@ -223,7 +220,8 @@ view_step setup view (Sent link question) = record view {
   dues = for_statement question (λ n due. put is_name view.dues n None) view.dues;
   carriers = for_statement question (λ n due. put is_message view.carriers (message_of n due) (Some link)) view.carriers;
 }
-view_step setup view (Ran link) = record view { links = put is_link_id view.links link (ran setup.reads (view.links link)) }
+view_step setup view (Ran link) =
+    record view { links = put is_link_id view.links link (ran_by setup.reads (view.links link).alive (view.links link).stage (view.links link)) }
 view_step setup view (Heard link reply) = view_heard setup view link reply (view.links link).stage
 view_step setup view (Freed link) =
     record view { links = put is_link_id view.links link (freed (view.links link)); held = held_freed (view.links link).carries view.held }

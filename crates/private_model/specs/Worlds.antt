@@ -112,8 +112,8 @@ private_statement step private server n due =
 
 -- an unpinned session has no part in it
 abbrev pub private_prep : Step → Private → (pinned : Bool) → (server : ServerId) → SessionName → (key : ℕ) → (text : List ℕ) → Private
-private_prep step private true server n key text = in_table step private server n (private.sessions n) (Prepare text) (Prep n key text)
-private_prep step private false server n key text = private
+private_prep step private pinned server n key text =
+    if pinned then in_table step private server n (private.sessions n) (Prepare text) (Prep n key text) else private
 
 abbrev pub private_run : Step → (SessionName → Held) → Private → (alive : Bool) → Stage → (server : ServerId) → Private
 private_run step held private true (Asked (Statement n due)) server = private_statement step private server n due
@@ -129,8 +129,8 @@ closed step private server n =
     record private { stored = put is_server private.stored server outcome.stored; sessions = put is_name private.sessions n (with_id (private.sessions n).last_id outcome.session) }
 
 abbrev pub private_drop : Step → Private → (alive : Bool) → Carried → (server : ServerId) → Private
-private_drop step private true carried server = option_map_or (closed step private server) (session_in carried) private
-private_drop step private false carried server = private
+private_drop step private alive carried server =
+    if alive then option_map_or (closed step private server) (session_in carried) private else private
 
 abbrev pub private_step : Step → View → Private → Happening → Private
 private_step step view private (Ran link) = private_run step view.held private (view.links link).alive (view.links link).stage (view.links link).server

@@ -2,8 +2,7 @@ use Rattle.std.proofs.Common.{refl, sym, subst}
 use Rattle.private_model.specs.Lawful.{IsLawful}
 use Rattle.small_server.specs.Stories.{reads, setup}
 use Rattle.small_server.specs.Tally.{tests}
-use Rattle.log_cases.specs.Worked.{server}
-use Rattle.log_cases.specs.Worked.{log, plan}
+use Rattle.log_cases.specs.Worked.{server, log, plan}
 use Rattle.log_cases.proofs.Computed.{log_honest, worked_computed}
 use Rattle.log_cases.proofs.worked_log.Goals as goal
 
