@@ -6,7 +6,7 @@ use Rattle.private_model.proofs.Maps.{at_each, link_ids, messages, no_other, put
 use Rattle.private_model.proofs.Stands.{AreAnswered, message_on, ran_on}
 use Rattle.private_model.specs.Commands.{Reply}
 use Rattle.private_model.specs.Story.{Capture, End, Own, Prep, Statement, Sync, is_link_id, is_message, put}
-use Rattle.private_model.specs.View.{Answered, Asked, Link, Quiet, Stage}
+use Rattle.private_model.specs.View.{Asked, Link, Quiet, Stage}
 use Rattle.private_model.specs.Worlds.{Peer}
 use Rattle.server_rule.specs.Servers.{fresh}
 

@@ -5,12 +5,12 @@ use Rattle.private_model.specs.Names.{LinkId, ServerId, SessionName}
 use Rattle.private_model.proofs.Maps.{at_each, link_ids, names, no_home, no_other, put-other, put-same}
 use Rattle.private_model.proofs.Sessions.{harmless_shallow}
 use Rattle.private_model.proofs.Stands.{AreKept, AreMatched, AreTabled, AreTabledBy, IfAlive, IsAskedFree, IsAskedJoined, IsAskedLent, IsAtBy, IsUsual, Stands, soon_pin, heard, quieted, soon_live, heard_now}
-use Rattle.private_model.proofs.Tabling.{kept_without, matched_without, tabled_frame, tabled_moved}
+use Rattle.private_model.proofs.Tabling.{kept_without, matched_without, tabled_frame, tabled_moved, without}
 use Rattle.private_model.specs.Commands.{Account, Reply}
 use Rattle.private_model.specs.Honest.{IsAnswer}
 use Rattle.private_model.specs.Lawful.{MayFree, MayLend, MaySend}
 use Rattle.private_model.specs.Story.{Capture, End, Freed, Heard, Key, Own, Prep, Question, Sent, Statement, Sync, Unprepared, is_link_id, is_name, put}
-use Rattle.private_model.specs.View.{Stage, Answered, Asked, Carried, Held, Joined, Lent, Nobody, Quiet, Setup, View, asked, carried_for, closed_number, freed, held_by, held_freed, held_heard, new_link, view_step, without, view_heard}
+use Rattle.private_model.specs.View.{Stage, Answered, Asked, Carried, Held, Joined, Lent, Nobody, Quiet, Setup, View, asked, carried_for, closed_number, freed, held_by, held_freed, held_heard, new_link, view_heard, view_step}
 use Rattle.private_model.specs.Worlds.{Peer, Private, Real, new_peer}
 use Rattle.server_rule.specs.Servers.{Tests}
 

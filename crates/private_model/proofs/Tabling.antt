@@ -1,5 +1,6 @@
 -- What is prepared, on links and in sessions.
 use Rattle.std.specs.Prelude.{if◌then◌else◌, ◌≡◌, ℕ, Bool, true, false, nat_eq, List, Option, Some, None}
+use Rattle.std.specs.Option.{option_and_then}
 use Rattle.std.proofs.Common.{refl, sym, ap, ◌∙◌, subst, inl, inr}
 use Rattle.private_model.specs.Names.{LinkId, SessionName}
 use Rattle.private_model.proofs.Maps.{at_each, link_ids, names, numbers, put-other, put-same}
@@ -10,7 +11,7 @@ use Rattle.private_model.proofs.Tame.{Tame}
 use Rattle.private_model.specs.Commands.{Args, Command, FieldList, InitDb, Prepare, Query, Quit, ReadId, Reset, Run, SetId, Step, is_prepare}
 use Rattle.private_model.specs.Lawful.{IsKeyed, IsLiveRun, IsToldKey}
 use Rattle.private_model.specs.Story.{Key, is_link_id, is_name, put}
-use Rattle.private_model.specs.View.{Carried, Held, Joined, Lent, Link, Nobody, Setup, lived, text_of, without}
+use Rattle.private_model.specs.View.{Carried, Held, Joined, Lent, Link, Nobody, Setup, lived, text_of}
 use Rattle.private_model.specs.Worlds.{Peer, decoded, tabled}
 use Rattle.server_rule.specs.Classes.{Reads, core}
 use Rattle.server_rule.specs.Servers.{Accepts, Tests}
@@ -86,6 +87,9 @@ kept_by setup true live there key number text s unused of_key before = kept_put 
 kept_by setup false live there key number text s unused of_key before = before
 
 -- A STMT_CLOSE.
+
+abbrev pub without : (number : ℕ) → Option ℕ → Option ℕ
+without number of_key = option_and_then (λ n. if nat_eq n number then None else Some n) of_key
 
 without_is : (number : ℕ) (was : Option ℕ) (n : ℕ) → without number was ≡ Some n → (was ≡ Some n) × (nat_eq n number ≡ false)
 without_is number None n e = absurd (cc)

@@ -180,11 +180,8 @@ view_heard setup view link reply (Answered question) = record view {
 view_heard setup view link reply _ = view
 
 -- what a STMT_CLOSE of this number leaves
-abbrev pub without : (number : ℕ) → Option ℕ → Option ℕ
-without number of_key = option_and_then (λ n. if nat_eq n number then None else Some n) of_key
-
 abbrev pub closed_number : (number : ℕ) → Link → Link
-closed_number number link = record link { live = λ key. without number (link.live key) }
+closed_number number link = record link { live = λ key. option_and_then (λ n. if nat_eq n number then None else Some n) (link.live key) }
 
 -- A link is given back, or lost, and a client leaves.
 
