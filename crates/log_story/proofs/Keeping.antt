@@ -24,8 +24,8 @@ use Rattle.private_model.specs.Lawful.{IsLawful}
 use Rattle.private_model.specs.Worlds.{real_after}
 use Rattle.private_model.specs.Story.{BecameDue, Dropped, End, Freed, Gone, Happening, Left, Own, Question, Ran, Sent, Story, Sync, command_of, is_client}
 use Rattle.private_model.specs.Story.{is_link_id}
-use Rattle.private_model.specs.View.{Answered, Asked, Carried, Joined, Lent, Nobody, Quiet, Setup, Stage, View, present, view_after}
-use Rattle.log_story.specs.Plan.{Asks, Closes, Plan, Resets, Route, StepText, com_reset, is_by_now, is_now, job_of}
+use Rattle.private_model.specs.View.{Answered, Asked, Carried, Joined, Quiet, Setup, Stage, View, present, view_after}
+use Rattle.log_story.specs.Plan.{Plan, Resets, Route, StepText, com_reset, is_by_now, is_now, job_of}
 use Rattle.log_story.specs.Tale.{Client, Tale, Wire, counted, first_tale, is_reset_step, is_to_server, link_in, tell, view_of, with_client, with_wire}
 use Rattle.log_story.specs.Executes.{Request, requested}
 use Rattle.log_story.specs.Owed.{has_room, messages, name_of}

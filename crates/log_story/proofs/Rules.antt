@@ -8,9 +8,9 @@ use Rattle.session_state.specs.declared.names.SessionName.{SessionName}
 use Rattle.private_model.proofs.Maps.{same_name}
 use Rattle.private_model.specs.Lawful.{IsSettled, MayFree}
 use Rattle.private_model.specs.Story.{is_name}
-use Rattle.private_model.specs.View.{Answered, Asked, Carried, Held, Joined, Lent, Link, Nobody, Quiet, Setup, Stage, View, present}
+use Rattle.private_model.specs.View.{Carried, Held, Joined, Lent, Link, Nobody, Quiet, Setup, Stage, View, present}
 use Rattle.log_story.specs.Clients.{is_answered, next_taken, taken_by}
-use Rattle.log_story.specs.Owed.{has_room, name_of, unwritten}
+use Rattle.log_story.specs.Owed.{name_of, unwritten}
 use Rattle.log_story.specs.Plan.{Plan}
 use Rattle.log_story.specs.Servers.{is_done, is_done_by, is_given_up, is_left, is_quiet, is_settled}
 use Rattle.log_story.specs.Tale.{Client, Tale, Wire, view_of}

@@ -1,12 +1,12 @@
 -- What clients ask: which message is taken up and becomes due when, and when a client leaves.
-use Rattle.std.specs.Prelude.{ℕ, zero, suc, Bool, true, false, not, ◌&&◌, ◌||◌, is_some, nat_eq, List, fold, length, slice_get, slice_index_or, Option, Some}
+use Rattle.std.specs.Prelude.{ℕ, zero, suc, Bool, true, false, not, ◌&&◌, ◌||◌, is_some, nat_eq, fold, length, slice_get, slice_index_or, Option, Some}
 use Rattle.std.specs.Prelude.{None, if◌then◌else◌}
 use Rattle.std.specs.Option.{option_map_or}
 use Rattle.mx_wire.specs.declared.entry.Entry.{Entry}
 use Rattle.mx_wire.specs.declared.entry.Entry.TheVariants.{Woke, Got, Ended, ReadFailed, WriteFailed}
 use Rattle.packet_frame.specs.Packets.{Framed}
 use Rattle.session_state.specs.Pins.{is_pinned}
-use Rattle.private_model.specs.Names.{ClientNo, Hostgroup, LinkId, MessageName}
+use Rattle.private_model.specs.Names.{Hostgroup, LinkId, MessageName}
 use Rattle.private_model.specs.Commands.{Command}
 use Rattle.private_model.specs.Story.{BecameDue, Left, Mirrored, is_client, is_link_id}
 use Rattle.private_model.specs.View.{Held, Setup, View, present, session_in}

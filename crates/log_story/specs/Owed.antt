@@ -8,7 +8,7 @@ use Rattle.reply_track.specs.Grammar.{renamed}
 use Rattle.client_session.specs.Answers.{Talk, fault_answer, front, messages_of}
 use Rattle.session_state.specs.declared.names.MessageName.{MessageName}
 use Rattle.private_model.specs.Commands.{Reply}
-use Rattle.log_story.specs.Plan.{Plan, Route, own_at}
+use Rattle.log_story.specs.Plan.{Plan, own_at}
 use Rattle.log_story.specs.Tale.{Client}
 
 abbrev pub talk_of : Plan → Client → Talk

@@ -11,13 +11,12 @@ use Rattle.reply_track.specs.declared.reply.ReplyKind.TheVariants as kind
 use Rattle.reply_track.specs.Runs.{Ending, Ended, run}
 use Rattle.reply_track.specs.Replying.{payloads_in}
 use Rattle.reply_track.specs.Tracking.{started}
-use Rattle.server_side.specs.Account.{Account as Login}
-use Rattle.server_side.specs.Login.{Opening, LogsIn, opening}
+use Rattle.server_side.specs.Login.{Opening, LogsIn}
 use Rattle.session_state.specs.Pins.{is_pinned, needs_reset}
 use Rattle.server_rule.specs.Servers.{is_some_of}
-use Rattle.private_model.specs.Names.{ClientNo, Hostgroup, LinkId, SessionName}
+use Rattle.private_model.specs.Names.{ClientNo, LinkId, SessionName}
 use Rattle.private_model.specs.Commands.{Command, FieldList, Prepare, Quit, Reply, is_prepare}
-use Rattle.private_model.specs.Story.{Capture, Due, Dropped, End, Freed, Happening, Heard, Left, LoggedIn, Own, Prep, Question, Ran, Sent, Statement, Sync}
+use Rattle.private_model.specs.Story.{Capture, Due, End, Freed, Happening, Heard, Left, LoggedIn, Own, Prep, Question, Ran, Sent, Statement, Sync}
 use Rattle.private_model.specs.Story.{Unprepared, command_of, is_client, is_name, message_of}
 use Rattle.private_model.specs.View.{Asked, Answered, Carried, Held, Joined, Lent, Link, Nobody, Quiet, Setup, Stage, View, is_quit, present, session_in}
 use Rattle.log_story.specs.Plan.{Asks, Closes, Plan, Resets, Route, StepText, job_of, own_at}
