@@ -72,7 +72,7 @@ abbrev pub copy_by : View → LinkId → SessionName → Carried → List Happen
 copy_by view link n (Joined who) = if is_client who.client n.client then Sent link (End who) ∷ [] else Sent link (statement_of view 1 n) ∷ []
 copy_by view link n _ = Left n.client ∷ Sent link (statement_of view 1 n) ∷ []
 
--- the last first; what ends is the session that the link carries, else the present one
+-- the last first; a Prep is of the text of what is due, and what ends is the session that the link carries, else the present one
 abbrev pub begun_by : Setup → Plan → View → LinkId → (begun : ℕ) → Tag → List Happening
 begun_by setup plan view link begun (tag.For client ordinal) =
     routed plan link client ordinal (λ route. Sent link (statement_of view ordinal (present view client route.hostgroup)) ∷ [])
