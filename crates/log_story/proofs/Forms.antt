@@ -19,15 +19,8 @@ HasForm _ answer = Unit {0}
 
 decoded_form : (entry : Option Key) (command : Command) → is_prepare (decoded entry command) ≡ is_prepare command
 decoded_form None command = refl
-decoded_form (Some entry) (Query text) = refl
-decoded_form (Some entry) (InitDb schema) = refl
-decoded_form (Some entry) (FieldList rest) = refl
-decoded_form (Some entry) (SetId n) = refl
-decoded_form (Some entry) ReadId = refl
-decoded_form (Some entry) (Prepare text) = refl
 decoded_form (Some entry) (Run text schema settings args) = refl
-decoded_form (Some entry) Reset = refl
-decoded_form (Some entry) Quit = refl
+decoded_form (Some entry) _ = refl
 
 there_form : (question : Question) (live : ℕ → Option ℕ) (table : ℕ → Option Key)
     → is_prepare (there_command question live table) ≡ is_prepare (command_of question)
@@ -72,9 +65,7 @@ run_formed : (reads : Reads) (server : Step) (view : View) (real : Real) (l : Li
     → AreFormed (put is_link_id view.links l (ran_by reads alive stage (view.links l))) (real_run (runs server) real l live alive stage at).peers
 run_formed reads server view real l live true (Asked question) at holds link =
     both_formed (is_link_id link l) _ (view.links link) _ (real.peers link) (there_form question live (real.peers l).table) (holds link)
-run_formed reads server view real l live true Quiet at holds link = still_formed view.links real.peers l (view.links l) refl holds link
-run_formed reads server view real l live true (Answered question) at holds link = still_formed view.links real.peers l (view.links l) refl holds link
-run_formed reads server view real l live false stage at holds link = still_formed view.links real.peers l (view.links l) refl holds link
+run_formed reads server view real l live _ _ at holds link = still_formed view.links real.peers l (view.links l) refl holds link
 
 dropped_answer : (server : Step) (real : Real) (l : LinkId) (alive : Bool) (at : ServerId) (link : LinkId)
     → ((real_drop (runs server) real l alive at).peers link).answer ≡ (real.peers link).answer

@@ -172,9 +172,6 @@ module _ (setup : Setup) (tests : Tests) (step : Step) (tame : Tame setup.reads 
       ran_still link (peer_by (real.peers number).table there) (subst (λ x. AreTabledBy setup x link (peer_by (real.peers number).table there) view.held private.tables) (sym same) (next (alive_joined setup tests view real private stands are number m alive question is carries)))
 
   ran_by_table : (alive : Bool) (stage : Stage) → (view.links number).alive ≡ alive → (view.links number).stage ≡ stage → IsTrueRun step real number (view.links number).live alive stage (view.links number).server → RanTabled alive stage
-  ran_by_table false stage alive is fresh = tabled_still setup tests view real private stands are number
-  ran_by_table true Quiet alive is fresh = tabled_still setup tests view real private stands are number
-  ran_by_table true (Answered question) alive is fresh = tabled_still setup tests view real private stands are number
   ran_by_table true (Asked (Statement m due)) alive is fresh = ran_statement_table m due alive is fresh
   ran_by_table true (Asked (Prep m key text)) alive is fresh = ran_prep_table m key text alive is (prep_name setup number (view.links number).carries (view.links number) (real.peers number) view.held private.sessions (stands.links number) m key text is) fresh
   ran_by_table true (Asked (Own c)) alive is fresh = ran_own_table c alive is (view.links number).carries refl
@@ -192,6 +189,7 @@ module _ (setup : Setup) (tests : Tests) (step : Step) (tame : Tame setup.reads 
       let carries : l.carries ≡ Joined m = end_name setup number l.carries l (real.peers number) view.held private.sessions (stands.links number) m is in
       ran_table m (ran_by setup.reads true (Asked (End m)) l) (peer_by (λ n. None) (step (real.stored l.server) (real.peers number).session Reset)) (λ key. None) (stands_at setup tests view real private stands are number (Joined m) carries).home carries
       (record { match = λ key n e. cc; kept = λ e. record { kept = λ key n f. cc }; usual = λ e. record { usual = λ key place f. cc } })
+  ran_by_table _ _ alive is fresh = tabled_still setup tests view real private stands are number
 
   pub tabled_ran : IsTrueRun step real number (view.links number).live (view.links number).alive (view.links number).stage (view.links number).server → AreTabled setup (view_step setup view (Ran number)).links (real_step step view real (Ran number)).peers view.held (private_step step view private (Ran number)).tables
   tabled_ran fresh = ran_by_table (view.links number).alive (view.links number).stage refl refl fresh

@@ -105,9 +105,6 @@ module _ (setup : Setup) (tests : Tests) (step : Step) (tame : Tame setup.reads 
 
   ran_answers : (alive : Bool) (stage : Stage) → (view.links number).alive ≡ alive → (view.links number).stage ≡ stage
       → Answer (record view { links = put is_link_id view.links number (ran_by setup.reads alive stage now) }) (real_run step real number (view.links number).live alive stage now.server) (private_run step view.held private alive stage now.server)
-  ran_answers false stage alive is = are_linked view.links real.peers view.carriers view.replies private.answers answer number now (λ m e. e) (λ m e. e)
-  ran_answers true Quiet alive is = are_linked view.links real.peers view.carriers view.replies private.answers answer number now (λ m e. e) (λ m e. e)
-  ran_answers true (Answered question) alive is = are_linked view.links real.peers view.carriers view.replies private.answers answer number now (λ m e. e) (λ m e. e)
   ran_answers true (Asked (Statement n due)) alive is =
       are_ran view.links real.peers view.carriers view.replies private.answers answer number (ran_by setup.reads true (Asked (Statement n due)) now) (peer_after (Statement n due) (decoded (option_and_then (real.peers number).table ((view.links number).live due.key)) due.command)) (message_of n due) _ (ap message_on is) refl (same_reply setup tests step tame view real private stands number (are_decoded setup tests step tame view real private stands tabled number) n due alive is) (λ m e. cc)
   ran_answers true (Asked (Prep n key text)) alive is =
@@ -117,6 +114,7 @@ module _ (setup : Setup) (tests : Tests) (step : Step) (tame : Tame setup.reads 
   ran_answers true (Asked (Own c)) alive is = are_still view.links real.peers view.carriers view.replies private.answers answer number (ran_by setup.reads true (Asked (Own c)) now) (peer_after (Own c) c) (λ m e. cc) (λ m e. absurd (no_message m e))
   ran_answers true (Asked (End n)) alive is = are_still view.links real.peers view.carriers view.replies private.answers answer number (ran_by setup.reads true (Asked (End n)) now) (peer_after (End n) Reset) (λ m e. cc) (λ m e. absurd (no_message m e))
   ran_answers true (Asked (Capture n)) alive is = are_still view.links real.peers view.carriers view.replies private.answers answer number (ran_by setup.reads true (Asked (Capture n)) now) (peer_after (Capture n) ReadId) (λ m e. cc) (λ m e. absurd (no_message m e))
+  ran_answers _ _ alive is = are_linked view.links real.peers view.carriers view.replies private.answers answer number now (λ m e. e) (λ m e. e)
 
   pub answers_ran : Answer (view_step setup view (Ran number)) (real_step step view real (Ran number)) (private_step step view private (Ran number))
   answers_ran = ran_answers now.alive now.stage refl refl

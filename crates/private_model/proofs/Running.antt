@@ -434,15 +434,13 @@ module _ (setup : Setup) (tests : Tests) (step : Step) (tame : Tame setup.reads 
   still = linked view (view.links number) (stands.links number)
 
   ran_by_stage : AreDecoded → (alive : Bool) (stage : Stage) → (view.links number).alive ≡ alive → (view.links number).stage ≡ stage → RanTo alive stage
-  ran_by_stage are false stage alive is = still
-  ran_by_stage are true Quiet alive is = still
-  ran_by_stage are true (Answered question) alive is = still
   ran_by_stage are true (Asked (Statement m due)) alive is = ran_statement are m due alive is
   ran_by_stage are true (Asked (Sync m c)) alive is = ran_sync m c alive is
   ran_by_stage are true (Asked (Own c)) alive is = ran_own c alive is (view.links number).carries refl
   ran_by_stage are true (Asked (Prep m key text)) alive is = ran_prep m key text alive is
   ran_by_stage are true (Asked (End m)) alive is = ran_end m alive is
   ran_by_stage are true (Asked (Capture m)) alive is = ran_capture m alive is
+  ran_by_stage are _ _ alive is = still
 
   pub ran_so : AreDecoded → Stands setup tests (view_step setup view (Ran number)) (real_step step view real (Ran number)) (private_step step view private (Ran number))
   ran_so are = ran_by_stage are (view.links number).alive (view.links number).stage refl refl

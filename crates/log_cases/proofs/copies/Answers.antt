@@ -3,20 +3,15 @@ use Rattle.private_model.specs.Lawful.{IsLawful}
 use Rattle.small_server.specs.Stories.{reads, setup}
 use Rattle.small_server.specs.Tally.{tests}
 use Rattle.log_cases.specs.Worked.{server}
-use Rattle.log_cases.specs.Aside.{copy_log, copy_plan}
-use Rattle.log_cases.proofs.Computed.{copy_computed, copy_honest, copy_lawful}
+use Rattle.log_cases.specs.Aside.{copy_log, copy_plan, copy_story}
+use Rattle.log_cases.proofs.Computed.{computed, copy_lawful, honest_so}
 use Rattle.log_cases.proofs.copies.Goals as goal
 
-pub returns-clause-told : goal.returns-clause-told
-returns-clause-told c = copy_computed.0
-
-pub returns-clause-lawful : goal.returns-clause-lawful
-returns-clause-lawful c = copy_lawful
-
-pub returns-clause-honest : goal.returns-clause-honest
-returns-clause-honest c = copy_honest
-
-pub returns-clause-private : goal.returns-clause-private
-returns-clause-private c =
-    c.private_bytes.ensures setup copy_plan tests server copy_log (c.laws_can_be_met.ensures reads) (λ at. refl)
-    (subst (IsLawful setup) (sym copy_computed.0) copy_lawful) copy_honest
+pub returns : goal.returns
+returns c = record {
+  told = computed.copies.told;
+  lawful = copy_lawful;
+  honest = honest_so copy_plan copy_log copy_story computed.copies;
+  private = c.private_bytes.ensures setup copy_plan tests server copy_log (c.laws_can_be_met.ensures reads) (λ at. refl)
+      (subst (IsLawful setup) (sym computed.copies.told) copy_lawful) (honest_so copy_plan copy_log copy_story computed.copies);
+}
