@@ -12,7 +12,7 @@ use Rattle.private_model.proofs.Tabling.{decoded_alike, kept_by, keyed_told, mat
 use Rattle.private_model.proofs.Tame.{Tame}
 use Rattle.private_model.specs.Commands.{Command, Outcome, Prepare, ReadId, Reset, Step, is_err, is_made, number_in, pin_statement, is_prepare}
 use Rattle.private_model.specs.Story.{Capture, Due, End, Key, Own, Prep, Question, Ran, Statement, Sync, is_link_id, is_name, put}
-use Rattle.private_model.specs.View.{Answered, Asked, Carried, Joined, Lent, Link, Nobody, Quiet, Setup, Stage, View, is_quit, lived, ran_by, text_of, view_step}
+use Rattle.private_model.specs.View.{Asked, Carried, Joined, Lent, Link, Nobody, Setup, Stage, View, is_quit, lived, ran_by, text_of, view_step}
 use Rattle.private_model.specs.Worlds.{Peer, Private, Real, decoded, private_prep, private_run, private_step, readied, real_run, real_step, table_after, tabled, there_table}
 use Rattle.server_rule.specs.Servers.{Tests}
 use Rattle.server_rule.specs.declared.session.Session.{Session}

@@ -12,7 +12,7 @@ use Rattle.server_rule.specs.Servers as server
 use Rattle.server_rule.specs.declared.command.Cmd.TheVariants as cmd
 use Rattle.server_rule.specs.declared.session.Session.{Session}
 use Rattle.server_rule.proofs.Ends.{Shows, nothing_shows, shown_end}
-use Rattle.private_model.specs.Commands.{Number, Command, Query, InitDb, FieldList, SetId, ReadId, Prepare, Run, Reset, Quit, Outcome, class_of, cmd_of, end_of, hides_of, is_err, is_ok, outcome_of, runs}
+use Rattle.private_model.specs.Commands.{Command, Query, InitDb, FieldList, SetId, ReadId, Prepare, Run, Reset, Quit, Outcome, class_of, cmd_of, end_of, hides_of, is_err, is_ok, outcome_of, runs}
 use Rattle.private_model.proofs.Tame.{ResetLaw, Tame, is_flagged, is_text, account_of, brings_id, flags, outcome_with_id}
 use Rattle.private_model.proofs.Sessions.{apart, bool_cases}
 
