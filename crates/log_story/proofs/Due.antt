@@ -8,7 +8,7 @@ use Rattle.session_state.specs.declared.names.MessageName.{MessageName}
 use Rattle.private_model.specs.Commands.{Reply}
 use Rattle.log_story.specs.Plan.{Plan, own_at}
 use Rattle.log_story.specs.Tale.{Client}
-use Rattle.log_story.specs.Owed.{answered_with, due_bytes, due_for, kind_of, last_error, messages, name_of, number_in, talk_of}
+use Rattle.log_story.specs.Owed.{answered_with, due_bytes, due_for, kind_of, last_error, messages, name_of, number_of, talk_of}
 use Rattle.log_story.specs.Honest.{IsFront}
 
 behind : (front xs ys : List ℕ) → IsFront xs ys → IsFront (front ++ xs) (front ++ ys)
@@ -30,8 +30,7 @@ due_front : (read private : MessageName → Option Reply) (plan : Plan) (moment 
     → IsFront (due_for read plan moment client last i others) (due_for private plan moment client last i others)
 due_front read private plan moment client last i [] same = record { rest = []; is = append-nil last }
 due_front read private plan moment client last i (message ∷ others) same =
-    answered_front (own_at plan moment (name_of client i)) (read (name_of client i)) (private (name_of client i)) (number_in (plan.routes (name_of client i)))
-    (next_id message.last)
+    answered_front (own_at plan moment (name_of client i)) (read (name_of client i)) (private (name_of client i)) (number_of plan (name_of client i)) (next_id message.last)
     (due_for read plan moment client last (suc i) others) (due_for private plan moment client last (suc i) others) (same (name_of client i))
     (due_front read private plan moment client last (suc i) others same)
 

@@ -2,41 +2,30 @@
 use Rattle.std.specs.Prelude.{◌≡◌, ℕ, Bool, true, false, [], ◌∷◌, Option, Some, None, if◌then◌else◌}
 use Rattle.std.proofs.Common.{refl, sym, ap, ◌∙◌, subst, inl, inr}
 use Rattle.std.proofs.lemmas.Bool.{cases_Bool}
-use Rattle.mx_base.specs.declared.names.LinkId.{LinkId}
-use Rattle.mx_base.specs.declared.names.ServerId.{ServerId}
 use Rattle.packet_frame.specs.PacketLaws.{nat_eq-true}
-use Rattle.server_rule.specs.Classes.{Reads, is_prepare}
+use Rattle.server_rule.specs.Classes.{Reads}
 use Rattle.server_rule.specs.Servers.{Step}
-use Rattle.private_model.specs.Commands.{Command, Query, InitDb, FieldList, SetId, ReadId, Prepare, Run, Reset, Quit, Reply, cmd_of, runs}
-use Rattle.private_model.specs.Story.{BecameDue, Capture, Dropped, End, Freed, Gone, Happening, Heard, Key, Left, LoggedIn, Mirrored, Own, Prep, Question, Ran}
-use Rattle.private_model.specs.Story.{Sent, Statement, Story, Sync, Unprepared, command_of, is_link_id, put}
-use Rattle.private_model.specs.View.{Answered, Asked, Link, Quiet, Setup, Stage, View, quieted, ran_by, view_after, view_step}
-use Rattle.private_model.specs.Worlds.{Peer, Real, decoded, entry_at, real_after, real_drop, real_run, real_step, there_command}
+use Rattle.private_model.specs.Names.{LinkId, ServerId}
+use Rattle.private_model.specs.Commands.{Command, Query, InitDb, FieldList, SetId, ReadId, Prepare, Run, Reset, Quit, Reply, is_prepare, runs}
+use Rattle.private_model.specs.Story.{BecameDue, Dropped, Freed, Gone, Happening, Heard, Key, LoggedIn, Question, Ran}
+use Rattle.private_model.specs.Story.{Sent, Statement, Story, Unprepared, command_of, is_link_id, put}
+use Rattle.private_model.specs.View.{Answered, Asked, Link, Quiet, Setup, Stage, View, ran_by, view_after, view_heard, view_step}
+use Rattle.private_model.specs.Worlds.{Peer, Real, decoded, real_after, real_drop, real_run, real_step, there_command}
+use Rattle.std.specs.Option.{option_and_then}
 
 abbrev pub HasForm : Stage → Reply → Type 0
-HasForm (Answered question) answer = answer.to_prepare ≡ is_prepare (cmd_of (command_of question))
+HasForm (Answered question) answer = answer.to_prepare ≡ is_prepare (command_of question)
 HasForm _ answer = Unit {0}
 
-decoded_form : (entry : Option Key) (command : Command) → is_prepare (cmd_of (decoded entry command)) ≡ is_prepare (cmd_of command)
+decoded_form : (entry : Option Key) (command : Command) → is_prepare (decoded entry command) ≡ is_prepare command
 decoded_form None command = refl
-decoded_form (Some entry) (Query text) = refl
-decoded_form (Some entry) (InitDb schema) = refl
-decoded_form (Some entry) (FieldList rest) = refl
-decoded_form (Some entry) (SetId n) = refl
-decoded_form (Some entry) ReadId = refl
-decoded_form (Some entry) (Prepare text) = refl
 decoded_form (Some entry) (Run text schema settings args) = refl
-decoded_form (Some entry) Reset = refl
-decoded_form (Some entry) Quit = refl
+decoded_form (Some entry) _ = refl
 
 there_form : (question : Question) (live : ℕ → Option ℕ) (table : ℕ → Option Key)
-    → is_prepare (cmd_of (there_command question live table)) ≡ is_prepare (cmd_of (command_of question))
-there_form (Statement n due) live table = decoded_form (entry_at (live due.key) table) due.command
-there_form (Prep n key text) live table = refl
-there_form (Sync n command) live table = refl
-there_form (Own command) live table = refl
-there_form (End n) live table = refl
-there_form (Capture n) live table = refl
+    → is_prepare (there_command question live table) ≡ is_prepare (command_of question)
+there_form (Statement n due) live table = decoded_form (option_and_then table (live due.key)) due.command
+there_form _ live table = refl
 
 same_link : (a b : LinkId) → is_link_id a b ≡ true → b ≡ a
 same_link a b is = ap (λ n. record { 0 = n }) (sym (nat_eq-true a.0 b.0 is))
@@ -65,11 +54,6 @@ both_formed : (b : Bool) (new old : Link) (next peer : Peer) → HasForm new.sta
 both_formed true new old next peer now holds = now
 both_formed false new old next peer now holds = holds
 
-quiet_form : (stage : Stage) (answer : Reply) → HasForm (quieted stage) answer
-quiet_form Quiet answer = tt
-quiet_form (Asked question) answer = tt
-quiet_form (Answered question) answer = tt
-
 -- a link of another kind in the same stage
 still_formed : (links : LinkId → Link) (peers : LinkId → Peer) (l : LinkId) (value : Link) → value.stage ≡ (links l).stage → AreFormed links peers
     → AreFormed (put is_link_id links l value) peers
@@ -81,14 +65,18 @@ run_formed : (reads : Reads) (server : Step) (view : View) (real : Real) (l : Li
     → AreFormed (put is_link_id view.links l (ran_by reads alive stage (view.links l))) (real_run (runs server) real l live alive stage at).peers
 run_formed reads server view real l live true (Asked question) at holds link =
     both_formed (is_link_id link l) _ (view.links link) _ (real.peers link) (there_form question live (real.peers l).table) (holds link)
-run_formed reads server view real l live true Quiet at holds link = still_formed view.links real.peers l (view.links l) refl holds link
-run_formed reads server view real l live true (Answered question) at holds link = still_formed view.links real.peers l (view.links l) refl holds link
-run_formed reads server view real l live false stage at holds link = still_formed view.links real.peers l (view.links l) refl holds link
+run_formed reads server view real l live _ _ at holds link = still_formed view.links real.peers l (view.links l) refl holds link
 
 dropped_answer : (server : Step) (real : Real) (l : LinkId) (alive : Bool) (at : ServerId) (link : LinkId)
     → ((real_drop (runs server) real l alive at).peers link).answer ≡ (real.peers link).answer
 dropped_answer server real l true at link = put_kept (λ (p : Peer). p.answer) real.peers l _ refl link
 dropped_answer server real l false at link = refl
+
+heard_formed : (setup : Setup) (view : View) (real : Real) (l : LinkId) (reply : Reply) (stage : Stage) → AreFormed view.links real.peers
+    → AreFormed (view_heard setup view l reply stage).links real.peers
+heard_formed setup view real l reply (Answered question) holds link =
+    put_formed (is_link_id link l) _ (view.links link) (real.peers link) (λ answer. tt) (holds link)
+heard_formed setup view real l reply _ holds link = holds link
 
 step_formed : (setup : Setup) (server : Step) (view : View) (real : Real) (e : Happening) → AreFormed view.links real.peers
     → AreFormed (view_step setup view e).links (real_step (runs server) view real e).peers
@@ -98,8 +86,7 @@ step_formed setup server view real (Sent l question) holds link =
     put_formed (is_link_id link l) _ (view.links link) (real.peers link) (λ answer. tt) (holds link)
 step_formed setup server view real (Ran l) holds link =
     run_formed setup.reads server view real l (view.links l).live (view.links l).alive (view.links l).stage (view.links l).server holds link
-step_formed setup server view real (Heard l reply) holds link =
-    put_formed (is_link_id link l) _ (view.links link) (real.peers link) (quiet_form (view.links l).stage) (holds link)
+step_formed setup server view real (Heard l reply) holds link = heard_formed setup view real l reply (view.links l).stage holds link
 step_formed setup server view real (Freed l) holds link = still_formed view.links real.peers l _ refl holds link
 step_formed setup server view real (Unprepared l number) holds link =
     both_kept (view.links link).stage _ (real.peers link).answer _ (put_kept (λ (a : Link). a.stage) view.links l _ refl link)
@@ -108,8 +95,7 @@ step_formed setup server view real (Dropped l) holds link =
     both_kept (view.links link).stage _ (real.peers link).answer _ (put_kept (λ (a : Link). a.stage) view.links l _ refl link)
     (dropped_answer server real l (view.links l).alive (view.links l).server link) (holds link)
 step_formed setup server view real (Gone l) holds link = still_formed view.links real.peers l _ refl holds link
-step_formed setup server view real (Left client) holds link = holds link
-step_formed setup server view real (Mirrored client job) holds link = holds link
+step_formed setup server view real _ holds link = holds link
 
 pub story_formed : (setup : Setup) (server : Step) (story : Story) → AreFormed (view_after setup story).links (real_after setup (runs server) story).peers
 story_formed setup server [] link = tt

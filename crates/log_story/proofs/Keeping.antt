@@ -1,44 +1,39 @@
 -- Honest bytes tell an honest story.
 use Rattle.std.specs.Prelude.{◌≡◌, ℕ, zero, suc, ◌-◌, Bool, true, false, not, ◌&&◌, ◌||◌, List, [], ◌∷◌, ◌++◌, fold, length, nat_eq, slice_get, slice_index_or}
 use Rattle.std.specs.Prelude.{take, Option, Some, None, if◌then◌else◌}
+use Rattle.std.specs.Option.{option_map_or}
 use Rattle.std.proofs.Common.{refl, sym, ap, ◌∙◌, subst, arith}
 use Rattle.std.proofs.lemmas.Bool.{not-false}
 use Rattle.std.proofs.lemmas.List.{take_all}
-use Rattle.mx_base.specs.declared.names.ClientNo.{ClientNo}
-use Rattle.mx_base.specs.declared.names.Hostgroup.{Hostgroup}
-use Rattle.mx_base.specs.declared.names.LinkId.{LinkId}
 use Rattle.mx_base.specs.declared.tag.Tag.{Tag}
 use Rattle.mx_base.specs.declared.tag.Tag.TheVariants as tag
 use Rattle.mx_wire.specs.Log.{Log}
 use Rattle.mx_wire.specs.declared.entry.Entry.{Entry}
 use Rattle.mx_wire.specs.declared.entry.Entry.TheVariants as entry
 use Rattle.packet_frame.specs.Packets.{Framed}
-use Rattle.reply_track.specs.Runs.{Ending, run}
+use Rattle.reply_track.specs.Runs.{Ending}
 use Rattle.reply_track.specs.Runs.Ending.{Going, Ended, Failed}
-use Rattle.reply_track.specs.Tracking.{started}
+use Rattle.reply_track.specs.Tracking.{Sought, started}
+use Rattle.reply_track.specs.declared.reply.ReplyKind.TheVariants as kind
 use Rattle.server_side.specs.Login.{Opening, Goes, LogsIn, Fails, opening}
 use Rattle.server_rule.specs.Servers.{Step}
-use Rattle.session_state.specs.declared.names.MessageName.{MessageName}
-use Rattle.session_state.specs.declared.names.SessionName.{SessionName}
-use Rattle.private_model.specs.Commands.{Command, Reply, cmd_of, runs}
-use Rattle.server_rule.specs.Classes.{is_prepare}
+use Rattle.private_model.specs.Names.{ClientNo, Hostgroup, LinkId, MessageName, SessionName}
+use Rattle.private_model.specs.Commands.{Command, Reply, is_prepare, runs}
 use Rattle.private_model.specs.Honest.{IsHonest, IsTrueOf}
 use Rattle.private_model.specs.Lawful.{IsLawful}
 use Rattle.private_model.specs.Worlds.{real_after}
 use Rattle.private_model.specs.Story.{BecameDue, Dropped, End, Freed, Gone, Happening, Left, Own, Question, Ran, Sent, Story, Sync, command_of, is_client}
 use Rattle.private_model.specs.Story.{is_link_id}
-use Rattle.private_model.specs.View.{Answered, Asked, Carried, Joined, Lent, Nobody, Quiet, Setup, Stage, View, present, view_after}
-use Rattle.log_story.specs.Plan.{Asks, Closes, Plan, Resets, Route, StepText, com_reset, is_by_now, is_now, job_of}
-use Rattle.log_story.specs.Tale.{Client, Tale, Wire, counted, first_tale, is_entered, is_reset_step, is_to_server, link_in, tell, view_of, with_client}
-use Rattle.log_story.specs.Tale.{with_wire}
+use Rattle.private_model.specs.View.{Answered, Asked, Carried, Joined, Quiet, Setup, Stage, View, present, view_after}
+use Rattle.log_story.specs.Plan.{Plan, Resets, Route, StepText, com_reset, is_by_now, is_now, job_of}
+use Rattle.log_story.specs.Tale.{Client, Tale, Wire, counted, first_tale, is_reset_step, is_to_server, link_in, tell, view_of, with_client, with_wire}
 use Rattle.log_story.specs.Executes.{Request, requested}
 use Rattle.log_story.specs.Owed.{has_room, messages, name_of}
-use Rattle.log_story.specs.Clients.{and_on, captures_first, client_goes_on, client_leaves, clients_are_ended, clients_go_on, copied, due_by, ended_if_now}
-use Rattle.log_story.specs.Clients.{is_answered}
+use Rattle.log_story.specs.Clients.{captures_first, client_goes_on, client_leaves, clients_are_ended, clients_go_on, copied, due_by, ended_if_now, is_answered}
 use Rattle.log_story.specs.Clients.{is_event_of, next_taken, taken_by, taken_up}
-use Rattle.log_story.specs.Servers.{begins, begun_by, copy_begun, copy_by, entered_by, freed_if_done, heard_by, hears, is_done, links_are_freed, may_begin}
-use Rattle.log_story.specs.Servers.{quits_by, quits_for, reads_on, reply_id, reply_in, reset_by, reset_sought, routed, runs_first, sought, statement_of}
-use Rattle.log_story.specs.Servers.{step_for, stepped, tell_all, with_run, writes}
+use Rattle.log_story.specs.Servers.{begins, begun_by, breach, copy_by, entered_by, freed_if_done, heard_by, hears, is_done, kind_by, links_are_freed, may_begin}
+use Rattle.log_story.specs.Servers.{quits_by, quits_for, read_as, reads_on, reply_id, reply_in, reset_by, runs_first, statement_of, step_for, stepped, tell_all}
+use Rattle.log_story.specs.Servers.{with_run, writes}
 use Rattle.log_story.specs.Telling.{is_lost_or_left, server_says, story_of, tale_step, told, wire_with}
 use Rattle.log_story.specs.Honest.{IsHonestFrom, IsHonestLog, IsTrue, IsTrueGot, IsTrueRead, IsTrueReply, real_of, spelled}
 use Rattle.log_story.proofs.Forms.{HasForm, story_formed}
@@ -98,17 +93,17 @@ module _ (setup : Setup) (plan : Plan) (server : Step) (k : Kept setup server) w
       (plan.routes (name_of client (suc client.taken))) tale) None
       (λ is. taken_by_keeps client (suc client.taken) message (plan.routes (name_of client (suc client.taken))) tale holds) (λ is. tt)
 
-  and_on_keeps : (next : Option Tale) (old : Tale) (others : Tale → Tale) → Holds old → HoldsIn next → ((tale : Tale) → Holds tale → Holds (others tale))
-      → Holds (and_on next old others)
-  and_on_keeps None old others holds found keeps = holds
-  and_on_keeps (Some tale) old others holds found keeps = keeps tale found
+  others_keep : (others : Tale → Tale) (next : Option Tale) (old : Tale) → Holds old → HoldsIn next → ((tale : Tale) → Holds tale → Holds (others tale))
+      → Holds (option_map_or others next old)
+  others_keep others None old holds found keeps = holds
+  others_keep others (Some tale) old holds found keeps = keeps tale found
 
   taken_up_keeps : (most : ℕ) (client : Client) (tale : Tale) → Holds tale → Holds (taken_up most setup plan client tale)
   taken_up_keeps zero client tale holds = holds
   taken_up_keeps (suc most) client tale holds =
       let next : Client = record client { taken = suc client.taken } in
-      and_on_keeps (next_taken setup plan client (slice_get (messages plan client) client.taken) tale) tale
-      (λ other. taken_up most setup plan next (with_client next other)) holds
+      others_keep (λ other. taken_up most setup plan next (with_client next other))
+      (next_taken setup plan client (slice_get (messages plan client) client.taken) tale) tale holds
       (next_keeps client (slice_get (messages plan client) client.taken) tale holds)
       (λ other found. taken_up_keeps most next (with_client next other) found)
 
@@ -132,40 +127,33 @@ module _ (setup : Setup) (plan : Plan) (server : Step) (k : Kept setup server) w
       (λ other link found. if_either Holds (is_done plan other.moment (view_of setup other) (other.wires link) (link_in setup other link))
       (tell (Freed link) other) other (λ is. k.more _ _ tt found) (λ is. found)) tale.links tale holds
 
-  routed_keeps : (link : LinkId) (client : ClientNo) (happens : Route → List Happening) (route : Option Route) (tale : Tale)
-      → ((route : Route) → Holds (tell_all (happens route) tale)) → Holds tale → Holds (tell_all (routed link client happens route) tale)
-  routed_keeps link client happens None tale each holds = k.more _ _ tt holds
-  routed_keeps link client happens (Some route) tale each holds = each route
+  else_breach : {A : Type 0} (link : LinkId) (client : ClientNo) (happens : A → List Happening) (found : Option A) (tale : Tale)
+      → ((a : A) → Holds (tell_all (happens a) tale)) → Holds tale → Holds (tell_all (option_map_or happens found (breach link client ∷ [])) tale)
+  else_breach link client happens None tale each holds = k.more _ _ tt holds
+  else_breach link client happens (Some a) tale each holds = each a
 
   stepped_keeps : (link : LinkId) (question : Command → Question) (step : StepText) (tale : Tale) → Holds tale
       → Holds (tell_all (stepped link question step) tale)
-  stepped_keeps link question (Asks command) tale holds = k.more _ _ tt holds
-  stepped_keeps link question (Closes number) tale holds = k.more _ _ tt holds
   stepped_keeps link question (Resets number) tale holds = holds
+  stepped_keeps link question _ tale holds = k.more _ _ tt holds
 
   copy_by_keeps : (view : View) (link : LinkId) (n : SessionName) (carried : Carried) (tale : Tale) → Holds tale
       → Holds (tell_all (copy_by view link n carried) tale)
-  copy_by_keeps view link n Nobody tale holds = k.more _ _ tt (k.more _ _ tt holds)
-  copy_by_keeps view link n (Lent who) tale holds = k.more _ _ tt (k.more _ _ tt holds)
   copy_by_keeps view link n (Joined who) tale holds =
       if_either (λ es. Holds (tell_all es tale)) (is_client who.client n.client) (Sent link (End who) ∷ [])
       (Sent link (statement_of view 1 n) ∷ []) (λ is. k.more _ _ tt holds) (λ is. k.more _ _ tt holds)
-
-  copy_keeps : (view : View) (link : LinkId) (job : ClientNo) (mirror : Option Hostgroup) (tale : Tale) → Holds tale
-      → Holds (tell_all (copy_begun view link job mirror) tale)
-  copy_keeps view link job None tale holds = k.more _ _ tt holds
-  copy_keeps view link job (Some hostgroup) tale holds =
-      copy_by_keeps view link (present view job hostgroup) (view.links link).carries tale holds
+  copy_by_keeps view link n _ tale holds = k.more _ _ tt (k.more _ _ tt holds)
 
   begun_keeps : (view : View) (link : LinkId) (begun : ℕ) (for : Tag) (tale : Tale) → Holds tale
       → Holds (tell_all (begun_by setup plan view link begun for) tale)
   begun_keeps view link begun (tag.For client ordinal) tale holds =
-      routed_keeps link client _ (plan.routes (record { client = client; ordinal = ordinal })) tale (λ route. k.more _ _ tt holds) holds
+      else_breach link client _ (plan.routes (record { client = client; ordinal = ordinal })) tale (λ route. k.more _ _ tt holds) holds
   begun_keeps view link begun (tag.Prep client ordinal) tale holds =
-      routed_keeps link client _ (plan.routes (record { client = client; ordinal = ordinal })) tale (λ route. k.more _ _ tt holds) holds
+      else_breach link client _ (plan.routes (record { client = client; ordinal = ordinal })) tale (λ route. k.more _ _ tt holds) holds
   begun_keeps view link begun (tag.Mirror client ordinal) tale holds =
-      routed_keeps link client _ (plan.routes (record { client = client; ordinal = ordinal })) tale
-      (λ route. copy_keeps view link (job_of (record { client = client; ordinal = ordinal })) route.mirror tale holds) holds
+      let job = job_of (record { client = client; ordinal = ordinal }) in
+      else_breach link client _ (plan.routes (record { client = client; ordinal = ordinal })) tale (λ route. else_breach link job _ route.mirror tale
+      (λ hostgroup. copy_by_keeps view link (present view job hostgroup) (view.links link).carries tale holds) holds) holds
   begun_keeps view link begun (tag.Sync client hostgroup) tale holds =
       stepped_keeps link (Sync (present view client hostgroup)) (plan.steps link begun) tale holds
   begun_keeps view link begun (tag.End client hostgroup) tale holds = k.more _ _ tt holds
@@ -194,11 +182,12 @@ module _ (setup : Setup) (plan : Plan) (server : Step) (k : Kept setup server) w
   as_reply to_prepare payloads answer form same = rw (form, same) refl
 
   same_reply : (wire : Wire) (question : Question) (answer : Reply) (end : _) (rest : List ℕ) → IsTrueReply wire question answer
-      → answer.to_prepare ≡ is_prepare (cmd_of (command_of question)) → run (started (sought wire question)) wire.unread ≡ Ended end rest
+      → answer.to_prepare ≡ is_prepare (command_of question) → read_as (kind_by (command_of question)) wire ≡ Ended end rest
       → reply_in wire question (take (length wire.unread - length rest) wire.unread) ≡ answer
   same_reply wire question answer end rest true_reply form found =
-      let all = all_of (started (sought wire question)) wire.unread (spelled wire answer) rest end true_reply.end true_reply.front
-      (ends-so (sought wire question) answer.payloads true_reply.end true_reply.is) found in
+      let sought : Sought = record { kind = kind_by (command_of question); server = reply_id wire; client = 0; number = 0 } in
+      let all = all_of (started sought) wire.unread (spelled wire answer) rest end true_reply.end true_reply.front
+      (ends-so sought answer.payloads true_reply.end true_reply.is) found in
       let none : length rest ≡ 0 = ap length all.none in
       let taken : take (length wire.unread - length rest) wire.unread ≡ wire.unread =
       take_all (length wire.unread - length rest) wire.unread (omega (arith, none)) in
@@ -206,7 +195,7 @@ module _ (setup : Setup) (plan : Plan) (server : Step) (k : Kept setup server) w
       let bytes : take (length wire.unread - length rest) wire.unread ≡ spelled wire answer = taken ∙ all.is in
       let same : payloads_in (reply_id wire) (take (length wire.unread - length rest) wire.unread) ≡ answer.payloads =
       ap (payloads_in (reply_id wire)) bytes ∙ payloads in
-      as_reply (is_prepare (cmd_of (command_of question))) (payloads_in (reply_id wire) (take (length wire.unread - length rest) wire.unread)) answer (sym form)
+      as_reply (is_prepare (command_of question)) (payloads_in (reply_id wire) (take (length wire.unread - length rest) wire.unread)) answer (sym form)
       same
 
   pub running_keeps : (link : LinkId) (wire : Wire) (tale : Tale) (stage : Stage) → IsTrueRead setup server link wire tale
@@ -216,7 +205,7 @@ module _ (setup : Setup) (plan : Plan) (server : Step) (k : Kept setup server) w
   running_keeps link wire tale (Answered question) read is holds = holds
 
   hearing_keeps : (link : LinkId) (wire : Wire) (question : Question) (ending : Ending) (tale : Tale) → (link_in setup tale link).stage ≡ Answered question
-      → IsTrueReply wire question ((real_of setup server tale).peers link).answer → run (started (sought wire question)) wire.unread ≡ ending → Holds tale
+      → IsTrueReply wire question ((real_of setup server tale).peers link).answer → read_as (kind_by (command_of question)) wire ≡ ending → Holds tale
       → Holds (heard_by link question wire ending tale)
   hearing_keeps link wire question (Going state) tale ran reply found holds = holds
   hearing_keeps link wire question (Ended end rest) tale ran reply found holds =
@@ -233,12 +222,11 @@ module _ (setup : Setup) (plan : Plan) (server : Step) (k : Kept setup server) w
       let before : Tale = with_run setup link tale in
       let ran : Holds before = running_keeps link wire tale (link_in setup tale link).stage read refl holds in
       subst (λ stage. Holds (hears link wire stage before)) (sym read.answered)
-      (hearing_keeps link wire read.question (run (started (sought wire read.question)) wire.unread) before read.answered read.reply refl ran)
+      (hearing_keeps link wire read.question (read_as (kind_by (command_of read.question)) wire) before read.answered read.reply refl ran)
 
   resetting_keeps : (link : LinkId) (wire : Wire) (ending : Ending) (tale : Tale) → Holds tale → Holds (reset_by link wire ending tale)
-  resetting_keeps link wire (Going state) tale holds = holds
   resetting_keeps link wire (Ended end rest) tale holds = holds
-  resetting_keeps link wire (Failed rest) tale holds = holds
+  resetting_keeps link wire _ tale holds = holds
 
   -- Each entry.
 
@@ -253,11 +241,11 @@ module _ (setup : Setup) (plan : Plan) (server : Step) (k : Kept setup server) w
       → Holds (server_says setup plan link bytes tale)
   saying_keeps link bytes tale got holds =
       let wire : Wire = wire_with tale link bytes in
-      if_either Holds (not (is_entered tale link)) _ _
+      if_either Holds (not (tale.wires link).entered) _ _
       (λ is. entering_keeps link wire (opening (plan.logins link) wire.unread) tale holds)
       (λ is. if_either Holds (is_reset_step (tale.wires link).step) _ _
-      (λ resets. resetting_keeps link wire (run (started (reset_sought wire)) wire.unread) tale holds)
-      (λ reads. reading_keeps link wire tale (got.read (not-false (is_entered tale link) is) reads) holds))
+      (λ resets. resetting_keeps link wire (read_as kind.Command wire) tale holds)
+      (λ reads. reading_keeps link wire tale (got.read (not-false (tale.wires link).entered is) reads) holds))
 
   told_keeps : (tale : Tale) (e : Entry) → IsTrue setup plan server tale e → Holds tale → Holds (told setup plan tale e)
   told_keeps tale (entry.Got link bytes) is holds =
@@ -266,8 +254,8 @@ module _ (setup : Setup) (plan : Plan) (server : Step) (k : Kept setup server) w
       if_either Holds (is_to_server tale link) _ _ (λ there. writing_keeps link for bytes (tale.wires link) tale holds)
       (λ other. holds)
   told_keeps tale (entry.Exec link) is holds =
-      if_either Holds (is_entered tale link) _ _
-      (λ there. if_either Holds (tale.wires link).quits (tell (Dropped link) tale) (tell (Ran link) tale) (λ quits. k.more _ _ tt holds)
+      if_either Holds (tale.wires link).entered _ _
+      (λ there. if_either (λ e. Holds (tell e tale)) (tale.wires link).quits (Dropped link) (Ran link) (λ quits. k.more _ _ tt holds)
       (λ goes. k.more _ _ ((is there).runs goes).fresh holds)) (λ other. holds)
   told_keeps tale (entry.Drop link) is holds = k.more _ _ tt holds
   told_keeps tale (entry.Ended link) is holds = losing_keeps link tale holds

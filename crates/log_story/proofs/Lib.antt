@@ -3,5 +3,4 @@ pub mod Bytes
 pub mod Keeping
 pub mod Due
 pub mod Moments
-pub mod Computed
-pub mod Tested
+pub mod Rules

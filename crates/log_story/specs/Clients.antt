@@ -1,17 +1,15 @@
 -- What clients ask: which message is taken up and becomes due when, and when a client leaves.
-use Rattle.std.specs.Prelude.{ℕ, zero, suc, Bool, true, false, not, ◌&&◌, ◌||◌, is_some, nat_eq, List, fold, length, slice_get, slice_index_or, Option, Some}
+use Rattle.std.specs.Prelude.{ℕ, zero, suc, Bool, true, false, not, ◌&&◌, ◌||◌, is_some, nat_eq, fold, length, slice_get, slice_index_or, Option, Some}
 use Rattle.std.specs.Prelude.{None, if◌then◌else◌}
-use Rattle.mx_base.specs.declared.names.ClientNo.{ClientNo}
-use Rattle.mx_base.specs.declared.names.Hostgroup.{Hostgroup}
-use Rattle.mx_base.specs.declared.names.LinkId.{LinkId}
+use Rattle.std.specs.Option.{option_map_or}
 use Rattle.mx_wire.specs.declared.entry.Entry.{Entry}
 use Rattle.mx_wire.specs.declared.entry.Entry.TheVariants.{Woke, Got, Ended, ReadFailed, WriteFailed}
 use Rattle.packet_frame.specs.Packets.{Framed}
 use Rattle.session_state.specs.Pins.{is_pinned}
-use Rattle.session_state.specs.declared.names.MessageName.{MessageName}
+use Rattle.private_model.specs.Names.{Hostgroup, LinkId, MessageName}
 use Rattle.private_model.specs.Commands.{Command}
 use Rattle.private_model.specs.Story.{BecameDue, Left, Mirrored, is_client, is_link_id}
-use Rattle.private_model.specs.View.{Carried, Held, Joined, Lent, Nobody, Setup, View, present}
+use Rattle.private_model.specs.View.{Held, Setup, View, present, session_in}
 use Rattle.log_story.specs.Executes.{Request, requested}
 use Rattle.log_story.specs.Owed.{has_room, messages, name_of}
 use Rattle.log_story.specs.Plan.{Plan, Route, com_reset, is_by_now, is_now, job_of, own_at}
@@ -19,13 +17,9 @@ use Rattle.log_story.specs.Tale.{Client, Tale, tell, view_of, with_client}
 
 -- An event of a client: the router is woken, or bytes, their end or a failure come on the client's link or on one that carries it.
 
-abbrev pub carries_client : ClientNo → Carried → Bool
-carries_client client Nobody = false
-carries_client client (Lent n) = is_client n.client client
-carries_client client (Joined n) = is_client n.client client
-
 abbrev pub concerns : View → Client → LinkId → Bool
-concerns view client link = is_link_id client.link link || carries_client client.number (view.links link).carries
+concerns view client link =
+    is_link_id client.link link || option_map_or (λ n. is_client n.client client.number) (session_in (view.links link).carries) false
 
 abbrev pub is_event_of : View → Client → Entry → Bool
 is_event_of view client (Woke until_ms now_ms) = true
@@ -38,7 +32,7 @@ is_event_of view client _ = false
 -- A message is answered where its reply was read, or the router answered it itself, which may be by nothing.
 abbrev pub is_answered : Plan → Tale → View → Client → (ordinal : ℕ) → Bool
 is_answered plan tale view client zero = true
-is_answered plan tale view client (suc i) = is_some (own_at plan tale.moment (name_of client (suc i))) || is_some (view.replies (name_of client (suc i)))
+is_answered plan tale view client ordinal = is_some (own_at plan tale.moment (name_of client ordinal)) || is_some (view.replies (name_of client ordinal))
 
 -- a capture is due first
 abbrev pub captures_first : Held → Bool
@@ -46,9 +40,6 @@ captures_first held = not (is_pinned held.pin) && not (is_some held.id)
 
 -- A message is taken up: it becomes due, and with it a copy, as the one statement of a job; or the router answers it; a
 -- COM_RESET_CONNECTION leaves the client's sessions.
-
-abbrev pub after_own : Client → (payload : List ℕ) → Tale → Tale
-after_own client payload tale = if nat_eq (slice_index_or payload 0 0) com_reset then tell (Left client.number) tale else tale
 
 abbrev pub copied : MessageName → Command → Option Hostgroup → Tale → Tale
 copied message command None tale = tale
@@ -62,7 +53,8 @@ due_by setup client ordinal route request tale =
     (tell (BecameDue client.number route.hostgroup ordinal request.key request.command route.multiplex) tale))
 
 abbrev pub taken_by : Setup → Plan → Client → (ordinal : ℕ) → Framed → Option Route → Tale → Option Tale
-taken_by setup plan client ordinal message None tale = Some (after_own client message.payload tale)
+taken_by setup plan client ordinal message None tale =
+    Some (if nat_eq (slice_index_or message.payload 0 0) com_reset then tell (Left client.number) tale else tale)
 taken_by setup plan client ordinal message (Some route) tale =
     due_by setup client ordinal route (requested setup (view_of setup tale) plan tale.moment client ordinal route message.payload) tale
 
@@ -74,17 +66,13 @@ next_taken setup plan client (Some message) tale =
     then taken_by setup plan client (suc client.taken) message (plan.routes (name_of client (suc client.taken))) tale
     else None
 
-abbrev pub and_on : Option Tale → (old : Tale) → (Tale → Tale) → Tale
-and_on None old others = old
-and_on (Some tale) old others = others tale
-
 -- messages are taken up in order, as many as can be
 abbrev pub taken_up : (most : ℕ) → Setup → Plan → Client → Tale → Tale
 taken_up zero setup plan client tale = tale
 taken_up (suc most) setup plan client tale =
     let next = record client { taken = suc client.taken } in
-    and_on (next_taken setup plan client (slice_get (messages plan client) client.taken) tale) tale
-    (λ other. taken_up most setup plan next (with_client next other))
+    option_map_or (λ other. taken_up most setup plan next (with_client next other))
+    (next_taken setup plan client (slice_get (messages plan client) client.taken) tale) tale
 
 -- as they are at an event of this client, unless the router ended it; the view is that of before
 abbrev pub client_goes_on : Setup → Plan → View → Entry → Tale → Client → Tale

@@ -1,7 +1,8 @@
 -- What a client's message asks for; an execute, by its own bytes and the messages before it (client/server protocol, "COM_STMT_EXECUTE",
 -- "COM_STMT_SEND_LONG_DATA", "COM_STMT_RESET").
-use Rattle.std.specs.Prelude.{ℕ, zero, suc, ◌+◌, ◌*◌, ◌/◌, ◌-◌, Bool, false, not, is_some, ◌&&◌, nat_eq, nat_lt, if◌then◌else◌, List, [], ◌∷◌, ◌++◌}
-use Rattle.std.specs.Prelude.{drop, slice_index_or, take, Option, Some, None}
+use Rattle.std.specs.Prelude.{ℕ, zero, suc, ◌+◌, ◌*◌, ◌/◌, ◌-◌, Bool, false, not, is_some, ◌&&◌, nat_eq, nat_lt, if◌then◌else◌, List, [], ◌∷◌, ◌++◌, drop}
+use Rattle.std.specs.Prelude.{slice_index_or, take, unwrap_or, Option, Some, None}
+use Rattle.std.specs.Option.{option_and_then, option_map, option_map_or, option_or}
 use Rattle.mx_base.specs.Fields.{number_at}
 use Rattle.packet_frame.specs.Packets.{Framed}
 use Rattle.session_vars.specs.declared.long_part.LongPart.{LongPart}
@@ -12,28 +13,20 @@ use Rattle.log_story.specs.Plan.{Plan, Route, com_execute, com_field_list, com_i
 use Rattle.log_story.specs.Tale.{Client}
 
 -- a command for the prepared statement of this number
-abbrev pub is_number : (number : ℕ) → Option ℕ → Bool
-is_number number None = false
-is_number number (Some n) = nat_eq n number
-
 abbrev pub is_for : (byte number : ℕ) → (payload : List ℕ) → Bool
-is_for byte number payload = nat_eq (slice_index_or payload 0 0) byte && is_number number (number_at 4 1 payload)
+is_for byte number payload = nat_eq (slice_index_or payload 0 0) byte && option_map_or (λ n. nat_eq n number) (number_at 4 1 payload) false
 
 -- The arguments in an execute of a statement with so many parameters: behind the number, a byte of flags and four of an
 -- iteration count stand a bitmap of NULLs, a byte that is 1 where types follow, the types, two bytes each, and the values.
-pub record Given : Type 0 where
-  pub types : Option (List ℕ)
-  pub nulls : List ℕ
-  pub values : List ℕ
 
-abbrev pub typed : (params : ℕ) → (nulls rest : List ℕ) → Given
-typed params nulls [] = record { types = None; nulls = nulls; values = [] }
+abbrev pub typed : (params : ℕ) → (nulls rest : List ℕ) → Args
+typed params nulls [] = record { types = None; nulls = nulls; values = []; long = [] }
 typed params nulls (sends ∷ rest) =
-    if nat_eq sends 1 then record { types = Some (take (2 * params) rest); nulls = nulls; values = drop (2 * params) rest }
-    else record { types = None; nulls = nulls; values = rest }
+    if nat_eq sends 1 then record { types = Some (take (2 * params) rest); nulls = nulls; values = drop (2 * params) rest; long = [] }
+    else record { types = None; nulls = nulls; values = rest; long = [] }
 
-abbrev pub given_in : (params : ℕ) → (payload : List ℕ) → Given
-given_in zero payload = record { types = None; nulls = []; values = [] }
+abbrev pub given_in : (params : ℕ) → (payload : List ℕ) → Args
+given_in zero payload = record { types = None; nulls = []; values = []; long = [] }
 given_in (suc more) payload =
     let size = (suc more + 7) / 8 in
     typed (suc more) (take size (drop 10 payload)) (drop (10 + size) payload)
@@ -44,29 +37,21 @@ pub record Bound : Type 0 where
   pub types : Option (List ℕ)
   pub long : List LongPart
 
-abbrev pub nothing_bound : Bound
-nothing_bound = record { types = None; long = [] }
-
-abbrev pub or_else : Option (List ℕ) → Option (List ℕ) → Option (List ℕ)
-or_else None old = old
-or_else (Some new) old = Some new
-
 abbrev pub longer : (parameter : ℕ) → (bytes : List ℕ) → List LongPart → List LongPart
 longer parameter bytes [] = record { parameter = parameter; bytes = bytes } ∷ []
 longer parameter bytes (part ∷ parts) =
     if nat_eq part.parameter parameter then record part { bytes = part.bytes ++ bytes } ∷ parts else part ∷ longer parameter bytes parts
 
 -- long data of a parameter that isn't there are dropped
-abbrev pub with_long : (params : ℕ) → (parameter : Option ℕ) → (bytes : List ℕ) → Bound → Bound
-with_long params None bytes bound = bound
-with_long params (Some parameter) bytes bound = if nat_lt parameter params then record bound { long = longer parameter bytes bound.long } else bound
+abbrev pub with_long : (params : ℕ) → (bytes : List ℕ) → Bound → (parameter : ℕ) → Bound
+with_long params bytes bound parameter = if nat_lt parameter params then record bound { long = longer parameter bytes bound.long } else bound
 
 -- after a message; an execute that the router refused binds nothing
 abbrev pub bound_after : (params number : ℕ) → (refused : Bool) → (payload : List ℕ) → Bound → Bound
 bound_after params number refused payload bound =
-    if is_for com_long_data number payload then with_long params (number_at 2 5 payload) (drop 7 payload) bound
+    if is_for com_long_data number payload then option_map_or (with_long params (drop 7 payload) bound) (number_at 2 5 payload) bound
     else if is_for com_statement_reset number payload then record bound { long = [] }
-    else if is_for com_execute number payload && not refused then record { types = or_else (given_in params payload).types bound.types; long = [] }
+    else if is_for com_execute number payload && not refused then record { types = option_or (given_in params payload).types bound.types; long = [] }
     else bound
 
 -- after messages from the i-th on
@@ -75,11 +60,11 @@ bound_by params number refused i [] bound = bound
 bound_by params number refused i (message ∷ others) bound =
     bound_by params number refused (suc i) others (bound_after params number (refused i) message.payload bound)
 
-abbrev pub args_with : Given → Bound → Args
-args_with sent bound = record { types = or_else sent.types bound.types; nulls = sent.nulls; values = sent.values; long = bound.long }
-
 abbrev pub args_in : (params number : ℕ) → (refused : ℕ → Bool) → (before : List Framed) → (payload : List ℕ) → Args
-args_in params number refused before payload = args_with (given_in params payload) (bound_by params number refused 1 before nothing_bound)
+args_in params number refused before payload =
+    let sent = given_in params payload in
+    let bound = bound_by params number refused 1 before (record { types = None; long = [] }) in
+    record sent { types = option_or sent.types bound.types; long = bound.long }
 
 -- The preparation of a number: the client's STMT_PREPARE, which was answered, and by whose answer the client knows it.
 pub record Prepared : Type 0 where
@@ -92,14 +77,10 @@ prepared_in number payload (Some route) (Some reply) =
     && (nat_eq route.number number && is_made reply) then Some (record { key = route.key; params = (end_of reply).params }) else None
 prepared_in number payload _ _ = None
 
-abbrev pub first_found : Option Prepared → Option Prepared → Option Prepared
-first_found None later = later
-first_found (Some prepared) later = Some prepared
-
 abbrev pub prepared_by : View → Plan → Client → (number i : ℕ) → List Framed → Option Prepared
 prepared_by view plan client number i [] = None
 prepared_by view plan client number i (message ∷ others) =
-    first_found (prepared_in number message.payload (plan.routes (name_of client i)) (view.replies (name_of client i)))
+    option_or (prepared_in number message.payload (plan.routes (name_of client i)) (view.replies (name_of client i)))
     (prepared_by view plan client number (suc i) others)
 
 -- a command, and the key of its preparation
@@ -107,21 +88,15 @@ pub record Request : Type 0 where
   pub command : Command
   pub key : ℕ
 
--- an execute of what isn't prepared: a rule of sending is broken
-abbrev pub no_execute : Request
-no_execute = record { command = Quit; key = 0 }
+abbrev pub run_of : Setup → Args → (key : ℕ) → Request
+run_of setup args key =
+    record { command = Run (setup.keys key).text (setup.keys key).place.schema (setup.keys key).place.settings args; key = key }
 
-abbrev pub executed : Setup → Option Prepared → (Prepared → Args) → Request
-executed setup None args = no_execute
-executed setup (Some prepared) args =
-    let key = setup.keys prepared.key in
-    record { command = Run key.text key.place.schema key.place.settings (args prepared); key = prepared.key }
-
-abbrev pub executed_by : Setup → View → Plan → (moment : ℕ) → Client → (ordinal : ℕ) → (payload : List ℕ) → (number : Option ℕ) → Request
-executed_by setup view plan moment client ordinal payload None = no_execute
-executed_by setup view plan moment client ordinal payload (Some number) =
-    executed setup (prepared_by view plan client number 1 (messages plan client))
-    (λ prepared. args_in prepared.params number (λ i. is_some (own_at plan moment (name_of client i))) (take (ordinal - 1) (messages plan client)) payload)
+abbrev pub executed_by : Setup → View → Plan → (moment : ℕ) → Client → (ordinal : ℕ) → (payload : List ℕ) → (number : ℕ) → Option Request
+executed_by setup view plan moment client ordinal payload number =
+    let refused : ℕ → Bool = λ i. is_some (own_at plan moment (name_of client i)) in
+    option_map (λ prepared. run_of setup (args_in prepared.params number refused (take (ordinal - 1) (messages plan client)) payload) prepared.key)
+    (prepared_by view plan client number 1 (messages plan client))
 
 abbrev pub text_asked : (byte : ℕ) → (rest : List ℕ) → Command
 text_asked byte rest =
@@ -131,11 +106,10 @@ text_asked byte rest =
     else if nat_eq byte com_prepare then Prepare rest
     else Quit
 
-abbrev pub rewritten : Option (List ℕ) → (text : List ℕ) → List ℕ
-rewritten None text = text
-rewritten (Some new) text = new
-
+-- an execute of what isn't prepared asks for a Quit: a rule of sending is broken
 abbrev pub requested : Setup → View → Plan → (moment : ℕ) → Client → (ordinal : ℕ) → Route → (payload : List ℕ) → Request
 requested setup view plan moment client ordinal route payload =
-    if nat_eq (slice_index_or payload 0 0) com_execute then executed_by setup view plan moment client ordinal payload (number_at 4 1 payload)
-    else record { command = text_asked (slice_index_or payload 0 0) (rewritten route.text (drop 1 payload)); key = route.key }
+    if nat_eq (slice_index_or payload 0 0) com_execute
+    then unwrap_or (option_and_then (executed_by setup view plan moment client ordinal payload) (number_at 4 1 payload))
+    (record { command = Quit; key = 0 })
+    else record { command = text_asked (slice_index_or payload 0 0) (unwrap_or route.text (drop 1 payload)); key = route.key }

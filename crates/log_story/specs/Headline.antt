@@ -1,18 +1,16 @@
 -- What is promised of a log's bytes at a moment.
 use Rattle.std.specs.Prelude.{◌≡◌, true, false, [], ◌∷◌, Some}
-use Rattle.mx_base.specs.declared.names.LinkId.{LinkId}
 use Rattle.mx_wire.specs.Log.{Log}
 use Rattle.mx_wire.specs.declared.entry.Entry.{Entry}
 use Rattle.mx_wire.specs.declared.entry.Entry.TheVariants.{Got}
-use Rattle.session_state.specs.declared.names.MessageName.{MessageName}
-use Rattle.session_state.specs.declared.names.SessionName.{SessionName}
 use Rattle.server_rule.specs.Servers.{Step}
+use Rattle.private_model.specs.Names.{LinkId, MessageName, SessionName}
 use Rattle.private_model.specs.Commands.{Reply, runs}
 use Rattle.private_model.specs.Story.{Due, Statement, message_of}
 use Rattle.private_model.specs.View.{Answered, Setup}
 use Rattle.private_model.specs.Worlds.{Private, private_after}
 use Rattle.log_story.specs.Plan.{Plan}
-use Rattle.log_story.specs.Tale.{Client, Tale, Wire, first_tale, is_entered, is_reset_step, is_to_server, link_in, view_of}
+use Rattle.log_story.specs.Tale.{Client, Tale, Wire, first_tale, is_reset_step, is_to_server, link_in, view_of}
 use Rattle.log_story.specs.Owed.{due_bytes}
 use Rattle.log_story.specs.Servers.{with_run}
 use Rattle.log_story.specs.Telling.{tale_step, wire_with}
@@ -34,7 +32,7 @@ IsPrivateRead setup server link wire tale =
 
 abbrev pub IsPrivateEntry : Setup → Step → Tale → Entry → Type 0
 IsPrivateEntry setup server tale (Got link bytes) =
-    is_to_server tale link ≡ true → is_entered tale link ≡ true → is_reset_step (tale.wires link).step ≡ false
+    is_to_server tale link ≡ true → (tale.wires link).entered ≡ true → is_reset_step (tale.wires link).step ≡ false
     → IsPrivateRead setup server link (wire_with tale link bytes) tale
 IsPrivateEntry setup server tale _ = Unit {0}
 

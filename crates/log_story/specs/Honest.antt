@@ -12,12 +12,12 @@ use Rattle.server_side.specs.Login.{LogsIn, opening}
 use Rattle.server_rule.specs.Servers.{Step}
 use Rattle.private_model.specs.Commands.{Args, Command, Quit, Reply, Run, runs}
 use Rattle.private_model.specs.Honest.{IsTrueOf}
-use Rattle.private_model.specs.Story.{Question, Ran, Statement, command_of}
+use Rattle.private_model.specs.Story.{Question, Ran, command_of, for_statement}
 use Rattle.private_model.specs.View.{Answered, Asked, Setup}
 use Rattle.private_model.specs.Worlds.{Real, real_after}
 use Rattle.log_story.specs.Executes.{args_in, is_for}
 use Rattle.log_story.specs.Plan.{Closes, Plan, Resets, StepText, com_execute, step_payload, text_payload}
-use Rattle.log_story.specs.Tale.{Tale, Wire, first_tale, is_entered, is_reset_step, is_to_server, link_in, view_of}
+use Rattle.log_story.specs.Tale.{Tale, Wire, first_tale, is_reset_step, is_to_server, link_in, view_of}
 use Rattle.log_story.specs.Servers.{kind_by, may_begin, reply_id, with_run, written_in}
 use Rattle.log_story.specs.Telling.{tale_step, wire_with}
 
@@ -44,8 +44,7 @@ IsWritten (Run text schema settings args) number written = IsExecute number args
 IsWritten command number written = written ≡ spelling 0 (text_payload command)
 
 abbrev pub number_for : Question → (live : ℕ → Option ℕ) → Option ℕ
-number_for (Statement n due) live = live due.key
-number_for _ live = None
+number_for question live = for_statement question (λ n due. live due.key) None
 
 abbrev pub real_of : Setup → Step → Tale → Real
 real_of setup server tale = real_after setup (runs server) tale.story
@@ -98,12 +97,12 @@ pub record IsTrueReset (wire : Wire) : Type 0 where
   pub front : IsFront wire.unread (spelling (reply_id wire) answer)
 
 pub record IsTrueGot (setup : Setup) (plan : Plan) (server : Step) (tale : Tale) (link : LinkId) (wire : Wire) : Type 0 where
-  pub login : is_entered tale link ≡ false → IsTrueLogin plan link wire
-  pub read : is_entered tale link ≡ true → is_reset_step wire.step ≡ false → IsTrueRead setup server link wire tale
-  pub reset : is_entered tale link ≡ true → is_reset_step wire.step ≡ true → IsTrueReset wire
+  pub login : (tale.wires link).entered ≡ false → IsTrueLogin plan link wire
+  pub read : (tale.wires link).entered ≡ true → is_reset_step wire.step ≡ false → IsTrueRead setup server link wire tale
+  pub reset : (tale.wires link).entered ≡ true → is_reset_step wire.step ≡ true → IsTrueReset wire
 
 abbrev pub IsTrue : Setup → Plan → Step → Tale → Entry → Type 0
-IsTrue setup plan server tale (Exec link) = is_entered tale link ≡ true → IsTrueExec setup server tale link
+IsTrue setup plan server tale (Exec link) = (tale.wires link).entered ≡ true → IsTrueExec setup server tale link
 IsTrue setup plan server tale (Got link bytes) = is_to_server tale link ≡ true → IsTrueGot setup plan server tale link (wire_with tale link bytes)
 IsTrue setup plan server tale (Wrote link tag bytes) =
     is_to_server tale link ≡ true → may_begin setup link (tale.wires link) tale ≡ true → IsStep (tale.wires link).step (tale.wires link).written

@@ -7,6 +7,3 @@ pub mod Servers
 pub mod Telling
 pub mod Honest
 pub mod Headline
-pub mod Worked
-pub mod Aside
-pub mod Executed

@@ -1,5 +1,6 @@
 -- The bytes that a client is due, where these are the replies to its messages.
 use Rattle.std.specs.Prelude.{ℕ, suc, ◌-◌, Bool, nat_lt, if◌then◌else◌, length, take, List, [], ◌∷◌, ◌++◌, Option, Some, None}
+use Rattle.std.specs.Option.{option_map_or}
 use Rattle.packet_frame.specs.Packets.{Framed, next_id, spellings}
 use Rattle.reply_track.specs.declared.reply.ReplyKind.{ReplyKind}
 use Rattle.reply_track.specs.declared.reply.ReplyKind.TheVariants as kind
@@ -7,7 +8,7 @@ use Rattle.reply_track.specs.Grammar.{renamed}
 use Rattle.client_session.specs.Answers.{Talk, fault_answer, front, messages_of}
 use Rattle.session_state.specs.declared.names.MessageName.{MessageName}
 use Rattle.private_model.specs.Commands.{Reply}
-use Rattle.log_story.specs.Plan.{Plan, Route, own_at}
+use Rattle.log_story.specs.Plan.{Plan, own_at}
 use Rattle.log_story.specs.Tale.{Client}
 
 abbrev pub talk_of : Plan → Client → Talk
@@ -26,9 +27,9 @@ name_of client ordinal = record { client = client.number; ordinal = ordinal }
 abbrev pub kind_of : Reply → ReplyKind
 kind_of reply = if reply.to_prepare then kind.Prepare else kind.Command
 
-abbrev pub number_in : Option Route → ℕ
-number_in None = 0
-number_in (Some route) = route.number
+-- the client's number of what a message prepares
+abbrev pub number_of : Plan → MessageName → ℕ
+number_of plan message = option_map_or (λ route. route.number) (plan.routes message) 0
 
 abbrev pub answered_with : (own : Option (List (List ℕ))) → Option Reply → (number id : ℕ) → (later : List ℕ) → List ℕ
 answered_with (Some payloads) reply number id later = spellings id payloads ++ later
@@ -38,8 +39,9 @@ answered_with None (Some reply) number id later = spellings id (renamed (kind_of
 abbrev pub due_for : (MessageName → Option Reply) → Plan → (moment : ℕ) → Client → (last : List ℕ) → (ordinal : ℕ) → List Framed → List ℕ
 due_for replies plan moment client last i [] = last
 due_for replies plan moment client last i (message ∷ others) =
-    answered_with (own_at plan moment (name_of client i)) (replies (name_of client i)) (number_in (plan.routes (name_of client i)))
-    (next_id message.last) (due_for replies plan moment client last (suc i) others)
+    let name = name_of client i in
+    answered_with (own_at plan moment name) (replies name) (number_of plan name) (next_id message.last)
+    (due_for replies plan moment client last (suc i) others)
 
 -- the error for a message that can't be, which is the last
 abbrev pub last_error : Plan → Client → List ℕ

@@ -1,12 +1,10 @@
 -- What the router decided, of which no byte tells; and what it writes.
 use Rattle.std.specs.Prelude.{ℕ, ◌+◌, ◌*◌, ◌%◌, ◌/◌, Bool, false, nat_eq, nat_le, List, [], ◌∷◌, if◌then◌else◌, Option, Some, None}
-use Rattle.mx_base.specs.declared.names.ClientNo.{ClientNo}
-use Rattle.mx_base.specs.declared.names.Hostgroup.{Hostgroup}
-use Rattle.mx_base.specs.declared.names.LinkId.{LinkId}
+use Rattle.std.specs.Option.{option_and_then, option_map_or}
 use Rattle.server_side.specs.Account.{Account}
 use Rattle.client_session.specs.Setups.{Setup as Service}
-use Rattle.session_state.specs.declared.names.MessageName.{MessageName}
 use Rattle.server_rule.specs.Texts.{read_id_text, set_id_text}
+use Rattle.private_model.specs.Names.{ClientNo, Hostgroup, LinkId, MessageName}
 use Rattle.private_model.specs.Commands.{Command, Query, InitDb, FieldList, SetId, ReadId, Prepare, Run, Reset, Quit}
 
 -- Where a message of a client goes, its text as rules rewrite it, and where a copy of it goes; of a STMT_PREPARE also the key of
@@ -44,30 +42,21 @@ pub record Plan : Type 0 where
   pub steps : LinkId → (begun : ℕ) → StepText
 
 -- after so many entries
-abbrev pub own_by : (moment : ℕ) → Option OwnAnswer → Option (List (List ℕ))
-own_by moment None = None
-own_by moment (Some answer) = if nat_le answer.from moment then Some answer.payloads else None
-
 abbrev pub own_at : Plan → (moment : ℕ) → MessageName → Option (List (List ℕ))
-own_at plan moment message = own_by moment (plan.own message)
+own_at plan moment message = option_and_then (λ answer. if nat_le answer.from moment then Some answer.payloads else None) (plan.own message)
 
 abbrev pub is_now : (moment : ℕ) → Option ℕ → Bool
-is_now moment None = false
-is_now moment (Some at) = nat_eq at moment
+is_now moment at = option_map_or (λ n. nat_eq n moment) at false
 
 -- it was at an entry before, or is at this one
 abbrev pub is_by_now : (moment : ℕ) → Option ℕ → Bool
-is_by_now moment None = false
-is_by_now moment (Some at) = nat_le at moment
+is_by_now moment at = option_map_or (λ n. nat_le n moment) at false
 
 -- The copy of a message is a job, which is a client of its own. Clients have numbers of 64 bits, and ordinals count from 1.
 abbrev pub job_of : MessageName → ClientNo
 job_of message = record { 0 = message.ordinal * 18446744073709551616 + message.client.0 }
 
--- the first bytes of commands (client/server protocol, "Command Phase")
-
-abbrev pub com_quit : ℕ
-com_quit = 0x01
+-- the first bytes of commands, where they are written and read (client/server protocol, "Command Phase")
 
 abbrev pub com_init_db : ℕ
 com_init_db = 0x02
@@ -87,9 +76,6 @@ com_execute = 0x17
 abbrev pub com_long_data : ℕ
 com_long_data = 0x18
 
-abbrev pub com_close : ℕ
-com_close = 0x19
-
 abbrev pub com_statement_reset : ℕ
 com_statement_reset = 0x1A
 
@@ -107,7 +93,7 @@ text_payload ReadId = com_query ∷ read_id_text
 text_payload (Prepare text) = com_prepare ∷ text
 text_payload (Run text schema settings args) = []
 text_payload Reset = com_reset ∷ []
-text_payload Quit = com_quit ∷ []
+text_payload Quit = 0x01 ∷ []
 
 -- a command for the prepared statement of a number
 abbrev pub with_number : (byte number : ℕ) → List ℕ
@@ -115,5 +101,5 @@ with_number byte number = byte ∷ number % 256 ∷ number / 256 % 256 ∷ numbe
 
 abbrev pub step_payload : StepText → List ℕ
 step_payload (Asks command) = text_payload command
-step_payload (Closes number) = with_number com_close number
+step_payload (Closes number) = with_number 0x19 number
 step_payload (Resets number) = with_number com_statement_reset number

@@ -1,9 +1,8 @@
 -- What passes on links to servers: which question begins there, whose run it is, and which reply was read.
-use Rattle.std.specs.Prelude.{ℕ, suc, ◌-◌, Bool, true, false, not, ◌&&◌, ◌||◌, is_some, nat_eq, List, [], ◌∷◌, ◌++◌, fold, length, take, Option, Some}
-use Rattle.std.specs.Prelude.{None, if◌then◌else◌}
-use Rattle.mx_base.specs.declared.names.ClientNo.{ClientNo}
-use Rattle.mx_base.specs.declared.names.Hostgroup.{Hostgroup}
-use Rattle.mx_base.specs.declared.names.LinkId.{LinkId}
+use Rattle.std.specs.Prelude.{ℕ, suc, ◌-◌, Bool, true, false, not, ◌&&◌, ◌||◌, is_some, nat_eq, List, [], ◌∷◌, ◌++◌, fold, length, take, unwrap_or, Option}
+use Rattle.std.specs.Prelude.{Some, None, if◌then◌else◌}
+use Rattle.std.specs.List.{last_or}
+use Rattle.std.specs.Option.{option_map_or}
 use Rattle.mx_base.specs.declared.tag.Tag.{Tag}
 use Rattle.mx_base.specs.declared.tag.Tag.TheVariants as tag
 use Rattle.packet_frame.specs.Packets.{Framed, Split, next_id, split}
@@ -11,31 +10,26 @@ use Rattle.reply_track.specs.declared.reply.ReplyKind.{ReplyKind}
 use Rattle.reply_track.specs.declared.reply.ReplyKind.TheVariants as kind
 use Rattle.reply_track.specs.Runs.{Ending, Ended, run}
 use Rattle.reply_track.specs.Replying.{payloads_in}
-use Rattle.reply_track.specs.Tracking.{Sought, started}
-use Rattle.server_side.specs.Account.{Account as Login}
-use Rattle.server_side.specs.Login.{Opening, LogsIn, opening}
+use Rattle.reply_track.specs.Tracking.{started}
+use Rattle.server_side.specs.Login.{Opening, LogsIn}
 use Rattle.session_state.specs.Pins.{is_pinned, needs_reset}
-use Rattle.session_state.specs.declared.names.SessionName.{SessionName}
-use Rattle.server_rule.specs.Classes.{is_prepare}
-use Rattle.private_model.specs.Commands.{Account, Command, FieldList, Prepare, Quit, Reply, cmd_of}
-use Rattle.private_model.specs.Story.{Capture, Due, Dropped, End, Freed, Happening, Heard, Left, LoggedIn, Own, Prep, Question, Ran, Sent, Statement, Sync}
+use Rattle.server_rule.specs.Servers.{is_some_of}
+use Rattle.private_model.specs.Names.{ClientNo, LinkId, SessionName}
+use Rattle.private_model.specs.Commands.{Command, FieldList, Prepare, Quit, Reply, is_prepare}
+use Rattle.private_model.specs.Story.{Capture, Due, End, Freed, Happening, Heard, Left, LoggedIn, Own, Prep, Question, Ran, Sent, Statement, Sync}
 use Rattle.private_model.specs.Story.{Unprepared, command_of, is_client, is_name, message_of}
-use Rattle.private_model.specs.View.{Asked, Answered, Carried, Held, Joined, Lent, Link, Nobody, Quiet, Setup, Stage, View, is_quit, present}
+use Rattle.private_model.specs.View.{Asked, Answered, Carried, Held, Joined, Lent, Link, Nobody, Quiet, Setup, Stage, View, is_quit, present, session_in}
 use Rattle.log_story.specs.Plan.{Asks, Closes, Plan, Resets, Route, StepText, job_of, own_at}
 use Rattle.log_story.specs.Tale.{Tale, Wire, is_reset_step, link_in, tell, view_of, with_wire}
 
 -- The login.
 
-abbrev pub account_by : Login → Account
-account_by login = record { user = login.user; found_rows = login.found_rows }
-
 abbrev pub entered_by : Plan → LinkId → Wire → Opening → Tale → Tale
 entered_by plan link wire (LogsIn said rest) tale =
-    tell (LoggedIn link wire.server (account_by (plan.logins link))) (with_wire link (record wire { entered = true; unread = rest; written = [] }) tale)
+    let login = plan.logins link in
+    tell (LoggedIn link wire.server (record { user = login.user; found_rows = login.found_rows }))
+    (with_wire link (record wire { entered = true; unread = rest; written = [] }) tale)
 entered_by plan link wire _ tale = with_wire link wire tale
-
-abbrev pub enters : Plan → LinkId → Wire → Tale → Tale
-enters plan link wire tale = entered_by plan link wire (opening (plan.logins link) wire.unread) tale
 
 -- The question that begins with a byte of this tag.
 
@@ -55,15 +49,9 @@ abbrev pub breach : LinkId → ClientNo → Happening
 breach link client = Sent link (Sync (record { client = client; hostgroup = record { 0 = 0 }; life = 0 }) Quit)
 
 -- so it is where a message goes to no server
-abbrev pub routed : LinkId → ClientNo → (Route → List Happening) → Option Route → List Happening
-routed link client happens None = breach link client ∷ []
-routed link client happens (Some route) = happens route
-
--- the session that the link carries, else the present one
-abbrev pub carried_or : Carried → SessionName → SessionName
-carried_or Nobody n = n
-carried_or (Lent who) n = who
-carried_or (Joined who) n = who
+abbrev pub routed : Plan → LinkId → ClientNo → (ordinal : ℕ) → (Route → List Happening) → List Happening
+routed plan link client ordinal happens =
+    option_map_or happens (plan.routes (record { client = client; ordinal = ordinal })) (breach link client ∷ [])
 
 -- a session that was left is ended; of another the insert id is asked
 abbrev pub ended_by : View → SessionName → Question
@@ -84,47 +72,28 @@ abbrev pub copy_by : View → LinkId → SessionName → Carried → List Happen
 copy_by view link n (Joined who) = if is_client who.client n.client then Sent link (End who) ∷ [] else Sent link (statement_of view 1 n) ∷ []
 copy_by view link n _ = Left n.client ∷ Sent link (statement_of view 1 n) ∷ []
 
-abbrev pub copy_begun : View → LinkId → (job : ClientNo) → Option Hostgroup → List Happening
-copy_begun view link job None = breach link job ∷ []
-copy_begun view link job (Some hostgroup) = copy_by view link (present view job hostgroup) (view.links link).carries
-
--- the text of what is due is prepared first
-abbrev pub prep_for : Setup → LinkId → SessionName → Due → Happening
-prep_for setup link n due = Sent link (Prep n due.key (setup.keys due.key).text)
-
--- the last first
+-- the last first; a Prep is of the text of what is due, and what ends is the session that the link carries, else the present one
 abbrev pub begun_by : Setup → Plan → View → LinkId → (begun : ℕ) → Tag → List Happening
 begun_by setup plan view link begun (tag.For client ordinal) =
-    routed link client (λ route. Sent link (statement_of view ordinal (present view client route.hostgroup)) ∷ [])
-    (plan.routes (record { client = client; ordinal = ordinal }))
+    routed plan link client ordinal (λ route. Sent link (statement_of view ordinal (present view client route.hostgroup)) ∷ [])
 begun_by setup plan view link begun (tag.Prep client ordinal) =
-    routed link client (λ route. prep_for setup link (present view client route.hostgroup)
-    (due_or view client ordinal (view.dues (present view client route.hostgroup))) ∷ [])
-    (plan.routes (record { client = client; ordinal = ordinal }))
+    routed plan link client ordinal (λ route. let n = present view client route.hostgroup in
+    let key = (due_or view client ordinal (view.dues n)).key in Sent link (Prep n key (setup.keys key).text) ∷ [])
 begun_by setup plan view link begun (tag.Mirror client ordinal) =
-    routed link client (λ route. copy_begun view link (job_of (record { client = client; ordinal = ordinal })) route.mirror) (plan.routes
-    (record { client = client; ordinal = ordinal }))
+    let job = job_of (record { client = client; ordinal = ordinal }) in
+    routed plan link client ordinal (λ route. option_map_or (λ hostgroup. copy_by view link (present view job hostgroup) (view.links link).carries)
+    route.mirror (breach link job ∷ []))
 begun_by setup plan view link begun (tag.Sync client hostgroup) = stepped link (Sync (present view client hostgroup)) (plan.steps link begun)
 begun_by setup plan view link begun (tag.End client hostgroup) =
-    Sent link (ended_by view (carried_or (view.links link).carries (present view client hostgroup))) ∷ []
+    Sent link (ended_by view (unwrap_or (session_in (view.links link).carries) (present view client hostgroup))) ∷ []
 begun_by setup plan view link begun tag.Own = if quits_by (plan.steps link begun) then [] else stepped link Own (plan.steps link begun)
 begun_by setup plan view link begun tag.Reply = []
 
 -- Bytes go on with a question, or begin one; in a login they are what the router says there.
 
--- the messages that were written, and whether none is written in part
-abbrev pub most_command : ℕ
-most_command = 1073741824
-
+-- the messages that were written, of at most a gibibyte each
 abbrev pub written_in : List ℕ → Split
-written_in written = split most_command 0 written
-
-abbrev pub is_empty : List ℕ → Bool
-is_empty [] = true
-is_empty (x ∷ xs) = false
-
-abbrev pub is_whole : List ℕ → Bool
-is_whole written = is_empty (written_in written).rest
+written_in written = split 1073741824 0 written
 
 abbrev pub is_quiet : Stage → Bool
 is_quiet Quiet = true
@@ -148,18 +117,15 @@ begins setup plan link for bytes wire tale =
     tell_all (begun_by setup plan (view_of setup tale) link wire.begun for)
     (with_wire link (record wire { written = bytes; step = step_for for step; begun = suc wire.begun; quits = wire.quits || quits_for for step }) tale)
 
--- one command stands on a link at a time
+-- one command stands on a link at a time, and none is written in part
 abbrev pub may_begin : Setup → LinkId → Wire → Tale → Bool
-may_begin setup link wire tale = wire.entered && (is_quiet (link_in setup tale link).stage && (is_whole wire.written && not (is_reset_step wire.step)))
+may_begin setup link wire tale =
+    wire.entered && (is_quiet (link_in setup tale link).stage && (not (is_some_of (written_in wire.written).rest) && not (is_reset_step wire.step)))
 
 abbrev pub writes : Setup → Plan → LinkId → Tag → List ℕ → Wire → Tale → Tale
 writes setup plan link for bytes wire tale =
     if may_begin setup link wire tale then begins setup plan link for bytes wire tale
     else with_wire link (record wire { written = wire.written ++ bytes }) tale
-
--- The server runs what stands there; a QUIT ends the link.
-abbrev pub runs_on : Wire → LinkId → Tale → Tale
-runs_on wire link tale = if wire.quits then tell (Dropped link) tale else tell (Ran link) tale
 
 -- what hasn't run as the first byte of its reply is read runs then
 abbrev pub runs_first : Stage → LinkId → Tale → Tale
@@ -174,19 +140,18 @@ kind_by (FieldList rest) = kind.Fields
 kind_by _ = kind.Command
 
 abbrev pub last_id : List Framed → ℕ
-last_id [] = 0
-last_id (message ∷ []) = message.last
-last_id (message ∷ other ∷ messages) = last_id (other ∷ messages)
+last_id messages = option_map_or (λ message. message.last) (last_or None messages) 0
 
 -- the id of a reply's first packet: behind that of the question's last
 abbrev pub reply_id : Wire → ℕ
 reply_id wire = next_id (last_id (written_in wire.written).messages)
 
-abbrev pub sought : Wire → Question → Sought
-sought wire question = record { kind = kind_by (command_of question); server = reply_id wire; client = 0; number = 0 }
+-- what the bytes that were read are, as a reply of this kind
+abbrev pub read_as : ReplyKind → Wire → Ending
+read_as kind wire = run (started (record { kind = kind; server = reply_id wire; client = 0; number = 0 })) wire.unread
 
 abbrev pub reply_in : Wire → Question → List ℕ → Reply
-reply_in wire question bytes = record { to_prepare = is_prepare (cmd_of (command_of question)); payloads = payloads_in (reply_id wire) bytes }
+reply_in wire question bytes = record { to_prepare = is_prepare (command_of question); payloads = payloads_in (reply_id wire) bytes }
 
 abbrev pub heard_by : LinkId → Question → Wire → Ending → Tale → Tale
 heard_by link question wire (Ended end rest) tale =
@@ -195,7 +160,7 @@ heard_by link question wire (Ended end rest) tale =
 heard_by link question wire _ tale = with_wire link wire tale
 
 abbrev pub hears : LinkId → Wire → Stage → Tale → Tale
-hears link wire (Answered question) tale = heard_by link question wire (run (started (sought wire question)) wire.unread) tale
+hears link wire (Answered question) tale = heard_by link question wire (read_as (kind_by (command_of question)) wire) tale
 hears link wire _ tale = with_wire link wire tale
 
 -- bytes are read there
@@ -210,12 +175,6 @@ abbrev pub reset_by : LinkId → Wire → Ending → Tale → Tale
 reset_by link wire (Ended end rest) tale = with_wire link (record wire { unread = rest; written = []; step = None }) tale
 reset_by link wire _ tale = with_wire link wire tale
 
-abbrev pub reset_sought : Wire → Sought
-reset_sought wire = record { kind = kind.Command; server = reply_id wire; client = 0; number = 0 }
-
-abbrev pub reads_reset : LinkId → Wire → Tale → Tale
-reads_reset link wire tale = reset_by link wire (run (started (reset_sought wire)) wire.unread) tale
-
 -- A link is given back: its statement is answered, by a reply or, before it was sent, by the router, and nothing is left
 -- there; or its session was left and needs no reset.
 
@@ -226,8 +185,7 @@ abbrev pub is_left : View → SessionName → Bool
 is_left view n = not (is_name n (present view n.client n.hostgroup))
 
 abbrev pub is_given_up : Plan → (moment : ℕ) → SessionName → Option Due → Bool
-is_given_up plan moment n None = false
-is_given_up plan moment n (Some due) = is_some (own_at plan moment (message_of n due))
+is_given_up plan moment n due = option_map_or (λ d. is_some (own_at plan moment (message_of n d))) due false
 
 abbrev pub is_done_by : Plan → (moment : ℕ) → View → Carried → Bool
 is_done_by plan moment view Nobody = false

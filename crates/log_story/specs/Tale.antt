@@ -1,9 +1,7 @@
 -- What is known of a log as it is read: its story, and the bytes that no happening stands for yet.
 use Rattle.std.specs.Prelude.{ℕ, ◌+◌, suc, Bool, false, true, List, [], ◌∷◌, ◌++◌, map, Option, Some, None, if◌then◌else◌}
 use Rattle.std.specs.List.{list_any}
-use Rattle.mx_base.specs.declared.names.ClientNo.{ClientNo}
-use Rattle.mx_base.specs.declared.names.LinkId.{LinkId}
-use Rattle.mx_base.specs.declared.names.ServerId.{ServerId}
+use Rattle.private_model.specs.Names.{ClientNo, LinkId, ServerId}
 use Rattle.private_model.specs.Story.{Happening, Story, is_client, is_link_id, put}
 use Rattle.private_model.specs.View.{Link, Setup, View, view_after}
 use Rattle.log_story.specs.Plan.{Resets, StepText}
@@ -27,6 +25,9 @@ pub record Client : Type 0 where
   pub read : List ℕ
   pub written : ℕ
   pub taken : ℕ
+
+abbrev pub new_client : (number : ℕ) → LinkId → (salt : List ℕ) → Client
+new_client number link salt = record { number = record { 0 = number }; link = link; salt = salt; read = []; written = 0; taken = 0 }
 
 -- how many entries there were; clients, and links to servers, in the order in which they came
 pub record Tale : Type 0 where
@@ -64,10 +65,6 @@ is_to_server tale link = list_any (is_link_id link) tale.links
 abbrev pub is_reset_step : Option StepText → Bool
 is_reset_step (Some (Resets number)) = true
 is_reset_step _ = false
-
--- the router is logged in there
-abbrev pub is_entered : Tale → LinkId → Bool
-is_entered tale link = (tale.wires link).entered
 
 abbrev pub with_client : Client → Tale → Tale
 with_client client tale = record tale { clients = map (λ (other : Client). if is_client other.number client.number then client else other) tale.clients }

@@ -1,22 +1,26 @@
 //! From a log to a story: what the bytes between the router, its clients and its servers tell, and what is promised of them.
 #![tactic(auto)]
 
+ghost use Rattle.std.specs.Prelude.{◌≡◌, ◌≤◌, true, Option, None};
+ghost use Rattle.mx_base.specs.declared.names.LinkId.{LinkId};
 ghost use Rattle.mx_wire.specs.Log.{Log};
+ghost use Rattle.packet_frame.specs.Packets.{Framed};
 ghost use Rattle.private_model.specs.Commands.{runs};
 ghost use Rattle.private_model.specs.Honest.{IsAccepted, IsHonest};
-ghost use Rattle.private_model.specs.Lawful.{IsLawful};
+ghost use Rattle.private_model.specs.Lawful.{IsLawful, MayFree};
 ghost use Rattle.private_model.specs.View.{Setup};
 ghost use Rattle.server_rule.specs.Laws.{IsTame};
 ghost use Rattle.server_rule.specs.Servers.{Step, Tests};
+ghost use Rattle.log_story.specs.Clients.{next_taken};
 ghost use Rattle.log_story.specs.Headline.{HasPrivateBytes};
 ghost use Rattle.log_story.specs.Honest.{IsHonestLog};
+ghost use Rattle.log_story.specs.Owed.{unwritten};
 ghost use Rattle.log_story.specs.Plan.{Plan};
+ghost use Rattle.log_story.specs.Servers.{is_done};
+ghost use Rattle.log_story.specs.Tale.{Client, Tale, link_in, view_of};
 ghost use Rattle.log_story.specs.Telling.{story_of};
 
-mod worked;
-
 use private_model::private_world;
-pub use worked::{beside_questions, client_ended, copies, executes, own_answers, worked_log};
 
 /// Where the bytes of a log are honest, so is its story: each reply that is cut from the bytes is the answer of the run.
 pub fn honest_story()
@@ -32,3 +36,16 @@ pub fn private_bytes()
 {
     private_world();
 }
+
+/// While too many bytes for a client are unwritten, no message of it is taken up.
+pub fn messages_wait()
+    ensures { (setup : Setup) (plan : Plan) (client : Client) (message : Option Framed) (tale : Tale)
+        → plan.room ≤ unwritten (view_of setup tale).replies plan tale.moment client → next_taken setup plan client message tale ≡ None }
+{}
+
+/// A link that is told to be given back is one that the rules of sending let go.
+pub fn given_back_lawfully()
+    ensures { (setup : Setup) (plan : Plan) (tale : Tale) (link : LinkId)
+        → is_done plan tale.moment (view_of setup tale) (tale.wires link) (link_in setup tale link) ≡ true
+        → MayFree (view_of setup tale) (link_in setup tale link) }
+{}

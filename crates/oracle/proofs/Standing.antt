@@ -12,9 +12,9 @@ use Rattle.server_rule.specs.declared.command.Cmd.{Cmd}
 use Rattle.server_rule.specs.declared.command.Cmd.TheVariants as cmd
 use Rattle.server_rule.specs.declared.session.Session.{Session}
 use Rattle.private_model.proofs.Maps.{same_message, same_name, same_server}
-use Rattle.private_model.specs.Commands.{Command, FieldList, InitDb, Prepare, Query, Quit, ReadId, Reset, Run, SetId, cmd_of, is_made, runs}
+use Rattle.private_model.specs.Commands.{Command, FieldList, InitDb, Prepare, Query, Quit, ReadId, Reset, Run, SetId, cmd_of, is_made, runs, is_prepare}
 use Rattle.private_model.specs.Story.{Due, Key, message_of}
-use Rattle.private_model.specs.View.{is_prepare, text_of}
+use Rattle.private_model.specs.View.{text_of}
 use Rattle.private_model.specs.Worlds.{Private, placed, private_prep, private_statement, readied, tabled}
 use Rattle.private_model.specs.Worlds as worlds
 use Rattle.oracle.specs.Entries.{prepared_at}

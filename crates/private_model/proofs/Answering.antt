@@ -1,15 +1,14 @@
 -- Which statement was sent where, and what was answered to it in both worlds.
 use Rattle.std.specs.Prelude.{◌≡◌, Bool, true, false, Option, Some, None}
 use Rattle.std.proofs.Common.{refl, sym, ap, ◌∙◌, subst}
-use Rattle.mx_base.specs.declared.names.LinkId.{LinkId}
+use Rattle.private_model.specs.Names.{LinkId, MessageName}
 use Rattle.private_model.proofs.Maps.{at_each, link_ids, messages, no_other, put-other, put-same}
 use Rattle.private_model.proofs.Stands.{AreAnswered, message_on, ran_on}
 use Rattle.private_model.specs.Commands.{Reply}
 use Rattle.private_model.specs.Story.{Capture, End, Own, Prep, Statement, Sync, is_link_id, is_message, put}
-use Rattle.private_model.specs.View.{Answered, Asked, Link, Quiet, Stage}
+use Rattle.private_model.specs.View.{Asked, Link, Quiet, Stage}
 use Rattle.private_model.specs.Worlds.{Peer}
 use Rattle.server_rule.specs.Servers.{fresh}
-use Rattle.session_state.specs.declared.names.MessageName.{MessageName}
 
 module _ (links : LinkId → Link) (peers : LinkId → Peer) (carriers : MessageName → Option LinkId) (replies answers : MessageName → Option Reply) (are : AreAnswered links peers carriers replies answers) (number : LinkId) where
   -- a message on another link is another message
@@ -103,12 +102,6 @@ module _ (links : LinkId → Link) (peers : LinkId → Peer) (carriers : Message
   }
     where
       is_on : (stage : Stage) (m : MessageName) → ran_on stage ≡ Some m → message_on stage ≡ Some m
-      is_on (Answered (Statement n due)) m e = e
-      is_on (Answered (Prep n key text)) m e = e
-      is_on (Answered (Sync n c)) m e = e
-      is_on (Answered (Own c)) m e = e
-      is_on (Answered (End n)) m e = e
-      is_on (Answered (Capture n)) m e = e
       is_on (Asked (Statement n due)) m e = cc
       is_on (Asked (Prep n key text)) m e = e
       is_on (Asked (Sync n c)) m e = e
@@ -116,6 +109,7 @@ module _ (links : LinkId → Link) (peers : LinkId → Peer) (carriers : Message
       is_on (Asked (End n)) m e = e
       is_on (Asked (Capture n)) m e = e
       is_on Quiet m e = e
+      is_on _ m e = e
 
       to_key : (m : MessageName) → message_on link.stage ≡ Some m → message_on (links number).stage ≡ Some m
       to_key m e = was ∙ sym on ∙ e

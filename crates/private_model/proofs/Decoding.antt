@@ -1,23 +1,23 @@
 -- What is prepared, as a command runs; and that both worlds decode a Run alike.
+use Rattle.private_model.specs.Names.{LinkId, SessionName}
 use Rattle.private_model.specs.Honest.{IsTrueRun}
 use Rattle.std.specs.Prelude.{◌≡◌, ◌⊎◌, ℕ, Bool, true, false, not, if◌then◌else◌, ◌||◌, List, Option, Some, None}
 use Rattle.std.proofs.Common.{refl, sym, ap, ◌∙◌, subst, inl, inr}
-use Rattle.mx_base.specs.declared.names.LinkId.{LinkId}
 use Rattle.private_model.proofs.Maps.{link_ids, names, no_other, put-other, put-same}
 use Rattle.private_model.proofs.Meeting.{IsDecoded, IsTextOf, prep_after, shallow_before}
 use Rattle.private_model.proofs.Preparing.{alive_joined, alive_lent, others_table, resting_table, stands_at, tabled_at, tabled_still}
 use Rattle.private_model.proofs.Running.{after_decoded, asks, asks_lent, before, before_free, capture_name, data_there, end_name, met_there, ok_here, ok_ready, ok_there, prep_name, ran_own_same, statement_name, sync_name, with_data}
-use Rattle.private_model.proofs.Stands.{AreKept, AreMatched, AreTabled, AreTabledBy, IfAlive, IsAskedJoined, IsMatch, IsUsual, Stands}
+use Rattle.private_model.proofs.Stands.{AreKept, AreMatched, AreTabled, AreTabledBy, IfAlive, IsAskedJoined, IsMatch, IsUsual, Stands, soon_live}
 use Rattle.private_model.proofs.Tabling.{decoded_alike, kept_by, keyed_told, matched_by, matched_of, prepared_schema, prepared_settings, tabled_moved, told_place}
 use Rattle.private_model.proofs.Tame.{Tame}
-use Rattle.private_model.specs.Commands.{Command, Outcome, Prepare, ReadId, Reset, Step, is_err, is_made, number_in, pin_statement}
+use Rattle.private_model.specs.Commands.{Command, Outcome, Prepare, ReadId, Reset, Step, is_err, is_made, number_in, pin_statement, is_prepare}
 use Rattle.private_model.specs.Story.{Capture, Due, End, Key, Own, Prep, Question, Ran, Statement, Sync, is_link_id, is_name, put}
-use Rattle.private_model.specs.View.{Answered, Asked, Carried, Joined, Lent, Link, Nobody, Quiet, Setup, Stage, View, is_prepare, is_quit, lived, ran_by, soon_live, text_of, view_step}
-use Rattle.private_model.specs.Worlds.{Peer, Private, Real, decoded, entry_at, private_prep, private_run, private_step, readied, real_run, real_step, table_after, tabled, there_table}
+use Rattle.private_model.specs.View.{Asked, Carried, Joined, Lent, Link, Nobody, Setup, Stage, View, is_quit, lived, ran_by, text_of, view_step}
+use Rattle.private_model.specs.Worlds.{Peer, Private, Real, decoded, private_prep, private_run, private_step, readied, real_run, real_step, table_after, tabled, there_table}
 use Rattle.server_rule.specs.Servers.{Tests}
 use Rattle.server_rule.specs.declared.session.Session.{Session}
 use Rattle.session_state.specs.Pins.{is_pinned}
-use Rattle.session_state.specs.declared.names.SessionName.{SessionName}
+use Rattle.std.specs.Option.{option_and_then}
 
 if_alive : (b : Bool) (A : Type 0) → A → IfAlive b A (Unit {0})
 if_alive true A x = x
@@ -35,11 +35,11 @@ module _ (setup : Setup) (tests : Tests) (step : Step) (tame : Tame setup.reads 
     | inr joined ↦ alive_joined setup tests view real private stands are number m alive (Statement m due) is joined
   ]
 
-  pub are_decoded : (m : SessionName) (due : Due) → (view.links number).alive ≡ true → (view.links number).stage ≡ Asked (Statement m due) → IsDecoded setup.reads (decoded (entry_at ((view.links number).live due.key) (real.peers number).table) due.command) (decoded (private.tables m due.key) due.command) × IsTextOf (decoded (entry_at ((view.links number).live due.key) (real.peers number).table) due.command) due.command
+  pub are_decoded : (m : SessionName) (due : Due) → (view.links number).alive ≡ true → (view.links number).stage ≡ Asked (Statement m due) → IsDecoded setup.reads (decoded (option_and_then (real.peers number).table ((view.links number).live due.key)) due.command) (decoded (private.tables m due.key) due.command) × IsTextOf (decoded (option_and_then (real.peers number).table ((view.links number).live due.key)) due.command) due.command
   are_decoded m due alive is =
-      decoded_alike setup due.key due.command (view.links number).told (view.links number).live (entry_at ((view.links number).live due.key) (real.peers number).table) (private.tables m due.key)
+      decoded_alike setup due.key due.command (view.links number).told (view.links number).live (option_and_then (real.peers number).table ((view.links number).live due.key)) (private.tables m due.key)
       (met_there setup tests step tame view real private stands number m due alive is).keyed
-      (λ n live. subst (λ x. IsMatch setup due.key x (private.tables m due.key)) (sym (ap (λ x. entry_at x (real.peers number).table) live)) ((matched_there m due alive is).match due.key n live))
+      (λ n live. subst (λ x. IsMatch setup due.key x (private.tables m due.key)) (sym (ap (λ x. option_and_then (real.peers number).table x) live)) ((matched_there m due alive is).match due.key n live))
 
   abbrev RanTabled : (alive : Bool) → Stage → Type 0
   RanTabled alive stage = AreTabled setup (put is_link_id view.links number (ran_by setup.reads alive stage (view.links number))) (real_run step real number (view.links number).live alive stage (view.links number).server).peers view.held (private_run step view.held private alive stage (view.links number).server).tables
@@ -72,7 +72,7 @@ module _ (setup : Setup) (tests : Tests) (step : Step) (tame : Tame setup.reads 
       let d = data_there setup tests step tame view real private stands number in
       let s0 = (real.peers number).session in
       let p0 = readied due (private.sessions m) in
-      let c' = decoded (entry_at (l.live due.key) t) c in
+      let c' = decoded (option_and_then t (l.live due.key)) c in
       let there = step d s0 c' in
       let here = step d p0 c' in
       let met = met_there setup tests step tame view real private stands number m due alive is in
@@ -86,7 +86,7 @@ module _ (setup : Setup) (tests : Tests) (step : Step) (tame : Tame setup.reads 
       (λ makes. (keyed_told setup c due.key l.told l.live makes met.keyed).text_is)
       (sym (ap (λ (x : Session). x.schema) alike.rest)) (sym (ap (λ (x : Session). x.settings) alike.rest)) shallow
       (λ makes e. told_place setup due.key (text_of c) l.told s0 there.session (keyed_told setup c due.key l.told l.live makes met.keyed) (met.met.follows (shallow e))
-      (prepared_schema setup.reads tests step tame d s0 ok c (entry_at (l.live due.key) t) makes) (prepared_settings setup.reads tests step tame d s0 ok c (entry_at (l.live due.key) t) makes))
+      (prepared_schema setup.reads tests step tame d s0 ok c (option_and_then t (l.live due.key)) makes) (prepared_settings setup.reads tests step tame d s0 ok c (option_and_then t (l.live due.key)) makes))
       (matched_there m due alive is) in
       let own : ℕ → Option Key = tabled (is_prepare c) (is_made here.reply) due.key (text_of c) here.session (private.tables m) in
       let right = subst (λ b. AreMatched setup (lived (is_prepare c) (is_made there.reply) due.key (number_in there.reply) l.live) deep (tabled (is_prepare c) (is_made there.reply) (number_in there.reply) (text_of c) there.session t) (tabled (is_prepare c) b due.key (text_of c) here.session (private.tables m))) (sym (ap is_made alike.reply)) matched in
@@ -172,9 +172,6 @@ module _ (setup : Setup) (tests : Tests) (step : Step) (tame : Tame setup.reads 
       ran_still link (peer_by (real.peers number).table there) (subst (λ x. AreTabledBy setup x link (peer_by (real.peers number).table there) view.held private.tables) (sym same) (next (alive_joined setup tests view real private stands are number m alive question is carries)))
 
   ran_by_table : (alive : Bool) (stage : Stage) → (view.links number).alive ≡ alive → (view.links number).stage ≡ stage → IsTrueRun step real number (view.links number).live alive stage (view.links number).server → RanTabled alive stage
-  ran_by_table false stage alive is fresh = tabled_still setup tests view real private stands are number
-  ran_by_table true Quiet alive is fresh = tabled_still setup tests view real private stands are number
-  ran_by_table true (Answered question) alive is fresh = tabled_still setup tests view real private stands are number
   ran_by_table true (Asked (Statement m due)) alive is fresh = ran_statement_table m due alive is fresh
   ran_by_table true (Asked (Prep m key text)) alive is fresh = ran_prep_table m key text alive is (prep_name setup number (view.links number).carries (view.links number) (real.peers number) view.held private.sessions (stands.links number) m key text is) fresh
   ran_by_table true (Asked (Own c)) alive is fresh = ran_own_table c alive is (view.links number).carries refl
@@ -192,6 +189,7 @@ module _ (setup : Setup) (tests : Tests) (step : Step) (tame : Tame setup.reads 
       let carries : l.carries ≡ Joined m = end_name setup number l.carries l (real.peers number) view.held private.sessions (stands.links number) m is in
       ran_table m (ran_by setup.reads true (Asked (End m)) l) (peer_by (λ n. None) (step (real.stored l.server) (real.peers number).session Reset)) (λ key. None) (stands_at setup tests view real private stands are number (Joined m) carries).home carries
       (record { match = λ key n e. cc; kept = λ e. record { kept = λ key n f. cc }; usual = λ e. record { usual = λ key place f. cc } })
+  ran_by_table _ _ alive is fresh = tabled_still setup tests view real private stands are number
 
   pub tabled_ran : IsTrueRun step real number (view.links number).live (view.links number).alive (view.links number).stage (view.links number).server → AreTabled setup (view_step setup view (Ran number)).links (real_step step view real (Ran number)).peers view.held (private_step step view private (Ran number)).tables
   tabled_ran fresh = ran_by_table (view.links number).alive (view.links number).stage refl refl fresh

@@ -12,8 +12,8 @@ use Rattle.server_rule.specs.Servers as server
 use Rattle.server_rule.specs.declared.command.Cmd.TheVariants as cmd
 use Rattle.server_rule.specs.declared.session.Session.{Session}
 use Rattle.server_rule.proofs.Ends.{Shows, nothing_shows, shown_end}
-use Rattle.private_model.specs.Commands.{Number, Command, Query, InitDb, FieldList, SetId, ReadId, Prepare, Run, Reset, Quit, Outcome, account_of, brings_id, class_of, cmd_of, end_of, flags, hides_of, is_err, is_ok, outcome_of, outcome_with_id, runs}
-use Rattle.private_model.proofs.Tame.{ResetLaw, Tame, is_flagged, is_text}
+use Rattle.private_model.specs.Commands.{Command, Query, InitDb, FieldList, SetId, ReadId, Prepare, Run, Reset, Quit, Outcome, class_of, cmd_of, end_of, hides_of, is_err, is_ok, outcome_of, runs}
+use Rattle.private_model.proofs.Tame.{ResetLaw, Tame, is_flagged, is_text, account_of, brings_id, flags, outcome_with_id}
 use Rattle.private_model.proofs.Sessions.{apart, bool_cases}
 
 neither_tracked : {A : Type 0} {changes : List Change} → Neither ≡ Tracked changes → A
@@ -24,9 +24,6 @@ uses_tracked e = absurd (cc)
 
 neither_uses : {A : Type 0} {schema : List ℕ} → Neither ≡ Uses schema → A
 neither_uses e = absurd (cc)
-
-last_id_of : (s x : Session) → s ≡ with_diag s.diag x → s.last_id ≡ x.last_id
-last_id_of s x e = ap (λ (y : Session). y.last_id) e
 
 module _ (reads : Reads) (tests : Tests) (rule : server.Step) (tame : IsTame reads tests rule) where
   abbrev step : List ℕ → Session → Command → Outcome
@@ -53,12 +50,7 @@ module _ (reads : Reads) (tests : Tests) (rule : server.Step) (tame : IsTame rea
   tracked_law stored s ok (Run text schema settings args) changes e calm =
       let c = cmd_of (Run text schema settings args) in (tame.tracked.calm stored s ok c changes e calm, tame.tracked.calm_tx stored s ok c changes e calm)
   tracked_law stored s ok (InitDb schema) changes e calm = uses_tracked e
-  tracked_law stored s ok (FieldList rest) changes e calm = neither_tracked e
-  tracked_law stored s ok (SetId n) changes e calm = neither_tracked e
-  tracked_law stored s ok ReadId changes e calm = neither_tracked e
-  tracked_law stored s ok (Prepare text) changes e calm = neither_tracked e
-  tracked_law stored s ok Reset changes e calm = neither_tracked e
-  tracked_law stored s ok Quit changes e calm = neither_tracked e
+  tracked_law stored s ok _ changes e calm = neither_tracked e
 
   uses_law : (stored : List ℕ) (s : Session) → Accepts tests stored s → (c : Command) (schema : List ℕ) → effect_of (class_of reads c) ≡ Uses schema
       → ((step stored s c).stored ≡ stored) × ((step stored s c).session ≡ record s { schema = schema_by (Uses schema) (is_ok (step stored s c).reply) s.schema; diag = (step stored s c).session.diag })
@@ -66,20 +58,27 @@ module _ (reads : Reads) (tests : Tests) (rule : server.Step) (tame : IsTame rea
   uses_law stored s ok (Run text schema' settings args) schema e =
       let c = cmd_of (Run text schema' settings args) in (tame.schemas.stored stored s ok c schema e, tame.schemas.session stored s ok c schema e)
   uses_law stored s ok (InitDb schema') schema e = (tame.schemas.stored stored s ok (cmd.InitDb schema') schema e, tame.schemas.session stored s ok (cmd.InitDb schema') schema e)
-  uses_law stored s ok (FieldList rest) schema e = neither_uses e
-  uses_law stored s ok (SetId n) schema e = neither_uses e
-  uses_law stored s ok ReadId schema e = neither_uses e
-  uses_law stored s ok (Prepare text) schema e = neither_uses e
-  uses_law stored s ok Reset schema e = neither_uses e
-  uses_law stored s ok Quit schema e = neither_uses e
+  uses_law stored s ok _ schema e = neither_uses e
 
-  -- the session after the text that sets the insert id, but for that and the diagnostics
-  set_leaves : {A : Type 0} (f : Session → A) → ((n : ℕ) (diag : List ℕ) (x : Session) → f (with_diag diag (with_id n x)) ≡ f x) → ((diag : List ℕ) (x : Session) → f (with_diag diag x) ≡ f x)
-      → (stored : List ℕ) (s : Session) → Accepts tests stored s → (n : Number) → f (step stored s (SetId n)).session ≡ f s
-  set_leaves f set refused stored s ok n = elim (bool_cases (is_ok (step stored s (SetId n)).reply)) [
-    | inl done ↦ ap f (tame.insert_id.set_done stored s ok n.value n.fits done) ∙ set n.value _ s
-    | inr not_done ↦ ap f (tame.insert_id.set_refused stored s ok n.value n.fits not_done) ∙ refused _ s
+  -- what a command that isn't a text leaves of a session, but for the schema
+  abbrev is_aside : Command → Bool
+  is_aside (Query text) = false
+  is_aside (Run text schema settings args) = false
+  is_aside (InitDb schema) = false
+  is_aside _ = true
+
+  left : {A : Type 0} (f : Session → A) → ((n : ℕ) (diag : List ℕ) (x : Session) → f (with_diag diag (with_id n x)) ≡ f x)
+      → (stored : List ℕ) (s : Session) → Accepts tests stored s → (c : Command) → is_aside c ≡ true → (class_of reads c).deep ≡ false → f (step stored s c).session ≡ f s
+  left f same stored s ok (FieldList rest) is shallow = ap f (tame.preparing.fields_session stored s ok rest) ∙ same s.last_id _ s
+  left f same stored s ok (Prepare text) is shallow = ap f (tame.preparing.session stored s ok text) ∙ same s.last_id _ s
+  left f same stored s ok ReadId is shallow = ap f (tame.insert_id.read_session stored s ok) ∙ same s.last_id _ s
+  left f same stored s ok (SetId n) is shallow = elim (bool_cases (is_ok (step stored s (SetId n)).reply)) [
+    | inl done ↦ ap f (tame.insert_id.set_done stored s ok n.value n.fits done) ∙ same n.value _ s
+    | inr not_done ↦ ap f (tame.insert_id.set_refused stored s ok n.value n.fits not_done) ∙ same s.last_id _ s
   ]
+  left f same stored s ok Reset is shallow = apart refl shallow
+  left f same stored s ok Quit is shallow = apart refl shallow
+  left f same stored s ok _ is shallow = apart is refl
 
   -- the schema and the settings after a text
   schema_text : (stored : List ℕ) (s : Session) → Accepts tests stored s → (c : Command) (text : List ℕ) → server.Accepts tests stored s → (effect : Effect) → effect_of (class_of reads c) ≡ effect
@@ -102,12 +101,7 @@ module _ (reads : Reads) (tests : Tests) (rule : server.Step) (tame : IsTame rea
       let c = cmd_of (Run text schema settings args) in
       schema_text stored s ok (Run text schema settings args) text ok (effect_of (reads.class text)) refl (λ changes e. tame.tracked.schema stored s ok c changes e) (λ e. tame.texts.schema stored s ok c text refl shallow e)
   schema_after stored s ok (InitDb schema) shallow = ap (λ (x : Session). x.schema) (uses_law stored s ok (InitDb schema) schema refl).1
-  schema_after stored s ok (FieldList rest) shallow = ap (λ (x : Session). x.schema) (tame.preparing.fields_session stored s ok rest)
-  schema_after stored s ok (SetId n) shallow = set_leaves (λ (x : Session). x.schema) (λ n d x. refl) (λ d x. refl) stored s ok n
-  schema_after stored s ok ReadId shallow = ap (λ (x : Session). x.schema) (tame.insert_id.read_session stored s ok)
-  schema_after stored s ok (Prepare text) shallow = ap (λ (x : Session). x.schema) (tame.preparing.session stored s ok text)
-  schema_after stored s ok Reset shallow = apart refl shallow
-  schema_after stored s ok Quit shallow = apart refl shallow
+  schema_after stored s ok c shallow = left (λ (x : Session). x.schema) (λ n d x. refl) stored s ok c refl shallow
 
   settings_after : (stored : List ℕ) (s : Session) → Accepts tests stored s → (c : Command) → (class_of reads c).deep ≡ false → (step stored s c).session.settings ≡ settings_by (effect_of (class_of reads c)) (is_ok (step stored s c).reply) s.settings
   settings_after stored s ok (Query text) shallow = settings_text stored s ok (Query text) (effect_of (reads.class text)) refl (λ changes e. tame.tracked.settings stored s ok (cmd.Query text) changes e) (λ e. tame.texts.settings stored s ok (cmd.Query text) text refl shallow e)
@@ -115,49 +109,25 @@ module _ (reads : Reads) (tests : Tests) (rule : server.Step) (tame : IsTame rea
       let c = cmd_of (Run text schema settings args) in
       settings_text stored s ok (Run text schema settings args) (effect_of (reads.class text)) refl (λ changes e. tame.tracked.settings stored s ok c changes e) (λ e. tame.texts.settings stored s ok c text refl shallow e)
   settings_after stored s ok (InitDb schema) shallow = ap (λ (x : Session). x.settings) (uses_law stored s ok (InitDb schema) schema refl).1
-  settings_after stored s ok (FieldList rest) shallow = ap (λ (x : Session). x.settings) (tame.preparing.fields_session stored s ok rest)
-  settings_after stored s ok (SetId n) shallow = set_leaves (λ (x : Session). x.settings) (λ n d x. refl) (λ d x. refl) stored s ok n
-  settings_after stored s ok ReadId shallow = ap (λ (x : Session). x.settings) (tame.insert_id.read_session stored s ok)
-  settings_after stored s ok (Prepare text) shallow = ap (λ (x : Session). x.settings) (tame.preparing.session stored s ok text)
-  settings_after stored s ok Reset shallow = apart refl shallow
-  settings_after stored s ok Quit shallow = apart refl shallow
-
-  -- what every command but a text leaves of a session
-  abbrev IsKeptBy : {A : Type 0} → (Session → A) → Command → Type 0
-  IsKeptBy f c = (stored : List ℕ) (s : Session) → Accepts tests stored s → f (step stored s c).session ≡ f s
+  settings_after stored s ok c shallow = left (λ (x : Session). x.settings) (λ n d x. refl) stored s ok c refl shallow
 
   locks_after : (stored : List ℕ) (s : Session) → Accepts tests stored s → (c : Command) → (class_of reads c).deep ≡ false → takes_locks (class_of reads c) (end_of (step stored s c).reply) ≡ false → s.locks ≡ [] → (step stored s c).session.locks ≡ []
   locks_after stored s ok (Query text) shallow takes none = tame.texts.locks stored s ok (cmd.Query text) text refl shallow takes none
   locks_after stored s ok (Run text schema settings args) shallow takes none = tame.texts.locks stored s ok (cmd_of (Run text schema settings args)) text refl shallow takes none
   locks_after stored s ok (InitDb schema) shallow takes none = ap (λ (x : Session). x.locks) (uses_law stored s ok (InitDb schema) schema refl).1 ∙ none
-  locks_after stored s ok (FieldList rest) shallow takes none = ap (λ (x : Session). x.locks) (tame.preparing.fields_session stored s ok rest) ∙ none
-  locks_after stored s ok (SetId n) shallow takes none = set_leaves (λ (x : Session). x.locks) (λ n d x. refl) (λ d x. refl) stored s ok n ∙ none
-  locks_after stored s ok ReadId shallow takes none = ap (λ (x : Session). x.locks) (tame.insert_id.read_session stored s ok) ∙ none
-  locks_after stored s ok (Prepare text) shallow takes none = ap (λ (x : Session). x.locks) (tame.preparing.session stored s ok text) ∙ none
-  locks_after stored s ok Reset shallow takes none = apart refl shallow
-  locks_after stored s ok Quit shallow takes none = apart refl shallow
+  locks_after stored s ok c shallow takes none = left (λ (x : Session). x.locks) (λ n d x. refl) stored s ok c refl shallow ∙ none
 
   none_after : (stored : List ℕ) (s : Session) → Accepts tests stored s → (c : Command) → (class_of reads c).deep ≡ false → sets_next (class_of reads c) (end_of (step stored s c).reply) ≡ false → is_lone_savepoint (class_of reads c) (is_some_of s.tx) ≡ false → s.deep ≡ [] → (step stored s c).session.deep ≡ []
   none_after stored s ok (Query text) shallow next inside none = tame.texts.none stored s ok (cmd.Query text) text refl shallow next inside none
   none_after stored s ok (Run text schema settings args) shallow next inside none = tame.texts.none stored s ok (cmd_of (Run text schema settings args)) text refl shallow next inside none
   none_after stored s ok (InitDb schema) shallow next inside none = ap (λ (x : Session). x.deep) (uses_law stored s ok (InitDb schema) schema refl).1 ∙ none
-  none_after stored s ok (FieldList rest) shallow next inside none = ap (λ (x : Session). x.deep) (tame.preparing.fields_session stored s ok rest) ∙ none
-  none_after stored s ok (SetId n) shallow next inside none = set_leaves (λ (x : Session). x.deep) (λ n d x. refl) (λ d x. refl) stored s ok n ∙ none
-  none_after stored s ok ReadId shallow next inside none = ap (λ (x : Session). x.deep) (tame.insert_id.read_session stored s ok) ∙ none
-  none_after stored s ok (Prepare text) shallow next inside none = ap (λ (x : Session). x.deep) (tame.preparing.session stored s ok text) ∙ none
-  none_after stored s ok Reset shallow next inside none = apart refl shallow
-  none_after stored s ok Quit shallow next inside none = apart refl shallow
+  none_after stored s ok c shallow next inside none = left (λ (x : Session). x.deep) (λ n d x. refl) stored s ok c refl shallow ∙ none
 
   brief_after : (stored : List ℕ) (s : Session) → Accepts tests stored s → (c : Command) → (class_of reads c).deep ≡ false → is_lone_savepoint (class_of reads c) (is_some_of s.tx) ≡ false → is_brief s.deep ≡ true → is_brief (step stored s c).session.deep ≡ true
   brief_after stored s ok (Query text) shallow inside brief = tame.texts.brief stored s ok (cmd.Query text) text refl shallow inside brief
   brief_after stored s ok (Run text schema settings args) shallow inside brief = tame.texts.brief stored s ok (cmd_of (Run text schema settings args)) text refl shallow inside brief
   brief_after stored s ok (InitDb schema) shallow inside brief = ap (λ (x : Session). is_brief x.deep) (uses_law stored s ok (InitDb schema) schema refl).1 ∙ brief
-  brief_after stored s ok (FieldList rest) shallow inside brief = ap (λ (x : Session). is_brief x.deep) (tame.preparing.fields_session stored s ok rest) ∙ brief
-  brief_after stored s ok (SetId n) shallow inside brief = ap is_brief (set_leaves (λ (x : Session). x.deep) (λ n d x. refl) (λ d x. refl) stored s ok n) ∙ brief
-  brief_after stored s ok ReadId shallow inside brief = ap (λ (x : Session). is_brief x.deep) (tame.insert_id.read_session stored s ok) ∙ brief
-  brief_after stored s ok (Prepare text) shallow inside brief = ap (λ (x : Session). is_brief x.deep) (tame.preparing.session stored s ok text) ∙ brief
-  brief_after stored s ok Reset shallow inside brief = apart refl shallow
-  brief_after stored s ok Quit shallow inside brief = apart refl shallow
+  brief_after stored s ok c shallow inside brief = left (λ (x : Session). is_brief x.deep) (λ n d x. refl) stored s ok c refl shallow ∙ brief
 
   -- a transaction that such a command leaves doesn't end
   still_open : {A : Type 0} (c : Command) (stored : List ℕ) (s : Session) → (step stored s c).session.tx ≡ s.tx → is_some_of s.tx ≡ true → is_some_of (step stored s c).session.tx ≡ false → A
@@ -167,34 +137,17 @@ module _ (reads : Reads) (tests : Tests) (rule : server.Step) (tame : IsTame rea
   ended_after stored s ok (Query text) shallow there over brief = tame.texts.ended stored s ok (cmd.Query text) text refl shallow there over brief
   ended_after stored s ok (Run text schema settings args) shallow there over brief = tame.texts.ended stored s ok (cmd_of (Run text schema settings args)) text refl shallow there over brief
   ended_after stored s ok (InitDb schema) shallow there over brief = still_open (InitDb schema) stored s (ap (λ (x : Session). x.tx) (uses_law stored s ok (InitDb schema) schema refl).1) there over
-  ended_after stored s ok (FieldList rest) shallow there over brief = still_open (FieldList rest) stored s (ap (λ (x : Session). x.tx) (tame.preparing.fields_session stored s ok rest)) there over
-  ended_after stored s ok (SetId n) shallow there over brief = still_open (SetId n) stored s (set_leaves (λ (x : Session). x.tx) (λ n d x. refl) (λ d x. refl) stored s ok n) there over
-  ended_after stored s ok ReadId shallow there over brief = still_open ReadId stored s (ap (λ (x : Session). x.tx) (tame.insert_id.read_session stored s ok)) there over
-  ended_after stored s ok (Prepare text) shallow there over brief = still_open (Prepare text) stored s (ap (λ (x : Session). x.tx) (tame.preparing.session stored s ok text)) there over
-  ended_after stored s ok Reset shallow there over brief = apart refl shallow
-  ended_after stored s ok Quit shallow there over brief = apart refl shallow
+  ended_after stored s ok c shallow there over brief = still_open c stored s (left (λ (x : Session). x.tx) (λ n d x. refl) stored s ok c refl shallow) there over
 
   diag_law : (stored : List ℕ) (s : Session) → Accepts tests stored s → (c : Command) (diag : List ℕ) → Accepts tests stored (with_diag diag s) → (class_of reads c).reads_diag ≡ false → step stored (with_diag diag s) c ≡ step stored s c
-  diag_law stored s ok (Query text) diag there e = ap (outcome_of (Query text)) (tame.blind.diag stored s ok (cmd.Query text) diag there e)
-  diag_law stored s ok (Run text schema settings args) diag there e = ap (outcome_of (Run text schema settings args)) (tame.blind.diag stored s ok (cmd_of (Run text schema settings args)) diag there e)
-  diag_law stored s ok (InitDb schema) diag there e = ap (outcome_of (InitDb schema)) (tame.blind.diag stored s ok (cmd.InitDb schema) diag there refl)
-  diag_law stored s ok (FieldList rest) diag there e = ap (outcome_of (FieldList rest)) (tame.blind.diag stored s ok (cmd.FieldList rest) diag there refl)
   diag_law stored s ok (SetId n) diag there e = ap (outcome_of (SetId n)) (tame.insert_id.set_blind stored s ok n.value n.fits diag there)
   diag_law stored s ok ReadId diag there e = ap (outcome_of ReadId) (tame.insert_id.read_blind stored s ok diag there)
-  diag_law stored s ok (Prepare text) diag there e = ap (outcome_of (Prepare text)) (tame.blind.diag stored s ok (cmd.Prepare text) diag there refl)
-  diag_law stored s ok Reset diag there e = apart refl e
-  diag_law stored s ok Quit diag there e = apart refl e
+  diag_law stored s ok c diag there e = ap (outcome_of c) (tame.blind.diag stored s ok (cmd_of c) diag there e)
 
   id_law : (stored : List ℕ) (s : Session) → Accepts tests stored s → (c : Command) (n : ℕ) → (class_of reads c).marks_id ≡ false → step stored (with_id n s) c ≡ outcome_with_id n (step stored s c)
-  id_law stored s ok (Query text) n e = ap (outcome_of (Query text)) (tame.blind.last_id stored s ok (cmd.Query text) n e)
-  id_law stored s ok (Run text schema settings args) n e = ap (outcome_of (Run text schema settings args)) (tame.blind.last_id stored s ok (cmd_of (Run text schema settings args)) n e)
-  id_law stored s ok (InitDb schema) n e = ap (outcome_of (InitDb schema)) (tame.blind.last_id stored s ok (cmd.InitDb schema) n refl)
-  id_law stored s ok (FieldList rest) n e = ap (outcome_of (FieldList rest)) (tame.blind.last_id stored s ok (cmd.FieldList rest) n refl)
   id_law stored s ok (SetId k) n e = apart refl e
   id_law stored s ok ReadId n e = apart refl e
-  id_law stored s ok (Prepare text) n e = ap (outcome_of (Prepare text)) (tame.blind.last_id stored s ok (cmd.Prepare text) n refl)
-  id_law stored s ok Reset n e = apart refl e
-  id_law stored s ok Quit n e = apart refl e
+  id_law stored s ok c n e = ap (outcome_of c) (tame.blind.last_id stored s ok (cmd_of c) n e)
 
   kept_text : (stored : List ℕ) (s : Session) → Accepts tests stored s → (c : Command) → ((class_of reads c).marks_id ≡ true → (step stored s c).session.last_id ≡ s.last_id) → (step stored s c).session.last_id ≡ s.last_id
   kept_text stored s ok c marked = elim (bool_cases (class_of reads c).marks_id) [
@@ -205,13 +158,7 @@ module _ (reads : Reads) (tests : Tests) (rule : server.Step) (tame : IsTame rea
   id_kept : (stored : List ℕ) (s : Session) → Accepts tests stored s → (c : Command) → is_text c ≡ true → (class_of reads c).deep ≡ false → hides_of reads c ≡ false → brings_id (step stored s c).reply ≡ false → (step stored s c).session.last_id ≡ s.last_id
   id_kept stored s ok (Query text) is shallow shown none = kept_text stored s ok (Query text) (λ marks. tame.insert_id.kept stored s ok (cmd.Query text) text refl marks shallow shown none)
   id_kept stored s ok (Run text schema settings args) is shallow shown none = kept_text stored s ok (Run text schema settings args) (λ marks. tame.insert_id.kept stored s ok (cmd_of (Run text schema settings args)) text refl marks shallow shown none)
-  id_kept stored s ok (InitDb schema) is shallow shown none = apart is refl
-  id_kept stored s ok (FieldList rest) is shallow shown none = apart is refl
-  id_kept stored s ok (SetId n) is shallow shown none = apart is refl
-  id_kept stored s ok ReadId is shallow shown none = apart is refl
-  id_kept stored s ok (Prepare text) is shallow shown none = apart is refl
-  id_kept stored s ok Reset is shallow shown none = apart is refl
-  id_kept stored s ok Quit is shallow shown none = apart is refl
+  id_kept stored s ok _ is shallow shown none = apart is refl
 
   -- after the end of a connection no transaction is open
   closed_tx : (stored : List ℕ) (s : Session) → Accepts tests stored s → (step stored s Quit).session.tx ≡ []
@@ -221,37 +168,18 @@ module _ (reads : Reads) (tests : Tests) (rule : server.Step) (tame : IsTame rea
   closed_shows stored s ok = ap (λ x. ending.shows_transaction (reply_end false x)) (tame.reset.close_reply stored s ok) ∙ nothing_shows
 
   flags_law : (stored : List ℕ) (s : Session) → Accepts tests stored s → (c : Command) → is_flagged c ≡ true → (shown : Bool) → flags (step stored s c).reply ≡ Some shown → is_some_of (step stored s c).session.tx ≡ shown
-  flags_law stored s ok (Query text) is shown e = tame.flags.in_trans stored s ok (cmd.Query text) refl refl shown e
-  flags_law stored s ok (Run text schema settings args) is shown e = tame.flags.in_trans stored s ok (cmd_of (Run text schema settings args)) refl refl shown e
-  flags_law stored s ok (InitDb schema) is shown e = tame.flags.in_trans stored s ok (cmd.InitDb schema) refl refl shown e
-  flags_law stored s ok (FieldList rest) is shown e = tame.flags.in_trans stored s ok (cmd.FieldList rest) refl refl shown e
-  flags_law stored s ok (SetId n) is shown e = tame.flags.in_trans stored s ok (cmd_of (SetId n)) refl refl shown e
-  flags_law stored s ok ReadId is shown e = tame.flags.in_trans stored s ok (cmd_of ReadId) refl refl shown e
   flags_law stored s ok (Prepare text) is shown e = apart is refl
-  flags_law stored s ok Reset is shown e = tame.flags.in_trans stored s ok cmd.Reset refl refl shown e
   flags_law stored s ok Quit is shown e = let same : Some false ≡ Some shown = sym (closed_shows stored s ok) ∙ e in ap is_some_of (closed_tx stored s ok) ∙ cc
+  flags_law stored s ok c is shown e = tame.flags.in_trans stored s ok (cmd_of c) refl refl shown e
 
   shows_law : (stored : List ℕ) (s : Session) → Accepts tests stored s → (c : Command) → is_flagged c ≡ true → is_err (step stored s c).reply ≡ false → Shows (end_of (step stored s c).reply)
-  shows_law stored s ok (Query text) is fine = shown_end (step stored s (Query text)).reply.payloads fine
-  shows_law stored s ok (Run text schema settings args) is fine = shown_end (step stored s (Run text schema settings args)).reply.payloads fine
-  shows_law stored s ok (InitDb schema) is fine = shown_end (step stored s (InitDb schema)).reply.payloads fine
-  shows_law stored s ok (FieldList rest) is fine = shown_end (step stored s (FieldList rest)).reply.payloads fine
-  shows_law stored s ok (SetId n) is fine = shown_end (step stored s (SetId n)).reply.payloads fine
-  shows_law stored s ok ReadId is fine = shown_end (step stored s ReadId).reply.payloads fine
   shows_law stored s ok (Prepare text) is fine = apart is refl
-  shows_law stored s ok Reset is fine = shown_end (step stored s Reset).reply.payloads fine
-  shows_law stored s ok Quit is fine = shown_end (step stored s Quit).reply.payloads fine
+  shows_law stored s ok c is fine = shown_end (step stored s c).reply.payloads fine
 
   frees_law : (stored : List ℕ) (s : Session) → Accepts tests stored s → (c : Command) → frees_locks (class_of reads c) (end_of (step stored s c).reply) ≡ true → (step stored s c).session.locks ≡ []
   frees_law stored s ok (Query text) e = tame.unlock.frees stored s ok (cmd.Query text) text refl e
   frees_law stored s ok (Run text schema settings args) e = tame.unlock.frees stored s ok (cmd_of (Run text schema settings args)) text refl e
-  frees_law stored s ok (InitDb schema) e = apart e refl
-  frees_law stored s ok (FieldList rest) e = apart e refl
-  frees_law stored s ok (SetId n) e = apart e refl
-  frees_law stored s ok ReadId e = apart e refl
-  frees_law stored s ok (Prepare text) e = apart e refl
-  frees_law stored s ok Reset e = apart e refl
-  frees_law stored s ok Quit e = apart e refl
+  frees_law stored s ok _ e = apart e refl
 
   pub tame_runs : Tame reads tests step
   tame_runs = record {

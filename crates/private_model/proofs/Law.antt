@@ -1,27 +1,25 @@
 -- The law: by induction on the story.
 use Rattle.std.specs.Prelude.{nat_eq, List, ◌≡◌, ℕ, Bool, true, false, [], ◌∷◌, Some, None}
 use Rattle.std.proofs.Common.{refl, sym, ap, ◌∙◌, subst}
-use Rattle.mx_base.specs.declared.names.LinkId.{LinkId}
-use Rattle.mx_base.specs.declared.names.ServerId.{ServerId}
+use Rattle.private_model.specs.Names.{LinkId, ServerId, MessageName, SessionName}
 use Rattle.private_model.proofs.Answering.{are_heard, are_linked, are_ran, are_sent, are_still}
 use Rattle.private_model.proofs.Decoding.{are_decoded, tabled_ran}
 use Rattle.private_model.proofs.Meeting.{mark_of}
 use Rattle.private_model.proofs.Preparing.{Tabled, tabled_closed, tabled_dead, tabled_dropped, tabled_freed, tabled_gone, tabled_heard, tabled_login, tabled_sent}
 use Rattle.private_model.proofs.Running.{closed_so, dropped_so, gone_so, logged_in_so, met_there, ran_so, same_reply, stands_first}
 use Rattle.private_model.proofs.Sending.{freed_so, heard_so, sent}
-use Rattle.private_model.proofs.Stands.{AreAnswered, AreTabled, Stands, message_on, ran_on}
+use Rattle.private_model.proofs.Stands.{AreAnswered, AreTabled, Stands, message_on, ran_on, heard, quieted, heard_now}
 use Rattle.private_model.proofs.Tame.{Tame}
 use Rattle.private_model.specs.Commands.{Command, Prepare, Quit, ReadId, Reply, Reset, Step}
 use Rattle.private_model.specs.Headline.{MeetsPrivate}
 use Rattle.private_model.specs.Honest.{IsAccepted, IsAnswer, IsHonest, IsTrueOf}
 use Rattle.private_model.specs.Lawful.{IsLawful, MayCome, MaySend}
-use Rattle.private_model.specs.Story.{BecameDue, Capture, Dropped, End, Freed, Gone, Happening, Heard, Left, LoggedIn, Mirrored, Own, Prep, Question, Ran, Sent, Statement, Story, Sync, Unprepared, is_link_id, message_of, put}
-use Rattle.private_model.specs.View.{Answered, Asked, Carried, Joined, Lent, Link, Nobody, Quiet, Setup, Stage, View, asked, closed_number, freed, heard, new_link, quieted, ran_by, replies_by, view_after, view_step}
-use Rattle.private_model.specs.Worlds.{Peer, Private, Real, decoded, entry_at, new_peer, private_after, private_drop, private_prep, private_run, private_step, real_after, real_drop, real_run, real_step, there_table}
+use Rattle.private_model.specs.Story.{BecameDue, Capture, Dropped, End, Freed, Gone, Happening, Heard, Left, LoggedIn, Mirrored, Own, Prep, Question, Ran, Sent, Statement, Story, Sync, Unprepared, for_statement, is_link_id, is_message, message_of, put}
+use Rattle.private_model.specs.View.{Answered, Asked, Carried, Joined, Lent, Link, Nobody, Setup, Stage, View, asked, closed_number, freed, new_link, ran_by, view_heard, view_after, view_step}
+use Rattle.private_model.specs.Worlds.{Peer, Private, Real, decoded, new_peer, private_after, private_drop, private_prep, private_run, private_step, real_after, real_drop, real_run, real_step, there_table}
 use Rattle.server_rule.specs.Servers.{Tests}
 use Rattle.session_state.specs.Pins.{is_pinned}
-use Rattle.session_state.specs.declared.names.MessageName.{MessageName}
-use Rattle.session_state.specs.declared.names.SessionName.{SessionName}
+use Rattle.std.specs.Option.{option_and_then}
 
 -- The data and the sessions.
 
@@ -68,8 +66,7 @@ tabled_next setup tests step tame view real private (Dropped link) stands tabled
     subst (λ t. AreTabled setup (view_step setup view (Dropped link)).links (real_step step view real (Dropped link)).peers view.held t) (sym (drop_keeps step private (view.links link).alive (view.links link).carries (view.links link).server))
     (drop_tabled setup tests step view real private stands tabled link (view.links link).alive)
 tabled_next setup tests step tame view real private (Gone link) stands tabled may honest = tabled_gone setup tests view real private stands tabled link
-tabled_next setup tests step tame view real private (Left client) stands tabled may honest = tabled
-tabled_next setup tests step tame view real private (Mirrored client job) stands tabled may honest = tabled
+tabled_next setup tests step tame view real private _ stands tabled may honest = tabled
 
 -- The answers.
 
@@ -108,11 +105,8 @@ module _ (setup : Setup) (tests : Tests) (step : Step) (tame : Tame setup.reads 
 
   ran_answers : (alive : Bool) (stage : Stage) → (view.links number).alive ≡ alive → (view.links number).stage ≡ stage
       → Answer (record view { links = put is_link_id view.links number (ran_by setup.reads alive stage now) }) (real_run step real number (view.links number).live alive stage now.server) (private_run step view.held private alive stage now.server)
-  ran_answers false stage alive is = are_linked view.links real.peers view.carriers view.replies private.answers answer number now (λ m e. e) (λ m e. e)
-  ran_answers true Quiet alive is = are_linked view.links real.peers view.carriers view.replies private.answers answer number now (λ m e. e) (λ m e. e)
-  ran_answers true (Answered question) alive is = are_linked view.links real.peers view.carriers view.replies private.answers answer number now (λ m e. e) (λ m e. e)
   ran_answers true (Asked (Statement n due)) alive is =
-      are_ran view.links real.peers view.carriers view.replies private.answers answer number (ran_by setup.reads true (Asked (Statement n due)) now) (peer_after (Statement n due) (decoded (entry_at ((view.links number).live due.key) (real.peers number).table) due.command)) (message_of n due) _ (ap message_on is) refl (same_reply setup tests step tame view real private stands number (are_decoded setup tests step tame view real private stands tabled number) n due alive is) (λ m e. cc)
+      are_ran view.links real.peers view.carriers view.replies private.answers answer number (ran_by setup.reads true (Asked (Statement n due)) now) (peer_after (Statement n due) (decoded (option_and_then (real.peers number).table ((view.links number).live due.key)) due.command)) (message_of n due) _ (ap message_on is) refl (same_reply setup tests step tame view real private stands number (are_decoded setup tests step tame view real private stands tabled number) n due alive is) (λ m e. cc)
   ran_answers true (Asked (Prep n key text)) alive is =
       subst (λ a. AreAnswered (put is_link_id view.links number (ran_by setup.reads true (Asked (Prep n key text)) now)) (put is_link_id real.peers number (peer_after (Prep n key text) (Prepare text))) view.carriers view.replies a) (sym (prep_leaves step private (is_pinned (view.held n).pin) now.server n key text))
       (are_still view.links real.peers view.carriers view.replies private.answers answer number (ran_by setup.reads true (Asked (Prep n key text)) now) (peer_after (Prep n key text) (Prepare text)) (λ m e. cc) (λ m e. absurd (no_message m e)))
@@ -120,12 +114,13 @@ module _ (setup : Setup) (tests : Tests) (step : Step) (tame : Tame setup.reads 
   ran_answers true (Asked (Own c)) alive is = are_still view.links real.peers view.carriers view.replies private.answers answer number (ran_by setup.reads true (Asked (Own c)) now) (peer_after (Own c) c) (λ m e. cc) (λ m e. absurd (no_message m e))
   ran_answers true (Asked (End n)) alive is = are_still view.links real.peers view.carriers view.replies private.answers answer number (ran_by setup.reads true (Asked (End n)) now) (peer_after (End n) Reset) (λ m e. cc) (λ m e. absurd (no_message m e))
   ran_answers true (Asked (Capture n)) alive is = are_still view.links real.peers view.carriers view.replies private.answers answer number (ran_by setup.reads true (Asked (Capture n)) now) (peer_after (Capture n) ReadId) (λ m e. cc) (λ m e. absurd (no_message m e))
+  ran_answers _ _ alive is = are_linked view.links real.peers view.carriers view.replies private.answers answer number now (λ m e. e) (λ m e. e)
 
   pub answers_ran : Answer (view_step setup view (Ran number)) (real_step step view real (Ran number)) (private_step step view private (Ran number))
   answers_ran = ran_answers now.alive now.stage refl refl
 
   heard_answers : (question : Question) → (view.links number).stage ≡ Answered question
-      → Answer (record (view_step setup view (Heard number (real.peers number).answer)) { replies = replies_by (Answered question) (real.peers number).answer view.replies }) real private
+      → AreAnswered (put is_link_id view.links number (heard setup.reads (real.peers number).answer now)) real.peers view.carriers (for_statement question (λ n due. put is_message view.replies (message_of n due) (Some (real.peers number).answer)) view.replies) private.answers
   heard_answers (Statement n due) is = are_heard view.links real.peers view.carriers view.replies private.answers answer number (heard setup.reads (real.peers number).answer now) (message_of n due) (ap ran_on is) (ap message_on is) (ap (λ st. message_on (quieted st)) is) (ap (λ st. ran_on (quieted st)) is)
   heard_answers (Prep n key text) is = quiet_answers (Prep n key text) is
   heard_answers (Sync n c) is = quiet_answers (Sync n c) is
@@ -137,7 +132,8 @@ module _ (setup : Setup) (tests : Tests) (step : Step) (tame : Tame setup.reads 
   answers_heard reply is =
       let a = (real.peers number).answer in
       subst (λ r. Answer (view_step setup view (Heard number r)) real private) (sym is.same)
-      (subst (λ st. Answer (record (view_step setup view (Heard number a)) { replies = replies_by st a view.replies }) real private) (sym is.ran) (heard_answers is.question is.ran))
+      (subst (λ st. Answer (view_heard setup view number a st) real private) (sym is.ran)
+      (subst (λ l. Answer (record (view_heard setup view number a (Answered is.question)) { links = put is_link_id view.links number l }) real private) (heard_now setup.reads is.question a now is.ran) (heard_answers is.question is.ran)))
 
   drop_answers : (alive : Bool) → Answer (record view { links = put is_link_id view.links number (record now { alive = false }) }) (real_drop step real number alive now.server) private
   drop_answers false = are_linked view.links real.peers view.carriers view.replies private.answers answer number (record now { alive = false }) (λ m e. e) (λ m e. e)
@@ -164,8 +160,7 @@ answers_next setup tests step tame view real private (Dropped link) stands table
     subst (λ a. AreAnswered (view_step setup view (Dropped link)).links (real_step step view real (Dropped link)).peers view.carriers view.replies a) (sym (drop_leaves step private (view.links link).alive (view.links link).carries (view.links link).server))
     (drop_answers setup tests step tame view real private stands tabled answer link (view.links link).alive)
 answers_next setup tests step tame view real private (Gone link) stands tabled answer may honest = are_linked view.links real.peers view.carriers view.replies private.answers answer link (record (view.links link) { usable = false }) (λ m e. e) (λ m e. e)
-answers_next setup tests step tame view real private (Left client) stands tabled answer may honest = answer
-answers_next setup tests step tame view real private (Mirrored client job) stands tabled answer may honest = answer
+answers_next setup tests step tame view real private _ stands tabled answer may honest = answer
 
 -- Both, at every moment.
 

@@ -1,18 +1,13 @@
 -- Tables with one entry put, and what doesn't change.
 use Rattle.std.specs.Prelude.{◌≡◌, ℕ, Bool, true, false, nat_eq, if◌then◌else◌, Option, Some, None}
 use Rattle.std.proofs.Common.{◌∙◌, refl, sym, ap, subst, arith}
-use Rattle.mx_base.specs.declared.names.ClientNo.{ClientNo}
-use Rattle.mx_base.specs.declared.names.Hostgroup.{Hostgroup}
-use Rattle.mx_base.specs.declared.names.LinkId.{LinkId}
-use Rattle.mx_base.specs.declared.names.ServerId.{ServerId}
+use Rattle.private_model.specs.Names.{ClientNo, Hostgroup, LinkId, ServerId, MessageName, SessionName}
 use Rattle.private_model.proofs.Sessions.{and_left, and_right, apart}
 use Rattle.private_model.proofs.Stands.{IsAt, IsAtBy, IsJoinedLink, IsLentLink, IsResting}
 use Rattle.private_model.specs.Story.{is_client, is_hostgroup, is_link_id, is_message, is_name, is_server, put}
 use Rattle.private_model.specs.View.{Carried, Held, Joined, Lent, Link, Nobody, Setup}
 use Rattle.private_model.specs.Worlds.{Peer}
 use Rattle.server_rule.specs.declared.session.Session.{Session}
-use Rattle.session_state.specs.declared.names.MessageName.{MessageName}
-use Rattle.session_state.specs.declared.names.SessionName.{SessionName}
 
 -- what keys are told apart by
 pub record Keyed (K : Type 0) : Type 0 where

@@ -5,8 +5,8 @@ use Rattle.pin_classifier.specs.declared.class.Class.{Class}
 use Rattle.private_model.proofs.Pairs.{IsAlikeAfter, alike_after, alike_set, reset_session}
 use Rattle.private_model.proofs.Sessions.{apart, follows_after, follows_reset, is_empty, knows_after, or_left, or_right, plain_suits, read_knows, refused_reply, suits_after, suits_reset, suits_step, unpinned_harmless}
 use Rattle.private_model.proofs.Stands.{Follows, IfAlive, IsFree, IsJoined, IsPlain, IsTogether, Knows, Suits}
-use Rattle.private_model.proofs.Tame.{Tame}
-use Rattle.private_model.specs.Commands.{Number, Account, Args, Command, FieldList, InitDb, Prepare, Query, Quit, ReadId, Reply, Reset, Run, SetId, Step, account_of, brings_id, class_of, end_of, flags, id_after, is_err, is_marked, is_ok, pin_statement}
+use Rattle.private_model.proofs.Tame.{Tame, account_of, brings_id, flags}
+use Rattle.private_model.specs.Commands.{Number, Account, Args, Command, FieldList, InitDb, Prepare, Query, Quit, ReadId, Reply, Reset, Run, SetId, Step, class_of, end_of, id_after, is_err, is_marked, is_ok, pin_statement}
 use Rattle.private_model.specs.Lawful.{Begins, GoesOn, IsOwnStep, IsStepOf, is_statement}
 use Rattle.private_model.specs.Story.{Due}
 use Rattle.private_model.specs.View.{Setup, is_quit, is_reset, told_after}
@@ -75,15 +75,11 @@ back_text P run there c is x = elim is [
 
 -- what the law on the insert id looks at is marked
 pub mark_of : (reads : Reads) (c : Command) → (class_of reads c).marks_id ≡ true → is_marked reads c ≡ true
-mark_of reads (Query text) e = e
-mark_of reads (InitDb schema) e = e
-mark_of reads (FieldList rest) e = e
-mark_of reads (SetId n) e = e
-mark_of reads ReadId e = e
 mark_of reads (Prepare text) e = apart e refl
 mark_of reads (Run text schema settings args) e = e
 mark_of reads Reset e = e
 mark_of reads Quit e = e
+mark_of reads _ e = e
 
 -- A statement meets the session of its own.
 pub record IsMet (reads : Reads) (c : Command) (user : Account) (marked : Bool) (told : Told) (link_id : Option ℕ) (pin : Pin) (id : Option ℕ) (s p : Session) : Type 0 where
@@ -193,34 +189,19 @@ module _ (reads : Reads) (step : Step) (tests : Tests) (tame : Tame reads tests 
   unknown_after (Query text) is reply marked id before e = unknown_text (reads.class text).marks_id (reads.class text).deep (reads.hides_id text || brings_id reply) marked id before e
   unknown_after (Run text schema settings args) is reply marked id before e = unknown_text (reads.class text).marks_id (reads.class text).deep (reads.hides_id text || brings_id reply) marked id before e
   unknown_after (Prepare text) is reply marked id before e = unknown_text (reads.class text).marks_id false (is_err reply) marked id before e
+  unknown_after (SetId n) is reply marked id before e = apart is refl
   unknown_after (InitDb schema) is reply marked id before e = before e
   unknown_after (FieldList rest) is reply marked id before e = before e
-  unknown_after (SetId n) is reply marked id before e = apart is refl
-  unknown_after ReadId is reply marked id before e = apart is refl
-  unknown_after Reset is reply marked id before e = apart is refl
-  unknown_after Quit is reply marked id before e = apart is refl
+  unknown_after _ is reply marked id before e = apart is refl
 
   no_reset : (c : Command) → is_statement c ≡ true → is_reset c ≡ false
-  no_reset (Query text) is = refl
-  no_reset (InitDb schema) is = refl
-  no_reset (FieldList rest) is = refl
-  no_reset (Prepare text) is = refl
-  no_reset (Run text schema settings args) is = refl
-  no_reset (SetId n) is = refl
-  no_reset ReadId is = refl
   no_reset Reset is = apart is refl
   no_reset Quit is = refl
+  no_reset _ is = refl
 
   pub no_quit : (c : Command) → is_statement c ≡ true → not (is_quit c) ≡ true
-  no_quit (Query text) is = refl
-  no_quit (InitDb schema) is = refl
-  no_quit (FieldList rest) is = refl
-  no_quit (Prepare text) is = refl
-  no_quit (Run text schema settings args) is = refl
-  no_quit (SetId n) is = refl
-  no_quit ReadId is = refl
-  no_quit Reset is = refl
   no_quit Quit is = apart is refl
+  no_quit _ is = refl
 
   -- an answer to a STMT_PREPARE
 
@@ -353,12 +334,7 @@ module _ (reads : Reads) (step : Step) (tests : Tests) (tame : Tame reads tests 
             (λ fine. tame.tracked.calm_tx stored p ok_p c fits.changes fits.effect (calm_by pin (sets_autocommit fits.changes) together.suits fits.calm fine))
             (λ e. unknown (sym (ap (λ b. if (b && ((reads.class text).deep || (reads.hides_id text || brings_id (step stored s c).reply))) then None else id) fits.unmarked) ∙ e)),
       )
-  step_after (FieldList rest) user marked told link_id pin id fits together knows unknown = absurd fits
-  step_after ReadId user marked told link_id pin id fits together knows unknown = absurd fits
-  step_after Reset user marked told link_id pin id fits together knows unknown = absurd fits
-  step_after (Prepare text) user marked told link_id pin id fits together knows unknown = absurd fits
-  step_after (Run text schema settings args) user marked told link_id pin id fits together knows unknown = absurd fits
-  step_after Quit user marked told link_id pin id fits together knows unknown = absurd fits
+  step_after _ user marked told link_id pin id fits together knows unknown = absurd fits
 
   -- A preparation in a session, and on a link on the way to a statement.
 
@@ -437,12 +413,11 @@ module _ (reads : Reads) (step : Step) (tests : Tests) (tame : Tame reads tests 
   own_calm (InitDb schema) fits plain = tame.uses.stored stored s ok (InitDb schema) schema refl
   own_calm (Query text) fits plain = tame.tracked.calm stored s ok (Query text) fits.changes fits.effect (inl plain.tx)
   own_calm (SetId k) fits plain = tame.id.set_stored stored s ok k
-  own_calm (Prepare text) fits plain = absurd fits
-  own_calm (Run text schema settings args) fits plain = absurd fits
   own_calm Quit fits plain = tame.reset.quit_stored stored s ok ∙ tame.reset.idle stored s ok plain.tx plain.locks plain.deep
   own_calm (FieldList rest) fits plain = absurd fits
   own_calm ReadId fits plain = absurd fits
   own_calm Reset fits plain = absurd fits
+  own_calm _ fits plain = absurd fits
 
   own_set_tx : (k : Number) (ok : Bool) → is_ok (step stored s (SetId k)).reply ≡ ok → (step stored s (SetId k)).session.tx ≡ s.tx
   own_set_tx k true is = ap (λ (x : Session). x.tx) (tame.id.set_done stored s ok k is)
@@ -474,9 +449,8 @@ module _ (reads : Reads) (step : Step) (tests : Tests) (tame : Tame reads tests 
   own_after (SetId k) user told link_id fits free = own_free (SetId k) user told link_id refl refl refl refl refl (own_set_tx k _ refl) free
   own_after (Query text) user told link_id fits free = own_free (Query text) user told link_id refl fits.shallow fits.no_locks fits.next_tx fits.savepoint
       (tame.tracked.calm_tx stored s ok (Query text) fits.changes fits.effect (inl free.plain.tx)) free
-  own_after (Prepare text) user told link_id fits free = absurd fits
-  own_after (Run text schema settings args) user told link_id fits free = absurd fits
   own_after Quit user told link_id fits free = tt
   own_after (FieldList rest) user told link_id fits free = absurd fits
   own_after ReadId user told link_id fits free = absurd fits
   own_after Reset user told link_id fits free = absurd fits
+  own_after _ user told link_id fits free = absurd fits

@@ -2,8 +2,8 @@
 use Rattle.std.specs.Prelude.{◌≡◌, ℕ, Bool, true, false, List}
 use Rattle.std.proofs.Common.{refl, sym, ap, ◌∙◌, subst, inl, inr}
 use Rattle.private_model.proofs.Sessions.{apart, bool_cases, id_stays}
-use Rattle.private_model.proofs.Tame.{Tame}
-use Rattle.private_model.specs.Commands.{Number, Command, Outcome, Quit, Reset, SetId, Step, account_of, class_of, fresh_of, is_ok, outcome_with_id}
+use Rattle.private_model.proofs.Tame.{Tame, account_of, outcome_with_id}
+use Rattle.private_model.specs.Commands.{Number, Command, Outcome, Quit, Reset, SetId, Step, class_of, fresh_of, is_ok}
 use Rattle.server_rule.specs.Classes.{Reads}
 use Rattle.server_rule.specs.Servers.{Accepts, Tests, with_diag, with_id}
 use Rattle.server_rule.specs.declared.session.Session.{Session}

@@ -1,20 +1,18 @@
 -- What is prepared, at each kind of happening.
 use Rattle.std.specs.Prelude.{Bool, None, Option, Some, false, nat_eq, true, ℕ, ◌≡◌}
 use Rattle.std.proofs.Common.{refl, sym, ap, ◌∙◌, subst, inl, inr}
-use Rattle.mx_base.specs.declared.names.LinkId.{LinkId}
-use Rattle.mx_base.specs.declared.names.ServerId.{ServerId}
+use Rattle.private_model.specs.Names.{LinkId, ServerId, SessionName}
 use Rattle.private_model.proofs.Maps.{at_each, link_ids, names, no_home, no_other, put-other, put-same}
 use Rattle.private_model.proofs.Sessions.{harmless_shallow}
-use Rattle.private_model.proofs.Stands.{AreKept, AreMatched, AreTabled, AreTabledBy, IfAlive, IsAskedFree, IsAskedJoined, IsAskedLent, IsAtBy, IsUsual, Stands}
-use Rattle.private_model.proofs.Tabling.{kept_without, matched_without, tabled_frame, tabled_moved}
+use Rattle.private_model.proofs.Stands.{AreKept, AreMatched, AreTabled, AreTabledBy, IfAlive, IsAskedFree, IsAskedJoined, IsAskedLent, IsAtBy, IsUsual, Stands, soon_pin, heard, quieted, soon_live, heard_now}
+use Rattle.private_model.proofs.Tabling.{kept_without, matched_without, tabled_frame, tabled_moved, without}
 use Rattle.private_model.specs.Commands.{Account, Reply}
 use Rattle.private_model.specs.Honest.{IsAnswer}
 use Rattle.private_model.specs.Lawful.{MayFree, MayLend, MaySend}
 use Rattle.private_model.specs.Story.{Capture, End, Freed, Heard, Key, Own, Prep, Question, Sent, Statement, Sync, Unprepared, is_link_id, is_name, put}
-use Rattle.private_model.specs.View.{Stage, Answered, Asked, Carried, Held, Joined, Lent, Nobody, Quiet, Setup, View, asked, carried_for, closed_number, freed, heard, held_by, held_freed, held_heard, new_link, quieted, soon_live, soon_pin, view_step, without}
+use Rattle.private_model.specs.View.{Stage, Answered, Asked, Carried, Held, Joined, Lent, Nobody, Quiet, Setup, View, asked, carried_for, closed_number, freed, held_by, held_freed, held_heard, new_link, view_heard, view_step}
 use Rattle.private_model.specs.Worlds.{Peer, Private, Real, new_peer}
 use Rattle.server_rule.specs.Servers.{Tests}
-use Rattle.session_state.specs.declared.names.SessionName.{SessionName}
 
 abbrev pub Tabled : Setup → View → Real → Private → Type 0
 Tabled setup view real private = AreTabled setup view.links real.peers view.held private.tables
@@ -160,22 +158,15 @@ module _ (setup : Setup) (tests : Tests) (view : View) (real : Real) (private : 
       (subst (λ x. IfAlive l.alive (AreMatched setup (soon_live (quieted l.stage) a (soon_live l.stage a l.live)) (soon_pin setup.reads (quieted l.stage) a x.pin).deep t (private.tables n)) ((soon_pin setup.reads (quieted l.stage) a x.pin).deep ≡ false → IsUsual setup (private.tables n))) (sym (put-same names view.held n h)) next))
 
   heard_tabled : (question : Question) → (view.links number).stage ≡ Answered question → (carried : Carried) → (view.links number).carries ≡ carried → IsAtBy setup carried number (view.links number) (real.peers number) view.held private.sessions
-      → AreTabled setup (put is_link_id view.links number (heard setup.reads (real.peers number).answer (view.links number))) real.peers (held_by setup.reads (Answered question) (real.peers number).answer view.held) private.tables
+      → AreTabled setup (put is_link_id view.links number (heard setup.reads (real.peers number).answer (view.links number))) real.peers (held_by setup.reads question (real.peers number).answer view.held) private.tables
   heard_tabled (Own c) ran Nobody carries at = heard_still Nobody carries (heard_kept (Own c) ran (tabled_at Nobody carries))
-  heard_tabled (Statement m due) ran Nobody carries at = absurd (subst (IsAskedFree setup.reads) ran at.asked)
-  heard_tabled (Prep m key text) ran Nobody carries at = absurd (subst (IsAskedFree setup.reads) ran at.asked)
-  heard_tabled (Sync m c) ran Nobody carries at = absurd (subst (IsAskedFree setup.reads) ran at.asked)
-  heard_tabled (End m) ran Nobody carries at = absurd (subst (IsAskedFree setup.reads) ran at.asked)
-  heard_tabled (Capture m) ran Nobody carries at = absurd (subst (IsAskedFree setup.reads) ran at.asked)
+  heard_tabled _ ran Nobody carries at = absurd (subst (IsAskedFree setup.reads) ran at.asked)
   heard_tabled (Own c) ran (Lent n) carries at = let was = tabled_at (Lent n) carries in heard_still (Lent n) carries (heard_kept (Own c) ran was.0, was.1)
   heard_tabled (Prep m key text) ran (Lent n) carries at =
       let was = tabled_at (Lent n) carries in
       let preparing = subst (λ st. IsAskedLent setup n st (view.links number).account (view.links number).told (view.links number).id (view.links number).live (view.held n)) ran at.asked in
       heard_named m (Prep m key text) (Lent n) carries (subst (λ x. (view.held x).home ≡ Some number) (sym preparing.same) at.home) (heard_kept (Prep m key text) ran was.0, was.1)
-  heard_tabled (Statement m due) ran (Lent n) carries at = absurd (subst (λ st. IsAskedLent setup n st (view.links number).account (view.links number).told (view.links number).id (view.links number).live (view.held n)) ran at.asked)
-  heard_tabled (Sync m c) ran (Lent n) carries at = absurd (subst (λ st. IsAskedLent setup n st (view.links number).account (view.links number).told (view.links number).id (view.links number).live (view.held n)) ran at.asked)
-  heard_tabled (End m) ran (Lent n) carries at = absurd (subst (λ st. IsAskedLent setup n st (view.links number).account (view.links number).told (view.links number).id (view.links number).live (view.held n)) ran at.asked)
-  heard_tabled (Capture m) ran (Lent n) carries at = absurd (subst (λ st. IsAskedLent setup n st (view.links number).account (view.links number).told (view.links number).id (view.links number).live (view.held n)) ran at.asked)
+  heard_tabled _ ran (Lent n) carries at = absurd (subst (λ st. IsAskedLent setup n st (view.links number).account (view.links number).told (view.links number).id (view.links number).live (view.held n)) ran at.asked)
   heard_tabled (Own c) ran (Joined n) carries at = absurd (subst (λ st. IsAskedJoined setup n st (view.links number).marked (view.links number).told (view.links number).id (view.links number).live (view.held n)) ran at.asked)
   heard_tabled (Statement m due) ran (Joined n) carries at = heard_joined n m (Statement m due) ran carries (subst (λ st. IsAskedJoined setup n st (view.links number).marked (view.links number).told (view.links number).id (view.links number).live (view.held n)) ran at.asked)
   heard_tabled (Prep m key text) ran (Joined n) carries at = heard_joined n m (Prep m key text) ran carries (subst (λ st. IsAskedJoined setup n st (view.links number).marked (view.links number).told (view.links number).id (view.links number).live (view.held n)) ran at.asked)
@@ -187,8 +178,9 @@ module _ (setup : Setup) (tests : Tests) (view : View) (real : Real) (private : 
   tabled_heard reply is =
       let a = (real.peers number).answer in
       subst (λ r. Tabled setup (view_step setup view (Heard number r)) real private) (sym is.same)
-      (subst (λ st. AreTabled setup (put is_link_id view.links number (heard setup.reads a (view.links number))) real.peers (held_by setup.reads st a view.held) private.tables) (sym is.ran)
-      (heard_tabled is.question is.ran (view.links number).carries refl (stands.links number)))
+      (subst (λ st. Tabled setup (view_heard setup view number a st) real private) (sym is.ran)
+      (subst (λ l. AreTabled setup (put is_link_id view.links number l) real.peers (held_by setup.reads is.question a view.held) private.tables) (heard_now setup.reads is.question a (view.links number) is.ran)
+      (heard_tabled is.question is.ran (view.links number).carries refl (stands.links number))))
 
   -- A link is given back, dropped, lost or closed; a login.
 
@@ -240,8 +232,7 @@ module _ (setup : Setup) (tests : Tests) (view : View) (real : Real) (private : 
 
   gone_by : (carried : Carried) → AreTabledBy setup carried (view.links number) (real.peers number) view.held private.tables → AreTabledBy setup carried (record (view.links number) { usable = false }) (real.peers number) view.held private.tables
   gone_by Nobody x = x
-  gone_by (Lent n) x = x
-  gone_by (Joined n) x = x
+  gone_by _ x = x
 
   pub tabled_gone : AreTabled setup (put is_link_id view.links number (record (view.links number) { usable = false })) real.peers view.held private.tables
   tabled_gone = tabled_moved setup view.links real.peers view.held private.tables are number (record (view.links number) { usable = false }) real.peers view.held private.tables

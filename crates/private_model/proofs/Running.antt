@@ -1,27 +1,25 @@
 -- What happens at a server: a command runs, a link is dropped; and the rest of what can happen.
 use Rattle.std.specs.Prelude.{Bool, List, None, Option, Some, [], false, if◌then◌else◌, nat_eq, not, true, ℕ, ◌||◌, ◌≡◌, ◌⊎◌}
 use Rattle.std.proofs.Common.{refl, sym, ap, ◌∙◌, subst, inl, inr}
-use Rattle.mx_base.specs.declared.names.LinkId.{LinkId}
-use Rattle.mx_base.specs.declared.names.ServerId.{ServerId}
+use Rattle.private_model.specs.Names.{LinkId, ServerId, MessageName, SessionName}
 use Rattle.private_model.proofs.Maps.{IsElsewhere, at_each, both_put, frame, link_ids, names, no_other, one_put, put-other, put-same, put_all, servers, still_resting}
 use Rattle.private_model.proofs.Meeting.{IsDecoded, IsMet, IsTextOf, back_text, capture_after, end_after, met_after, met_alike, met_joined, met_lent, of_text, own_after, own_calm, own_same, prep_after, prep_free, step_after}
 use Rattle.private_model.proofs.Pairs.{IsAlikeAfter, quit_stored, reset_stored}
 use Rattle.private_model.proofs.Sessions.{plain_quit}
-use Rattle.private_model.proofs.Stands.{IfAlive, IsAskedFree, IsAskedJoined, IsAskedLent, IsAt, IsAtBy, IsFree, IsFreeLink, IsGood, IsJoined, IsJoinedLink, IsLentLink, IsPlain, IsResting, Stands}
-use Rattle.private_model.proofs.Tame.{Tame}
-use Rattle.private_model.specs.Commands.{Account, Command, Outcome, Prepare, Quit, ReadId, Reply, Reset, Step, account_of, id_after, is_marked, pin_statement}
+use Rattle.private_model.proofs.Stands.{IfAlive, IsAskedFree, IsAskedJoined, IsAskedLent, IsAt, IsAtBy, IsFree, IsFreeLink, IsGood, IsJoined, IsJoinedLink, IsLentLink, IsPlain, IsResting, Stands, soon_pin, soon_id, soon_told}
+use Rattle.private_model.proofs.Tame.{Tame, account_of}
+use Rattle.private_model.specs.Commands.{Account, Command, Outcome, Prepare, Quit, ReadId, Reply, Reset, Step, id_after, is_marked, pin_statement}
 use Rattle.private_model.specs.Honest.{IsAccepted}
 use Rattle.private_model.specs.Lawful.{IsKeyed, IsOwnStep, IsPlaced, is_statement}
 use Rattle.private_model.specs.Story.{Capture, Dropped, Due, End, Gone, Key, LoggedIn, Own, Prep, Question, Ran, Statement, Sync, Unprepared, is_link_id, is_message, is_name, is_server, message_of, put}
-use Rattle.private_model.specs.View.{Answered, Asked, Carried, Held, Joined, Lent, Link, Nobody, Quiet, Setup, Stage, View, closed_number, is_marking, is_quit, new_link, ran, ran_by, soon_id, soon_pin, soon_told, told_after, view_after, view_step}
-use Rattle.private_model.specs.Worlds.{Peer, Private, Real, closed, decoded, entry_at, new_peer, placed, private_after, private_drop, private_prep, private_run, private_step, readied, real_after, real_drop, real_run, real_step, table_after, there_table}
+use Rattle.private_model.specs.View.{Answered, Asked, Carried, Held, Joined, Lent, Link, Nobody, Quiet, Setup, Stage, View, closed_number, is_quit, new_link, ran_by, told_after, view_after, view_step}
+use Rattle.private_model.specs.Worlds.{Peer, Private, Real, closed, decoded, new_peer, placed, private_after, private_drop, private_prep, private_run, private_step, readied, real_after, real_drop, real_run, real_step, table_after, there_table}
 use Rattle.server_rule.specs.Classes.{Reads}
 use Rattle.server_rule.specs.Servers.{Accepts, Tests, with_id}
 use Rattle.server_rule.specs.declared.session.Session.{Session}
 use Rattle.session_state.specs.Pins.{is_pinned}
-use Rattle.session_state.specs.declared.names.MessageName.{MessageName}
-use Rattle.session_state.specs.declared.names.SessionName.{SessionName}
 use Rattle.session_state.specs.declared.pin.Pin.{Pin}
+use Rattle.std.specs.Option.{option_and_then}
 
 sessions_elsewhere : (key : SessionName) (held : SessionName → Held) (sessions : SessionName → Session) (s : Session) → IsElsewhere key held sessions held (put is_name sessions key s)
 sessions_elsewhere key held sessions s = record { keeps_held = λ n e. refl; keeps_session = λ n e. put-other names sessions key s n e }
@@ -231,7 +229,7 @@ module _ (setup : Setup) (tests : Tests) (step : Step) (tame : Tame setup.reads 
   -- what is decoded on the link, and what the session of its own decodes
 
   abbrev pub there_decoded : Due → Command
-  there_decoded due = decoded (entry_at ((view.links number).live due.key) (real.peers number).table) due.command
+  there_decoded due = decoded (option_and_then (real.peers number).table ((view.links number).live due.key)) due.command
 
   abbrev pub here_decoded : SessionName → Due → Command
   here_decoded m due = decoded (private.tables m due.key) due.command
@@ -271,7 +269,7 @@ module _ (setup : Setup) (tests : Tests) (step : Step) (tame : Tame setup.reads 
       let there = met_there m due alive asked in
       let d = data_there in
       let question = Statement m due in
-      let l' : Link = record l { stage = Answered question; carries = Joined m; marked = is_marking setup.reads question || l.marked; alive = not (is_quit due.command) } in
+      let l' : Link = record l { stage = Answered question; carries = Joined m; marked = is_marked setup.reads due.command || l.marked; alive = not (is_quit due.command) } in
       let after = after_decoded are m due alive asked in
       let is_text = (are m due alive asked).1 in
       let statement : is_statement c ≡ true = back_text (λ x. is_statement x ≡ true) (λ t a b a' b' g x. x) c due.command is_text there.statement in
@@ -436,15 +434,13 @@ module _ (setup : Setup) (tests : Tests) (step : Step) (tame : Tame setup.reads 
   still = linked view (view.links number) (stands.links number)
 
   ran_by_stage : AreDecoded → (alive : Bool) (stage : Stage) → (view.links number).alive ≡ alive → (view.links number).stage ≡ stage → RanTo alive stage
-  ran_by_stage are false stage alive is = still
-  ran_by_stage are true Quiet alive is = still
-  ran_by_stage are true (Answered question) alive is = still
   ran_by_stage are true (Asked (Statement m due)) alive is = ran_statement are m due alive is
   ran_by_stage are true (Asked (Sync m c)) alive is = ran_sync m c alive is
   ran_by_stage are true (Asked (Own c)) alive is = ran_own c alive is (view.links number).carries refl
   ran_by_stage are true (Asked (Prep m key text)) alive is = ran_prep m key text alive is
   ran_by_stage are true (Asked (End m)) alive is = ran_end m alive is
   ran_by_stage are true (Asked (Capture m)) alive is = ran_capture m alive is
+  ran_by_stage are _ _ alive is = still
 
   pub ran_so : AreDecoded → Stands setup tests (view_step setup view (Ran number)) (real_step step view real (Ran number)) (private_step step view private (Ran number))
   ran_so are = ran_by_stage are (view.links number).alive (view.links number).stage refl refl

@@ -1,20 +1,19 @@
 -- What happens at the router: a question goes out, a reply is read, a link is given back.
 use Rattle.std.specs.Prelude.{if◌then◌else◌, ◌||◌, List, ◌≡◌, ◌⊎◌, ℕ, Bool, true, false, Option, Some, None}
 use Rattle.std.proofs.Common.{refl, sym, ap, ◌∙◌, subst, inl, inr}
-use Rattle.mx_base.specs.declared.names.LinkId.{LinkId}
+use Rattle.private_model.specs.Names.{LinkId, SessionName}
 use Rattle.private_model.proofs.Maps.{IsElsewhere, at_each, frame, link_ids, names, no_home, no_other, put-other, put-same, still_resting}
 use Rattle.private_model.proofs.Sessions.{harmless_shallow, suits_plain}
-use Rattle.private_model.proofs.Stands.{IfAlive, IsAskedFree, IsAskedJoined, IsAskedLent, IsAt, IsAtBy, IsFree, IsFreeLink, IsJoined, IsJoinedLink, IsLentLink, IsPlain, IsPreparing, IsResting, Stands}
+use Rattle.private_model.proofs.Stands.{IfAlive, IsAskedFree, IsAskedJoined, IsAskedLent, IsAt, IsAtBy, IsFree, IsFreeLink, IsJoined, IsJoinedLink, IsLentLink, IsPlain, IsPreparing, IsResting, Stands, soon_pin, heard, quieted, soon_id, soon_told, heard_now}
 use Rattle.private_model.specs.Commands.{Account, Command, Reply, is_err}
 use Rattle.private_model.specs.Honest.{IsAnswer}
 use Rattle.private_model.specs.Lawful.{BeginsThere, GoesOnThere, IsOwn, MayFree, MayLend, MaySend, PreparesFirst, PreparesThere}
 use Rattle.private_model.specs.Story.{Capture, Due, End, Freed, Heard, Own, Prep, Question, Sent, Statement, Sync, is_link_id, is_name, put}
-use Rattle.private_model.specs.View.{Answered, Asked, Carried, Held, Joined, Lent, Link, Nobody, Quiet, Setup, View, asked, carried_for, freed, heard, held_by, held_for, held_freed, held_heard, quieted, soon_id, soon_pin, soon_told, view_step}
+use Rattle.private_model.specs.View.{Answered, Asked, Carried, Held, Joined, Lent, Link, Nobody, Quiet, Setup, View, asked, carried_for, freed, held_by, held_for, held_freed, held_heard, view_step, view_heard}
 use Rattle.private_model.specs.Worlds.{Private, Real}
 use Rattle.server_rule.specs.Servers.{Tests}
 use Rattle.server_rule.specs.declared.session.Session.{Session}
 use Rattle.session_state.specs.Pins.{needs_reset}
-use Rattle.session_state.specs.declared.names.SessionName.{SessionName}
 use Rattle.session_state.specs.declared.pin.Pin.{Pin}
 use Rattle.session_state.specs.declared.place.Told.{Told}
 
@@ -112,10 +111,10 @@ module _ (setup : Setup) (tests : Tests) (view : View) (real : Real) (private : 
         subst (λ c. IsAtBy setup c number l (real.peers number) view.held private.sessions) (sym free) there
     | inr lent ↦
         let l = asked (Own command) (view.links number) in
-        let is = at_lent lent.who lent.carries in
-        let there : IsLentLink setup number lent.who l (real.peers number) (view.held lent.who) (private.sessions lent.who) =
-        record { home = is.home; unmarked = is.unmarked; asked = own.fits; session = quiet_lent lent.who lent.carries quiet; plain = is.plain; id = is.id } in
-        subst (λ c. IsAtBy setup c number l (real.peers number) view.held private.sessions) (sym lent.carries) there
+        let is = at_lent lent.0 lent.1 in
+        let there : IsLentLink setup number lent.0 l (real.peers number) (view.held lent.0) (private.sessions lent.0) =
+        record { home = is.home; unmarked = is.unmarked; asked = own.fits; session = quiet_lent lent.0 lent.1 quiet; plain = is.plain; id = is.id } in
+        subst (λ c. IsAtBy setup c number l (real.peers number) view.held private.sessions) (sym lent.1) there
   ]
 
   kept_home : (n : SessionName) → (view.links number).carries ≡ Joined n → put is_name view.held n (record (view.held n) { home = Some number }) n ≡ view.held n
@@ -243,21 +242,14 @@ module _ (setup : Setup) (tests : Tests) (view : View) (real : Real) (private : 
 
   heard_by_stage : (to : View) (question : Question) → (view.links number).stage ≡ Answered question
       → (carried : Carried) → (view.links number).carries ≡ carried → IsAtBy setup carried number (view.links number) (real.peers number) view.held private.sessions
-      → Stands setup tests (record to { links = put is_link_id view.links number (heard setup.reads (real.peers number).answer (view.links number)); held = held_by setup.reads (Answered question) (real.peers number).answer view.held }) real private
+      → Stands setup tests (record to { links = put is_link_id view.links number (heard setup.reads (real.peers number).answer (view.links number)); held = held_by setup.reads question (real.peers number).answer view.held }) real private
   heard_by_stage to (Own command) ran (Lent n) carries at =
       moved to (heard setup.reads (real.peers number).answer (view.links number)) view.held (heard_lent n (Own command) view.held ran carries refl) (λ j other. stands.links j) stands.resting
   heard_by_stage to (Prep m key text) ran (Lent n) carries at = heard_lent_prep to n m key text ran carries (subst (λ st. IsAskedLent setup n st (view.links number).account (view.links number).told (view.links number).id (view.links number).live (view.held n)) ran at.asked)
-  heard_by_stage to (Statement m due) ran (Lent n) carries at = absurd (subst (λ st. IsAskedLent setup n st (view.links number).account (view.links number).told (view.links number).id (view.links number).live (view.held n)) ran at.asked)
-  heard_by_stage to (Sync m command) ran (Lent n) carries at = absurd (subst (λ st. IsAskedLent setup n st (view.links number).account (view.links number).told (view.links number).id (view.links number).live (view.held n)) ran at.asked)
-  heard_by_stage to (End m) ran (Lent n) carries at = absurd (subst (λ st. IsAskedLent setup n st (view.links number).account (view.links number).told (view.links number).id (view.links number).live (view.held n)) ran at.asked)
-  heard_by_stage to (Capture m) ran (Lent n) carries at = absurd (subst (λ st. IsAskedLent setup n st (view.links number).account (view.links number).told (view.links number).id (view.links number).live (view.held n)) ran at.asked)
+  heard_by_stage to _ ran (Lent n) carries at = absurd (subst (λ st. IsAskedLent setup n st (view.links number).account (view.links number).told (view.links number).id (view.links number).live (view.held n)) ran at.asked)
   heard_by_stage to (Own command) ran Nobody carries at =
       moved to (heard setup.reads (real.peers number).answer (view.links number)) view.held (heard_own (Own command) ran carries tt) (λ j other. stands.links j) stands.resting
-  heard_by_stage to (Statement m due) ran Nobody carries at = absurd (subst (IsAskedFree setup.reads) ran at.asked)
-  heard_by_stage to (Prep m key text) ran Nobody carries at = absurd (subst (IsAskedFree setup.reads) ran at.asked)
-  heard_by_stage to (Sync m command) ran Nobody carries at = absurd (subst (IsAskedFree setup.reads) ran at.asked)
-  heard_by_stage to (End m) ran Nobody carries at = absurd (subst (IsAskedFree setup.reads) ran at.asked)
-  heard_by_stage to (Capture m) ran Nobody carries at = absurd (subst (IsAskedFree setup.reads) ran at.asked)
+  heard_by_stage to _ ran Nobody carries at = absurd (subst (IsAskedFree setup.reads) ran at.asked)
   heard_by_stage to (Own command) ran (Joined n) carries at = absurd (subst (λ st. IsAskedJoined setup n st (view.links number).marked (view.links number).told (view.links number).id (view.links number).live (view.held n)) ran at.asked)
   heard_by_stage to (Statement m due) ran (Joined n) carries at = heard_name to n m (Statement m due) ran carries (subst (λ st. IsAskedJoined setup n st (view.links number).marked (view.links number).told (view.links number).id (view.links number).live (view.held n)) ran at.asked)
   heard_by_stage to (Prep m key text) ran (Joined n) carries at = heard_name to n m (Prep m key text) ran carries (subst (λ st. IsAskedJoined setup n st (view.links number).marked (view.links number).told (view.links number).id (view.links number).live (view.held n)) ran at.asked)
@@ -269,8 +261,9 @@ module _ (setup : Setup) (tests : Tests) (view : View) (real : Real) (private : 
   heard_so reply is =
       let a = (real.peers number).answer in
       subst (λ r. Stands setup tests (view_step setup view (Heard number r)) real private) (sym is.same)
-      (subst (λ st. Stands setup tests (record (view_step setup view (Heard number a)) { held = held_by setup.reads st a view.held }) real private) (sym is.ran)
-      (heard_by_stage (view_step setup view (Heard number a)) is.question is.ran (view.links number).carries refl (stands.links number)))
+      (subst (λ st. Stands setup tests (view_heard setup view number a st) real private) (sym is.ran)
+      (subst (λ l. Stands setup tests (record (view_heard setup view number a (Answered is.question)) { links = put is_link_id view.links number l }) real private) (heard_now setup.reads is.question a (view.links number) is.ran)
+      (heard_by_stage (view_heard setup view number a (Answered is.question)) is.question is.ran (view.links number).carries refl (stands.links number))))
 
   -- A link is given back.
 

@@ -1,10 +1,11 @@
 -- What one command does to one session, by the laws.
 use Rattle.std.specs.Prelude.{◌≡◌, ◌⊎◌, ℕ, Bool, true, false, not, ◌&&◌, ◌||◌, if◌then◌else◌, List, [], ◌∷◌, Option, Some, None}
+use Rattle.std.specs.Option.{option_or}
 use Rattle.std.proofs.Common.{refl, sym, ap, ◌∙◌, subst, inl, inr}
 use Rattle.server_rule.proofs.Ends.{IsSilent, Shows, refused_end}
 use Rattle.private_model.proofs.Stands.{Follows, IsPlain, Knows, Suits}
-use Rattle.private_model.proofs.Tame.{Tame, is_flagged, is_text}
-use Rattle.private_model.specs.Commands.{Number, Command, FieldList, InitDb, Prepare, Query, Quit, ReadId, Reply, Reset, Run, SetId, Step, brings_id, class_of, end_of, flags, hides_of, id_after, id_read, id_read_by, is_err, is_ok}
+use Rattle.private_model.proofs.Tame.{Tame, is_flagged, is_text, brings_id, flags}
+use Rattle.private_model.specs.Commands.{Number, Command, FieldList, InitDb, Prepare, Query, Quit, ReadId, Reply, Reset, Run, SetId, Step, class_of, end_of, hides_of, id_after, is_err, is_ok}
 use Rattle.private_model.specs.View.{is_reset, told_after, told_schema}
 use Rattle.server_rule.specs.Classes.{Reads}
 use Rattle.server_rule.specs.Replies.{one_number}
@@ -196,7 +197,7 @@ module _ (reads : Reads) (step : Step) (tests : Tests) (tame : Tame reads tests 
   set_knows k true is id before n e = let set = ap (λ (x : Session). x.last_id) (tame.id.set_done stored s ok k is) in cc
   set_knows k false is id before n e = ap (λ (x : Session). x.last_id) (tame.id.set_refused stored s ok k is) ∙ before.is n e
 
-  read_by : (err : Bool) (row id : Option ℕ) → Knows id s → (err ≡ true) ⊎ (row ≡ Some s.last_id) → (n : ℕ) → id_read_by err row id ≡ Some n → s.last_id ≡ n
+  read_by : (err : Bool) (row id : Option ℕ) → Knows id s → (err ≡ true) ⊎ (row ≡ Some s.last_id) → (n : ℕ) → (if err then id else option_or row id) ≡ Some n → s.last_id ≡ n
   read_by true row id before law n e = before.is n e
   read_by false None id before law n e = before.is n e
   read_by false (Some k) id before law n e = elim law [
@@ -204,7 +205,7 @@ module _ (reads : Reads) (step : Step) (tests : Tests) (tame : Tame reads tests 
     | inr same ↦ cc
   ]
 
-  pub read_knows : (id : Option ℕ) → Knows id s → (n : ℕ) → id_read (step stored s ReadId).reply id ≡ Some n → s.last_id ≡ n
+  pub read_knows : (id : Option ℕ) → Knows id s → (n : ℕ) → id_after reads ReadId (step stored s ReadId).reply id ≡ Some n → s.last_id ≡ n
   read_knows id before n e = read_by (is_err (step stored s ReadId).reply) (one_number (step stored s ReadId).reply.payloads) id before (tame.id.read_row stored s ok) n e
 
   pub knows_after : (c : Command) (id : Option ℕ) → Knows id s → Knows (id_after reads c (step stored s c).reply id) (step stored s c).session

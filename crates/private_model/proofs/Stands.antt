@@ -1,20 +1,57 @@
 -- What holds at every moment between the two worlds.
 use Rattle.std.specs.Prelude.{◌≡◌, ℕ, Bool, true, false, List, [], Option, Some, None}
-use Rattle.mx_base.specs.declared.names.LinkId.{LinkId}
-use Rattle.mx_base.specs.declared.names.ServerId.{ServerId}
-use Rattle.private_model.specs.Commands.{Account, Reply, account_of}
+use Rattle.std.proofs.Common.{ap}
+use Rattle.private_model.specs.Names.{LinkId, ServerId, MessageName, SessionName}
+use Rattle.private_model.specs.Commands.{Account, Reply}
 use Rattle.private_model.specs.Lawful.{Begins, GoesOn, IsOwnStep, IsStepOf, IsToldKey}
-use Rattle.private_model.specs.Story.{Capture, Due, End, Key, Own, Prep, Statement, Sync, message_of}
-use Rattle.private_model.specs.View.{Answered, Asked, Carried, Held, Joined, Lent, Link, Nobody, Quiet, Setup, Stage, View, soon_id, soon_live, soon_pin, soon_told}
+use Rattle.private_model.specs.Story.{Capture, Due, End, Key, Own, Prep, Question, Statement, Sync, command_of, message_of}
+use Rattle.private_model.specs.View as view
+use Rattle.private_model.specs.View.{Answered, Asked, Carried, Held, Joined, Lent, Link, Nobody, Quiet, Setup, Stage, View, pin_heard, id_heard, live_after, told_after}
 use Rattle.private_model.specs.Worlds.{Peer, Private, Real}
 use Rattle.server_rule.specs.Classes.{Reads, core}
 use Rattle.server_rule.specs.Servers.{Tests, is_brief, is_some_of, with_diag, with_id}
 use Rattle.server_rule.specs.declared.session.Session.{Session}
 use Rattle.session_state.specs.Pins.{is_pinned}
-use Rattle.session_state.specs.declared.names.MessageName.{MessageName}
-use Rattle.session_state.specs.declared.names.SessionName.{SessionName}
 use Rattle.session_state.specs.declared.pin.Pin.{Pin}
 use Rattle.session_state.specs.declared.place.Told.{Told}
+use Rattle.private_model.proofs.Tame.{account_of}
+
+-- What the router will know once it has read the reply; before a run it is what it knows.
+
+abbrev pub for_answered : {A : Type 0} → Stage → (Question → A) → A → A
+for_answered (Answered question) changed old = changed question
+for_answered _ changed old = old
+
+abbrev pub soon_told : Reads → Stage → Reply → Told → Told
+soon_told reads stage reply told = for_answered stage (λ question. told_after reads (command_of question) reply told) told
+
+abbrev pub soon_id : Reads → Stage → Reply → Option ℕ → Option ℕ
+soon_id reads stage reply id = for_answered stage (λ question. id_heard reads question reply id) id
+
+abbrev pub soon_live : Stage → Reply → (ℕ → Option ℕ) → ℕ → Option ℕ
+soon_live stage reply live = for_answered stage (λ question. live_after question reply live) live
+
+abbrev pub soon_pin : Reads → Stage → Reply → Pin → Pin
+soon_pin reads stage reply pin = for_answered stage (λ question. pin_heard reads question reply pin) pin
+
+abbrev pub quieted : Stage → Stage
+quieted stage = for_answered stage (λ question. Quiet) stage
+
+abbrev pub soon : Reads → Reply → Link → Stage → Link
+soon reads reply link stage = record link {
+  stage = quieted stage;
+  told = soon_told reads stage reply link.told;
+  id = soon_id reads stage reply link.id;
+  live = soon_live stage reply link.live;
+}
+
+abbrev pub heard : Reads → Reply → Link → Link
+heard reads reply link = soon reads reply link link.stage
+
+-- where the answer is there, it is what the view then has
+pub heard_now : (reads : Reads) (question : Question) (reply : Reply) (link : Link) → link.stage ≡ Answered question
+    → heard reads reply link ≡ view.heard reads question reply link
+heard_now reads question reply link is = ap (soon reads reply link) is
 
 -- Facts of one session.
 

@@ -1,21 +1,21 @@
 -- What is prepared, on links and in sessions.
 use Rattle.std.specs.Prelude.{if◌then◌else◌, ◌≡◌, ℕ, Bool, true, false, nat_eq, List, Option, Some, None}
+use Rattle.std.specs.Option.{option_and_then}
 use Rattle.std.proofs.Common.{refl, sym, ap, ◌∙◌, subst, inl, inr}
-use Rattle.mx_base.specs.declared.names.LinkId.{LinkId}
+use Rattle.private_model.specs.Names.{LinkId, SessionName}
 use Rattle.private_model.proofs.Maps.{at_each, link_ids, names, numbers, put-other, put-same}
 use Rattle.private_model.proofs.Meeting.{IsDecoded, IsRunLike, IsRunOf, IsTextOf}
 use Rattle.private_model.proofs.Sessions.{apart}
-use Rattle.private_model.proofs.Stands.{AreKept, AreMatched, AreTabled, AreTabledBy, Follows, IfAlive, IsAtBy, IsKept, IsMatch, IsOfKey, IsUsual}
+use Rattle.private_model.proofs.Stands.{AreKept, AreMatched, AreTabled, AreTabledBy, Follows, IfAlive, IsAtBy, IsKept, IsMatch, IsOfKey, IsUsual, soon_pin, soon_live}
 use Rattle.private_model.proofs.Tame.{Tame}
-use Rattle.private_model.specs.Commands.{Args, Command, FieldList, InitDb, Prepare, Query, Quit, ReadId, Reset, Run, SetId, Step}
+use Rattle.private_model.specs.Commands.{Args, Command, FieldList, InitDb, Prepare, Query, Quit, ReadId, Reset, Run, SetId, Step, is_prepare}
 use Rattle.private_model.specs.Lawful.{IsKeyed, IsLiveRun, IsToldKey}
 use Rattle.private_model.specs.Story.{Key, is_link_id, is_name, put}
-use Rattle.private_model.specs.View.{Carried, Held, Joined, Lent, Link, Nobody, Setup, is_prepare, lived, soon_live, soon_pin, text_of, without}
+use Rattle.private_model.specs.View.{Carried, Held, Joined, Lent, Link, Nobody, Setup, lived, text_of}
 use Rattle.private_model.specs.Worlds.{Peer, decoded, tabled}
 use Rattle.server_rule.specs.Classes.{Reads, core}
 use Rattle.server_rule.specs.Servers.{Accepts, Tests}
 use Rattle.server_rule.specs.declared.session.Session.{Session}
-use Rattle.session_state.specs.declared.names.SessionName.{SessionName}
 use Rattle.session_state.specs.declared.place.Told.{Told}
 use Rattle.session_vars.specs.declared.change.SlotValue.{SlotValue}
 
@@ -88,6 +88,9 @@ kept_by setup false live there key number text s unused of_key before = before
 
 -- A STMT_CLOSE.
 
+abbrev pub without : (number : ℕ) → Option ℕ → Option ℕ
+without number of_key = option_and_then (λ n. if nat_eq n number then None else Some n) of_key
+
 without_is : (number : ℕ) (was : Option ℕ) (n : ℕ) → without number was ≡ Some n → (was ≡ Some n) × (nat_eq n number ≡ false)
 without_is number None n e = absurd (cc)
 without_is number (Some m) n e = go (nat_eq m number) refl
@@ -119,14 +122,7 @@ told_place setup key text told s s' told_key follows schema settings = record {
 
 pub keyed_told : (setup : Setup) (c : Command) (key : ℕ) (told : Told) (live : ℕ → Option ℕ) → is_prepare c ≡ true → IsKeyed setup c key told live → IsToldKey setup key (text_of c) told
 keyed_told setup (Prepare text) key told live is keyed = keyed
-keyed_told setup (Query text) key told live is keyed = apart is refl
-keyed_told setup (InitDb schema) key told live is keyed = apart is refl
-keyed_told setup (FieldList rest) key told live is keyed = apart is refl
-keyed_told setup (SetId n) key told live is keyed = apart is refl
-keyed_told setup ReadId key told live is keyed = apart is refl
-keyed_told setup (Run text schema settings args) key told live is keyed = apart is refl
-keyed_told setup Reset key told live is keyed = apart is refl
-keyed_told setup Quit key told live is keyed = apart is refl
+keyed_told setup _ key told live is keyed = apart is refl
 
 -- Runs are decoded alike.
 
@@ -139,8 +135,7 @@ decoded_other (Some place) (SetId n) no_run = refl
 decoded_other (Some place) ReadId no_run = refl
 decoded_other (Some place) (Prepare text) no_run = refl
 decoded_other (Some place) (Run text schema settings args) no_run = absurd (no_run text schema settings args refl)
-decoded_other (Some place) Reset no_run = refl
-decoded_other (Some place) Quit no_run = refl
+decoded_other (Some place) _ no_run = refl
 
 run_like : (setup : Setup) (key : ℕ) (text schema : List ℕ) (settings : List SlotValue) (args : Args) (there here : Option Key) (live : ℕ → Option ℕ) → IsLiveRun setup key text schema settings live → IsMatch setup key there here
     → IsRunLike setup.reads (decoded there (Run text schema settings args)) (decoded here (Run text schema settings args))
@@ -194,25 +189,11 @@ decoded_alike setup key Quit told live there here keyed match = (inl (decoded_ot
 module _ (reads : Reads) (tests : Tests) (step : Step) (tame : Tame reads tests step) (stored : List ℕ) (s : Session) (ok : Accepts tests stored s) where
   pub prepared_schema : (c : Command) (entry : Option Key) → is_prepare c ≡ true → (step stored s (decoded entry c)).session.schema ≡ s.schema
   prepared_schema (Prepare text) entry is = ap (λ c. (step stored s c).session.schema) (decoded_other entry (Prepare text) (λ a b d e f. cc)) ∙ ap (λ (x : Session). x.schema) (tame.prepare.session stored s ok text)
-  prepared_schema (Query text) entry is = apart is refl
-  prepared_schema (InitDb schema) entry is = apart is refl
-  prepared_schema (FieldList rest) entry is = apart is refl
-  prepared_schema (SetId n) entry is = apart is refl
-  prepared_schema ReadId entry is = apart is refl
-  prepared_schema (Run text schema settings args) entry is = apart is refl
-  prepared_schema Reset entry is = apart is refl
-  prepared_schema Quit entry is = apart is refl
+  prepared_schema _ entry is = apart is refl
 
   pub prepared_settings : (c : Command) (entry : Option Key) → is_prepare c ≡ true → (step stored s (decoded entry c)).session.settings ≡ s.settings
   prepared_settings (Prepare text) entry is = ap (λ c. (step stored s c).session.settings) (decoded_other entry (Prepare text) (λ a b d e f. cc)) ∙ ap (λ (x : Session). x.settings) (tame.prepare.session stored s ok text)
-  prepared_settings (Query text) entry is = apart is refl
-  prepared_settings (InitDb schema) entry is = apart is refl
-  prepared_settings (FieldList rest) entry is = apart is refl
-  prepared_settings (SetId n) entry is = apart is refl
-  prepared_settings ReadId entry is = apart is refl
-  prepared_settings (Run text schema settings args) entry is = apart is refl
-  prepared_settings Reset entry is = apart is refl
-  prepared_settings Quit entry is = apart is refl
+  prepared_settings _ entry is = apart is refl
 
 -- One link changes.
 

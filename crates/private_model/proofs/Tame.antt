@@ -1,7 +1,8 @@
 -- The laws of a tame server, told of the router's commands: what the proof uses of them.
-use Rattle.std.specs.Prelude.{◌≡◌, ◌⊎◌, ℕ, Bool, true, false, List, [], Some}
+use Rattle.std.specs.Prelude.{◌≡◌, ◌⊎◌, ℕ, Bool, true, false, List, [], Option, Some}
 use Rattle.server_rule.proofs.Ends.{Shows}
-use Rattle.private_model.specs.Commands.{Number, Args, Command, FieldList, Prepare, Query, Quit, ReadId, Reset, Run, SetId, Step, account_of, brings_id, class_of, end_of, flags, fresh_of, hides_of, is_err, is_ok, outcome_with_id}
+use Rattle.session_state.specs.Endings as ending
+use Rattle.private_model.specs.Commands.{Account, Number, Args, Command, Outcome, Reply, FieldList, Prepare, Query, Quit, ReadId, Reset, Run, SetId, Step, class_of, end_of, fresh_of, hides_of, is_err, is_ok}
 use Rattle.server_rule.specs.Classes.{Reads, core}
 use Rattle.server_rule.specs.Replies.{one_number}
 use Rattle.server_rule.specs.Servers.{Accepts, Tests, is_brief, is_some_of, with_diag, with_id}
@@ -9,6 +10,19 @@ use Rattle.server_rule.specs.declared.session.Session.{Session}
 use Rattle.session_state.specs.Classes.{Tracked, Uses, effect_of, frees_locks, is_lone_savepoint, schema_by, sets_autocommit, sets_next, settings_by, takes_locks}
 use Rattle.session_vars.specs.declared.change.Change.{Change}
 use Rattle.session_vars.specs.declared.change.SlotValue.{SlotValue}
+
+abbrev pub account_of : Session → Account
+account_of session = record { user = session.user; found_rows = session.found_rows }
+
+abbrev pub outcome_with_id : ℕ → Outcome → Outcome
+outcome_with_id n outcome = record outcome { session = with_id n outcome.session }
+
+-- whether a transaction is open, where a reply says it
+abbrev pub flags : Reply → Option Bool
+flags reply = ending.shows_transaction (end_of reply)
+
+abbrev pub brings_id : Reply → Bool
+brings_id reply = ending.brings_id (end_of reply)
 
 -- A reset leaves a fresh session but for its schema, and a quit does the same to the data.
 pub record ResetLaw (tests : Tests) (step : Step) : Type 0 where

@@ -1,19 +1,19 @@
 -- What the router asks of a server, and what comes back.
-use Rattle.std.specs.Prelude.{◌<◌, ◌^◌, ℕ, Bool, true, false, not, List, Option, Some, None}
-use Rattle.std.specs.Prelude.{if◌then◌else◌}
+use Rattle.std.specs.Prelude.{◌<◌, ◌^◌, ℕ, Bool, true, false, not, if◌then◌else◌, List, Option, Some, None}
+use Rattle.std.specs.Option.{option_or}
 use Rattle.session_state.specs.Endings as ending
 use Rattle.pin_classifier.specs.declared.class.Locking.TheVariants as locking
 use Rattle.pin_classifier.specs.declared.class.Shape.TheVariants as shape
 use Rattle.server_rule.specs.declared.command.Cmd.TheVariants as cmd
 use Rattle.server_rule.specs.Servers as server
-use Rattle.server_rule.specs.Classes.{is_prepare as is_prepare_cmd}
+use Rattle.server_rule.specs.Classes as classes
 use Rattle.server_rule.specs.Replies.{reply_end, one_number}
 use Rattle.server_rule.specs.Texts.{read_id_text, set_id_text}
 use Rattle.session_state.specs.InsertIds.{id_after_text, id_prepared}
 use Rattle.session_state.specs.Pins.{diag_after}
 use Rattle.pin_classifier.specs.declared.class.Class.{Class}
 use Rattle.server_rule.specs.Classes.{Reads}
-use Rattle.server_rule.specs.Servers.{fresh, with_id}
+use Rattle.server_rule.specs.Servers.{fresh}
 use Rattle.server_rule.specs.declared.command.Cmd.{Cmd}
 use Rattle.server_rule.specs.declared.session.Session.{Session}
 use Rattle.session_state.specs.Pins.{pin_answered}
@@ -26,9 +26,6 @@ use Rattle.session_vars.specs.declared.long_part.LongPart.{LongPart}
 pub record Account : Type 0 where
   pub user : List ℕ
   pub found_rows : Bool
-
-abbrev pub account_of : Session → Account
-account_of session = record { user = session.user; found_rows = session.found_rows }
 
 abbrev pub fresh_of : Account → (schema : List ℕ) → Session
 fresh_of account schema = fresh account.user account.found_rows schema
@@ -70,6 +67,9 @@ cmd_of (Run text schema settings args) = cmd.Run text schema settings args.types
 cmd_of Reset = cmd.Reset
 cmd_of Quit = cmd.Close
 
+abbrev pub is_prepare : Command → Bool
+is_prepare command = classes.is_prepare (cmd_of command)
+
 -- a reply; it may answer a STMT_PREPARE, which has a form of its own
 pub record Reply : Type 0 where
   pub to_prepare : Bool
@@ -85,13 +85,10 @@ Step = (stored : List ℕ) → Session → Command → Outcome
 
 -- what a server makes of the router's commands
 abbrev pub outcome_of : Command → server.Outcome → Outcome
-outcome_of command outcome = record { stored = outcome.stored; session = outcome.session; reply = record { to_prepare = is_prepare_cmd (cmd_of command); payloads = outcome.reply } }
+outcome_of command outcome = record { stored = outcome.stored; session = outcome.session; reply = record { to_prepare = is_prepare command; payloads = outcome.reply } }
 
 abbrev pub runs : server.Step → Step
 runs step stored session command = outcome_of command (step stored session (cmd_of command))
-
-abbrev pub outcome_with_id : ℕ → Outcome → Outcome
-outcome_with_id n outcome = record outcome { session = with_id n outcome.session }
 
 -- How a reply ended.
 
@@ -112,12 +109,6 @@ is_made reply = not (is_err reply)
 abbrev pub number_in : Reply → ℕ
 number_in reply = (end_of reply).server_number
 
-abbrev pub flags : Reply → Option Bool
-flags reply = ending.shows_transaction (end_of reply)
-
-abbrev pub brings_id : Reply → Bool
-brings_id reply = ending.brings_id (end_of reply)
-
 -- The class of a command.
 
 abbrev pub plain_class : Class
@@ -132,8 +123,7 @@ class_of reads (FieldList rest) = plain_class
 class_of reads (Prepare text) = plain_class
 class_of reads (SetId n) = record plain_class { marks_id = true }
 class_of reads ReadId = record plain_class { marks_id = true }
-class_of reads Reset = record plain_class { deep = true; marks_id = true; reads_diag = true }
-class_of reads Quit = record plain_class { deep = true; marks_id = true; reads_diag = true }
+class_of reads _ = record plain_class { deep = true; marks_id = true; reads_diag = true }
 
 abbrev pub hides_of : Reads → Command → Bool
 hides_of reads (Query text) = reads.hides_id text
@@ -147,29 +137,18 @@ is_marked reads command = (class_of reads command).marks_id
 
 -- The Pin after a reply to a statement.
 
-abbrev pub pin_prepared : Class → (multiplex : Option Bool) → Reply → Pin → Pin
-pin_prepared class multiplex reply pin = if is_err reply then pin_answered class multiplex (end_of reply) pin else record pin { diag = diag_after class (end_of reply) pin }
-
 abbrev pub pin_statement : Reads → Command → (multiplex : Option Bool) → Reply → Pin → Pin
-pin_statement reads (Prepare text) multiplex reply pin = pin_prepared (reads.class text) multiplex reply pin
+pin_statement reads (Prepare text) multiplex reply pin =
+    if is_err reply then pin_answered (reads.class text) multiplex (end_of reply) pin
+    else record pin { diag = diag_after (reads.class text) (end_of reply) pin }
 pin_statement reads command multiplex reply pin = pin_answered (class_of reads command) multiplex (end_of reply) pin
 
 -- The insert id after a reply, where it is known.
 
-abbrev pub id_read_by : (err : Bool) → (row old : Option ℕ) → Option ℕ
-id_read_by false (Some n) old = Some n
-id_read_by _ _ old = old
-
-abbrev pub id_read : Reply → Option ℕ → Option ℕ
-id_read reply old = id_read_by (is_err reply) (one_number reply.payloads) old
-
 abbrev pub id_after : Reads → Command → Reply → Option ℕ → Option ℕ
-id_after reads (Query text) reply old = id_after_text (reads.class text) (reads.hides_id text) (end_of reply) old
-id_after reads (Run text schema settings args) reply old = id_after_text (reads.class text) (reads.hides_id text) (end_of reply) old
 id_after reads (Prepare text) reply old = id_prepared (reads.class text) (end_of reply) old
-id_after reads (InitDb schema) reply old = old
-id_after reads (FieldList rest) reply old = old
 id_after reads (SetId n) reply old = if is_ok reply then Some n.value else old
-id_after reads ReadId reply old = id_read reply old
+id_after reads ReadId reply old = if is_err reply then old else option_or (one_number reply.payloads) old
 id_after reads Reset reply old = Some 0
 id_after reads Quit reply old = None
+id_after reads command reply old = id_after_text (class_of reads command) (hides_of reads command) (end_of reply) old

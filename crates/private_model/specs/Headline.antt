@@ -1,8 +1,7 @@
 -- What the private world promises at a moment.
 use Rattle.std.specs.Prelude.{◌≡◌, true, Some}
-use Rattle.mx_base.specs.declared.names.LinkId.{LinkId}
-use Rattle.mx_base.specs.declared.names.ServerId.{ServerId}
 use Rattle.pin_classifier.specs.declared.class.Class.{Class}
+use Rattle.private_model.specs.Names.{LinkId, ServerId, MessageName, SessionName}
 use Rattle.private_model.specs.Commands.{Reply, class_of}
 use Rattle.private_model.specs.Lawful.{IsPlaced}
 use Rattle.private_model.specs.Story.{Due, Statement, message_of}
@@ -11,8 +10,6 @@ use Rattle.private_model.specs.Worlds.{Private, Real, readied}
 use Rattle.server_rule.specs.Classes.{Reads}
 use Rattle.server_rule.specs.Servers.{with_diag, with_id}
 use Rattle.server_rule.specs.declared.session.Session.{Session}
-use Rattle.session_state.specs.declared.names.MessageName.{MessageName}
-use Rattle.session_state.specs.declared.names.SessionName.{SessionName}
 
 -- The session on the link is the private one, but for the insert id where the class doesn't mark it and for the diagnostics where it doesn't read them.
 pub record IsSameFor (class : Class) (real private : Session) : Type 0 where

@@ -1,10 +1,9 @@
 -- What servers keep to.
-use Rattle.mx_base.specs.declared.names.LinkId.{LinkId}
 use Rattle.std.specs.Prelude.{Bool, None, Option, [], false, true, ℕ, ◌∷◌, ◌≡◌}
-use Rattle.mx_base.specs.declared.names.ServerId.{ServerId}
-use Rattle.private_model.specs.Commands.{Reply, Step, is_made, number_in}
+use Rattle.private_model.specs.Names.{LinkId, ServerId}
+use Rattle.private_model.specs.Commands.{Reply, Step, is_made, number_in, is_prepare}
 use Rattle.private_model.specs.Story.{Happening, Heard, Key, Prep, Question, Ran, Statement, Story}
-use Rattle.private_model.specs.View.{Answered, Asked, Link, Setup, Stage, View, is_prepare, view_after}
+use Rattle.private_model.specs.View.{Answered, Asked, Link, Setup, Stage, View, view_after}
 use Rattle.private_model.specs.Worlds.{Real, at_link, real_after, there_command}
 use Rattle.server_rule.specs.Servers.{Tests}
 

@@ -143,12 +143,8 @@ pub record IsSync (setup : Setup) (n : SessionName) (command : Command) (link : 
   pub pinned : is_pinned held.pin ≡ true
   pub fits : IsStepOf setup.reads command held.pin held.id
 
-pub record IsLentTo (link : Link) : Type 0 where
-  pub who : SessionName
-  pub carries : link.carries ≡ Lent who
-
 pub record IsOwn (setup : Setup) (command : Command) (link : Link) : Type 0 where
-  pub free : (link.carries ≡ Nobody) ⊎ IsLentTo link
+  pub free : (link.carries ≡ Nobody) ⊎ ((who : SessionName) × (link.carries ≡ Lent who))
   pub fits : IsOwnStep setup.reads command
 
 -- the session was left

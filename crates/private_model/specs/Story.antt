@@ -1,12 +1,7 @@
 -- What happens between the router and the servers.
 use Rattle.std.specs.Prelude.{ℕ, Bool, ◌&&◌, nat_eq, if◌then◌else◌, List, Option}
-use Rattle.mx_base.specs.declared.names.ClientNo.{ClientNo}
-use Rattle.mx_base.specs.declared.names.Hostgroup.{Hostgroup}
-use Rattle.mx_base.specs.declared.names.LinkId.{LinkId}
-use Rattle.mx_base.specs.declared.names.ServerId.{ServerId}
+use Rattle.private_model.specs.Names.{ClientNo, Hostgroup, LinkId, ServerId, MessageName, SessionName}
 use Rattle.private_model.specs.Commands.{Account, Command, Prepare, ReadId, Reply, Reset}
-use Rattle.session_state.specs.declared.names.MessageName.{MessageName}
-use Rattle.session_state.specs.declared.names.SessionName.{SessionName}
 use Rattle.session_state.specs.declared.place.Place.{Place}
 
 abbrev pub is_link_id : LinkId → LinkId → Bool
@@ -56,6 +51,11 @@ pub data Question : Type 0 where
 
 abbrev pub message_of : SessionName → Due → MessageName
 message_of n due = record { client = n.client; ordinal = due.ordinal }
+
+-- what a client's statement makes of something, which every other question leaves as it is
+abbrev pub for_statement : {A : Type 0} → Question → (SessionName → Due → A) → A → A
+for_statement (Statement n due) changed old = changed n due
+for_statement _ changed old = old
 
 abbrev pub command_of : Question → Command
 command_of (Statement n due) = due.command

@@ -1,17 +1,13 @@
 -- What the router knows: a fold of what happened. No server's rule is in this file.
-use Rattle.std.specs.Prelude.{ℕ, suc, Bool, true, false, not, ◌||◌, nat_eq, if◌then◌else◌, List, [], ◌∷◌, Option, Some, None}
+use Rattle.std.specs.Prelude.{ℕ, suc, Bool, true, false, not, ◌&&◌, ◌||◌, nat_eq, if◌then◌else◌, List, [], ◌∷◌, Option, Some, None}
+use Rattle.std.specs.Option.{option_and_then, option_map_or}
 use Rattle.session_vars.specs.Settings.{defaults}
-use Rattle.mx_base.specs.declared.names.ClientNo.{ClientNo}
-use Rattle.mx_base.specs.declared.names.Hostgroup.{Hostgroup}
-use Rattle.mx_base.specs.declared.names.LinkId.{LinkId}
-use Rattle.mx_base.specs.declared.names.ServerId.{ServerId}
-use Rattle.private_model.specs.Commands.{Account, Command, Prepare, Quit, Reply, Reset, class_of, id_after, is_err, is_made, is_marked, is_ok, number_in, pin_statement}
-use Rattle.private_model.specs.Story.{BecameDue, Capture, Dropped, Due, End, Freed, Gone, Happening, Heard, Key, Left, LoggedIn, Mirrored, Prep, Question, Ran, Sent, Statement, Story, Sync, Unprepared, command_of, is_client, is_link_id, is_message, is_name, message_of, put}
+use Rattle.private_model.specs.Names.{ClientNo, Hostgroup, LinkId, ServerId, MessageName, SessionName}
+use Rattle.private_model.specs.Commands.{Account, Command, Prepare, Quit, Reply, Reset, class_of, id_after, is_err, is_made, is_marked, is_ok, is_prepare, number_in, pin_statement}
+use Rattle.private_model.specs.Story.{BecameDue, Capture, Dropped, Due, End, Freed, Gone, Happening, Heard, Key, Left, LoggedIn, Mirrored, Prep, Question, Ran, Sent, Statement, Story, Sync, Unprepared, command_of, for_statement, is_client, is_link_id, is_message, is_name, message_of, put}
 use Rattle.server_rule.specs.Classes.{Reads}
 use Rattle.session_state.specs.Classes.{Effect, Uses, effect_of, schema_by, settings_by}
 use Rattle.session_state.specs.Pins.{is_pinned, no_pin}
-use Rattle.session_state.specs.declared.names.MessageName.{MessageName}
-use Rattle.session_state.specs.declared.names.SessionName.{SessionName}
 use Rattle.session_state.specs.declared.pin.Pin.{Pin}
 use Rattle.session_state.specs.declared.place.Place.{Place}
 use Rattle.session_state.specs.declared.place.Told.{Told}
@@ -21,6 +17,11 @@ pub data Carried : Type 0 where
   Nobody : Carried
   Lent : SessionName → Carried
   Joined : SessionName → Carried
+
+abbrev pub session_in : Carried → Option SessionName
+session_in Nobody = None
+session_in (Lent n) = Some n
+session_in (Joined n) = Some n
 
 pub data Stage : Type 0 where
   Quiet : Stage
@@ -88,34 +89,20 @@ held_for (Statement n due) link held = put is_name held n (record (held n) { hom
 held_for (Prep n key text) link held = put is_name held n (record (held n) { home = Some link })
 held_for _ link held = held
 
-abbrev pub carriers_for : Question → (link : LinkId) → (MessageName → Option LinkId) → MessageName → Option LinkId
-carriers_for (Statement n due) link carriers = put is_message carriers (message_of n due) (Some link)
-carriers_for _ link carriers = carriers
-
-abbrev pub dues_for : Question → (SessionName → Option Due) → SessionName → Option Due
-dues_for (Statement n due) dues = put is_name dues n None
-dues_for _ dues = dues
-
 -- The server runs it.
-
-abbrev pub joined_by : Question → Carried → Carried
-joined_by (Statement n due) carried = Joined n
-joined_by _ carried = carried
-
-abbrev pub is_marking : Reads → Question → Bool
-is_marking reads (Statement n due) = is_marked reads due.command
-is_marking reads _ = false
 
 abbrev pub is_quit : Command → Bool
 is_quit Quit = true
 is_quit _ = false
 
 abbrev pub ran_by : Reads → (alive : Bool) → Stage → Link → Link
-ran_by reads true (Asked question) link = record link { stage = Answered question; carries = joined_by question link.carries; marked = is_marking reads question || link.marked; alive = not (is_quit (command_of question)) }
+ran_by reads true (Asked question) link = record link {
+  stage = Answered question;
+  carries = for_statement question (λ n due. Joined n) link.carries;
+  marked = for_statement question (λ n due. is_marked reads due.command) false || link.marked;
+  alive = not (is_quit (command_of question));
+}
 ran_by reads _ _ link = link
-
-abbrev pub ran : Reads → Link → Link
-ran reads link = ran_by reads link.alive link.stage link
 
 -- Its reply is read.
 
@@ -132,34 +119,19 @@ told_after reads command reply told = if is_reset command
     then record { schema = None; settings = defaults }
     else record { schema = told_schema (effect_of (class_of reads command)) (is_ok reply) told.schema; settings = settings_by (effect_of (class_of reads command)) (is_ok reply) told.settings }
 
--- What the router will know of the link once it has read the reply; before a run it is what it knows.
-
-abbrev pub soon_told : Reads → Stage → Reply → Told → Told
-soon_told reads (Answered question) reply told = told_after reads (command_of question) reply told
-soon_told reads _ reply told = told
-
 -- a preparation on the way leaves the insert id
 abbrev pub id_heard : Reads → Question → Reply → Option ℕ → Option ℕ
 id_heard reads (Prep n key text) reply id = id
 id_heard reads question reply id = id_after reads (command_of question) reply id
 
-abbrev pub soon_id : Reads → Stage → Reply → Option ℕ → Option ℕ
-soon_id reads (Answered question) reply id = id_heard reads question reply id
-soon_id reads _ reply id = id
-
 -- what a question and its answer do to what is prepared
-
-abbrev pub is_prepare : Command → Bool
-is_prepare (Prepare text) = true
-is_prepare _ = false
 
 abbrev pub text_of : Command → List ℕ
 text_of (Prepare text) = text
 text_of _ = []
 
 abbrev pub lived : (makes ok : Bool) → (key number : ℕ) → (ℕ → Option ℕ) → ℕ → Option ℕ
-lived true true key number live = put nat_eq live key (Some number)
-lived _ _ key number live = live
+lived makes ok key number live = if makes && ok then put nat_eq live key (Some number) else live
 
 abbrev pub live_after : Question → Reply → (ℕ → Option ℕ) → ℕ → Option ℕ
 live_after (Statement n due) reply live = lived (is_prepare due.command) (is_made reply) due.key (number_in reply) live
@@ -167,16 +139,13 @@ live_after (Prep n key text) reply live = lived true (is_made reply) key (number
 live_after (End n) reply live = λ key. None
 live_after _ reply live = live
 
-abbrev pub soon_live : Stage → Reply → (ℕ → Option ℕ) → ℕ → Option ℕ
-soon_live (Answered question) reply live = live_after question reply live
-soon_live _ reply live = live
-
-abbrev pub quieted : Stage → Stage
-quieted (Answered question) = Quiet
-quieted stage = stage
-
-abbrev pub heard : Reads → Reply → Link → Link
-heard reads reply link = record link { stage = quieted link.stage; told = soon_told reads link.stage reply link.told; id = soon_id reads link.stage reply link.id; live = soon_live link.stage reply link.live }
+abbrev pub heard : Reads → Question → Reply → Link → Link
+heard reads question reply link = record link {
+  stage = Quiet;
+  told = told_after reads (command_of question) reply link.told;
+  id = id_heard reads question reply link.id;
+  live = live_after question reply link.live;
+}
 
 abbrev pub pin_heard : Reads → Question → Reply → Pin → Pin
 pin_heard reads (Statement n due) reply pin = pin_statement reads due.command due.multiplex reply pin
@@ -185,40 +154,34 @@ pin_heard reads (Sync n command) reply pin = record pin { after_err = pin.after_
 pin_heard reads (End n) reply pin = no_pin
 pin_heard reads _ reply pin = pin
 
-abbrev pub soon_pin : Reads → Stage → Reply → Pin → Pin
-soon_pin reads (Answered question) reply pin = pin_heard reads question reply pin
-soon_pin reads _ reply pin = pin
-
 abbrev pub held_heard : Reads → Question → Reply → Held → Held
 held_heard reads question reply held = record held { pin = pin_heard reads question reply held.pin; id = id_heard reads question reply held.id }
 
 -- whose reply it is
-abbrev pub held_by : Reads → Stage → Reply → (SessionName → Held) → SessionName → Held
-held_by reads (Answered (Statement n due)) reply held = put is_name held n (held_heard reads (Statement n due) reply (held n))
-held_by reads (Answered (Prep n key text)) reply held = put is_name held n (held_heard reads (Prep n key text) reply (held n))
-held_by reads (Answered (Sync n command)) reply held = put is_name held n (held_heard reads (Sync n command) reply (held n))
-held_by reads (Answered (End n)) reply held = put is_name held n (held_heard reads (End n) reply (held n))
-held_by reads (Answered (Capture n)) reply held = put is_name held n (held_heard reads (Capture n) reply (held n))
+abbrev pub held_by : Reads → Question → Reply → (SessionName → Held) → SessionName → Held
+held_by reads (Statement n due) reply held = put is_name held n (held_heard reads (Statement n due) reply (held n))
+held_by reads (Prep n key text) reply held = put is_name held n (held_heard reads (Prep n key text) reply (held n))
+held_by reads (Sync n command) reply held = put is_name held n (held_heard reads (Sync n command) reply (held n))
+held_by reads (End n) reply held = put is_name held n (held_heard reads (End n) reply (held n))
+held_by reads (Capture n) reply held = put is_name held n (held_heard reads (Capture n) reply (held n))
 held_by reads _ reply held = held
 
 abbrev pub place_after : Reads → Command → Reply → Place → Place
 place_after reads command reply place = record { schema = schema_by (effect_of (class_of reads command)) (is_ok reply) place.schema; settings = settings_by (effect_of (class_of reads command)) (is_ok reply) place.settings }
 
-abbrev pub replies_by : Stage → Reply → (MessageName → Option Reply) → MessageName → Option Reply
-replies_by (Answered (Statement n due)) reply replies = put is_message replies (message_of n due) (Some reply)
-replies_by _ reply replies = replies
-
-abbrev pub places_by : Reads → Stage → Reply → (ClientNo → Place) → ClientNo → Place
-places_by reads (Answered (Statement n due)) reply places = put is_client places n.client (place_after reads due.command reply (places n.client))
-places_by reads _ reply places = places
+abbrev pub view_heard : Setup → View → (link : LinkId) → Reply → Stage → View
+view_heard setup view link reply (Answered question) = record view {
+  links = put is_link_id view.links link (heard setup.reads question reply (view.links link));
+  held = held_by setup.reads question reply view.held;
+  places = for_statement question
+      (λ n due. put is_client view.places n.client (place_after setup.reads due.command reply (view.places n.client))) view.places;
+  replies = for_statement question (λ n due. put is_message view.replies (message_of n due) (Some reply)) view.replies;
+}
+view_heard setup view link reply _ = view
 
 -- what a STMT_CLOSE of this number leaves
-abbrev pub without : (number : ℕ) → Option ℕ → Option ℕ
-without number None = None
-without number (Some n) = if nat_eq n number then None else Some n
-
 abbrev pub closed_number : (number : ℕ) → Link → Link
-closed_number number link = record link { live = λ key. without number (link.live key) }
+closed_number number link = record link { live = λ key. option_and_then (λ n. if nat_eq n number then None else Some n) (link.live key) }
 
 -- A link is given back, or lost, and a client leaves.
 
@@ -226,18 +189,11 @@ abbrev pub freed : Link → Link
 freed link = record link { carries = Nobody; marked = false }
 
 abbrev pub held_freed : Carried → (SessionName → Held) → SessionName → Held
-held_freed (Lent n) held = put is_name held n (record (held n) { home = None })
-held_freed (Joined n) held = put is_name held n (record (held n) { home = None })
-held_freed _ held = held
+held_freed carried held = option_map_or (λ n. put is_name held n (record (held n) { home = None })) (session_in carried) held
 
 -- this session is left, where it is the present one; an older one was left before
 abbrev pub lives_after : SessionName → (ClientNo → Hostgroup → ℕ) → ClientNo → Hostgroup → ℕ
 lives_after n lives c h = if is_name (record { client = c; hostgroup = h; life = lives c h }) n then suc (lives c h) else lives c h
-
-abbrev pub lives_without : Carried → (ClientNo → Hostgroup → ℕ) → ClientNo → Hostgroup → ℕ
-lives_without (Lent n) lives = lives_after n lives
-lives_without (Joined n) lives = lives_after n lives
-lives_without Nobody lives = lives
 
 -- all sessions of this client are left
 abbrev pub lives_left : (client : ClientNo) → (ClientNo → Hostgroup → ℕ) → ClientNo → Hostgroup → ℕ
@@ -255,19 +211,27 @@ view_step setup view (LoggedIn link server account) = record view { links = put 
 view_step setup view (BecameDue client hostgroup ordinal key command multiplex) =
     let n = present view client hostgroup in
     record view { dues = put is_name view.dues n (Some (due_of view n ordinal key command multiplex)) }
-view_step setup view (Sent link question) = record view { links = put is_link_id view.links link (asked question (view.links link)); held = held_for question link view.held; dues = dues_for question view.dues; carriers = carriers_for question link view.carriers }
-view_step setup view (Ran link) = record view { links = put is_link_id view.links link (ran setup.reads (view.links link)) }
-view_step setup view (Heard link reply) = record view {
-  links = put is_link_id view.links link (heard setup.reads reply (view.links link));
-  held = held_by setup.reads (view.links link).stage reply view.held;
-  places = places_by setup.reads (view.links link).stage reply view.places;
-  replies = replies_by (view.links link).stage reply view.replies;
+view_step setup view (Sent link question) = record view {
+  links = put is_link_id view.links link (asked question (view.links link));
+  held = held_for question link view.held;
+  dues = for_statement question (λ n due. put is_name view.dues n None) view.dues;
+  carriers = for_statement question (λ n due. put is_message view.carriers (message_of n due) (Some link)) view.carriers;
 }
-view_step setup view (Freed link) = record view { links = put is_link_id view.links link (freed (view.links link)); held = held_freed (view.links link).carries view.held }
+view_step setup view (Ran link) =
+    record view { links = put is_link_id view.links link (ran_by setup.reads (view.links link).alive (view.links link).stage (view.links link)) }
+view_step setup view (Heard link reply) = view_heard setup view link reply (view.links link).stage
+view_step setup view (Freed link) =
+    record view { links = put is_link_id view.links link (freed (view.links link)); held = held_freed (view.links link).carries view.held }
 view_step setup view (Unprepared link number) = record view { links = put is_link_id view.links link (closed_number number (view.links link)) }
 view_step setup view (Dropped link) = record view { links = put is_link_id view.links link (record (view.links link) { alive = false }) }
-view_step setup view (Gone link) = record view { links = put is_link_id view.links link (record (view.links link) { usable = false }); lives = lives_without (view.links link).carries view.lives }
-view_step setup view (Left client) = record view { lives = lives_left client view.lives; places = put is_client view.places client (record (view.places client) { settings = (setup.places client).settings }) }
+view_step setup view (Gone link) = record view {
+  links = put is_link_id view.links link (record (view.links link) { usable = false });
+  lives = option_map_or (λ n. lives_after n view.lives) (session_in (view.links link).carries) view.lives;
+}
+view_step setup view (Left client) = record view {
+  lives = lives_left client view.lives;
+  places = put is_client view.places client (record (view.places client) { settings = (setup.places client).settings });
+}
 view_step setup view (Mirrored client job) = record view { places = put is_client view.places job (view.places client) }
 
 abbrev pub view_after : Setup → Story → View

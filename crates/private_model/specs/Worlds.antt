@@ -1,15 +1,13 @@
 -- The real world and the private one, both told by one story.
-use Rattle.std.specs.Prelude.{nat_eq, ℕ, Bool, true, false, if◌then◌else◌, List, [], ◌∷◌, Option, Some, None}
-use Rattle.mx_base.specs.declared.names.LinkId.{LinkId}
-use Rattle.mx_base.specs.declared.names.ServerId.{ServerId}
-use Rattle.private_model.specs.Commands.{Account, Command, Outcome, Prepare, Quit, Reply, Reset, Run, Step, fresh_of, is_made, number_in}
-use Rattle.private_model.specs.Story.{Dropped, Due, End, Happening, Key, LoggedIn, Prep, Question, Ran, Statement, Story, Sync, Unprepared, command_of, is_link_id, is_message, is_name, is_server, message_of, put}
-use Rattle.private_model.specs.View.{Asked, Carried, Held, Joined, Lent, Setup, Stage, View, is_prepare, text_of, view_after}
+use Rattle.std.specs.Option.{option_and_then, option_map_or}
+use Rattle.std.specs.Prelude.{nat_eq, ℕ, Bool, ◌&&◌, true, false, if◌then◌else◌, List, [], ◌∷◌, Option, Some, None}
+use Rattle.private_model.specs.Names.{LinkId, ServerId, MessageName, SessionName}
+use Rattle.private_model.specs.Commands.{Account, Command, Outcome, Prepare, Quit, Reply, Reset, Run, Step, fresh_of, is_made, number_in, is_prepare}
+use Rattle.private_model.specs.Story.{Dropped, Due, End, Happening, Key, LoggedIn, Prep, Question, Ran, Statement, Story, Sync, Unprepared, command_of, for_statement, is_link_id, is_message, is_name, is_server, message_of, put}
+use Rattle.private_model.specs.View.{Asked, Carried, Held, Setup, Stage, View, session_in, text_of, view_after}
 use Rattle.server_rule.specs.Servers.{with_id}
 use Rattle.server_rule.specs.declared.session.Session.{Session}
 use Rattle.session_state.specs.Pins.{is_pinned}
-use Rattle.session_state.specs.declared.names.MessageName.{MessageName}
-use Rattle.session_state.specs.declared.names.SessionName.{SessionName}
 use Rattle.session_state.specs.declared.place.Place.{Place}
 
 -- The real world: a session on each link, and the last answer there.
@@ -23,42 +21,39 @@ pub record Real : Type 0 where
   pub stored : (server : ServerId) → List ℕ
   pub peers : (link : LinkId) → Peer
 
-abbrev pub no_answer : Reply
-no_answer = record { to_prepare = false; payloads = [] }
-
 abbrev pub new_peer : (account : Account) → Peer
-new_peer account = record { session = fresh_of account []; answer = no_answer; table = λ number. None }
+new_peer account =
+    record { session = fresh_of account []; answer = record { to_prepare = false; payloads = [] }; table = λ number. None }
 
 -- A Run is decoded with the text and the place of its preparation.
 abbrev pub decoded : Option Key → Command → Command
 decoded (Some entry) (Run text schema settings args) = Run entry.text entry.place.schema entry.place.settings args
 decoded _ command = command
 
--- the link's number of a key says which entry a Run is of
-abbrev pub entry_at : (number : Option ℕ) → (table : ℕ → Option Key) → Option Key
-entry_at None table = None
-entry_at (Some number) table = table number
-
 abbrev pub tabled : (makes ok : Bool) → (at : ℕ) → (text : List ℕ) → Session → (ℕ → Option Key) → ℕ → Option Key
-tabled true true at text s table = put nat_eq table at (Some (record { text = text; place = record { schema = s.schema; settings = s.settings } }))
-tabled _ _ at text s table = table
+tabled makes ok at text s table =
+    if makes && ok then put nat_eq table at (Some (record { text = text; place = record { schema = s.schema; settings = s.settings } })) else table
+
+-- what is prepared after a question, each under its key or under what stands for it
+abbrev pub table_by : (by : ℕ → ℕ) → Question → Outcome → (ℕ → Option Key) → ℕ → Option Key
+table_by by (Statement n due) outcome table =
+    tabled (is_prepare due.command) (is_made outcome.reply) (by due.key) (text_of due.command) outcome.session table
+table_by by (Prep n key text) outcome table = tabled true (is_made outcome.reply) (by key) text outcome.session table
+table_by by (End n) outcome table = λ at. None
+table_by by _ outcome table = table
 
 -- a server tells what it prepared apart by numbers, a session of a client's own by keys
+
 abbrev pub there_table : Question → Outcome → (ℕ → Option Key) → ℕ → Option Key
-there_table (Statement n due) outcome table = tabled (is_prepare due.command) (is_made outcome.reply) (number_in outcome.reply) (text_of due.command) outcome.session table
-there_table (Prep n key text) outcome table = tabled true (is_made outcome.reply) (number_in outcome.reply) text outcome.session table
-there_table (End n) outcome table = λ number. None
-there_table _ outcome table = table
+there_table question outcome table = table_by (λ key. number_in outcome.reply) question outcome table
 
 abbrev pub table_after : Question → Outcome → (ℕ → Option Key) → ℕ → Option Key
-table_after (Statement n due) outcome table = tabled (is_prepare due.command) (is_made outcome.reply) due.key (text_of due.command) outcome.session table
-table_after (Prep n key text) outcome table = tabled true (is_made outcome.reply) key text outcome.session table
-table_after (End n) outcome table = λ key. None
-table_after _ outcome table = table
+table_after question outcome table = table_by (λ key. key) question outcome table
 
+-- the link's number of a key says which entry a Run is of
 abbrev pub there_command : Question → (live : ℕ → Option ℕ) → (table : ℕ → Option Key) → Command
-there_command (Statement n due) live table = decoded (entry_at (live due.key) table) due.command
-there_command question live table = command_of question
+there_command question live table =
+    for_statement question (λ n due. decoded (option_and_then table (live due.key)) due.command) (command_of question)
 
 -- what a link's session makes of a command
 abbrev pub at_link : Step → Real → (link : LinkId) (server : ServerId) → Command → Outcome
@@ -117,8 +112,8 @@ private_statement step private server n due =
 
 -- an unpinned session has no part in it
 abbrev pub private_prep : Step → Private → (pinned : Bool) → (server : ServerId) → SessionName → (key : ℕ) → (text : List ℕ) → Private
-private_prep step private true server n key text = in_table step private server n (private.sessions n) (Prepare text) (Prep n key text)
-private_prep step private false server n key text = private
+private_prep step private pinned server n key text =
+    if pinned then in_table step private server n (private.sessions n) (Prepare text) (Prep n key text) else private
 
 abbrev pub private_run : Step → (SessionName → Held) → Private → (alive : Bool) → Stage → (server : ServerId) → Private
 private_run step held private true (Asked (Statement n due)) server = private_statement step private server n due
@@ -134,9 +129,8 @@ closed step private server n =
     record private { stored = put is_server private.stored server outcome.stored; sessions = put is_name private.sessions n (with_id (private.sessions n).last_id outcome.session) }
 
 abbrev pub private_drop : Step → Private → (alive : Bool) → Carried → (server : ServerId) → Private
-private_drop step private true (Lent n) server = closed step private server n
-private_drop step private true (Joined n) server = closed step private server n
-private_drop step private _ _ server = private
+private_drop step private alive carried server =
+    if alive then option_map_or (closed step private server) (session_in carried) private else private
 
 abbrev pub private_step : Step → View → Private → Happening → Private
 private_step step view private (Ran link) = private_run step view.held private (view.links link).alive (view.links link).stage (view.links link).server
@@ -145,11 +139,8 @@ private_step step view private _ = private
 
 -- Both after a story.
 
-abbrev pub first_real : Setup → Real
-first_real setup = record { stored = setup.stored; peers = λ link. new_peer (record { user = []; found_rows = false }) }
-
 abbrev pub real_after : Setup → Step → Story → Real
-real_after setup step [] = first_real setup
+real_after setup step [] = record { stored = setup.stored; peers = λ link. new_peer (record { user = []; found_rows = false }) }
 real_after setup step (e ∷ past) = real_step step (view_after setup past) (real_after setup step past) e
 
 abbrev pub first_private : Setup → Private

@@ -14,7 +14,6 @@ use Rattle.client_session.specs.Errors.{connection_refused, own_ok}
 use Rattle.server_rule.specs.Replies.{one_number, reply_end}
 use Rattle.reply_track.specs.Replying.{payloads_in}
 use Rattle.private_model.specs.Commands.{Prepare, runs}
-use Rattle.private_model.specs.Story.{put}
 use Rattle.session_vars.specs.declared.long_part.LongPart.{LongPart}
 use Rattle.small_server.specs.Tally.{prepared}
 use Rattle.private_model.specs.Worlds.{private_after}
@@ -24,64 +23,71 @@ use Rattle.private_model.specs.Lawful.{Begins, IsLawful}
 use Rattle.private_model.specs.View.{present}
 use Rattle.small_server.proofs.Told.{begins_at, begins_with, begun_so, settled_so, told}
 use Rattle.small_server.specs.Stories.{anybody, came, due_at, insert, link, nowhere, session, setup, shared}
-use Rattle.log_story.specs.Aside.{asker, asks, begin, beside_log, beside_plan, beside_story, copy_log, copy_plan, copy_story, given_up, goes_on, is_answered}
-use Rattle.log_story.specs.Aside.{is_given_up, is_woken, job_session, own_plan}
-use Rattle.log_story.specs.Aside.{ended_log, ended_plan, ended_story}
-use Rattle.log_story.specs.Executed.{done, due_with, execute_log, execute_plan, execute_story, first_run, first_story, prepared_story, preparer, runs_with}
-use Rattle.log_story.specs.Aside.{ended_log, ended_plan, ended_story}
-use Rattle.log_story.specs.Executed.{second_run, text}
+use Rattle.log_cases.specs.Aside.{asker, asks, begin, beside_log, beside_plan, beside_story, copy_log, copy_plan, copy_story, given_up, goes_on, is_answered}
+use Rattle.log_cases.specs.Aside.{is_given_up, is_woken, job_session, own_plan, ended_log, ended_plan, ended_story}
+use Rattle.log_cases.specs.Executed.{done, due_with, execute_log, execute_plan, execute_story, first_run, first_story, prepared_story, preparer, runs_with}
+use Rattle.log_cases.specs.Executed.{second_run, text}
+use Rattle.mx_wire.specs.Log.{Log}
+use Rattle.private_model.specs.Story.{Story, put}
+use Rattle.log_story.specs.Plan.{Plan}
 use Rattle.log_story.specs.Honest.{IsHonestLog}
 use Rattle.log_story.specs.Owed.{due_bytes}
 use Rattle.log_story.specs.Tale.{first_tale}
 use Rattle.log_story.specs.Telling.{story_of}
-use Rattle.log_story.specs.Worked.{later_ok, log, logged_in, plan, second_client, server}
-use Rattle.log_story.proofs.Tested.{log_tested, tested_so}
+use Rattle.log_cases.specs.Worked.{later_ok, log, logged_in, plan, second_client, server}
+use Rattle.log_cases.proofs.Tested.{log_tested, tested_so}
 
--- The first log.
+-- what is computed of a log: its story, and that it is honest
+pub record IsComputed (plan : Plan) (log : Log) (story : Story) : Type 0 where
+  pub told : story_of setup plan log ≡ story
+  pub tested : log_tested setup plan server first_tale log ≡ true
 
-pub worked_computed : (story_of setup plan log ≡ shared)
-    × (log_tested setup plan server first_tale log ≡ true)
-    × (due_bytes (private_after setup (runs server) shared).answers plan (length log) second_client ≡ logged_in 2 ++ later_ok)
+pub honest_so : (plan : Plan) (log : Log) (story : Story) → IsComputed plan log story → IsHonestLog setup plan server log
+honest_so plan log story is = tested_so setup plan server first_tale log is.tested
+
+pub record AreComputed : Type 0 where
+  pub worked : IsComputed plan log shared
+  pub own : IsComputed own_plan goes_on given_up
+  pub beside : IsComputed beside_plan beside_log beside_story
+  pub copies : IsComputed copy_plan copy_log copy_story
+  pub ended : IsComputed ended_plan ended_log ended_story
+  pub executes : IsComputed execute_plan execute_log execute_story
+  -- what the router answers itself, moment by moment
+  pub waits : story_of setup own_plan asks ≡ []
+  pub waits_on : story_of setup own_plan is_answered ≡ []
+  pub becomes_due : story_of setup own_plan is_woken ≡ came 1 2 insert ∷ []
+  pub is_given_up : story_of setup own_plan is_given_up ≡ came 1 2 insert ∷ []
+  -- what clients are due
+  pub second_owed : due_bytes (private_after setup (runs server) shared).answers plan (length log) second_client ≡ logged_in 2 ++ later_ok
+  pub asker_owed : due_bytes (private_after setup (runs server) given_up).answers own_plan (length goes_on) asker
+      ≡ logged_in 1 ++ (spelling 1 own_ok ++ spelling 1 connection_refused)
+  pub preparer_owed : due_bytes (private_after setup (runs server) execute_story).answers execute_plan (length execute_log) preparer
+      ≡ logged_in 1 ++ (spellings 1 (prepared 1) ++ (done ++ done))
+
+pub computed : AreComputed
 unfolding client_opening server_opening payloads_in first_message split spelling account_of response_fields head_fields response_of greeting_fields
     protocol_field offer_fields back_field greeting_of switch_of number_field bytes_field text_field counted_field optional_text last_text own_ok
     connection_refused response_said answer_said reply_end one_number digits
-worked_computed = (refl, refl, refl)
+computed = record {
+  worked = record { told = refl; tested = refl };
+  own = record { told = refl; tested = refl };
+  beside = record { told = refl; tested = refl };
+  copies = record { told = refl; tested = refl };
+  ended = record { told = refl; tested = refl };
+  executes = record { told = refl; tested = refl };
+  waits = refl;
+  waits_on = refl;
+  becomes_due = refl;
+  is_given_up = refl;
+  second_owed = refl;
+  asker_owed = refl;
+  preparer_owed = refl;
+}
 
-pub log_honest : IsHonestLog setup plan server log
-log_honest = tested_so setup plan server first_tale log worked_computed.1
-
--- What the router answers itself.
-
-pub own_computed : (story_of setup own_plan asks ≡ [])
-    × (story_of setup own_plan is_answered ≡ [])
-    × (story_of setup own_plan is_woken ≡ came 1 2 insert ∷ [])
-    × (story_of setup own_plan is_given_up ≡ came 1 2 insert ∷ [])
-    × (story_of setup own_plan goes_on ≡ given_up)
-    × (log_tested setup own_plan server first_tale goes_on ≡ true)
-    × (due_bytes (private_after setup (runs server) given_up).answers own_plan (length goes_on) asker ≡ logged_in 1
-    ++ (spelling 1 own_ok ++ spelling 1 connection_refused))
-unfolding client_opening server_opening payloads_in first_message split spelling account_of response_fields head_fields response_of greeting_fields
-    protocol_field offer_fields back_field greeting_of switch_of number_field bytes_field text_field counted_field optional_text last_text own_ok
-    connection_refused response_said answer_said reply_end one_number digits
-own_computed = (refl, refl, refl, refl, refl, refl, refl)
-
-pub own_honest : IsHonestLog setup own_plan server goes_on
-own_honest = tested_so setup own_plan server first_tale goes_on own_computed.5
+-- Their stories are lawful.
 
 pub own_lawful : IsLawful setup given_up
 own_lawful = ((tt, tt), tt)
-
--- What stands beside questions.
-
-pub beside_computed : (story_of setup beside_plan beside_log ≡ beside_story)
-    × (log_tested setup beside_plan server first_tale beside_log ≡ true)
-unfolding client_opening server_opening payloads_in first_message split spelling account_of response_fields head_fields response_of greeting_fields
-    protocol_field offer_fields back_field greeting_of switch_of number_field bytes_field text_field counted_field optional_text last_text own_ok
-    connection_refused response_said answer_said reply_end one_number digits
-beside_computed = (refl, refl)
-
-pub beside_honest : IsHonestLog setup beside_plan server beside_log
-beside_honest = tested_so setup beside_plan server first_tale beside_log beside_computed.1
 
 pub beside_lawful : IsLawful setup beside_story
 unfolding reply_end one_number digits
@@ -96,18 +102,6 @@ beside_lawful = (
   ),
   tt,
 )
-
--- A copy.
-
-pub copy_computed : (story_of setup copy_plan copy_log ≡ copy_story)
-    × (log_tested setup copy_plan server first_tale copy_log ≡ true)
-unfolding client_opening server_opening payloads_in first_message split spelling account_of response_fields head_fields response_of greeting_fields
-    protocol_field offer_fields back_field greeting_of switch_of number_field bytes_field text_field counted_field optional_text last_text own_ok
-    connection_refused response_said answer_said reply_end one_number digits
-copy_computed = (refl, refl)
-
-pub copy_honest : IsHonestLog setup copy_plan server copy_log
-copy_honest = tested_so setup copy_plan server first_tale copy_log copy_computed.1
 
 -- a session that was left has another life than the present one
 left_is_other : (n present : SessionName) → n.life ≡ 0 → present.life ≡ 1 → n ≡ present → ⊥
@@ -133,18 +127,6 @@ copy_lawful = (
   record { who = job_session; carries = inl refl; quiet = refl; harmless = refl; settled = inr (left_is_other _ _ refl refl) },
 )
 
--- A client that the router ends.
-
-pub ended_computed : (story_of setup ended_plan ended_log ≡ ended_story)
-    × (log_tested setup ended_plan server first_tale ended_log ≡ true)
-unfolding client_opening server_opening payloads_in first_message split spelling account_of response_fields head_fields response_of greeting_fields
-    protocol_field offer_fields back_field greeting_of switch_of number_field bytes_field text_field counted_field optional_text last_text own_ok
-    connection_refused response_said answer_said reply_end one_number digits
-ended_computed = (refl, refl)
-
-pub ended_honest : IsHonestLog setup ended_plan server ended_log
-ended_honest = tested_so setup ended_plan server first_tale ended_log ended_computed.1
-
 begins_begin : Begins setup (session 1) (due_at nowhere 1 true begin) anybody told (Some 0) (λ key. None) no_pin (Some 0)
 begins_begin = begins_with (session 1) (due_at nowhere 1 true begin) (λ key. None) refl tt refl refl refl
 
@@ -165,18 +147,6 @@ ended_lawful = (
 )
 
 -- A prepared statement.
-
-pub execute_computed : (story_of setup execute_plan execute_log ≡ execute_story)
-    × (log_tested setup execute_plan server first_tale execute_log ≡ true)
-    × (due_bytes (private_after setup (runs server) execute_story).answers execute_plan (length execute_log) preparer ≡ logged_in 1
-    ++ (spellings 1 (prepared 1) ++ (done ++ done)))
-unfolding client_opening server_opening payloads_in first_message split spelling account_of response_fields head_fields response_of greeting_fields
-    protocol_field offer_fields back_field greeting_of switch_of number_field bytes_field text_field counted_field optional_text last_text own_ok
-    connection_refused response_said answer_said reply_end one_number digits
-execute_computed = (refl, refl, refl)
-
-pub execute_honest : IsHonestLog setup execute_plan server execute_log
-execute_honest = tested_so setup execute_plan server first_tale execute_log execute_computed.1
 
 abbrev is_live : ℕ → Option ℕ
 is_live = put nat_eq (λ key. None) 7 (Some 7)

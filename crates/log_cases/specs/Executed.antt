@@ -17,8 +17,8 @@ use Rattle.small_server.specs.Stories.{client, due_at, group, heard, link, login
 use Rattle.small_server.specs.Tally.{NoId, ok, prepared}
 use Rattle.log_story.specs.Plan.{Plan, com_execute, com_long_data, com_prepare, with_number}
 use Rattle.log_story.specs.Tale.{Client}
-use Rattle.log_story.specs.Worked as worked
-use Rattle.log_story.specs.Worked.{response, router_enters, salt}
+use Rattle.log_cases.specs.Worked as worked
+use Rattle.log_cases.specs.Worked.{response, router_enters, salt}
 
 -- the text, which is its key, and its number at the server; the client knows it as 1
 abbrev pub text : List ℕ

@@ -1,14 +1,12 @@
 -- Whether a log is honest, by a test that can be computed.
-use Rattle.std.specs.Prelude.{◌≡◌, ◌<◌, ℕ, Bool, true, false, not, ◌&&◌, ◌||◌, is_some, nat_eq, nat_lt, bytes_eq, ◌/◌, drop, length, take, List, [], ◌∷◌, ◌++◌}
-use Rattle.std.specs.Prelude.{Option}
-use Rattle.std.specs.Prelude.{Some, None}
+use Rattle.std.specs.Prelude.{◌≡◌, ◌<◌, ℕ, zero, suc, Bool, true, false, not, ◌&&◌, ◌||◌, is_some, nat_eq, nat_lt, bytes_eq, ◌/◌, drop, length, take, List, []}
+use Rattle.std.specs.Prelude.{◌∷◌, ◌++◌, Option, Some, None}
 use Rattle.std.specs.List.{list_all}
-use Rattle.std.proofs.Common.{refl, sym, ap, arith, lit<, subst, ◌∙◌}
-use Rattle.std.proofs.lemmas.Bool.{and_from, and_parts}
+use Rattle.std.proofs.Common.{refl, sym, ap, append-nil, arith, lit<, subst, ◌∙◌}
+use Rattle.std.proofs.lemmas.Bool.{and_from, and_parts, ltb-true}
+use Rattle.mx_base.specs.Fields.{AreBytes}
 use Rattle.std.proofs.lemmas.List.{take-append-drop}
 use Rattle.std.proofs.lemmas.Slice.Eq.{bytes_eq-Decides}
-use Rattle.mx_base.specs.declared.names.LinkId.{LinkId}
-use Rattle.mx_base.specs.declared.names.ServerId.{ServerId}
 use Rattle.mx_wire.specs.Log.{Log}
 use Rattle.mx_wire.specs.declared.entry.Entry.{Entry}
 use Rattle.mx_wire.specs.declared.entry.Entry.TheVariants as entry
@@ -20,10 +18,13 @@ use Rattle.reply_track.specs.Grammar.{IsReply, OkEnds}
 use Rattle.reply_track.specs.Payloads.{IsNumber, IsTwo, ok_end}
 use Rattle.reply_track.specs.Runs.{Ending, run}
 use Rattle.reply_track.specs.Runs.Ending.{Going, Ended, Failed}
+use Rattle.reply_track.specs.Replying.{payloads_in}
 use Rattle.reply_track.specs.Tracking.{started}
+use Rattle.reply_track.proofs.Replying.{handed-on, payloads-again}
 use Rattle.session_vars.specs.declared.long_part.LongPart.{LongPart}
 use Rattle.server_side.specs.Login.{Opening, Goes, LogsIn, Fails, opening}
-use Rattle.server_rule.specs.Servers.{Step}
+use Rattle.server_rule.specs.Servers.{Step, is_some_of}
+use Rattle.private_model.specs.Names.{LinkId, ServerId}
 use Rattle.private_model.specs.Commands.{Args, Command, Quit, Reply, Run, is_made, number_in, runs}
 use Rattle.private_model.specs.Honest as model
 use Rattle.private_model.specs.Honest.{IsFreshNumber, prepares}
@@ -32,14 +33,11 @@ use Rattle.private_model.specs.View.{Answered, Asked, Quiet, Setup, Stage}
 use Rattle.private_model.specs.Worlds.{Real, at_link, there_command}
 use Rattle.log_story.specs.Executes.{args_in, is_for}
 use Rattle.log_story.specs.Plan.{Asks, Closes, Plan, Resets, StepText, com_execute, step_payload, text_payload}
-use Rattle.log_story.specs.Tale.{Tale, Wire, is_entered, is_reset_step, is_to_server, link_in}
-use Rattle.log_story.specs.Servers.{is_empty, kind_by, may_begin, reply_id, with_run, written_in}
+use Rattle.log_story.specs.Tale.{Tale, Wire, is_reset_step, is_to_server, link_in}
+use Rattle.log_story.specs.Servers.{kind_by, may_begin, reply_id, with_run, written_in}
 use Rattle.log_story.specs.Telling.{tale_step, wire_with}
 use Rattle.log_story.specs.Honest.{IsExecute, IsFront, IsHonestFrom, IsStep, IsTrue, IsTrueExec, IsTrueGot, IsTrueLogin, IsTrueRead, IsTrueReply, IsTrueReset}
-use Rattle.log_story.specs.Honest.{IsTrueRun}
-use Rattle.log_story.specs.Honest.{IsWritten}
-use Rattle.log_story.specs.Honest.{number_for, real_of, spelled}
-use Rattle.log_story.proofs.Bytes.{replies-so}
+use Rattle.log_story.specs.Honest.{IsTrueRun, IsWritten, number_for, real_of, spelled}
 
 isnt : {A : Type 0} → false ≡ true → A
 isnt is = absurd (cc)
@@ -64,6 +62,20 @@ whole_so (Going state) so = isnt so
 whole_so (Ended end []) so = (end, refl)
 whole_so (Ended end (x ∷ xs)) so = isnt so
 whole_so (Failed rest) so = isnt so
+
+all-bytes : (bytes : List ℕ) → list_all (λ b. nat_lt b 256) bytes ≡ true → AreBytes bytes
+all-bytes [] all i = lit< tt
+all-bytes (b ∷ bytes) all zero = ltb-true b 256 (and_parts (nat_lt b 256) (list_all (λ b. nat_lt b 256) bytes) all).0
+all-bytes (b ∷ bytes) all (suc i) = all-bytes bytes (and_parts (nat_lt b 256) (list_all (λ b. nat_lt b 256) bytes) all).1 i
+
+pub replies-so : (kind : ReplyKind) (server : ℕ) (payloads : List (List ℕ)) (end : ReplyEnd) → server < 256
+    → list_all (λ b. nat_lt b 256) (spellings server payloads) ≡ true
+    → run (started (record { kind = kind; server = server; client = 0; number = 0 })) (spellings server payloads) ≡ Ended end [] → IsReply kind payloads end
+replies-so kind server payloads end small bytes ends =
+    let on = handed-on (record { kind = kind; server = server; client = 0; number = 0 }) (spellings server payloads) end [] small
+    (all-bytes (spellings server payloads) bytes) ends in
+    let front : on.front ≡ spellings server payloads = sym (append-nil on.front) ∙ sym on.is in
+    subst (λ ps. IsReply kind ps end) (ap (payloads_in server) front ∙ payloads-again server payloads small) on.reply
 
 abbrev is_reply : ReplyKind → (server : ℕ) → List (List ℕ) → Bool
 is_reply kind server payloads =
@@ -91,7 +103,7 @@ answer_so wire question answer so =
 
 -- Runs.
 
-none_so : (rest : List ℕ) → is_empty rest ≡ true → rest ≡ []
+none_so : (rest : List ℕ) → not (is_some_of rest) ≡ true → rest ≡ []
 none_so [] so = refl
 none_so (x ∷ xs) so = isnt so
 
@@ -168,7 +180,7 @@ args_written there before payload args = args_in (params_of args.types) there (�
 
 abbrev executes : Option ℕ → (messages : List Framed) → (rest : List ℕ) → Args → Bool
 executes (Some there) (message ∷ others) rest args =
-    is_empty rest && (is_for com_execute there (last_of message others).payload
+    not (is_some_of rest) && (is_for com_execute there (last_of message others).payload
     && same_args (args_written there (front_of message others) (last_of message others).payload args) args)
 executes _ _ rest args = false
 
@@ -277,7 +289,7 @@ read_so setup server link wire tale so =
     record { ran = λ question asked. run_so setup server tale link both.0; question = read.0; answered = read.1; reply = read.2 }
 
 abbrev login_tested : (written : List ℕ) → Opening → Bool
-login_tested written (LogsIn said rest) = bytes_eq written said && is_empty rest
+login_tested written (LogsIn said rest) = bytes_eq written said && not (is_some_of rest)
 login_tested written _ = true
 
 said_so : (written : List ℕ) (at : Opening) → login_tested written at ≡ true → (said rest : List ℕ) → at ≡ LogsIn said rest → (written ≡ said) × (rest ≡ [])
@@ -362,9 +374,9 @@ unless_so false test so p = isnt p
 
 abbrev got_tested : Setup → Plan → Step → Tale → LinkId → Wire → Bool
 got_tested setup plan server tale link wire =
-    unless (not (is_entered tale link)) (login_tested wire.written (opening (plan.logins link) wire.unread))
-    && (unless (is_entered tale link && not (is_reset_step wire.step)) (read_tested setup server link wire tale)
-    && unless (is_entered tale link && is_reset_step wire.step) (reset_tested wire))
+    unless (not (tale.wires link).entered) (login_tested wire.written (opening (plan.logins link) wire.unread))
+    && (unless ((tale.wires link).entered && not (is_reset_step wire.step)) (read_tested setup server link wire tale)
+    && unless ((tale.wires link).entered && is_reset_step wire.step) (reset_tested wire))
 
 got_so : (setup : Setup) (plan : Plan) (server : Step) (tale : Tale) (link : LinkId) (wire : Wire) → got_tested setup plan server tale link wire ≡ true
     → IsTrueGot setup plan server tale link wire
@@ -391,7 +403,7 @@ exec_so setup server tale link so =
     }
 
 abbrev entry_tested : Setup → Plan → Step → Tale → Entry → Bool
-entry_tested setup plan server tale (entry.Exec link) = unless (is_entered tale link) (exec_tested setup server tale link)
+entry_tested setup plan server tale (entry.Exec link) = unless (tale.wires link).entered (exec_tested setup server tale link)
 entry_tested setup plan server tale (entry.Got link bytes) =
     unless (is_to_server tale link) (got_tested setup plan server tale link (wire_with tale link bytes))
 entry_tested setup plan server tale (entry.Wrote link for bytes) =

@@ -1,8 +1,6 @@
 -- Four more worked logs: what the router answers itself, and that a client's messages wait; what stands on a link beside
 -- questions; a copy of a statement; and a client that the router ends.
 use Rattle.std.specs.Prelude.{ℕ, false, true, nat_eq, List, [], ◌∷◌, ◌++◌, codes, Some, None, if◌then◌else◌}
-use Rattle.mx_base.specs.declared.names.ClientNo.{ClientNo}
-use Rattle.mx_base.specs.declared.names.Hostgroup.{Hostgroup}
 use Rattle.mx_base.specs.declared.names.Port.TheVariants.{Traffic}
 use Rattle.mx_base.specs.declared.tag.Tag.TheVariants.{For, Mirror, End as EndTag, Own as OwnTag, Reply as ReplyTag}
 use Rattle.mx_wire.specs.Log.{Log}
@@ -10,16 +8,15 @@ use Rattle.mx_wire.specs.declared.entry.Entry.TheVariants.{Accepted, Got, OpenFa
 use Rattle.packet_frame.specs.Packets.{spelling, spellings}
 use Rattle.client_side.specs.Login.{greeting_said}
 use Rattle.client_session.specs.Errors.{connection_refused, own_ok}
-use Rattle.session_state.specs.declared.names.MessageName.{MessageName}
-use Rattle.session_state.specs.declared.names.SessionName.{SessionName}
+use Rattle.private_model.specs.Names.{ClientNo, Hostgroup, MessageName, SessionName}
 use Rattle.private_model.specs.Commands.{Command, Query, Quit, Reset}
 use Rattle.private_model.specs.Story.{BecameDue, End, Freed, Left, Mirrored, Ran, Sent, Statement, Story, Unprepared}
 use Rattle.small_server.specs.Stories.{came, client, due_at, group, heard, insert, link, login, message, nowhere, session}
 use Rattle.small_server.specs.Tally.{FirstId, NoId, ok}
 use Rattle.log_story.specs.Plan.{Closes, OwnAnswer, Plan, Resets, job_of, step_payload, text_payload}
 use Rattle.log_story.specs.Tale.{Client}
-use Rattle.log_story.specs.Worked as worked
-use Rattle.log_story.specs.Worked.{first_comes, first_is_heard, first_is_read, first_ok, first_runs, query, response, router_enters, salt}
+use Rattle.log_cases.specs.Worked as worked
+use Rattle.log_cases.specs.Worked.{first_comes, first_is_heard, first_is_read, first_ok, first_runs, query, response, router_enters, salt}
 
 -- A client sends a PING and two inserts at once. The PING is answered as it is taken up; the first insert becomes due once that
 -- answer is written and the router is woken, and is given up as no link can be opened; then the second becomes due.

@@ -1,4 +1,7 @@
-// Worked logs, computed: each with the story that it tells.
+//! Worked logs, computed: each with the story that it tells, that the story is lawful and the log honest, and so that its bytes
+//! are private.
+#![tactic(auto)]
+
 ghost use Rattle.std.specs.Prelude.{◌≡◌, [], ◌∷◌, ◌++◌, length};
 ghost use Rattle.packet_frame.specs.Packets.{spelling, spellings};
 ghost use Rattle.client_session.specs.Errors.{connection_refused, own_ok};
@@ -7,16 +10,16 @@ ghost use Rattle.private_model.specs.Lawful.{IsLawful};
 ghost use Rattle.private_model.specs.Worlds.{private_after};
 ghost use Rattle.small_server.specs.Tally.{prepared};
 ghost use Rattle.small_server.specs.Stories.{came, insert, setup, shared};
-ghost use Rattle.log_story.specs.Aside.{asker, asks, given_up, goes_on, is_answered, is_given_up, is_woken, own_plan};
-ghost use Rattle.log_story.specs.Aside.{beside_log, beside_plan, beside_story, copy_log, copy_plan, copy_story, ended_log, ended_plan, ended_story};
-ghost use Rattle.log_story.specs.Executed.{done, execute_log, execute_plan, execute_story, preparer};
+ghost use Rattle.log_cases.specs.Aside.{asker, asks, given_up, goes_on, is_answered, is_given_up, is_woken, own_plan};
+ghost use Rattle.log_cases.specs.Aside.{beside_log, beside_plan, beside_story, copy_log, copy_plan, copy_story, ended_log, ended_plan, ended_story};
+ghost use Rattle.log_cases.specs.Executed.{done, execute_log, execute_plan, execute_story, preparer};
 ghost use Rattle.log_story.specs.Headline.{HasPrivateBytes};
 ghost use Rattle.log_story.specs.Honest.{IsHonestLog};
 ghost use Rattle.log_story.specs.Owed.{due_bytes};
 ghost use Rattle.log_story.specs.Telling.{story_of};
-ghost use Rattle.log_story.specs.Worked.{later_ok, log, logged_in, plan, second_client, server};
+ghost use Rattle.log_cases.specs.Worked.{later_ok, log, logged_in, plan, second_client, server};
 
-use crate::private_bytes;
+use log_story::private_bytes;
 use small_server::{laws_can_be_met, premises_can_be_met};
 
 /// Two clients over one link to a small server. The story that the log tells is lawful, the log is honest, and the second
