@@ -1,0 +1,5 @@
+pub mod Forms
+pub mod Heard
+pub mod Names
+pub mod Steps
+pub mod Tables

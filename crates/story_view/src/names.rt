@@ -1,0 +1,48 @@
+// Who asks, and the names of sessions and messages.
+ghost use Rattle.std.specs.Prelude.{◌<◌};
+
+use mx_base::{ClientNo, Hostgroup};
+
+/// A client of a story: one that was accepted, or a job, which is the copy of a message of such a client. The number of a job is
+/// beyond the 64 bits of accepted clients: a contract sees `copied` times 2 ^ 64, and the client's number.
+#[derive(Clone, Copy, PartialEq, Eq, Hash)]
+pub struct Party {
+    pub client: ClientNo,
+    /// The ordinal of the message of which it is the copy, counted from 1; 0 for the client itself.
+    pub copied: u64,
+}
+
+/// A party in a hostgroup.
+#[derive(Clone, Copy, PartialEq, Eq, Hash)]
+pub(crate) struct GroupKey {
+    pub party: Party,
+    pub hostgroup: Hostgroup,
+}
+
+/// The name of a session: the party that has it, the hostgroup, and the life, counted from 0.
+#[derive(Clone, Copy, PartialEq, Eq, Hash)]
+pub struct SessionKey {
+    pub party: Party,
+    pub hostgroup: Hostgroup,
+    pub life: u64,
+}
+
+/// The name of a message of a party. Ordinals count from 1.
+#[derive(Clone, Copy, PartialEq, Eq, Hash)]
+pub struct MessageKey {
+    pub party: Party,
+    pub ordinal: u64,
+}
+
+fn is_wide(n: u64)
+    ensures { n < 18446744073709551616 }
+{}
+
+impl Party {
+    // Its client's number has 64 bits.
+    pub(crate) fn fits(self)
+        ensures { self.client.0 < 18446744073709551616 }
+    {
+        is_wide(self.client.0);
+    }
+}
