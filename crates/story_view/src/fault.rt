@@ -1,4 +1,6 @@
 // Why a view gives up.
+ghost use Rattle.std.specs.Prelude.{◌≡◌, IfOk, Ok};
+
 use mx_base::OutOfMemory;
 use std::alloc::AllocFailed;
 
@@ -25,3 +27,14 @@ impl<T: Drop> From<AllocFailed<T>> for Lost {
 
 // A value is let go.
 pub(crate) fn let_go<T: Drop>(_old: T) {}
+
+// A value that is kept where a call went well.
+pub(crate) fn with<T, E, K: Drop>(called: Result<T, E>, kept: K) -> Result<(T, K), E>
+    ensures called { IfOk result (λ both. called ≡ Ok both.0) }
+    ensures kept { IfOk result (λ both. both.1 ≡ kept) }
+{
+    match called {
+        Ok(value) => Ok((value, kept)),
+        Err(e) => Err(e),
+    }
+}

@@ -9,7 +9,7 @@ ghost use Rattle.story_view.specs.Steps as steps;
 ghost use Rattle.story_view.specs.Steps.{Changes, answered_in};
 ghost use Rattle.story_view.specs.Tables.{link_at, seen_of, seen_or, unseen};
 
-use crate::fault::let_go;
+use crate::fault::{let_go, with};
 use crate::{Carried, Question, Stage};
 use mx_base::{LinkId, OutOfMemory, ServerId};
 use std::alloc::Global;
@@ -147,9 +147,21 @@ impl Links {
     pub(crate) fn asks(&mut self, id: LinkId, question: Question) -> Result<(), OutOfMemory>
         ensures { OnOk result (Changes self.old self.new id (steps.asked (question_of question))) }
     {
-        let mut link = self.take(id);
-        link.carries = carried_for(&question, link.carries);
-        link.stage = Stage::Asked(question);
+        let Link {
+            server,
+            alive,
+            usable,
+            carries,
+            stage,
+        } = self.take(id);
+        let_go(stage);
+        let link = Link {
+            server,
+            alive,
+            usable,
+            carries: carried_for(&question, carries),
+            stage: Stage::Asked(question),
+        };
         self.put(id, link)
     }
 
@@ -180,7 +192,7 @@ impl Links {
             carries,
             stage,
         };
-        self.put(id, link)?;
+        let ((), question) = with(self.put(id, link), question)?;
         Ok(question)
     }
 

@@ -4,11 +4,14 @@ ghost use Rattle.mx_base.specs.declared.names.ClientNo.{ClientNo};
 ghost use Rattle.private_model.specs.Story.{is_client, put};
 ghost use Rattle.story_view.specs.Names.{number_of};
 ghost use Rattle.story_view.specs.Tables.{opening_at, place_at, place_or};
+ghost use Rattle.story_view.specs.Heard.{place_by};
 
 use crate::Party;
 use crate::command::copy;
-use crate::fault::let_go;
+use crate::fault::{let_go, with};
+use crate::hearing::{is_moving, placed};
 use mx_base::OutOfMemory;
+use pin_classifier::Class;
 use session_state::Place;
 use std::alloc::Global;
 use std::collections::HashMap;
@@ -122,6 +125,37 @@ impl Places {
         party.fits();
         let old = self.places.insert(party, place)?;
         let_go(old);
+        Ok(())
+    }
+
+    // The reply to a statement of a class is heard: it says OK or not.
+    pub(crate) fn hears(
+        &mut self,
+        alloc: Global,
+        party: Party,
+        class: Class,
+        ok: bool,
+    ) -> Result<(), OutOfMemory>
+        ensures places { OnOk result ((c : ClientNo) → place_at self.new c ≡ put is_client (place_at self.old) (number_of party) (place_by class ok (place_at self.old (number_of party))) c) }
+        ensures openings { self.new.openings ≡ self.old.openings }
+    {
+        if !ok || !is_moving(&class) {
+            return Ok(());
+        }
+        let (place, class) = with(self.take(alloc, party), class)?;
+        let place = placed(place, class)?;
+        self.put(party, place)?;
+        Ok(())
+    }
+
+    // The settings of one are again those of its beginning.
+    pub(crate) fn leaves(&mut self, alloc: Global, party: Party) -> Result<(), OutOfMemory>
+        ensures places { OnOk result ((c : ClientNo) → place_at self.new c ≡ put is_client (place_at self.old) (number_of party) (record (place_at self.old (number_of party)) { settings = (opening_at self.old.openings (number_of party)).settings }) c) }
+        ensures openings { self.new.openings ≡ self.old.openings }
+    {
+        let settings = self.openings.at(party).settings.copy()?;
+        let Place { schema, .. } = self.take(alloc, party)?;
+        self.put(party, Place { schema, settings })?;
         Ok(())
     }
 }
