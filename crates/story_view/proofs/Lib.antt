@@ -1,3 +1,5 @@
+mod Called
 mod Keys
+mod Knowing
 mod Leaving
 mod Said

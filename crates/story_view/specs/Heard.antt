@@ -59,6 +59,11 @@ abbrev pub places_said : Option Question → Reply → (ClientNo → Place) → 
 places_said (Some (Statement n due)) reply places = put is_client places n.client (place_after router_reads due.command reply (places n.client))
 places_said _ reply places = places
 
-abbrev pub replies_said : Option Question → Reply → (MessageName → Option Reply) → MessageName → Option Reply
-replies_said (Some (Statement n due)) reply replies = put is_message replies (message_of n due) (Some reply)
-replies_said _ reply replies = replies
+-- the message that is answered
+abbrev pub message_said : Option Question → Option MessageName
+message_said (Some (Statement n due)) = Some (message_of n due)
+message_said _ = None
+
+abbrev pub replies_kept : Option MessageName → Reply → (MessageName → Option Reply) → MessageName → Option Reply
+replies_kept None reply replies = replies
+replies_kept (Some m) reply replies = put is_message replies m (Some reply)

@@ -3,19 +3,20 @@ ghost use Rattle.std.specs.Prelude.{◌≡◌, OnOk, None, Some, option_copied};
 ghost use Rattle.std.specs.Option.{option_map};
 ghost use Rattle.session_state.specs.declared.names.SessionName.{SessionName};
 ghost use Rattle.private_model.specs.Story.{is_name, put};
-ghost use Rattle.story_view.specs.Forms.{due_of};
+ghost use Rattle.private_model.specs.View.{dues_for};
+ghost use Rattle.story_view.specs.Forms.{due_of, question_of};
 ghost use Rattle.story_view.specs.Names.{session_of};
 ghost use Rattle.story_view.specs.Tables.{due_at};
 
 use crate::fault::let_go;
-use crate::{Due, SessionKey};
+use crate::{Due, Question, SessionKey};
 use mx_base::OutOfMemory;
 use std::alloc::Global;
 use std::collections::HashMap;
 
 /// What is due in each session.
 #[derive(Drop)]
-pub struct Dues {
+pub(crate) struct Dues {
     dues: HashMap<SessionKey, Due>,
 }
 
@@ -51,5 +52,14 @@ impl Dues {
     {
         session.party.fits();
         self.dues.remove(&session)
+    }
+
+    // A statement that is sent is due no more.
+    pub(crate) fn sends(&mut self, question: &Question)
+        ensures { (n : SessionName) → due_at self.new n ≡ dues_for (question_of question.now) (due_at self.old) n }
+    {
+        if let Question::Statement(session, _) = question {
+            let_go(self.take(*session));
+        }
     }
 }

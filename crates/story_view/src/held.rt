@@ -22,14 +22,14 @@ use std::collections::HashMap;
 
 /// Why a session keeps its link, and its insert id where that is known.
 #[derive(Clone, Copy)]
-pub struct Held {
+pub(crate) struct Held {
     pub pin: Pin,
     pub id: Option<u64>,
 }
 
 /// Sessions by their names.
 #[derive(Drop)]
-pub struct Sessions {
+pub(crate) struct Sessions {
     held: HashMap<SessionKey, Held>,
 }
 

@@ -28,7 +28,7 @@ pub struct Link {
 
 /// Links by their names.
 #[derive(Drop)]
-pub struct Links {
+pub(crate) struct Links {
     links: HashMap<LinkId, Link>,
 }
 

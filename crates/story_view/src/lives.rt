@@ -3,20 +3,21 @@ ghost use Rattle.std.specs.Prelude.{◌≡◌, ◌&&◌, suc, IfOk, OnOk, option
 ghost use Rattle.mx_base.specs.declared.names.ClientNo.{ClientNo};
 ghost use Rattle.mx_base.specs.declared.names.Hostgroup.{Hostgroup as TheHostgroup};
 ghost use Rattle.private_model.specs.Story.{is_client, is_hostgroup};
-ghost use Rattle.private_model.specs.View.{lives_after, lives_left};
+ghost use Rattle.private_model.specs.View.{lives_after, lives_left, lives_without};
+ghost use Rattle.story_view.specs.Forms.{carried_of};
 ghost use Rattle.story_view.specs.Names.{number_of, session_of};
 ghost use Rattle.story_view.specs.Tables.{left_at, life_at, lost_at, or_zero};
 
 use crate::fault::let_go;
 use crate::names::GroupKey;
-use crate::{Lost, Party, SessionKey};
+use crate::{Carried, Lost, Party, SessionKey};
 use mx_base::Hostgroup;
 use std::alloc::Global;
 use std::collections::HashMap;
 
 /// How often all sessions of each party were left, and how often its one in each hostgroup was.
 #[derive(Drop)]
-pub struct Lives {
+pub(crate) struct Lives {
     left: HashMap<Party, u32>,
     lost: HashMap<GroupKey, u32>,
 }
@@ -106,5 +107,16 @@ impl Lives {
         let count = more(self.lost(session.party, session.hostgroup))?;
         self.put_lost(session.party, session.hostgroup, count)?;
         Ok(())
+    }
+
+    // The session that a link carries is left, where it is the present one.
+    pub(crate) fn loses_carried(&mut self, carries: Carried) -> Result<(), Lost>
+        ensures { OnOk result ((c : ClientNo) (h : TheHostgroup) → life_at self.new c h ≡ lives_without (carried_of carries) (life_at self.old) c h) }
+    {
+        match carries {
+            Carried::Nobody => Ok(()),
+            Carried::Lent(session) => self.loses(session),
+            Carried::Joined(session) => self.loses(session),
+        }
     }
 }

@@ -25,7 +25,7 @@ pub struct Openings {
 
 /// The schemas and settings that clients want, and where they began.
 #[derive(Drop)]
-pub struct Places {
+pub(crate) struct Places {
     places: HashMap<Party, Place>,
     openings: Openings,
 }

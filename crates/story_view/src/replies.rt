@@ -15,7 +15,7 @@ use std::collections::HashMap;
 
 /// The replies that were read in answer to messages.
 #[derive(Drop)]
-pub struct Replies {
+pub(crate) struct Replies {
     replies: HashMap<MessageKey, Reply>,
 }
 
