@@ -1,15 +1,14 @@
 -- The keys under which parties, sessions and messages are kept.
 use Rattle.std.specs.Prelude.{◌≡◌, ℕ, ◌+◌, ◌*◌, ◌%◌, ◌/◌, ◌<◌, Bool, true, false, cond, ◌&&◌, nat_eq, Option, if◌then◌else◌}
-use Rattle.std.proofs.Common.{◌∙◌, refl, sym, ap, arith}
+use Rattle.std.proofs.Common.{◌∙◌, refl, sym, ap}
 use Rattle.std.proofs.lemmas.Nat.{div-add-mod', div-mul-add, mod-mul-add}
 use Rattle.mx_base.specs.declared.names.ClientNo.{ClientNo}
 use Rattle.mx_base.specs.declared.names.Hostgroup.{Hostgroup}
 use Rattle.session_state.specs.declared.names.MessageName.{MessageName}
 use Rattle.session_state.specs.declared.names.SessionName.{SessionName}
-use Rattle.private_model.proofs.Maps.{Keyed, client_of, number_of as same_numbers, same_number}
+use Rattle.private_model.proofs.Maps.{number_of as same_numbers, same_number}
 use Rattle.private_model.specs.Story.{is_client, is_hostgroup, is_message as is_message_name, is_name}
 use Rattle.story_view.specs.Names.{group_at, is_group, is_message, is_party, is_session, message_at, message_of, number_of, party_at, session_at, session_of}
-use Rattle.story_view.specs.declared.names.GroupKey.{GroupKey}
 use Rattle.story_view.specs.declared.names.MessageKey.{MessageKey}
 use Rattle.story_view.specs.declared.names.Party.{Party}
 use Rattle.story_view.specs.declared.names.SessionKey.{SessionKey}

@@ -12,7 +12,7 @@ use Rattle.session_state.specs.declared.place.Place.{Place}
 use Rattle.server_rule.specs.Classes.{Reads, router_reads}
 use Rattle.private_model.proofs.Maps.{link_of, name_of}
 use Rattle.private_model.specs.Commands.{Account, Command, Reply}
-use Rattle.private_model.specs.Story.{BecameDue, Capture, Dropped, Due, End, Freed, Gone, Heard, Left, LoggedIn, Mirrored, Own, Prep, Question, Ran, Sent, Statement, Sync, Unprepared, is_client, is_link_id, is_message, is_name, message_of, put}
+use Rattle.private_model.specs.Story.{BecameDue, Capture, Dropped, Due, End, Freed, Gone, Heard, Left, LoggedIn, Mirrored, Own, Prep, Question, Ran, Sent, Statement, Sync, Unprepared, is_client, is_link_id, is_name, put}
 use Rattle.private_model.specs.View as view
 use Rattle.private_model.specs.View.{Answered, Asked, Carried, Joined, Lent, Nobody, Quiet, Setup, Stage, View, dues_for, held_by, held_for, held_freed, lives_after, lives_left, lives_without, new_link, places_by, replies_by, view_step}
 use Rattle.story_view.specs.Heard.{IsHeard, heard_held, held_said, message_said, places_said, replies_kept}
@@ -25,7 +25,6 @@ use Rattle.story_view.specs.declared.held.Held.{Held}
 use Rattle.story_view.specs.declared.held.Sessions.{Sessions}
 use Rattle.story_view.specs.declared.links.Links.{Links}
 use Rattle.story_view.specs.declared.lives.Lives.{Lives}
-use Rattle.story_view.specs.declared.places.Openings.{Openings}
 use Rattle.story_view.specs.declared.places.Places.{Places}
 use Rattle.story_view.specs.declared.view.StoryView.{StoryView}
 
@@ -67,7 +66,13 @@ held_given (Joined n) f g before = home_kept f g n None before
 -- of what is prepared there nothing is kept
 pub unprepared_known : (code : StoryView) (link : LinkId) (number : ℕ) → Follows code code (Unprepared link number)
 unprepared_known code link number setup v is = record {
-  reads = is.reads; openings = is.openings; held = is.held; lives = is.lives; places = is.places; dues = is.dues; replies = is.replies;
+  reads = is.reads;
+  openings = is.openings;
+  held = is.held;
+  lives = is.lives;
+  places = is.places;
+  dues = is.dues;
+  replies = is.replies;
   links = λ l. go l (is_link_id l link) refl;
 }
   where
@@ -78,7 +83,13 @@ unprepared_known code link number setup v is = record {
 pub logged_in_known : (code : StoryView) (links : Links) (link : LinkId) (server : ServerId) (account : Account) → Changes code.links links link (λ l. steps.new_link server)
     → Follows code (record code { links = links }) (LoggedIn link server account)
 logged_in_known code links link server account changes setup view is = record {
-  reads = is.reads; openings = is.openings; held = is.held; lives = is.lives; places = is.places; dues = is.dues; replies = is.replies;
+  reads = is.reads;
+  openings = is.openings;
+  held = is.held;
+  lives = is.lives;
+  places = is.places;
+  dues = is.dues;
+  replies = is.replies;
   links = links_known view.links code.links links link (new_link server account) (λ l. steps.new_link server) is.links refl changes;
 }
 
@@ -90,14 +101,24 @@ became_due_known code dues client hostgroup ordinal key command multiplex put_is
     let name : (life : ℕ) → SessionName = λ life. record { client = client; hostgroup = hostgroup; life = life } in
     let life = is.lives client hostgroup in
     record {
-      reads = is.reads; openings = is.openings; links = is.links; held = is.held; lives = is.lives; places = is.places; replies = is.replies;
+      reads = is.reads;
+      openings = is.openings;
+      links = is.links;
+      held = is.held;
+      lives = is.lives;
+      places = is.places;
+      replies = is.replies;
       dues = λ n. (λ i. put is_name (λ j. is.dues j i) (name (life i)) (Some (record { ordinal = ordinal; place = is.places client i; anew = not (is_pinned (is.held (name (life i)) i).pin); command = command; key = key; multiplex = multiplex })) n) ∙ sym (put_is n);
     }
 
 pub sent_known : (code : StoryView) (links : Links) (dues : Dues) (link : LinkId) (question : Question) → Changes code.links links link (steps.asked question)
     → ((n : SessionName) → due_at dues n ≡ dues_for question (due_at code.dues) n) → Follows code (record code { links = links; dues = dues }) (Sent link question)
 sent_known code links dues link question changes taken setup v is = record {
-  reads = is.reads; openings = is.openings; lives = is.lives; places = is.places; replies = is.replies;
+  reads = is.reads;
+  openings = is.openings;
+  lives = is.lives;
+  places = is.places;
+  replies = is.replies;
   links = links_known v.links code.links links link (view.asked question (v.links link)) (steps.asked question) is.links refl changes;
   held = held_sent question link v.held (held_at code.sessions) is.held;
   dues = λ n. (λ i. dues_for question (λ j. is.dues j i) n) ∙ sym (taken n);
@@ -113,20 +134,37 @@ ran_seen reads false (Answered question) link = refl
 
 pub ran_known : (code : StoryView) (links : Links) (link : LinkId) → Changes code.links links link steps.ran → Follows code (record code { links = links }) (Ran link)
 ran_known code links link changes setup v is = record {
-  reads = is.reads; openings = is.openings; held = is.held; lives = is.lives; places = is.places; dues = is.dues; replies = is.replies;
+  reads = is.reads;
+  openings = is.openings;
+  held = is.held;
+  lives = is.lives;
+  places = is.places;
+  dues = is.dues;
+  replies = is.replies;
   links = links_known v.links code.links links link (view.ran setup.reads (v.links link)) steps.ran is.links (ran_seen setup.reads (v.links link).alive (v.links link).stage (v.links link)) changes;
 }
 
 pub freed_known : (code : StoryView) (links : Links) (link : LinkId) → Changes code.links links link steps.freed → Follows code (record code { links = links }) (Freed link)
 freed_known code links link changes setup v is = record {
-  reads = is.reads; openings = is.openings; lives = is.lives; places = is.places; dues = is.dues; replies = is.replies;
+  reads = is.reads;
+  openings = is.openings;
+  lives = is.lives;
+  places = is.places;
+  dues = is.dues;
+  replies = is.replies;
   links = links_known v.links code.links links link (view.freed (v.links link)) steps.freed is.links refl changes;
   held = held_given (v.links link).carries v.held (held_at code.sessions) is.held;
 }
 
 pub dropped_known : (code : StoryView) (links : Links) (link : LinkId) → Changes code.links links link steps.dropped → Follows code (record code { links = links }) (Dropped link)
 dropped_known code links link changes setup v is = record {
-  reads = is.reads; openings = is.openings; held = is.held; lives = is.lives; places = is.places; dues = is.dues; replies = is.replies;
+  reads = is.reads;
+  openings = is.openings;
+  held = is.held;
+  lives = is.lives;
+  places = is.places;
+  dues = is.dues;
+  replies = is.replies;
   links = links_known v.links code.links links link (record (v.links link) { alive = false }) steps.dropped is.links refl changes;
 }
 
@@ -134,7 +172,12 @@ pub gone_known : (code : StoryView) (links : Links) (lives : Lives) (link : Link
     → ((c : ClientNo) (h : Hostgroup) → life_at lives c h ≡ lives_without (link_at code.links link).carries (life_at code.lives) c h)
     → Follows code (record code { links = links; lives = lives }) (Gone link)
 gone_known code links lives link changes left setup v is = record {
-  reads = is.reads; openings = is.openings; held = is.held; places = is.places; dues = is.dues; replies = is.replies;
+  reads = is.reads;
+  openings = is.openings;
+  held = is.held;
+  places = is.places;
+  dues = is.dues;
+  replies = is.replies;
   links = links_known v.links code.links links link (record (v.links link) { usable = false }) steps.lost is.links refl changes;
   lives = λ c h. (λ i. lives_without (is.links link i).carries (λ d k. is.lives d k i) c h) ∙ sym (left c h);
 }
@@ -143,7 +186,11 @@ pub left_known : (code : StoryView) (lives : Lives) (places : Places) (client : 
     → ((c : ClientNo) → place_at places c ≡ put is_client (place_at code.places) client (record (place_at code.places client) { settings = (opening_at code.places.openings client).settings }) c)
     → places.openings ≡ code.places.openings → Follows code (record code { lives = lives; places = places }) (Left client)
 left_known code lives places client left settled same setup v is = record {
-  reads = is.reads; held = is.held; links = is.links; dues = is.dues; replies = is.replies;
+  reads = is.reads;
+  held = is.held;
+  links = is.links;
+  dues = is.dues;
+  replies = is.replies;
   openings = λ c. is.openings c ∙ ap (λ o. opening_at o c) (sym same);
   lives = λ c h. (λ i. lives_left client (λ d k. is.lives d k i) c h) ∙ sym (left c h);
   places = λ c. (λ i. put is_client (λ d. is.places d i) client (record (is.places client i) { settings = (is.openings client i).settings }) c) ∙ sym (settled c);
@@ -152,7 +199,12 @@ left_known code lives places client left settled same setup v is = record {
 pub mirrored_known : (code : StoryView) (places : Places) (client job : ClientNo) → ((c : ClientNo) → place_at places c ≡ put is_client (place_at code.places) job (place_at code.places client) c)
     → places.openings ≡ code.places.openings → Follows code (record code { places = places }) (Mirrored client job)
 mirrored_known code places client job settled same setup v is = record {
-  reads = is.reads; held = is.held; links = is.links; lives = is.lives; dues = is.dues; replies = is.replies;
+  reads = is.reads;
+  held = is.held;
+  links = is.links;
+  lives = is.lives;
+  dues = is.dues;
+  replies = is.replies;
   openings = λ c. is.openings c ∙ ap (λ o. opening_at o c) (sym same);
   places = λ c. (λ i. put is_client (λ d. is.places d i) job (is.places client i) c) ∙ sym (settled c);
 }

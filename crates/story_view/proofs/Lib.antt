@@ -1,4 +1,5 @@
 mod Called
+mod Changing
 mod Keys
 mod Knowing
 mod Leaving

@@ -1,5 +1,5 @@
 -- Replies, as they are heard in sessions.
-use Rattle.std.specs.Prelude.{◌≡◌, ℕ, Bool, true, false, not, ◌&&◌, if◌then◌else◌, List, Option}
+use Rattle.std.specs.Prelude.{◌≡◌, ℕ, Bool, true, false, not, ◌&&◌, if◌then◌else◌, Option}
 use Rattle.std.proofs.Common.{◌∙◌, refl, sym, ap}
 use Rattle.mx_base.specs.declared.names.ClientNo.{ClientNo}
 use Rattle.pin_classifier.specs.declared.class.Class.{Class}
@@ -8,7 +8,7 @@ use Rattle.session_state.specs.declared.names.SessionName.{SessionName}
 use Rattle.session_state.specs.declared.pin.Pin.{Pin}
 use Rattle.session_state.specs.declared.place.Place.{Place}
 use Rattle.server_rule.specs.Classes.{Reads, router_reads}
-use Rattle.private_model.proofs.Maps.{at_each, client_of, names, put-other, put-same}
+use Rattle.private_model.proofs.Maps.{client_of}
 use Rattle.private_model.specs.Commands.{Command, FieldList, InitDb, Prepare, Query, Quit, ReadId, Reply, Reset, Run, SetId, end_of, is_ok, pin_statement}
 use Rattle.private_model.specs.Story.{Question, is_client, is_name, put}
 use Rattle.private_model.specs.View.{id_heard, is_prepare, pin_heard, place_after}

@@ -1,5 +1,4 @@
 -- What the code keeps, as private_model's data.
-use Rattle.std.specs.Prelude.{ℕ}
 use Rattle.private_model.specs.Commands as model
 use Rattle.private_model.specs.Story as story
 use Rattle.private_model.specs.View as view

@@ -1,5 +1,5 @@
 -- What a reply does to sessions, to the schema and settings of its client, and whose answer it is.
-use Rattle.std.specs.Prelude.{◌≡◌, ℕ, Bool, true, false, if◌then◌else◌, Option, Some, None}
+use Rattle.std.specs.Prelude.{◌≡◌, Bool, true, false, if◌then◌else◌, Option, Some, None}
 use Rattle.mx_base.specs.declared.names.ClientNo.{ClientNo}
 use Rattle.pin_classifier.specs.declared.class.Class.{Class}
 use Rattle.session_state.specs.Classes.{Effect, Neither, effect_of, schema_by, settings_by}
@@ -14,7 +14,7 @@ use Rattle.server_rule.specs.Classes.{Reads, router_reads}
 use Rattle.private_model.specs.Commands.{Command, Prepare, Reply, class_of}
 use Rattle.private_model.specs.Story.{Capture, End, Prep, Question, Statement, Sync, is_client, is_message, is_name, message_of, put}
 use Rattle.private_model.specs.View.{id_heard, pin_heard, place_after}
-use Rattle.story_view.specs.Tables.{held_at, place_at}
+use Rattle.story_view.specs.Tables.{held_at}
 use Rattle.story_view.specs.declared.held.Held.{Held}
 use Rattle.story_view.specs.declared.held.Sessions.{Sessions}
 

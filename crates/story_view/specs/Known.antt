@@ -1,5 +1,5 @@
 -- What the code knows after a story.
-use Rattle.std.specs.Prelude.{◌≡◌, Option, Some, None}
+use Rattle.std.specs.Prelude.{◌≡◌, Option}
 use Rattle.mx_base.specs.declared.names.ClientNo.{ClientNo}
 use Rattle.mx_base.specs.declared.names.Hostgroup.{Hostgroup}
 use Rattle.mx_base.specs.declared.names.LinkId.{LinkId}

@@ -1,5 +1,5 @@
 -- Parties, sessions and messages by the names that stories give them.
-use Rattle.std.specs.Prelude.{ℕ, ◌+◌, ◌*◌, ◌%◌, ◌/◌, Bool, ◌&&◌, nat_eq}
+use Rattle.std.specs.Prelude.{◌+◌, ◌*◌, ◌%◌, ◌/◌, Bool, ◌&&◌, nat_eq}
 use Rattle.mx_base.specs.declared.names.ClientNo.{ClientNo}
 use Rattle.mx_base.specs.declared.names.Hostgroup.{Hostgroup}
 use Rattle.session_state.specs.declared.names.MessageName.{MessageName}

@@ -1,5 +1,5 @@
 -- What the code's tables have.
-use Rattle.std.specs.Prelude.{ℕ, ◌+◌, Bool, true, false, Option, Some, None}
+use Rattle.std.specs.Prelude.{ℕ, ◌+◌, Bool, false, Option, Some, None}
 use Rattle.std.specs.HashMap.{get_by}
 use Rattle.std.specs.Option.{option_map}
 use Rattle.mx_base.specs.declared.names.ClientNo.{ClientNo}

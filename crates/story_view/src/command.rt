@@ -1,9 +1,10 @@
 // What the router asks of a server.
 ghost use Rattle.std.specs.Prelude.{◌≡◌, ◌++◌, IfOk, decimal};
 ghost use Rattle.server_rule.specs.Texts.{set_id_text, read_id_text};
+ghost use Rattle.private_model.specs.Commands as model;
 ghost use Rattle.private_model.specs.Commands.{cmd_of};
 ghost use Rattle.private_model.specs.View as view;
-ghost use Rattle.story_view.specs.Forms.{command_of};
+ghost use Rattle.story_view.specs.Forms.{args_of, command_of};
 
 use crate::Number;
 use itoa::Buffer;
@@ -105,6 +106,25 @@ impl Args {
     }
 }
 
+fn copy_run(
+    alloc: Global,
+    text: &Bytes,
+    schema: &Bytes,
+    settings: &Settings,
+    args: &Args,
+) -> Result<Command, OutOfMemory>
+    ensures { IfOk result (λ copy. command_of copy ≡ model.Run text.now schema.now settings.now (args_of args.now)) }
+{
+    let (text, schema) = (copy(alloc, text)?, copy(alloc, schema)?);
+    let (settings, args) = (settings.copy()?, args.copy(alloc)?);
+    Ok(Command::Run {
+        text,
+        schema,
+        settings,
+        args,
+    })
+}
+
 impl Command {
     /// A copy.
     pub fn copy(&self, alloc: Global) -> Result<Command, OutOfMemory>
@@ -130,12 +150,7 @@ impl Command {
                 schema,
                 settings,
                 args,
-            } => Ok(Command::Run {
-                text: copy(alloc, text)?,
-                schema: copy(alloc, schema)?,
-                settings: settings.copy()?,
-                args: args.copy(alloc)?,
-            }),
+            } => copy_run(alloc, text, schema, settings, args),
             Command::Reset => Ok(Command::Reset),
             Command::Quit => Ok(Command::Quit),
         }

@@ -5,7 +5,7 @@ use mx_base::OutOfMemory;
 use std::alloc::AllocFailed;
 
 /// Why a view isn't led on: what it keeps isn't known behind that.
-#[derive(Clone, Copy, Debug, PartialEq, Eq)]
+#[derive(Clone, Copy)]
 pub enum Lost {
     /// Memory was refused.
     OutOfMemory,

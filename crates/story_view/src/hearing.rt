@@ -7,11 +7,13 @@ ghost use Rattle.private_model.specs.Commands.{end_of};
 ghost use Rattle.story_view.specs.Forms.{command_of, reply_of};
 ghost use Rattle.story_view.specs.Heard as heard;
 
-use crate::{Command, Lost, Reply, one_number};
 use crate::command::copy;
+use crate::{Command, Lost, Reply, one_number};
 use mx_base::OutOfMemory;
 use pin_classifier::{Class, Locking, Shape, classify};
-use session_state::{EndKind, Pin, Place, ReplyEnd, insert_id_after, insert_id_prepared, is_pinned, pin_after};
+use session_state::{
+    EndKind, Pin, Place, ReplyEnd, insert_id_after, insert_id_prepared, is_pinned, pin_after,
+};
 use session_vars::SetShape;
 use std::alloc::Global;
 

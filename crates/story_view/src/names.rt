@@ -1,7 +1,9 @@
 // Who asks, and the names of sessions and messages.
-ghost use Rattle.std.specs.Prelude.{◌<◌};
+ghost use Rattle.std.specs.Prelude.{◌≡◌, ◌+◌, ◌*◌, ◌<◌, IfSome};
+ghost use Rattle.story_view.specs.Names.{number_of, session_of};
 
 use mx_base::{ClientNo, Hostgroup};
+use session_state::SessionName;
 
 /// A client of a story: one that was accepted, or a job, which is the copy of a message of such a client. The number of a job is
 /// beyond the 64 bits of accepted clients: a contract sees `copied` times 2 ^ 64, and the client's number.
@@ -39,10 +41,43 @@ fn is_wide(n: u64)
 {}
 
 impl Party {
+    /// A client that was accepted.
+    pub fn accepted(client: ClientNo) -> Self
+        ensures { number_of result ≡ client }
+    {
+        Party { client, copied: 0 }
+    }
+
+    /// The job of a client's message of this ordinal.
+    pub fn job(client: ClientNo, ordinal: u64) -> Self
+        ensures { (number_of result).0 ≡ ordinal * 18446744073709551616 + client.0 }
+    {
+        Party {
+            client,
+            copied: ordinal,
+        }
+    }
+
     // Its client's number has 64 bits.
     pub(crate) fn fits(self)
         ensures { self.client.0 < 18446744073709551616 }
     {
         is_wide(self.client.0);
+    }
+}
+
+impl SessionKey {
+    /// The name of an accepted client's session, None of a job's.
+    pub fn name(self) -> Option<SessionName>
+        ensures { IfSome result (λ name. name ≡ session_of self) }
+    {
+        if self.party.copied > 0 {
+            return None;
+        }
+        Some(SessionName {
+            client: self.party.client,
+            hostgroup: self.hostgroup,
+            life: self.life,
+        })
     }
 }

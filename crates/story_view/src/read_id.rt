@@ -50,11 +50,7 @@ fn number_spelled(text: &[u8]) -> Result<Option<u64>, Lost>
 fn part(row: &[u8], size: u64, from: usize) -> &[u8]
     ensures { result.now ≡ take size (drop from row.now) }
 {
-    let rest = if from < row.len() {
-        &row[from..]
-    } else {
-        &[]
-    };
+    let rest = if from < row.len() { &row[from..] } else { &[] };
     if size < rest.len() as u64 {
         &rest[..size as usize]
     } else {

@@ -23,7 +23,9 @@ use crate::links::Links;
 use crate::lives::Lives;
 use crate::places::Places;
 use crate::replies::Replies;
-use crate::{Command, Due, Link, Lost, MessageKey, Openings, Party, Question, Reply, SessionKey, copy_place};
+use crate::{
+    Command, Due, Link, Lost, MessageKey, Openings, Party, Question, Reply, SessionKey, copy_place,
+};
 use mx_base::{Hostgroup, LinkId, ServerId};
 use session_state::{Pin, Place, is_pinned};
 use std::alloc::Global;
@@ -327,8 +329,7 @@ impl StoryView {
     /// A server is told to forget what it prepared under a number, of which nothing is kept. Does nothing.
     pub fn unprepared(&self, link: LinkId, number: u64)
         ensures { Follows self.now self.now (Unprepared link number) }
-    {
-    }
+    {}
 
     /// The server ends a link by itself.
     pub fn dropped(&mut self, link: LinkId) -> Result<(), Lost>

@@ -1,5 +1,5 @@
 use Rattle.std.specs.HashMap.{get_by}
-use Rattle.std.proofs.Common.{◌∙◌, ap}
+use Rattle.std.proofs.Common.{◌∙◌}
 use Rattle.story_view.specs.Names.{is_party, number_of, party_at}
 use Rattle.story_view.specs.Tables.{opening_at, place_or}
 use Rattle.story_view.proofs.Keys.{party_same, read_at}

@@ -1,6 +1,5 @@
-use Rattle.std.proofs.Common.{◌≡◌, ◌∙◌, IfOk, Ok, Some, not, subst}
+use Rattle.std.proofs.Common.{◌≡◌, ◌∙◌, Some, not}
 use Rattle.session_state.specs.Pins.{is_pinned}
-use Rattle.session_state.specs.declared.place.Place.{Place}
 use Rattle.private_model.specs.Story.{is_name, put}
 use Rattle.story_view.specs.Forms.{command_of, due_of}
 use Rattle.story_view.specs.Names.{number_of, session_of}
