@@ -14,7 +14,8 @@ abbrev pub asked : Question → Seen → Seen
 asked question link = record link { stage = Asked question; carries = carried_for question link.carries }
 
 abbrev pub ran_by : (alive : Bool) → Stage → Seen → Seen
-ran_by true (Asked question) link = record link { stage = Answered question; carries = joined_by question link.carries; alive = not (is_quit (command_of question)) }
+ran_by true (Asked question) link =
+    record link { stage = Answered question; carries = joined_by question link.carries; alive = not (is_quit (command_of question)) }
 ran_by _ _ link = link
 
 abbrev pub ran : Seen → Seen

@@ -93,7 +93,8 @@ impl Sessions {
         reply: &Reply,
     ) -> Result<(), Lost>
         requires { class.now ≡ class_read router_reads (command_of due.now.command) }
-        ensures { OnOk result (IsHeard self.old self.new (session_of session) (Statement (session_of session) (due_of due.now)) (reply_of reply.now)) }
+        ensures { OnOk result (IsHeard self.old self.new (session_of session)
+            (Statement (session_of session) (due_of due.now)) (reply_of reply.now)) }
     {
         let held = self.at(session);
         let id = id_after(&due.command, class, reply, held.id)?;

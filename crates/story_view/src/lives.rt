@@ -79,7 +79,8 @@ impl Lives {
     }
 
     fn put_lost(&mut self, party: Party, hostgroup: Hostgroup, count: u32) -> Result<(), Lost>
-        ensures lost { OnOk result ((c : ClientNo) (h : TheHostgroup) → lost_at self.new c h ≡ (if is_client c (number_of party) && is_hostgroup h hostgroup then count else lost_at self.old c h)) }
+        ensures lost { OnOk result ((c : ClientNo) (h : TheHostgroup)
+            → lost_at self.new c h ≡ (if is_client c (number_of party) && is_hostgroup h hostgroup then count else lost_at self.old c h)) }
         ensures left { self.new.left ≡ self.old.left }
     {
         party.fits();

@@ -136,7 +136,8 @@ impl Places {
         class: Class,
         ok: bool,
     ) -> Result<(), OutOfMemory>
-        ensures places { OnOk result ((c : ClientNo) → place_at self.new c ≡ put is_client (place_at self.old) (number_of party) (place_by class ok (place_at self.old (number_of party))) c) }
+        ensures places { OnOk result ((c : ClientNo) → place_at self.new c ≡ put is_client (place_at self.old) (number_of party)
+            (place_by class ok (place_at self.old (number_of party))) c) }
         ensures openings { self.new.openings ≡ self.old.openings }
     {
         if !ok || !is_moving(&class) {
@@ -150,7 +151,8 @@ impl Places {
 
     // The settings of one are again those of its beginning.
     pub(crate) fn leaves(&mut self, alloc: Global, party: Party) -> Result<(), OutOfMemory>
-        ensures places { OnOk result ((c : ClientNo) → place_at self.new c ≡ put is_client (place_at self.old) (number_of party) (record (place_at self.old (number_of party)) { settings = (opening_at self.old.openings (number_of party)).settings }) c) }
+        ensures places { OnOk result ((c : ClientNo) → place_at self.new c ≡ put is_client (place_at self.old) (number_of party)
+            (record (place_at self.old (number_of party)) { settings = (opening_at self.old.openings (number_of party)).settings }) c) }
         ensures openings { self.new.openings ≡ self.old.openings }
     {
         let settings = self.openings.at(party).settings.copy()?;

@@ -69,7 +69,8 @@ fn message_in(question: &Option<Question>) -> Option<MessageKey>
 impl StoryView {
     /// What is known before anything happens, where clients begin. Takes no memory.
     pub fn new(alloc: Global, openings: Openings) -> Self
-        ensures { (setup : Setup) → setup.reads ≡ router_reads → ((c : ClientNo) → setup.places c ≡ opening_at openings c) → IsKnown setup result (first_view setup) }
+        ensures { (setup : Setup) → setup.reads ≡ router_reads → ((c : ClientNo) → setup.places c ≡ opening_at openings c)
+            → IsKnown setup result (first_view setup) }
     {
         StoryView {
             links: Links::new(alloc),
@@ -156,7 +157,8 @@ impl StoryView {
         hostgroup: Hostgroup,
         request: Request,
     ) -> Result<(), Lost>
-        ensures { OnOk result (Follows self.old self.new (BecameDue (number_of party) hostgroup request.ordinal request.key (command_of request.command) request.multiplex)) }
+        ensures { OnOk result (Follows self.old self.new (BecameDue (number_of party) hostgroup request.ordinal request.key
+            (command_of request.command) request.multiplex)) }
     {
         let session = self.session(party, hostgroup);
         let anew = !is_pinned(self.sessions.at(session).pin);
@@ -184,7 +186,8 @@ impl StoryView {
 
     /// What is due in a session goes out on a link. Where nothing is due nothing changes.
     pub fn sent_due(&mut self, link: LinkId, session: SessionKey) -> Result<(), Lost>
-        ensures due { OnOk result ((due : story.Due) → Knows self.old (λ setup view. view.dues (session_of session) ≡ Some due → IsKnown setup self.new (view_step setup view (Sent link (story.Statement (session_of session) due))))) }
+        ensures due { OnOk result ((due : story.Due) → Knows self.old (λ setup view. view.dues (session_of session) ≡ Some due
+            → IsKnown setup self.new (view_step setup view (Sent link (story.Statement (session_of session) due))))) }
         ensures nothing { OnOk result (Knows self.old (λ setup view. view.dues (session_of session) ≡ None → IsKnown setup self.new view)) }
     {
         if let Some(due) = self.dues.take(session) {
@@ -290,7 +293,8 @@ impl StoryView {
 
     // A reply is kept, where it answers a message.
     fn keeps(&mut self, message: Option<MessageKey>, reply: Reply) -> Result<(), Lost>
-        ensures replies { OnOk result ((m : MessageName) → reply_at self.new.replies m ≡ replies_kept (option_map message_of message) (reply_of reply) (reply_at self.old.replies) m) }
+        ensures replies { OnOk result ((m : MessageName) → reply_at self.new.replies m
+            ≡ replies_kept (option_map message_of message) (reply_of reply) (reply_at self.old.replies) m) }
         ensures others { self.new ≡ record self.old { replies = self.new.replies } }
     {
         match message {
