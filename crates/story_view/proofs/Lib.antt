@@ -1,0 +1,6 @@
+mod Called
+mod Changing
+mod Keys
+mod Knowing
+mod Leaving
+mod Said
