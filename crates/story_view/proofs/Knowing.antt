@@ -8,17 +8,16 @@ use Rattle.mx_base.specs.declared.names.ServerId.{ServerId}
 use Rattle.session_state.specs.Pins.{is_pinned}
 use Rattle.session_state.specs.declared.names.MessageName.{MessageName}
 use Rattle.session_state.specs.declared.names.SessionName.{SessionName}
-use Rattle.session_state.specs.declared.place.Place.{Place}
 use Rattle.server_rule.specs.Classes.{Reads, router_reads}
-use Rattle.private_model.proofs.Maps.{link_of, name_of}
+use Rattle.private_model.proofs.Maps.{link_ids, link_of, name_of, one_put}
 use Rattle.private_model.specs.Commands.{Account, Command, Reply}
-use Rattle.private_model.specs.Story.{BecameDue, Capture, Dropped, Due, End, Freed, Gone, Heard, Left, LoggedIn, Mirrored, Own, Prep, Question, Ran, Sent, Statement, Sync, Unprepared, is_client, is_link_id, is_name, put}
+use Rattle.private_model.specs.Story.{BecameDue, Capture, Dropped, Due, End, Freed, Gone, Heard, Left, LoggedIn, Mirrored, Own, Prep, Question, Ran, Sent, Statement, Sync, Unprepared, for_statement, is_client, is_link_id, is_message, is_name, message_of, put}
 use Rattle.private_model.specs.View as view
-use Rattle.private_model.specs.View.{Answered, Asked, Carried, Joined, Lent, Nobody, Quiet, Setup, Stage, View, dues_for, held_by, held_for, held_freed, lives_after, lives_left, lives_without, new_link, places_by, replies_by, view_step}
-use Rattle.story_view.specs.Heard.{IsHeard, heard_held, held_said, message_said, places_said, replies_kept}
+use Rattle.private_model.specs.View.{Answered, Asked, Carried, Joined, Lent, Nobody, Quiet, Setup, Stage, View, held_by, held_for, held_freed, lives_left, new_link, place_after, view_heard, view_step}
+use Rattle.story_view.specs.Heard.{IsHeard, heard_held, held_said, message_said, replies_kept}
 use Rattle.story_view.specs.Known.{Follows, IsAnswered, IsKnown, Knows, kept, seen}
 use Rattle.story_view.specs.Steps as steps
-use Rattle.story_view.specs.Steps.{Changes, answered_in}
+use Rattle.story_view.specs.Steps.{Changes, answered_in, lives_without, quieted}
 use Rattle.story_view.specs.Tables.{Seen, due_at, held_at, life_at, link_at, opening_at, place_at, reply_at}
 use Rattle.story_view.specs.declared.dues.Dues.{Dues}
 use Rattle.story_view.specs.declared.held.Held.{Held}
@@ -112,7 +111,7 @@ became_due_known code dues client hostgroup ordinal key command multiplex put_is
     }
 
 pub sent_known : (code : StoryView) (links : Links) (dues : Dues) (link : LinkId) (question : Question) → Changes code.links links link (steps.asked question)
-    → ((n : SessionName) → due_at dues n ≡ dues_for question (due_at code.dues) n) → Follows code (record code { links = links; dues = dues }) (Sent link question)
+    → ((n : SessionName) → due_at dues n ≡ for_statement question (λ m due. put is_name (due_at code.dues) m None) (due_at code.dues) n) → Follows code (record code { links = links; dues = dues }) (Sent link question)
 sent_known code links dues link question changes taken setup v is = record {
   reads = is.reads;
   openings = is.openings;
@@ -121,7 +120,7 @@ sent_known code links dues link question changes taken setup v is = record {
   replies = is.replies;
   links = links_known v.links code.links links link (view.asked question (v.links link)) (steps.asked question) is.links refl changes;
   held = held_sent question link v.held (held_at code.sessions) is.held;
-  dues = λ n. (λ i. dues_for question (λ j. is.dues j i) n) ∙ sym (taken n);
+  dues = λ n. (λ i. for_statement question (λ m due. put is_name (λ j. is.dues j i) m None) (λ j. is.dues j i) n) ∙ sym (taken n);
 }
 
 ran_seen : (reads : Reads) (alive : Bool) (stage : Stage) (link : view.Link) → seen (view.ran_by reads alive stage link) ≡ steps.ran_by alive stage (seen link)
@@ -141,7 +140,7 @@ ran_known code links link changes setup v is = record {
   places = is.places;
   dues = is.dues;
   replies = is.replies;
-  links = links_known v.links code.links links link (view.ran setup.reads (v.links link)) steps.ran is.links (ran_seen setup.reads (v.links link).alive (v.links link).stage (v.links link)) changes;
+  links = links_known v.links code.links links link (view.ran_by setup.reads (v.links link).alive (v.links link).stage (v.links link)) steps.ran is.links (ran_seen setup.reads (v.links link).alive (v.links link).stage (v.links link)) changes;
 }
 
 pub freed_known : (code : StoryView) (links : Links) (link : LinkId) → Changes code.links links link steps.freed → Follows code (record code { links = links }) (Freed link)
@@ -216,36 +215,60 @@ held_here : (reads : Reads) (question : Question) (reply : Reply) (f : SessionNa
 held_here reads question reply f g h n same before after = put_known is_name kept f g h n _ _ before
     (λ i. record { pin = view.pin_heard (same i) question reply (before n i).pin; id = view.id_heard (same i) question reply (before n i).id }) after
 
-held_agrees : (reads : Reads) (stage : Stage) (reply : Reply) (f : SessionName → view.Held) (g h : SessionName → Held) → reads ≡ router_reads → ((j : SessionName) → kept (f j) ≡ g j)
-    → ((j : SessionName) → h j ≡ held_said (answered_in stage) reply g j) → (j : SessionName) → kept (held_by reads stage reply f j) ≡ h j
-held_agrees reads Quiet reply f g h same before after = λ j. before j ∙ sym (after j)
-held_agrees reads (Asked question) reply f g h same before after = λ j. before j ∙ sym (after j)
-held_agrees reads (Answered (Statement n due)) reply f g h same before after = held_here reads (Statement n due) reply f g h n same before after
-held_agrees reads (Answered (Prep n key text)) reply f g h same before after = held_here reads (Prep n key text) reply f g h n same before after
-held_agrees reads (Answered (Sync n command)) reply f g h same before after = held_here reads (Sync n command) reply f g h n same before after
-held_agrees reads (Answered (Own command)) reply f g h same before after = λ j. before j ∙ sym (after j)
-held_agrees reads (Answered (End n)) reply f g h same before after = held_here reads (End n) reply f g h n same before after
-held_agrees reads (Answered (Capture n)) reply f g h same before after = held_here reads (Capture n) reply f g h n same before after
+held_agrees : (reads : Reads) (question : Question) (reply : Reply) (f : SessionName → view.Held) (g h : SessionName → Held) → reads ≡ router_reads → ((j : SessionName) → kept (f j) ≡ g j)
+    → ((j : SessionName) → h j ≡ held_said (Some question) reply g j) → (j : SessionName) → kept (held_by reads question reply f j) ≡ h j
+held_agrees reads (Statement n due) reply f g h same before after = held_here reads (Statement n due) reply f g h n same before after
+held_agrees reads (Prep n key text) reply f g h same before after = held_here reads (Prep n key text) reply f g h n same before after
+held_agrees reads (Sync n command) reply f g h same before after = held_here reads (Sync n command) reply f g h n same before after
+held_agrees reads (Own command) reply f g h same before after = λ j. before j ∙ sym (after j)
+held_agrees reads (End n) reply f g h same before after = held_here reads (End n) reply f g h n same before after
+held_agrees reads (Capture n) reply f g h same before after = held_here reads (Capture n) reply f g h n same before after
 
-places_agree : (stage : Stage) (reply : Reply) (f : ClientNo → Place) → places_by router_reads stage reply f ≡ places_said (answered_in stage) reply f
-places_agree Quiet reply f = refl
-places_agree (Asked question) reply f = refl
-places_agree (Answered (Statement n due)) reply f = refl
-places_agree (Answered (Prep n key text)) reply f = refl
-places_agree (Answered (Sync n command)) reply f = refl
-places_agree (Answered (Own command)) reply f = refl
-places_agree (Answered (End n)) reply f = refl
-places_agree (Answered (Capture n)) reply f = refl
+replies_agree : (question : Question) (reply : Reply) (f : MessageName → Option Reply)
+    → for_statement question (λ n due. put is_message f (message_of n due) (Some reply)) f ≡ replies_kept (message_said (Some question)) reply f
+replies_agree (Statement n due) reply f = refl
+replies_agree (Prep n key text) reply f = refl
+replies_agree (Sync n command) reply f = refl
+replies_agree (Own command) reply f = refl
+replies_agree (End n) reply f = refl
+replies_agree (Capture n) reply f = refl
 
-replies_agree : (stage : Stage) (reply : Reply) (f : MessageName → Option Reply) → replies_by stage reply f ≡ replies_kept (message_said (answered_in stage)) reply f
-replies_agree Quiet reply f = refl
-replies_agree (Asked question) reply f = refl
-replies_agree (Answered (Statement n due)) reply f = refl
-replies_agree (Answered (Prep n key text)) reply f = refl
-replies_agree (Answered (Sync n command)) reply f = refl
-replies_agree (Answered (Own command)) reply f = refl
-replies_agree (Answered (End n)) reply f = refl
-replies_agree (Answered (Capture n)) reply f = refl
+-- no question stood there
+unheard_known : (old new : StoryView) (links : Links) (link : LinkId) (reply : Reply) → Changes old.links links link steps.heard → IsAnswered (record old { links = links; replies = new.replies }) new None reply
+    → ((m : MessageName) → reply_at new.replies m ≡ reply_at old.replies m) → Knows old (λ setup v. quieted (v.links link).stage ≡ (v.links link).stage → IsKnown setup new v)
+unheard_known old new links link reply changes hears keeps setup v is rests =
+    let quiet : steps.heard (seen (v.links link)) ≡ seen (v.links link) = λ i. record (seen (v.links link)) { stage = rests i } in
+    let P : Seen → Type 0 = λ s. steps.heard s ≡ s in
+    record {
+      reads = is.reads;
+      openings = λ c. is.openings c ∙ ap (λ o. opening_at o c) (sym hears.openings);
+      links = λ l. one_put link_ids (λ k. seen (v.links k)) (link_at old.links) link (steps.heard (link_at old.links link)) (subst P (is.links link) quiet) is.links l ∙ sym (changes l) ∙ ap (λ x. link_at x l) (sym hears.links);
+      held = λ n. is.held n ∙ sym (hears.held n);
+      lives = λ c h. is.lives c h ∙ ap (λ x. life_at x c h) (sym hears.lives);
+      places = λ c. is.places c ∙ sym (hears.places c);
+      dues = λ n. is.dues n ∙ ap (λ x. due_at x n) (sym hears.dues);
+      replies = λ m. is.replies m ∙ sym (keeps m);
+    }
+
+stage_known : (old new : StoryView) (links : Links) (link : LinkId) (reply : Reply) (stage : Stage) → Changes old.links links link steps.heard
+    → IsAnswered (record old { links = links; replies = new.replies }) new (answered_in stage) reply
+    → ((m : MessageName) → reply_at new.replies m ≡ replies_kept (message_said (answered_in stage)) reply (reply_at old.replies) m)
+    → Knows old (λ setup v. (v.links link).stage ≡ stage → IsKnown setup new (view_heard setup v link reply stage))
+stage_known old new links link reply Quiet changes hears keeps setup v is at = unheard_known old new links link reply changes hears keeps setup v is (ap quieted at ∙ sym at)
+stage_known old new links link reply (Asked question) changes hears keeps setup v is at = unheard_known old new links link reply changes hears keeps setup v is (ap quieted at ∙ sym at)
+stage_known old new links link reply (Answered question) changes hears keeps setup v is at = record {
+  reads = is.reads;
+  openings = λ c. is.openings c ∙ ap (λ o. opening_at o c) (sym hears.openings);
+  links = λ l. links_known v.links old.links links link (view.heard setup.reads question reply (v.links link)) steps.heard is.links (λ i. record (seen (v.links link)) { stage = quieted (sym at i) }) changes l
+      ∙ ap (λ x. link_at x l) (sym hears.links);
+  held = held_agrees setup.reads question reply v.held (held_at old.sessions) (held_at new.sessions) is.reads is.held hears.held;
+  lives = λ c h. is.lives c h ∙ ap (λ x. life_at x c h) (sym hears.lives);
+  places = λ c. (λ i. for_statement question (λ n due. put is_client (λ d. is.places d i) n.client (place_after (is.reads i) due.command reply (is.places n.client i))) (λ d. is.places d i) c)
+      ∙ sym (hears.places c);
+  dues = λ n. is.dues n ∙ ap (λ x. due_at x n) (sym hears.dues);
+  replies = λ m. (λ i. for_statement question (λ n due. put is_message (λ d. is.replies d i) (message_of n due) (Some reply)) (λ d. is.replies d i) m)
+      ∙ ap (λ f. f m) (replies_agree question reply (reply_at old.replies)) ∙ sym (keeps m);
+}
 
 -- The link is quiet, the reply to the question that stood there is heard, and then kept.
 pub heard_known : (old : StoryView) (links : Links) (answered new : StoryView) (link : LinkId) (reply : Reply) (question : Option Question)
@@ -255,24 +278,11 @@ pub heard_known : (old : StoryView) (links : Links) (answered new : StoryView) (
 heard_known old links answered new link reply question asked changes hears keeps rest setup v is =
     let stage = (v.links link).stage in
     let which : question ≡ answered_in stage = asked ∙ sym (ap (λ (s : Seen). answered_in s.stage) (is.links link)) in
-    let same_links : new.links ≡ links = ap (λ (x : StoryView). x.links) rest ∙ hears.links in
-    let same_openings : new.places.openings ≡ old.places.openings = ap (λ (x : StoryView). x.places.openings) rest ∙ hears.openings in
-    let same_lives : new.lives ≡ old.lives = ap (λ (x : StoryView). x.lives) rest ∙ hears.lives in
-    let same_dues : new.dues ≡ old.dues = ap (λ (x : StoryView). x.dues) rest ∙ hears.dues in
-    let held_is : (n : SessionName) → held_at new.sessions n ≡ held_said (answered_in stage) reply (held_at old.sessions) n =
-    λ n. ap (λ (x : StoryView). held_at x.sessions n) rest ∙ hears.held n ∙ (λ i. held_said (which i) reply (held_at old.sessions) n) in
-    record {
-      reads = is.reads;
-      openings = λ c. is.openings c ∙ ap (λ o. opening_at o c) (sym same_openings);
-      links = λ l. links_known v.links old.links links link (view.heard setup.reads reply (v.links link)) steps.heard is.links refl changes l ∙ ap (λ x. link_at x l) (sym same_links);
-      held = held_agrees setup.reads stage reply v.held (held_at old.sessions) (held_at new.sessions) is.reads is.held held_is;
-      lives = λ c h. is.lives c h ∙ ap (λ x. life_at x c h) (sym same_lives);
-      places = λ c. (λ i. places_by (is.reads i) stage reply (λ d. is.places d i) c) ∙ ap (λ f. f c) (places_agree stage reply (place_at old.places))
-          ∙ (λ i. places_said (sym which i) reply (place_at old.places) c) ∙ sym (ap (λ (x : StoryView). place_at x.places c) rest ∙ hears.places c);
-      dues = λ n. is.dues n ∙ ap (λ x. due_at x n) (sym same_dues);
-      replies = λ m. (λ i. replies_by stage reply (λ d. is.replies d i) m) ∙ ap (λ f. f m) (replies_agree stage reply (reply_at old.replies))
-          ∙ (λ i. replies_kept (message_said (sym which i)) reply (reply_at (sym hears.replies i)) m) ∙ sym (keeps m);
-    }
+    let P : StoryView → Option Question → Type 0 = λ x q. IsAnswered (record old { links = links; replies = new.replies }) x q reply in
+    let at_last : P (record answered { replies = new.replies }) question =
+    record { held = hears.held; places = hears.places; openings = hears.openings; links = hears.links; lives = hears.lives; dues = hears.dues; replies = refl } in
+    stage_known old new links link reply stage changes (subst (P new) which (subst (λ x. P x question) (sym rest) at_last))
+    (λ m. keeps m ∙ (λ i. replies_kept (message_said (which i)) reply (reply_at (hears.replies i)) m)) setup v is refl
 
 some_of : {A : Type 0} (a b : A) → Some a ≡ Some b → a ≡ b
 some_of a b e = cc

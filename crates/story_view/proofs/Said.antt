@@ -9,9 +9,9 @@ use Rattle.session_state.specs.declared.pin.Pin.{Pin}
 use Rattle.session_state.specs.declared.place.Place.{Place}
 use Rattle.server_rule.specs.Classes.{Reads, router_reads}
 use Rattle.private_model.proofs.Maps.{client_of}
-use Rattle.private_model.specs.Commands.{Command, FieldList, InitDb, Prepare, Query, Quit, ReadId, Reply, Reset, Run, SetId, end_of, is_ok, pin_statement}
+use Rattle.private_model.specs.Commands.{Command, FieldList, InitDb, Prepare, Query, Quit, ReadId, Reply, Reset, Run, SetId, end_of, is_ok, is_prepare, pin_statement}
 use Rattle.private_model.specs.Story.{Question, is_client, is_name, put}
-use Rattle.private_model.specs.View.{id_heard, is_prepare, pin_heard, place_after}
+use Rattle.private_model.specs.View.{id_heard, pin_heard, place_after}
 use Rattle.story_view.specs.Heard.{IsHeard, class_read, is_moving_by, pin_by, place_by}
 use Rattle.story_view.specs.Tables.{held_at}
 use Rattle.story_view.specs.declared.held.Sessions.{Sessions}

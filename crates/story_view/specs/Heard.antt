@@ -12,7 +12,7 @@ use Rattle.session_state.specs.declared.place.Place.{Place}
 use Rattle.session_state.specs.declared.reply_end.ReplyEnd.{ReplyEnd}
 use Rattle.server_rule.specs.Classes.{Reads, router_reads}
 use Rattle.private_model.specs.Commands.{Command, Prepare, Reply, class_of}
-use Rattle.private_model.specs.Story.{Capture, End, Prep, Question, Statement, Sync, is_client, is_message, is_name, message_of, put}
+use Rattle.private_model.specs.Story.{Capture, End, Prep, Question, Statement, Sync, for_statement, is_client, is_message, is_name, message_of, put}
 use Rattle.private_model.specs.View.{id_heard, pin_heard, place_after}
 use Rattle.story_view.specs.Tables.{held_at}
 use Rattle.story_view.specs.declared.held.Held.{Held}
@@ -56,8 +56,9 @@ held_said (Some (Capture n)) reply held = put is_name held n (heard_held (Captur
 held_said _ reply held = held
 
 abbrev pub places_said : Option Question → Reply → (ClientNo → Place) → ClientNo → Place
-places_said (Some (Statement n due)) reply places = put is_client places n.client (place_after router_reads due.command reply (places n.client))
-places_said _ reply places = places
+places_said None reply places = places
+places_said (Some question) reply places =
+    for_statement question (λ n due. put is_client places n.client (place_after router_reads due.command reply (places n.client))) places
 
 -- the message that is answered
 abbrev pub message_said : Option Question → Option MessageName

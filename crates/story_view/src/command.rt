@@ -192,7 +192,7 @@ impl Command {
 
     /// Whether it prepares a text. Takes no memory.
     pub fn is_prepare(&self) -> bool
-        ensures { result ≡ view.is_prepare (command_of self.now) }
+        ensures { result ≡ model.is_prepare (command_of self.now) }
     {
         matches!(self, Command::Prepare { .. })
     }

@@ -2,8 +2,7 @@
 ghost use Rattle.std.specs.Prelude.{◌≡◌, OnOk, None, Some, option_copied};
 ghost use Rattle.std.specs.Option.{option_map};
 ghost use Rattle.session_state.specs.declared.names.SessionName.{SessionName};
-ghost use Rattle.private_model.specs.Story.{is_name, put};
-ghost use Rattle.private_model.specs.View.{dues_for};
+ghost use Rattle.private_model.specs.Story.{for_statement, is_name, put};
 ghost use Rattle.story_view.specs.Forms.{due_of, question_of};
 ghost use Rattle.story_view.specs.Names.{session_of};
 ghost use Rattle.story_view.specs.Tables.{due_at};
@@ -56,7 +55,8 @@ impl Dues {
 
     // A statement that is sent is due no more.
     pub(crate) fn sends(&mut self, question: &Question)
-        ensures { (n : SessionName) → due_at self.new n ≡ dues_for (question_of question.now) (due_at self.old) n }
+        ensures { (n : SessionName) → due_at self.new n
+            ≡ for_statement (question_of question.now) (λ m due. put is_name (due_at self.old) m None) (due_at self.old) n }
     {
         if let Question::Statement(session, _) = question {
             let_go(self.take(*session));

@@ -127,7 +127,7 @@ pub(crate) fn pin_prepped(pin: Pin, err: bool) -> Pin
 
 // The insert id that a reply to the question for it shows.
 pub(crate) fn id_read(reply: &Reply, known: Option<u64>) -> Result<Option<u64>, Lost>
-    ensures { IfOk result (λ id. id ≡ model.id_read (reply_of reply.now) known) }
+    ensures { IfOk result (λ id. id ≡ model.id_after router_reads model.ReadId (reply_of reply.now) known) }
 {
     if reply.end().is_err() {
         return Ok(known);

@@ -2,7 +2,7 @@
 ghost use Rattle.std.specs.Prelude.{◌≡◌, false, OnOk, IfOk, option_copied};
 ghost use Rattle.std.specs.Option.{option_map};
 ghost use Rattle.mx_base.specs.declared.names.LinkId.{LinkId as TheLink};
-ghost use Rattle.private_model.specs.Story.{is_link_id, put};
+ghost use Rattle.private_model.specs.Story.{for_statement, is_link_id, put};
 ghost use Rattle.private_model.specs.View as view;
 ghost use Rattle.story_view.specs.Forms.{carried_of, question_of, stage_of};
 ghost use Rattle.story_view.specs.Steps as steps;
@@ -55,7 +55,7 @@ fn carried_for(question: &Question, carries: Carried) -> Carried
 }
 
 fn joined_by(question: &Question, carries: Carried) -> Carried
-    ensures { carried_of result ≡ view.joined_by (question_of question.now) (carried_of carries) }
+    ensures { carried_of result ≡ for_statement (question_of question.now) (λ n due. view.Joined n) (carried_of carries) }
 {
     match question {
         Question::Statement(session, _) => Carried::Joined(*session),
@@ -87,7 +87,7 @@ fn ran(link: Link) -> Link
 
 // The question whose reply is read.
 fn quieted(stage: Stage) -> (Stage, Option<Question>)
-    ensures stage { stage_of result.0 ≡ view.quieted (stage_of stage) }
+    ensures stage { stage_of result.0 ≡ steps.quieted (stage_of stage) }
     ensures question { option_map question_of result.1 ≡ answered_in (stage_of stage) }
 {
     match stage {

@@ -3,9 +3,10 @@ ghost use Rattle.std.specs.Prelude.{◌≡◌, ◌&&◌, suc, IfOk, OnOk, option
 ghost use Rattle.mx_base.specs.declared.names.ClientNo.{ClientNo};
 ghost use Rattle.mx_base.specs.declared.names.Hostgroup.{Hostgroup as TheHostgroup};
 ghost use Rattle.private_model.specs.Story.{is_client, is_hostgroup};
-ghost use Rattle.private_model.specs.View.{lives_after, lives_left, lives_without};
+ghost use Rattle.private_model.specs.View.{lives_after, lives_left};
 ghost use Rattle.story_view.specs.Forms.{carried_of};
 ghost use Rattle.story_view.specs.Names.{number_of, session_of};
+ghost use Rattle.story_view.specs.Steps.{lives_without};
 ghost use Rattle.story_view.specs.Tables.{left_at, life_at, lost_at, or_zero};
 
 use crate::fault::let_go;

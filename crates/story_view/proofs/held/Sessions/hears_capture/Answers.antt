@@ -1,5 +1,6 @@
 use Rattle.std.proofs.Common.{◌∙◌}
-use Rattle.private_model.specs.Commands.{id_read}
+use Rattle.server_rule.specs.Classes.{router_reads}
+use Rattle.private_model.specs.Commands.{ReadId, id_after}
 use Rattle.private_model.specs.Story.{Capture}
 use Rattle.story_view.specs.Forms.{reply_of}
 use Rattle.story_view.specs.Names.{session_of}
@@ -10,4 +11,4 @@ pub returns : goal.returns
 returns c =
     let n = session_of c.args.session in
     is_heard c.args.self.now c.put.new.self n (Capture n) (reply_of c.args.reply.now) _ _ c.in_ok-put.ensures (λ i. (c.at-held.ensures i).pin)
-    (c.in_ok-id.ensures ∙ (λ i. id_read (reply_of c.args.reply.now) (c.at-held.ensures i).id))
+    (c.in_ok-id.ensures ∙ (λ i. id_after router_reads ReadId (reply_of c.args.reply.now) (c.at-held.ensures i).id))

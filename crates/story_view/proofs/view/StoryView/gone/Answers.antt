@@ -1,5 +1,5 @@
 use Rattle.std.proofs.Common.{◌∙◌, ap}
-use Rattle.private_model.specs.View.{lives_without}
+use Rattle.story_view.specs.Steps.{lives_without}
 use Rattle.story_view.specs.Tables.{life_at}
 use Rattle.story_view.proofs.Knowing.{gone_known}
 use Rattle.story_view.proofs.view.StoryView.gone.Goals as goal
