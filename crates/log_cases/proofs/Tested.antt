@@ -27,7 +27,7 @@ use Rattle.server_rule.specs.Servers.{Step, is_some_of}
 use Rattle.private_model.specs.Names.{LinkId, ServerId}
 use Rattle.private_model.specs.Commands.{Args, Command, Quit, Reply, Run, is_made, number_in, runs}
 use Rattle.private_model.specs.Honest as model
-use Rattle.private_model.specs.Honest.{IsFreshNumber, prepares}
+use Rattle.private_model.specs.Honest.{prepares}
 use Rattle.private_model.specs.Story.{Key, Question, command_of}
 use Rattle.private_model.specs.View.{Answered, Asked, Quiet, Setup, Stage}
 use Rattle.private_model.specs.Worlds.{Real, at_link, there_command}

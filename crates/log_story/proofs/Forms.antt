@@ -6,10 +6,10 @@ use Rattle.packet_frame.specs.PacketLaws.{nat_eq-true}
 use Rattle.server_rule.specs.Classes.{Reads}
 use Rattle.server_rule.specs.Servers.{Step}
 use Rattle.private_model.specs.Names.{LinkId, ServerId}
-use Rattle.private_model.specs.Commands.{Command, Query, InitDb, FieldList, SetId, ReadId, Prepare, Run, Reset, Quit, Reply, is_prepare, runs}
+use Rattle.private_model.specs.Commands.{Command, Run, Reply, is_prepare, runs}
 use Rattle.private_model.specs.Story.{BecameDue, Dropped, Freed, Gone, Happening, Heard, Key, LoggedIn, Question, Ran}
 use Rattle.private_model.specs.Story.{Sent, Statement, Story, Unprepared, command_of, is_link_id, put}
-use Rattle.private_model.specs.View.{Answered, Asked, Link, Quiet, Setup, Stage, View, ran_by, view_after, view_heard, view_step}
+use Rattle.private_model.specs.View.{Answered, Asked, Link, Setup, Stage, View, ran_by, view_after, view_heard, view_step}
 use Rattle.private_model.specs.Worlds.{Peer, Real, decoded, real_after, real_drop, real_run, real_step, there_command}
 use Rattle.std.specs.Option.{option_and_then}
 

@@ -13,7 +13,7 @@ use Rattle.private_model.proofs.Maps.{link_ids, link_of, name_of, one_put}
 use Rattle.private_model.specs.Commands.{Account, Command, Reply}
 use Rattle.private_model.specs.Story.{BecameDue, Capture, Dropped, Due, End, Freed, Gone, Heard, Left, LoggedIn, Mirrored, Own, Prep, Question, Ran, Sent, Statement, Sync, Unprepared, for_statement, is_client, is_link_id, is_message, is_name, message_of, put}
 use Rattle.private_model.specs.View as view
-use Rattle.private_model.specs.View.{Answered, Asked, Carried, Joined, Lent, Nobody, Quiet, Setup, Stage, View, held_by, held_for, held_freed, lives_left, new_link, place_after, view_heard, view_step}
+use Rattle.private_model.specs.View.{Answered, Asked, Carried, Joined, Lent, Nobody, Quiet, Stage, held_by, held_for, held_freed, lives_left, new_link, place_after, view_heard, view_step}
 use Rattle.story_view.specs.Heard.{IsHeard, heard_held, held_said, message_said, replies_kept}
 use Rattle.story_view.specs.Known.{Follows, IsAnswered, IsKnown, Knows, kept, seen}
 use Rattle.story_view.specs.Steps as steps

@@ -1,6 +1,5 @@
 // What the router asks of a server.
 ghost use Rattle.std.specs.Prelude.{◌≡◌, ◌++◌, IfOk, decimal};
-ghost use Rattle.server_rule.specs.Texts.{set_id_text, read_id_text};
 ghost use Rattle.private_model.specs.Commands as model;
 ghost use Rattle.private_model.specs.Commands.{cmd_of};
 ghost use Rattle.private_model.specs.View as view;

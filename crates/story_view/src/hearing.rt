@@ -3,7 +3,6 @@ ghost use Rattle.std.specs.Prelude.{◌≡◌, ◌||◌, IfOk, if◌then◌else�
 ghost use Rattle.session_state.specs.Pins as pins;
 ghost use Rattle.server_rule.specs.Classes.{router_reads};
 ghost use Rattle.private_model.specs.Commands as model;
-ghost use Rattle.private_model.specs.Commands.{end_of};
 ghost use Rattle.story_view.specs.Forms.{command_of, reply_of};
 ghost use Rattle.story_view.specs.Heard as heard;
 

@@ -106,7 +106,8 @@ impl Sessions {
 
     // The reply to the preparation of a statement's text is heard.
     pub(crate) fn hears_prep(&mut self, session: SessionKey, reply: &Reply) -> Result<(), Lost>
-        ensures { OnOk result ((key : ℕ) (text : List ℕ) → IsHeard self.old self.new (session_of session) (Prep (session_of session) key text) (reply_of reply.now)) }
+        ensures { OnOk result ((key : ℕ) (text : List ℕ)
+            → IsHeard self.old self.new (session_of session) (Prep (session_of session) key text) (reply_of reply.now)) }
     {
         let held = self.at(session);
         let pin = pin_prepped(held.pin, reply.end().is_err());

@@ -1,6 +1,5 @@
 // Replies, and how they ended.
-ghost use Rattle.std.specs.Prelude.{◌≡◌, ◌+◌, ℕ, IfOk, IfSome, bytes_eq, option_copied, decimal};
-ghost use Rattle.std.specs.Str.Parse.{digits_value};
+ghost use Rattle.std.specs.Prelude.{◌≡◌, ◌+◌};
 ghost use Rattle.mx_base.specs.Fields.{lenenc_at};
 ghost use Rattle.server_rule.specs.Replies as replies;
 ghost use Rattle.private_model.specs.Commands.{end_of};

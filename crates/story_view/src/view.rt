@@ -2,7 +2,6 @@
 ghost use Rattle.std.specs.Prelude.{◌≡◌, None, Some, OnOk, option_copied};
 ghost use Rattle.std.specs.Option.{option_map};
 ghost use Rattle.mx_base.specs.declared.names.ClientNo.{ClientNo};
-ghost use Rattle.mx_base.specs.declared.names.LinkId.{LinkId as TheLink};
 ghost use Rattle.server_rule.specs.Classes.{router_reads};
 ghost use Rattle.private_model.specs.Commands.{Account};
 ghost use Rattle.private_model.specs.Story as story;
