@@ -1,0 +1,51 @@
+-- A run in a session at a server.
+use Rattle.std.proofs.Common.{◌≡◌, ◌<◌, ◌≤◌, ℕ, List, length, map, get_or, Some, None, arith, refl, sym, ◌∙◌, ap, subst}
+use Rattle.std.specs.Prelude.{set, slice_get, OnErr, Result, Ok, Err}
+use Rattle.std.specs.Option.{option_map}
+use Rattle.std.proofs.lemmas.List.{length-map, map-set, set-get_or}
+use Rattle.std.proofs.lemmas.Option.{slice_get-get_or, slice_get-map, slice_get_past}
+use Rattle.std.proofs.Math.Seq.{map-set_same}
+use Rattle.server_rule.specs.Servers.{Step, Runs}
+use Rattle.server_rule.specs.declared.command.Cmd.{Cmd}
+use Rattle.server_rule.specs.declared.session.Session.{Session}
+use Rattle.scripted_wire.specs.declared.hosts.Seat.{Seat}
+use Rattle.scripted_wire.specs.Hosts.{Hosted, RunsIn}
+
+found : {X : Type 0} (xs : List X) (i : ℕ) (x : X) → i < length xs → x ≡ get_or xs i x → slice_get xs i ≡ Some x
+found xs i x within is = slice_get-get_or xs i x within ∙ ap (λ y. Some y) (sym is)
+
+pub runs_in : {X : Type 0} (f : X → List ℕ) (step : Step) (at : ℕ) (cmd : Cmd) (servers : List X) (seats : List Seat) (seat : Seat) (server new : X) (session : Session) (reply : List (List ℕ))
+    → (old : Hosted) → record { stored = map f servers; seats = seats } ≡ old
+    → at < length seats → seat ≡ get_or seats at seat → seat.server < length servers → server ≡ get_or servers seat.server server → Runs step (f server) seat.session cmd (f new) session reply
+    → RunsIn step at cmd old (Some reply) (record { stored = map f (set servers seat.server new); seats = set seats at (record { server = seat.server; session = session }) })
+runs_in f step at cmd servers seats seat server new session reply old view within is inside same run =
+    let seat_is : slice_get seats at ≡ Some seat = found seats at seat within is in
+    let stored_is : slice_get (map f servers) seat.server ≡ Some (f server) = slice_get-map f servers seat.server ∙ ap (option_map f) (found servers seat.server server inside same) in
+    subst (λ (v : Hosted). RunsIn step at cmd v (Some reply) (record { stored = map f (set servers seat.server new); seats = set seats at (record { server = seat.server; session = session }) })) view
+    (record { is = rw (seat_is, stored_is) (rw (map-set f servers seat.server new, run.data_is, run.session_is, run.reply_is) refl) })
+
+-- where there is no such server
+pub no_server : {X : Type 0} (f : X → List ℕ) (step : Step) (at : ℕ) (cmd : Cmd) (servers : List X) (seats : List Seat) (seat : Seat)
+    → (old : Hosted) → record { stored = map f servers; seats = seats } ≡ old
+    → at < length seats → seat ≡ get_or seats at seat → length servers ≤ seat.server
+    → RunsIn step at cmd old None (record { stored = map f servers; seats = set seats at seat })
+no_server f step at cmd servers seats seat old view within is past =
+    let seat_is : slice_get seats at ≡ Some seat = found seats at seat within is in
+    let size : length (map f servers) ≡ length servers = length-map servers f in
+    let stored_is : slice_get (map f servers) seat.server ≡ None = slice_get_past (map f servers) seat.server (omega arith) in
+    let same : set seats at seat ≡ seats = ap (set seats at) is ∙ set-get_or seats at seat in
+    subst (λ (v : Hosted). RunsIn step at cmd v None (record { stored = map f servers; seats = set seats at seat })) view (record { is = rw (same, seat_is, stored_is) refl })
+
+-- one that was refused memory
+pub stays : {X : Type 0} (f : X → List ℕ) (at : ℕ) (servers : List X) (seats : List Seat) (seat : Seat) (server new : X) (session : Session)
+    → seat ≡ get_or seats at seat → server ≡ get_or servers seat.server server → f new ≡ f server → session ≡ seat.session
+    → ◌≡◌ {A = Hosted} (record { stored = map f (set servers seat.server new); seats = set seats at (record { server = seat.server; session = session }) }) (record { stored = map f servers; seats = seats })
+stays f at servers seats seat server new session is same kept session_is =
+    let stored : map f (set servers seat.server new) ≡ map f servers = map-set_same f servers seat.server new server (kept ∙ ap f same) in
+    let whole : ◌≡◌ {A = Seat} (record { server = seat.server; session = session }) (get_or seats at seat) = ap {A = Session} {B = Seat} (λ s. record { server = seat.server; session = s }) session_is ∙ is in
+    let seated : set seats at (record { server = seat.server; session = session }) ≡ seats = ap (set seats at) whole ∙ set-get_or seats at seat in
+    rw (stored, seated) refl
+
+pub on_err : {T E : Type 0} {P : Type 0} (r : Result T E) → P → OnErr r P
+on_err (Ok x) p = tt
+on_err (Err e) p = p

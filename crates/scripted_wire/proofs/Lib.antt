@@ -1,0 +1,5 @@
+pub mod Left
+pub mod Hosting
+pub mod Sound
+pub mod Staged
+pub mod Reading

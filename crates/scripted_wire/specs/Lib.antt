@@ -1,0 +1,12 @@
+pub mod Marks
+pub mod Shown
+pub mod Giving
+pub mod Adds
+pub mod Scripts
+pub mod Hosts
+pub mod Asked
+pub mod Serving
+pub mod Links
+pub mod Sound
+pub mod Stages
+pub mod Salts

@@ -1,0 +1,274 @@
+// A wire between clients that follow scripts and servers in code.
+ghost use Rattle.std.specs.Prelude.{◌≡◌, ◌+◌, ◌≤◌, true, [], length, Some, IfSome, option_map};
+ghost use Rattle.std.specs.List.{All};
+ghost use Rattle.handshake.specs.Spelling.{IsText};
+ghost use Rattle.mx_wire.specs.Answers.{accepted_entry, opened_entry, got_entry, ReadsAtMost};
+ghost use Rattle.mx_wire.specs.Tells.{Tells};
+ghost use Rattle.mx_wire.specs.declared.entry.Entry.TheVariants as entry;
+
+use crate::calls::Calls;
+use crate::hosts::Hosts;
+use crate::salt::salt_of;
+use crate::script::Script;
+use crate::stage::Stage;
+use crate::told_log::ToldLog;
+use mx_base::{Address, Bytes, LinkId, OutOfMemory, Port, ServerId, Tag};
+use mx_wire::{Accepted, Entry, Got, Listened, Opened, Took, Wire, Woke};
+use server_rule::TameServer;
+use std::alloc::Global;
+use std::marker::Model;
+
+/// A wire between clients that follow scripts and servers in code. It tells its log until it finds no memory, or would reach 2^48
+/// entries; its waits answer Over then.
+///
+/// All clients wait at the port of traffic from the beginning. What is written to one it hears at once, and says its next command
+/// where the reply to the last is whole then. What is written to a server stays until a wake: at each wake each server takes, in the
+/// order of links, the next thing on a link that was written whole, be it the router's login or a command, and the moment goes on by a
+/// millisecond. A server lets everyone in who can be read. Where the router has closed a link and nothing is left to run there, the
+/// server closes its session. Writes take all bytes.
+#[derive(Drop)]
+pub struct Scripted<R: TameServer> {
+    alloc: Global,
+    hosts: Hosts<R>,
+    stage: Stage,
+    told: ToldLog,
+    calls: Calls,
+}
+
+impl<R: TameServer> Model for Scripted<R> {
+    ghost use Rattle.std.specs.Prelude.{length};
+    ghost use Rattle.scripted_wire.specs.Shown.{Shown};
+    ghost use Rattle.scripted_wire.specs.Sound.{IsSound};
+
+    ghost Value = { Shown };
+
+    ghost view = { λ s. record { told = s.told; failed = s.calls } };
+
+    ghost invariant = { λ s. IsSound (length s.stage.links.items) s.stage.moment s.told };
+}
+
+impl<R: TameServer> Scripted<R> {
+    /// A wire of these servers, counted from 1, and the clients of these scripts, which come in this order. The calls of these numbers
+    /// fail: `listen`, `wait`, `accept`, `open`, `read` and `write` are counted, from 1. A server takes the data that it begins with, and
+    /// no user's name has a NUL. Takes no memory.
+    pub fn new(alloc: Global, servers: Vec<R>, clients: Vec<Script>, failing: Vec<u64>) -> Self
+        requires servers { All (λ server. R.tests.is_data (R.stored server) ≡ true) servers.items }
+        requires clients { All (λ script. IsText script.user) clients.items }
+        ensures { result ≡ record { told = Some []; failed = record { ports = 0; links = 0 } } }
+    {
+        Scripted {
+            alloc,
+            hosts: Hosts::new(alloc, servers),
+            stage: Stage::new(alloc, clients),
+            told: ToldLog::new(alloc),
+            calls: Calls::new(failing),
+        }
+    }
+
+    /// The log so far, where it is told.
+    pub fn log(&self) -> Option<&[Entry]>
+        ensures { option_map (λ log. log.now) result ≡ self.now.told }
+    {
+        self.told.told()
+    }
+
+    // The next client comes, where one waits.
+    fn accept_next(&mut self) -> Accepted
+        ensures told { Tells self.old.told (accepted_entry Port.Traffic result) self.new.told }
+        ensures right { result ≡ Accepted.Failed → ⊥ }
+        ensures failed { self.new.failed ≡ self.old.failed }
+    {
+        let port = Port::Traffic;
+        let id = self.stage.next_link();
+        let salt = salt_of(id.0);
+        match self.stage.accept(self.alloc) {
+            Ok(true) => {
+                self.told.add(Entry::Accepted {
+                    port,
+                    link: id,
+                    salt,
+                });
+                Accepted::Link { id, salt }
+            }
+            Ok(false) => {
+                self.told.add(Entry::AcceptNothing { port });
+                Accepted::NotReady
+            }
+            Err(_) => {
+                self.told.stop();
+                Accepted::NotReady
+            }
+        }
+    }
+
+    // A link to the server at this place comes.
+    fn open_at(&mut self, server: ServerId, address: Address, at: usize) -> Opened
+        ensures told { Tells self.old.told (opened_entry server address result) self.new.told }
+        ensures right { result ≡ Opened.Failed → self.new.failed.links ≡ self.old.failed.links + 1 }
+        ensures links { self.old.failed.links ≤ self.new.failed.links }
+        ensures ports { self.new.failed.ports ≡ self.old.failed.ports }
+    {
+        let id = self.stage.next_link();
+        match self.stage.open(self.alloc, at) {
+            Ok(()) => {
+                self.told.add(Entry::Opened {
+                    server,
+                    address,
+                    link: id,
+                });
+                Opened::Link { id }
+            }
+            Err(_) => {
+                self.told.stop();
+                self.calls.fail_link();
+                Opened::Failed
+            }
+        }
+    }
+}
+
+impl<R: TameServer> Wire for Scripted<R> {
+    ghost told = { λ wire. wire.told };
+
+    ghost port_faults = { λ wire. wire.failed.ports };
+
+    ghost faults = { λ wire. wire.failed.links };
+
+    ghost Rules = { Unit {0} };
+
+    ghost ruled_by = { λ _. tt };
+
+    ghost takes = { λ _ _ _ piece taken. taken ≡ piece };
+
+    fn reserve(&mut self, _links: u32) -> Result<(), OutOfMemory> {
+        Ok(())
+    }
+
+    fn listen(&mut self, port: Port, address: Address) -> Listened {
+        if self.calls.next_fails() {
+            self.told.add(Entry::ListenFailed { port });
+            self.calls.fail_port();
+            return Listened::Failed;
+        }
+        self.told.add(Entry::Listening { port, address });
+        Listened::Done
+    }
+
+    fn wait(&mut self, until_ms: u64) -> Woke {
+        if self.calls.next_fails() {
+            self.told.add(Entry::WaitFailed);
+            self.calls.fail_port();
+            return Woke::Failed;
+        }
+        let Ok(worked) = self
+            .stage
+            .serve(self.alloc, &mut self.hosts, &mut self.told)
+        else {
+            self.told.stop();
+            return Woke::Over;
+        };
+        if self.told.is_stopped() || (!worked && self.stage.is_over()) {
+            self.told.add(Entry::Over);
+            return Woke::Over;
+        }
+        self.stage.wake();
+        let now_ms = self.stage.moment;
+        self.told.add(Entry::Woke { until_ms, now_ms });
+        Woke::Woke { now_ms }
+    }
+
+    fn next_ready(&mut self) -> Option<LinkId> {
+        match self.stage.name() {
+            Some(link) => {
+                self.told.add(Entry::Named { link });
+                Some(link)
+            }
+            None => {
+                self.told.add(Entry::NoneNamed);
+                None
+            }
+        }
+    }
+
+    fn accept(&mut self, port: Port) -> Accepted {
+        if self.calls.next_fails() {
+            self.told.add(Entry::AcceptFailed { port });
+            self.calls.fail_port();
+            return Accepted::Failed;
+        }
+        match port {
+            Port::Traffic => self.accept_next(),
+            Port::Admin => {
+                self.told.add(Entry::AcceptNothing { port });
+                Accepted::NotReady
+            }
+        }
+    }
+
+    fn open(&mut self, server: ServerId, address: Address) -> Opened {
+        let fails = self.calls.next_fails();
+        match self.hosts.index(server) {
+            Some(at) if !fails => self.open_at(server, address, at),
+            _ => {
+                self.told.add(Entry::OpenFailed { server, address });
+                self.calls.fail_link();
+                Opened::Failed
+            }
+        }
+    }
+
+    fn read(&mut self, link: LinkId, into: &mut [u8]) -> Got {
+        if self.calls.next_fails() {
+            self.told.add(Entry::ReadFailed { link });
+            self.calls.fail_link();
+            return Got::Failed;
+        }
+        let got = self.stage.read(link, into);
+        self.told.add_if(read_entry(self.alloc, link, got, into));
+        got
+    }
+
+    fn write(&mut self, link: LinkId, tag: Tag, piece: &[u8]) -> Took {
+        if self.calls.next_fails() {
+            self.told.add(Entry::WriteFailed { link });
+            self.calls.fail_link();
+            return Took::Failed;
+        }
+        let heard = self.stage.write(self.alloc, link, piece);
+        self.told
+            .add_if(write_entry(self.alloc, link, tag, piece, heard.is_ok()));
+        Took::Took { n: piece.len() }
+    }
+
+    fn close(&mut self, link: LinkId) {
+        self.told.add(Entry::Closed { link });
+        self.stage.close(link);
+    }
+}
+
+// The entry of a read, where there is memory for it.
+fn read_entry(alloc: Global, link: LinkId, got: Got, into: &[u8]) -> Option<Entry>
+    requires { ReadsAtMost (length into.now) got }
+    ensures { IfSome result (λ e. e ≡ got_entry link into.now got) }
+{
+    Some(match got {
+        Got::Got { n } => {
+            let bytes = Bytes::from_slice(alloc, &into[..n]).ok()?;
+            Entry::Got { link, bytes }
+        }
+        Got::NotReady => Entry::ReadNothing { link },
+        Got::End => Entry::Ended { link },
+        Got::Failed => Entry::ReadFailed { link },
+    })
+}
+
+// The entry of a write of a whole piece, where it was heard and there is memory for it.
+fn write_entry(alloc: Global, link: LinkId, tag: Tag, piece: &[u8], heard: bool) -> Option<Entry>
+    ensures { IfSome result (λ e. e ≡ entry.Wrote link tag piece.now) }
+{
+    if !heard {
+        return None;
+    }
+    let bytes = Bytes::from_slice(alloc, piece).ok()?;
+    Some(Entry::Wrote { link, tag, bytes })
+}
