@@ -4,7 +4,7 @@ use mx_base::{LinkId, get_u16, get_u24};
 use mx_wire::Entry;
 use std::alloc::Global;
 
-/// The codes of the router's own errors begin here.
+// The codes of the router's own errors begin here.
 const OWN_ERRORS: u16 = 9100;
 
 // The link of the client that came as this one, counted from 0.
@@ -73,9 +73,9 @@ fn is_own_error(reply: &[u8]) -> bool {
     }
 }
 
-/// Whether what a client was written is, reply by reply, the front of what it is written where no call fails, but that one of the router's
-/// own errors may stand in place of a reply. The last reply may be cut.
-pub fn is_front(whole: &[u8], written: &[u8]) -> bool {
+// Whether what a client was written is, reply by reply, the front of what it is written where no call fails, but that one of the router's
+// own errors may stand in place of a reply. The last reply may be cut.
+fn is_front(whole: &[u8], written: &[u8]) -> bool {
     let mut whole = whole;
     let mut written = written;
     for _ in 0..written.len() {
@@ -93,8 +93,16 @@ pub fn is_front(whole: &[u8], written: &[u8]) -> bool {
     true
 }
 
-/// Whether an entry is that of a call that can fail.
-pub fn can_fail(entry: &Entry) -> bool {
+/// The same of each client.
+pub fn are_fronts(whole: &[Vec<u8>], written: &[Vec<u8>]) -> bool {
+    whole
+        .iter()
+        .zip(written)
+        .all(|(whole, written)| is_front(whole, written))
+}
+
+// Whether an entry is that of a call that can fail.
+fn can_fail(entry: &Entry) -> bool {
     !matches!(
         entry,
         Entry::Named { .. }
@@ -103,4 +111,9 @@ pub fn can_fail(entry: &Entry) -> bool {
             | Entry::Exec { .. }
             | Entry::Drop { .. }
     )
+}
+
+/// How many calls that can fail a log tells of.
+pub fn calls_in(log: &[Entry]) -> u64 {
+    log.iter().filter(|entry| can_fail(entry)).count() as u64
 }

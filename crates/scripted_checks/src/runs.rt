@@ -1,11 +1,9 @@
 // Runs of the router over scripts.
-ghost use Rattle.std.specs.Prelude.{IfOk};
-ghost use Rattle.std.specs.List.{All};
-ghost use Rattle.handshake.specs.Spelling.{IsText};
+ghost use Rattle.std.specs.Prelude.{◌≡◌, [], IfOk, Some};
 
 use crate::configs::CONFIG;
 use crate::names::named;
-use crate::replies::{can_fail, is_front, written_to};
+use crate::replies::{are_fronts, calls_in, written_to};
 use crate::scripts::scripts_of;
 use check_lines::{Case, CaseFault};
 use mem_server::MemServer;
@@ -14,16 +12,19 @@ use mx_base::Bytes;
 use mx_wire::Entry;
 use proxy_run::{Status, run};
 use recording::transcript;
-use scripted_wire::{Script, Scripted};
+use scripted_wire::Scripted;
 use std::alloc::Global;
 use std::str;
 use std::thread::Threads;
 
-/// What a run left: its status, and the wire with its log.
+/// What was seen of a run: its status, the transcript of the wire, how many calls that can fail were made, and the bytes that each client
+/// was written.
 #[derive(Drop)]
-struct Ended {
+struct Seen {
     status: u8,
-    wire: Scripted<MemServer>,
+    text: Bytes,
+    calls: u64,
+    written: Vec<Vec<u8>>,
 }
 
 // So many servers without tables.
@@ -35,36 +36,95 @@ fn servers_of(alloc: Global, count: usize) -> Result<Vec<MemServer>, CaseFault> 
     Ok(servers)
 }
 
-// Serves the configuration between these clients and so many servers.
+// The wire between these clients and so many servers.
+fn wire_of(
+    alloc: Global,
+    servers: usize,
+    scripts: &str,
+    failing: Vec<u64>,
+) -> Result<Scripted<MemServer>, CaseFault>
+    ensures { IfOk result (λ wire. wire.told ≡ Some []) }
+{
+    let scripts = scripts_of(alloc, scripts)?;
+    let servers = servers_of(alloc, servers)?;
+    Ok(Scripted::new(alloc, servers, scripts, failing))
+}
+
+// The words `serve` and `config`.
+fn words_of(alloc: Global) -> Result<Vec<String>, CaseFault> {
+    let mut words = Vec::new(alloc);
+    for word in ["serve", "config"] {
+        words.push(String::from_str(alloc, word)?)?;
+    }
+    Ok(words)
+}
+
+// The configuration under the name `config`.
+fn files_of(alloc: Global) -> Result<MemFiles, CaseFault> {
+    let name = Bytes::from_slice(alloc, b"config")?;
+    let text = Bytes::from_slice(alloc, CONFIG.as_bytes())?;
+    let mut held = Vec::new(alloc);
+    held.push((name, text))?;
+    Ok(MemFiles::new(alloc, held, Vec::new(alloc)))
+}
+
+// Serves the configuration over a wire, and gives the status.
+fn serve<R: Threads + Sync>(
+    rt: &R,
+    alloc: Global,
+    wire: &mut Scripted<MemServer>,
+) -> Result<u8, CaseFault>
+    requires { wire.old.told ≡ Some [] }
+{
+    let words = words_of(alloc)?;
+    let mut files = files_of(alloc)?;
+    let mut sink = MemSink::new(alloc, Vec::new(alloc));
+    let Status(status) = run(rt, alloc, &words, &mut files, wire, &mut sink);
+    Ok(status)
+}
+
+// The bytes that each of so many clients was written.
+fn all_written(alloc: Global, log: &[Entry], clients: usize) -> Result<Vec<Vec<u8>>, CaseFault> {
+    let mut written = Vec::new(alloc);
+    for client in 0..clients {
+        written.push(written_to(alloc, log, client)?)?;
+    }
+    Ok(written)
+}
+
+// What a run with this status shows in its log.
+fn shows(
+    alloc: Global,
+    status: Result<u8, CaseFault>,
+    log: Option<&[Entry]>,
+    clients: usize,
+) -> Result<Seen, CaseFault> {
+    let status = status?;
+    let Some(log) = log else {
+        return Err(CaseFault::OutOfMemory);
+    };
+    let text = transcript(alloc, log)?;
+    let written = all_written(alloc, log, clients)?;
+    Ok(Seen {
+        status,
+        text,
+        calls: calls_in(log),
+        written,
+    })
+}
+
+// A run between the clients of these scripts and so many servers, and what so many of the clients were written.
 fn served<R: Threads + Sync>(
     rt: &R,
     alloc: Global,
     servers: usize,
     scripts: &str,
     failing: Vec<u64>,
-) -> Result<Ended, CaseFault> {
-    let mut held = Vec::new(alloc);
-    held.push((
-        Bytes::from_slice(alloc, b"config")?,
-        Bytes::from_slice(alloc, CONFIG.as_bytes())?,
-    ))?;
-    let mut files = MemFiles::new(alloc, held, Vec::new(alloc));
-    let mut sink = MemSink::new(alloc, Vec::new(alloc));
-    let mut words = Vec::new(alloc);
-    words.push(String::from_str(alloc, "serve")?)?;
-    words.push(String::from_str(alloc, "config")?)?;
-    let scripts = scripts_of(alloc, scripts)?;
-    let mut wire = Scripted::new(alloc, servers_of(alloc, servers)?, scripts, failing);
-    let Status(status) = run(rt, alloc, &words, &mut files, &mut wire, &mut sink);
-    Ok(Ended { status, wire })
-}
-
-// The log of a run.
-fn log_of(ended: &Ended) -> Result<&[Entry], CaseFault> {
-    match ended.wire.log() {
-        Some(log) => Ok(log),
-        None => Err(CaseFault::OutOfMemory),
-    }
+    clients: usize,
+) -> Result<Seen, CaseFault> {
+    let mut wire = wire_of(alloc, servers, scripts, failing)?;
+    let status = serve(rt, alloc, &mut wire);
+    shows(alloc, status, wire.log(), clients)
 }
 
 // The calls that fail: numbers with commas between them, or `-`.
@@ -82,6 +142,23 @@ fn failing_of(alloc: Global, text: &str) -> Result<Vec<u64>, CaseFault> {
     Ok(failing)
 }
 
+// A transcript in one line, with names in it.
+fn line_of(alloc: Global, text: &[u8]) -> Result<String, CaseFault> {
+    let Ok(text) = str::from_utf8(text) else {
+        return Err(CaseFault::Bad);
+    };
+    let lines = text.replace(alloc, "\n", " | ")?;
+    Ok(named(alloc, lines.as_str().trim_end())?)
+}
+
+// The status and the transcript of a run.
+fn shown(alloc: Global, seen: &Seen) -> Result<String, CaseFault> {
+    let line = line_of(alloc, seen.text.as_slice())?;
+    let blank = if line.is_empty() { "" } else { " " };
+    let status = seen.status;
+    Ok(format!(in alloc; "{status}{blank}{line}")?)
+}
+
 /// `run <servers> <failing> <script> | <script> ..` answers the status, and the transcript of the wire with a `|` in place of each line feed.
 pub fn one<R: Threads + Sync>(
     rt: &R,
@@ -90,40 +167,59 @@ pub fn one<R: Threads + Sync>(
 ) -> Result<String, CaseFault> {
     let servers = case.number()?;
     let failing = failing_of(alloc, case.text()?)?;
-    let ended = served(rt, alloc, servers, case.rest_text(), failing)?;
-    let status = ended.status;
-    let text = transcript(alloc, log_of(&ended)?)?;
-    let Ok(text) = str::from_utf8(text.as_slice()) else {
-        return Err(CaseFault::Bad);
-    };
-    let lines = text.replace(alloc, "\n", " | ")?;
-    let lines = named(alloc, lines.as_str().trim_end())?;
-    if lines.is_empty() {
-        return Ok(format!(in alloc; "{status}")?);
-    }
-    Ok(format!(in alloc; "{status} {lines}")?)
+    let seen = served(rt, alloc, servers, case.rest_text(), failing, 0)?;
+    shown(alloc, &seen)
 }
 
-// Whether in the run whose k-th call fails both clients are written a front of what they are where none fails.
+// The runs of a case that differ in the call that fails.
+#[derive(Clone, Copy)]
+struct Runs<'a> {
+    servers: usize,
+    first: u64,
+    last: u64,
+    clients: usize,
+    scripts: &'a str,
+}
+
+// The runs that a case asks for.
+fn runs_of<'a>(case: &mut Case<'a>) -> Result<Runs<'a>, CaseFault> {
+    Ok(Runs {
+        servers: case.number()?,
+        first: case.number()?,
+        last: case.number()?,
+        clients: case.number()?,
+        scripts: case.rest_text(),
+    })
+}
+
+// Whether in the run whose k-th call fails each client is written a front of what it is where none fails.
 fn is_kept<R: Threads + Sync>(
     rt: &R,
     alloc: Global,
-    servers: usize,
-    scripts: &str,
+    runs: Runs<'_>,
     whole: &[Vec<u8>],
     k: u64,
 ) -> Result<bool, CaseFault> {
     let mut failing = Vec::new(alloc);
     failing.push(k)?;
-    let ended = served(rt, alloc, servers, scripts, failing)?;
-    let log = log_of(&ended)?;
-    for (client, whole) in whole.iter().enumerate() {
-        let written = written_to(alloc, log, client)?;
-        if !is_front(whole, &written) {
-            return Ok(false);
+    let seen = served(rt, alloc, runs.servers, runs.scripts, failing, runs.clients)?;
+    Ok((seen.status == 0 || seen.status == 6) && are_fronts(whole, &seen.written))
+}
+
+// In how many of the runs that is so.
+fn kept_in<R: Threads + Sync>(
+    rt: &R,
+    alloc: Global,
+    runs: Runs<'_>,
+    whole: &[Vec<u8>],
+) -> Result<u64, CaseFault> {
+    let mut kept = 0u64;
+    for k in runs.first..runs.last.saturating_add(1) {
+        if is_kept(rt, alloc, runs, whole, k)? {
+            kept = kept.saturating_add(1);
         }
     }
-    Ok(ended.status == 0 || ended.status == 6)
+    Ok(kept)
 }
 
 /// `fails <servers> <first> <last> <clients> <script> | <script> ..` runs once with no call that fails, and once for each number from
@@ -134,26 +230,22 @@ pub fn each_failing<R: Threads + Sync>(
     alloc: Global,
     case: &mut Case<'_>,
 ) -> Result<String, CaseFault> {
-    let servers = case.number()?;
-    let first: u64 = case.number()?;
-    let last: u64 = case.number()?;
-    let clients: usize = case.number()?;
-    let scripts = case.rest_text();
-    let ended = served(rt, alloc, servers, scripts, Vec::new(alloc))?;
-    let log = log_of(&ended)?;
-    let mut whole = Vec::new(alloc);
-    for client in 0..clients {
-        whole.push(written_to(alloc, log, client)?)?;
-    }
-    let mut kept = 0u64;
-    let mut runs = 0u64;
-    for k in first..last.saturating_add(1) {
-        runs = runs.saturating_add(1);
-        if is_kept(rt, alloc, servers, scripts, &whole, k)? {
-            kept = kept.saturating_add(1);
-        }
-    }
-    let calls = log.iter().filter(|entry| can_fail(entry)).count() as u64;
-    let enough = if last <= calls { "made" } else { "not made" };
-    Ok(format!(in alloc; "{kept} of {runs}, call {last} is {enough}")?)
+    let runs = runs_of(case)?;
+    let whole = served(
+        rt,
+        alloc,
+        runs.servers,
+        runs.scripts,
+        Vec::new(alloc),
+        runs.clients,
+    )?;
+    let kept = kept_in(rt, alloc, runs, &whole.written)?;
+    let count = runs.last.saturating_add(1).saturating_sub(runs.first);
+    let last = runs.last;
+    let enough = if last <= whole.calls {
+        "made"
+    } else {
+        "not made"
+    };
+    Ok(format!(in alloc; "{kept} of {count}, call {last} is {enough}")?)
 }
