@@ -1,6 +1,6 @@
 // Classes of statements.
 use crate::settings::{push_settings, shape_name};
-use crate::show::{push_bytes, push_text, separate};
+use crate::show::{push_bytes, push_text, push_those, separate};
 use check_lines::{Case, CaseFault};
 use pin_classifier::{Class, Locking, Shape, classify};
 use session_vars::{SetShape, Settings};
@@ -28,24 +28,19 @@ fn push_flags(class: &Class, out: &mut String) -> Result<(), CaseFault> {
         Locking::None => (false, false),
     };
     let flags = [
-        (class.deep, ", deep"),
-        (class.outlasts_reset, ", outlasts a reset"),
-        (takes, ", takes locks"),
-        (frees, ", frees locks"),
-        (class.next_tx, ", next transaction"),
-        (class.savepoint, ", savepoint"),
-        (class.marks_id, ", marks id"),
-        (class.sets_id, ", sets id"),
-        (class.reads_id, ", reads id"),
-        (class.reads_diag, ", reads diagnostics"),
-        (class.calc_rows, ", counts rows"),
+        (class.deep, "deep"),
+        (class.outlasts_reset, "outlasts a reset"),
+        (takes, "takes locks"),
+        (frees, "frees locks"),
+        (class.next_tx, "next transaction"),
+        (class.savepoint, "savepoint"),
+        (class.marks_id, "marks id"),
+        (class.sets_id, "sets id"),
+        (class.reads_id, "reads id"),
+        (class.reads_diag, "reads diagnostics"),
+        (class.calc_rows, "counts rows"),
     ];
-    for (holds, name) in flags {
-        if holds {
-            out.push_str(name)?;
-        }
-    }
-    Ok(())
+    push_those(out, 0, &flags)
 }
 
 fn push_shape(shape: &Shape, out: &mut String) -> Result<(), CaseFault> {
@@ -73,8 +68,7 @@ pub(crate) fn opening(alloc: Global, text: &str, out: &mut String) -> Result<(),
         return Err(CaseFault::Bad);
     };
     let mut settings = Settings::for_collation(alloc, number)?;
-    hear_all(alloc, &mut settings, statements, out)?;
-    push_settings(&settings, out)
+    hear_all(alloc, &mut settings, statements, out)
 }
 
 fn hear_all(
@@ -88,7 +82,7 @@ fn hear_all(
         hear(alloc, settings, statement, out)?;
     }
     out.push_str(": ")?;
-    Ok(())
+    push_settings(settings, out)
 }
 
 // Appends the name of a statement's class, and makes its changes.

@@ -45,10 +45,10 @@ fn key_of(alloc: Global, text: &str) -> Result<DigestKey, CaseFault> {
 // Records statements with ` | ` between them: what each did, and the rows of the table.
 pub(crate) fn table(alloc: Global, text: &str, out: &mut String) -> Result<(), CaseFault> {
     let mut table = DigestTable::new(alloc);
-    if !text.is_empty() {
-        record_all(alloc, text, &mut table, out)?;
+    if text.is_empty() {
+        return push_rows(&table, out);
     }
-    push_rows(&table, out)
+    record_all(alloc, text, &mut table, out)
 }
 
 fn record_all(
@@ -59,10 +59,11 @@ fn record_all(
 ) -> Result<(), CaseFault> {
     for part in text.split(" | ") {
         separate(out, 0, " ")?;
-        push_recorded(table, key_of(alloc, part)?, out)?;
+        let key = key_of(alloc, part)?;
+        push_recorded(table, key, out)?;
     }
     out.push_str(": ")?;
-    Ok(())
+    push_rows(table, out)
 }
 
 // Records a key, and appends what that did.
@@ -103,23 +104,26 @@ pub(crate) fn fill(alloc: Global, case: &mut Case<'_>, out: &mut String) -> Resu
     let named = [case.number()?, case.number()?];
     let text = case.rest_text().as_bytes();
     let mut table = DigestTable::new(alloc);
-    record_in(alloc, count, text, &mut table)?;
+    fill_table(alloc, &mut table, count, named, text, out)
+}
+
+fn fill_table(
+    alloc: Global,
+    table: &mut DigestTable,
+    count: u16,
+    named: [u16; 2],
+    text: &[u8],
+    out: &mut String,
+) -> Result<(), CaseFault> {
+    for hostgroup in 0..count {
+        let key = key_in(alloc, hostgroup, text)?;
+        table.record(key)?;
+    }
     write!(out, "{} rows:", table.len())?;
     for hostgroup in named {
         out.push(' ')?;
-        push_recorded(&mut table, key_in(alloc, hostgroup, text)?, out)?;
-    }
-    Ok(())
-}
-
-fn record_in(
-    alloc: Global,
-    count: u16,
-    text: &[u8],
-    table: &mut DigestTable,
-) -> Result<(), CaseFault> {
-    for hostgroup in 0..count {
-        table.record(key_in(alloc, hostgroup, text)?)?;
+        let key = key_in(alloc, hostgroup, text)?;
+        push_recorded(table, key, out)?;
     }
     Ok(())
 }

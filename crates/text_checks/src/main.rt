@@ -1,8 +1,10 @@
-//! Shows what the calls on SQL texts answer, a line for each case of stdin.
+//! Shows what the calls on SQL texts and on the replies to them answer, a line for each case of stdin.
 #![tactic(auto)]
 
+mod answered;
 mod classes;
 mod digests;
+mod pins;
 mod settings;
 mod show;
 mod tokens;
@@ -29,6 +31,7 @@ fn answer_into(alloc: Global, case: &mut Case<'_>, out: &mut String) -> Result<(
         "bring" => settings::bring(alloc, case.rest_text(), out),
         "class" => classes::class(alloc, case, out),
         "opening" => classes::opening(alloc, case.rest_text(), out),
+        "pins" => pins::pins(alloc, case.rest_text(), out),
         _ => Err(CaseFault::Bad),
     }
 }

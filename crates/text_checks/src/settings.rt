@@ -151,8 +151,12 @@ fn settings_of(alloc: Global, text: &str) -> Result<Settings, CaseFault> {
         return Err(CaseFault::Bad);
     };
     let changes = changes_of(alloc, changes)?;
+    changed(alloc, number, changes.as_slice())
+}
+
+fn changed(alloc: Global, number: u8, changes: &[Change]) -> Result<Settings, CaseFault> {
     let mut settings = Settings::for_collation(alloc, number)?;
-    settings.apply(changes.as_slice())?;
+    settings.apply(changes)?;
     Ok(settings)
 }
 
@@ -162,11 +166,12 @@ pub(crate) fn bring(alloc: Global, text: &str, out: &mut String) -> Result<(), C
         return Err(CaseFault::Bad);
     };
     let to = settings_of(alloc, to)?;
+    bring_to(alloc, from, &to, out)
+}
+
+fn bring_to(alloc: Global, from: &str, to: &Settings, out: &mut String) -> Result<(), CaseFault> {
     let mut held = settings_of(alloc, from)?;
-    match leading(alloc, &held, &to)? {
-        Some(texts) => lead(alloc, &texts, &mut held, &to, out),
-        None => push_text(out, "names have to be wanted"),
-    }
+    lead(alloc, &mut held, to, out)
 }
 
 // The statements that lead from settings to others, where `Names` is wanted as a text.
@@ -179,6 +184,18 @@ fn leading(alloc: Global, from: &Settings, to: &Settings) -> Result<Option<SetTe
 
 fn lead(
     alloc: Global,
+    held: &mut Settings,
+    to: &Settings,
+    out: &mut String,
+) -> Result<(), CaseFault> {
+    match leading(alloc, held, to)? {
+        Some(texts) => hear_texts(alloc, &texts, held, to, out),
+        None => push_text(out, "names have to be wanted"),
+    }
+}
+
+fn hear_texts(
+    alloc: Global,
     texts: &SetTexts,
     held: &mut Settings,
     to: &Settings,
@@ -187,14 +204,8 @@ fn lead(
     push_texts(texts, out)?;
     apply_text(alloc, held, &texts.names)?;
     apply_text(alloc, held, &texts.session)?;
-    push_text(
-        out,
-        if are_same(held, to) {
-            " | same"
-        } else {
-            " | other"
-        },
-    )
+    let is_same = are_same(held, to);
+    push_text(out, if is_same { " | same" } else { " | other" })
 }
 
 // Reads a statement and makes its changes.

@@ -65,3 +65,18 @@ pub(crate) fn push_text(out: &mut String, text: &str) -> Result<(), CaseFault> {
     out.push_str(text)?;
     Ok(())
 }
+
+/// Appends the words of what holds to a list that begins at this length, with commas between them.
+pub(crate) fn push_those(
+    out: &mut String,
+    start: usize,
+    words: &[(bool, &str)],
+) -> Result<(), CaseFault> {
+    for (holds, word) in words {
+        if *holds {
+            separate(out, start, ", ")?;
+            out.push_str(word)?;
+        }
+    }
+    Ok(())
+}

@@ -1,5 +1,6 @@
 // The reasons for which a session keeps its link, reply by reply.
 use crate::answered::reply_end;
+use crate::show::{push_those, separate};
 use check_lines::CaseFault;
 use pin_classifier::{Class, classify};
 use session_state::{
@@ -14,18 +15,12 @@ struct Left {
     id: Option<u64>,
 }
 
-fn push_part(out: &mut String, between: &str, part: &str) -> Result<(), CaseFault> {
-    if !out.is_empty() {
-        out.push_str(between)?;
-    }
-    out.push_str(part)?;
-    Ok(())
-}
-
-// The names of the reasons, and what follows from them.
-fn shown(alloc: Global, left: Left) -> Result<String, CaseFault> {
+// Appends the names of the reasons, and what follows from them.
+fn push_left(left: Left, out: &mut String) -> Result<(), CaseFault> {
     let pin = left.pin;
+    let start = out.len();
     let names = [
+        (!is_pinned(pin), "none"),
         (pin.deep, "deep"),
         (pin.locks, "locks"),
         (pin.next_tx, "next_tx"),
@@ -36,16 +31,7 @@ fn shown(alloc: Global, left: Left) -> Result<String, CaseFault> {
         (needs_reset(pin), "needs reset"),
         (left.id.is_none(), "id unknown"),
     ];
-    let mut out = String::new(alloc);
-    if !is_pinned(pin) {
-        out.push_str("none")?;
-    }
-    for (holds, name) in names {
-        if holds {
-            push_part(&mut out, ", ", name)?;
-        }
-    }
-    Ok(out)
+    push_those(out, start, &names)
 }
 
 fn id_after(known: Option<u64>, class: &Class, end: &ReplyEnd) -> Option<u64> {
@@ -66,17 +52,17 @@ fn step(alloc: Global, left: Left, text: &str) -> Result<Left, CaseFault> {
         Some((ended, "shared")) => (ended, Some(true)),
         Some((ended, _)) => (ended, Some(false)),
     };
-    let class = classify(alloc, statement.as_bytes())?;
     let end = reply_end(ended)?;
+    let class = classify(alloc, statement.as_bytes())?;
     Ok(Left {
         pin: pin_after(left.pin, &class, multiplex, &end),
         id: id_after(left.id, &class, &end),
     })
 }
 
-/// What is left in a fresh session after each of these steps, which stand between ` | `.
-pub fn follow(alloc: Global, text: &str) -> Result<String, CaseFault> {
-    let mut left = Left {
+// What is left in a fresh session.
+fn fresh() -> Left {
+    Left {
         pin: Pin {
             deep: false,
             locks: false,
@@ -87,11 +73,16 @@ pub fn follow(alloc: Global, text: &str) -> Result<String, CaseFault> {
             rule: false,
         },
         id: Some(0),
-    };
-    let mut out = String::new(alloc);
+    }
+}
+
+/// What is left in a fresh session after each of these steps, which stand between ` | `.
+pub(crate) fn pins(alloc: Global, text: &str, out: &mut String) -> Result<(), CaseFault> {
+    let mut left = fresh();
     for part in text.split(" | ") {
         left = step(alloc, left, part)?;
-        push_part(&mut out, " | ", &shown(alloc, left)?)?;
+        separate(out, 0, " | ")?;
+        push_left(left, out)?;
     }
-    Ok(out)
+    Ok(())
 }

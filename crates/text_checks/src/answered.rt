@@ -21,7 +21,7 @@ fn has_flags(kind: EndKind) -> bool {
 }
 
 /// `ok`, `rows`, `err` or `prepared`, and behind it `+tx` for a transaction, `+warning`, `+id` for an insert id.
-pub fn reply_end(text: &str) -> Result<ReplyEnd, CaseFault> {
+pub(crate) fn reply_end(text: &str) -> Result<ReplyEnd, CaseFault> {
     let mut parts = text.split('+');
     let kind = kind_named(parts.next().unwrap_or(""))?;
     let mut end = ReplyEnd {
