@@ -24,24 +24,37 @@ pub(crate) fn config(alloc: Global, case: &mut Case<'_>) -> Result<String, CaseF
 /// `rows <users> <servers> <connections>`: how many rows a configuration of so many users and servers has, each server with
 /// so many connections, or its first fault.
 pub(crate) fn rows(alloc: Global, case: &mut Case<'_>) -> Result<String, CaseFault> {
-    let mut text = String::from_str(alloc, PROXY)?;
-    put_users(&mut text, small(case)?)?;
-    put_servers(&mut text, small(case)?, small(case)?)?;
+    let counts = [small(case)?, small(case)?, small(case)?];
+    let text = text_of_rows(alloc, counts)?;
     match read_config(alloc, text.as_bytes()) {
-        Ok(config) => debug(alloc, &counts(&config)),
+        Ok(config) => debug(alloc, &counts_in(&config)),
         Err(refusal) => fault(alloc, &refusal),
     }
 }
 
 /// `rules <count>`: how many rules a configuration of so many has, or its first fault.
 pub(crate) fn rules(alloc: Global, case: &mut Case<'_>) -> Result<String, CaseFault> {
-    let mut text = String::from_str(alloc, PROXY)?;
-    put_users(&mut text, 1)?;
-    put_rules(&mut text, small(case)?)?;
+    let count = small(case)?;
+    let text = text_of_rules(alloc, count)?;
     match read_config(alloc, text.as_bytes()) {
         Ok(config) => debug(alloc, &config.rules.as_slice().len()),
         Err(refusal) => fault(alloc, &refusal),
     }
+}
+
+fn text_of_rows(alloc: Global, counts: [u16; 3]) -> Result<String, AllocError> {
+    let [users, servers, connections] = counts;
+    let mut text = String::from_str(alloc, PROXY)?;
+    put_users(&mut text, users)?;
+    put_servers(&mut text, servers, connections)?;
+    Ok(text)
+}
+
+fn text_of_rules(alloc: Global, count: u16) -> Result<String, AllocError> {
+    let mut text = String::from_str(alloc, PROXY)?;
+    put_users(&mut text, 1)?;
+    put_rules(&mut text, count)?;
+    Ok(text)
 }
 
 fn put_rules(text: &mut String, count: u16) -> Result<(), AllocError> {
@@ -51,7 +64,7 @@ fn put_rules(text: &mut String, count: u16) -> Result<(), AllocError> {
     Ok(())
 }
 
-fn counts(config: &Config) -> (usize, usize) {
+fn counts_in(config: &Config) -> (usize, usize) {
     (
         config.users.as_slice().len(),
         config.servers.as_slice().len(),

@@ -1,12 +1,15 @@
-//! Shows what configurations, tables of servers, recordings, transcripts, plays of a recording, and files and a sink in
-//! memory answer, a line for each case of stdin.
+//! Shows what configurations, tables of servers, picks of servers, recordings, transcripts, plays of a recording, and files
+//! and a sink in memory answer, a line for each case of stdin.
 #![tactic(auto)]
 
+mod answers;
 mod calls;
 mod configs;
 mod held;
 mod plays;
+mod pool;
 mod recordings;
+mod rows;
 mod servers;
 mod transcripts;
 mod words;
@@ -24,6 +27,7 @@ fn answer(alloc: Global, case: &mut Case<'_>) -> Result<String, CaseFault> {
         "like_servers" => servers::like_servers(alloc, case),
         "number" => servers::number(alloc, case),
         "server" => servers::server(alloc, case),
+        "pool" => pool::follow(alloc, case),
         "recording" => recordings::recording(alloc, case),
         "entries" => recordings::entries(alloc, case),
         "transcript" => transcripts::transcript_of(alloc, case),

@@ -1,11 +1,17 @@
 // Plays of a recording.
+use crate::answers::{Answering, and_left, answers};
 use crate::calls::called;
 use crate::words::lines;
 use check_lines::{Case, CaseFault};
 use mem_wire::Tape;
 use recording::read_recording;
 use std::alloc::Global;
-use std::fmt::Write;
+
+impl Answering for Tape {
+    fn answer(&mut self, alloc: Global, part: &str) -> Result<String, CaseFault> {
+        called(alloc, self, &mut Case::of(part))
+    }
+}
 
 /// `play <call>; <call>; .. / <lines>`: what a tape of these lines answers to each call, and the log that it tells then.
 pub(crate) fn play(alloc: Global, case: &mut Case<'_>) -> Result<String, CaseFault> {
@@ -14,18 +20,11 @@ pub(crate) fn play(alloc: Global, case: &mut Case<'_>) -> Result<String, CaseFau
     };
     let text = lines(alloc, text)?;
     match read_recording(alloc, &text) {
-        Ok(entries) => play_calls(alloc, Tape::new(alloc, entries), calls),
+        Ok(entries) => {
+            let mut tape = Tape::new(alloc, entries);
+            let answered = answers(alloc, &mut tape, calls, "; ", "; ");
+            and_left(answered, &tape.log())
+        }
         Err(_) => Err(CaseFault::Bad),
     }
-}
-
-fn play_calls(alloc: Global, mut tape: Tape, calls: &str) -> Result<String, CaseFault> {
-    let mut answers = String::new(alloc);
-    for call in calls.split("; ") {
-        let answer = called(alloc, &mut tape, &mut Case::of(call))?;
-        write!(answers, "{answer}; ")?;
-    }
-    let log = tape.log();
-    write!(answers, "{log:?}")?;
-    Ok(answers)
 }

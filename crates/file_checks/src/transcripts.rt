@@ -23,10 +23,16 @@ fn log_of(alloc: Global, text: &str) -> Result<Vec<Entry>, CaseFault> {
     if text.is_empty() {
         return Ok(log);
     }
-    for entry in text.split("; ") {
-        log.push(entry_of(alloc, &mut Case::of(entry))?)?;
+    for text in text.split("; ") {
+        put_entry(alloc, &mut log, text)?;
     }
     Ok(log)
+}
+
+fn put_entry(alloc: Global, log: &mut Vec<Entry>, text: &str) -> Result<(), CaseFault> {
+    let entry = entry_of(alloc, &mut Case::of(text))?;
+    log.push(entry)?;
+    Ok(())
 }
 
 // `woke <link> <until>`, `accepted <link> <port>`, where 0 is the port for traffic, `opened <link> <server>`, `exec <link> 0`,

@@ -19,17 +19,6 @@ pub(crate) fn lines(alloc: Global, text: &str) -> Result<Vec<u8>, CaseFault> {
     Ok(lines.as_bytes().to_vec(alloc)?)
 }
 
-/// The numbers of a field, with a comma between each two. What is no number of 16 bits is left out.
-pub(crate) fn numbers(alloc: Global, field: &str) -> Result<Vec<u16>, CaseFault> {
-    let mut numbers = Vec::new(alloc);
-    for number in field.split(',') {
-        if let Ok(number) = number.parse::<u16>() {
-            numbers.push(number)?;
-        }
-    }
-    Ok(numbers)
-}
-
 /// Bytes as text, where they are one.
 pub(crate) fn text_of(bytes: &Bytes) -> &str {
     std::str::from_utf8(bytes.as_slice()).unwrap_or("no text")
