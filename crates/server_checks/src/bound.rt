@@ -5,11 +5,11 @@ use server_rule::LongParts;
 use session_vars::LongPart;
 use std::alloc::Global;
 
-/// The values of an execute (client/server protocol, "COM_STMT_EXECUTE").
+/// The values of an execute, with one byte of the map of NULLs (client/server protocol, "COM_STMT_EXECUTE").
 #[derive(Drop)]
 pub struct Bound {
     pub types: Vec<u8>,
-    pub nulls: u8,
+    pub nulls: Vec<u8>,
     pub values: Vec<u8>,
     pub long: LongParts,
 }
@@ -57,7 +57,9 @@ fn put_value(bound: &mut Bound, code: &str, text: &str) -> Result<(), CaseFault>
 // NULL is of the type NULL, and has a bit in the map.
 fn put_null(bound: &mut Bound, parameter: u16) -> Result<(), CaseFault> {
     bound.types.extend_from_slice(&[6, 0])?;
-    bound.nulls |= if parameter == 0 { 1 } else { 2 };
+    if let Some(nulls) = bound.nulls.first_mut() {
+        *nulls |= if parameter == 0 { 1 } else { 2 };
+    }
     Ok(())
 }
 
@@ -77,24 +79,29 @@ fn put(alloc: Global, bound: &mut Bound, parameter: u16, piece: &str) -> Result<
     }
 }
 
+fn put_all(alloc: Global, bound: &mut Bound, text: &str) -> Result<(), CaseFault> {
+    if text.is_empty() {
+        return Ok(());
+    }
+    let Some((first, second)) = text.split_once(' ') else {
+        return put(alloc, bound, 0, text);
+    };
+    put(alloc, bound, 0, first)?;
+    put(alloc, bound, 1, second)
+}
+
 impl Bound {
-    /// No values. Takes no memory.
-    pub fn new(alloc: Global) -> Bound {
-        Bound {
+    /// At most two values: `<type>:<value>`, with the number of the type; `long:<value>` for a text that was sent ahead; or
+    /// `null`. A blank stands between two.
+    pub fn of(alloc: Global, text: &str) -> Result<Bound, CaseFault> {
+        let nulls = vec![in alloc; 0; 1]?;
+        let mut bound = Bound {
             types: Vec::new(alloc),
-            nulls: 0,
+            nulls,
             values: Vec::new(alloc),
             long: LongParts::new(alloc),
-        }
-    }
-
-    /// Reads at most two values: `<type>:<value>`, with the number of the type; `long:<value>` for a text that was sent
-    /// ahead; or `null`. A blank stands between two.
-    pub fn read(&mut self, alloc: Global, text: &str) -> Result<(), CaseFault> {
-        let Some((first, second)) = text.split_once(' ') else {
-            return put(alloc, self, 0, text);
         };
-        put(alloc, self, 0, first)?;
-        put(alloc, self, 1, second)
+        put_all(alloc, &mut bound, text)?;
+        Ok(bound)
     }
 }

@@ -18,11 +18,13 @@ pub struct Seat {
 }
 
 fn fresh(alloc: Global) -> Result<Session, OutOfMemory> {
+    let user = Bytes::from_slice(alloc, b"u")?;
+    let settings = Settings::defaults(alloc)?;
     Ok(Session {
-        user: Bytes::from_slice(alloc, b"u")?,
+        user,
         found_rows: false,
         schema: Bytes::new(alloc),
-        settings: Settings::defaults(alloc)?,
+        settings,
         tx: Bytes::new(alloc),
         locks: Bytes::new(alloc),
         deep: Bytes::new(alloc),
@@ -31,16 +33,16 @@ fn fresh(alloc: Global) -> Result<Session, OutOfMemory> {
     })
 }
 
-fn prepared(alloc: Global, text: &Bytes, schema: &Bytes, bound: Bound) -> Result<Cmd, OutOfMemory> {
-    Ok(Cmd::Run {
-        text: Bytes::from_slice(alloc, text.as_slice())?,
-        schema: Bytes::from_slice(alloc, schema.as_slice())?,
-        settings: Settings::defaults(alloc)?,
+fn execute(text: Bytes, schema: Bytes, settings: Settings, bound: Bound) -> Cmd {
+    Cmd::Run {
+        text,
+        schema,
+        settings,
         types: Some(Bytes::from_vec(bound.types)),
-        nulls: Bytes::from_slice(alloc, &[bound.nulls])?,
+        nulls: Bytes::from_vec(bound.nulls),
         values: Bytes::from_vec(bound.values),
         long: bound.long,
-    })
+    }
 }
 
 fn other(verb: Verb, rest: Bytes) -> Cmd {
@@ -66,28 +68,30 @@ impl Seat {
 
     // What is prepared is kept for the next execute.
     fn keep(&mut self, alloc: Global, text: &str) -> Result<(), OutOfMemory> {
-        self.text = Bytes::from_slice(alloc, text.as_bytes())?;
-        self.schema = Bytes::from_slice(alloc, self.session.schema.as_slice())?;
+        let text = Bytes::from_slice(alloc, text.as_bytes())?;
+        let schema = Bytes::from_slice(alloc, self.session.schema.as_slice())?;
+        self.text = text;
+        self.schema = schema;
         Ok(())
     }
 
     fn execute(&self, alloc: Global, values: &str) -> Result<Cmd, CaseFault> {
-        let mut bound = Bound::new(alloc);
-        if !values.is_empty() {
-            bound.read(alloc, values)?;
-        }
-        Ok(prepared(alloc, &self.text, &self.schema, bound)?)
+        let text = Bytes::from_slice(alloc, self.text.as_slice())?;
+        let schema = Bytes::from_slice(alloc, self.schema.as_slice())?;
+        let settings = Settings::defaults(alloc)?;
+        let bound = Bound::of(alloc, values)?;
+        Ok(execute(text, schema, settings, bound))
     }
 
     fn command(&mut self, alloc: Global, step: &Step<'_>) -> Result<Cmd, CaseFault> {
-        match step.verb {
-            Verb::Execute => self.execute(alloc, step.rest),
-            Verb::Prepare => {
-                self.keep(alloc, step.rest)?;
-                Ok(other(step.verb, Bytes::from_slice(alloc, step.rest.as_bytes())?))
-            }
-            _ => Ok(other(step.verb, Bytes::from_slice(alloc, step.rest.as_bytes())?)),
+        if matches!(step.verb, Verb::Execute) {
+            return self.execute(alloc, step.rest);
         }
+        if matches!(step.verb, Verb::Prepare) {
+            self.keep(alloc, step.rest)?;
+        }
+        let rest = Bytes::from_slice(alloc, step.rest.as_bytes())?;
+        Ok(other(step.verb, rest))
     }
 
     /// Runs a step, and shows its reply.
@@ -98,7 +102,9 @@ impl Seat {
         step: &Step<'_>,
     ) -> Result<String, CaseFault> {
         let cmd = self.command(alloc, step)?;
-        let reply = server.run(alloc, &mut self.session, &cmd)?;
-        reply_text(alloc, step.verb, reply.as_slice())
+        match server.run(alloc, &mut self.session, &cmd) {
+            Ok(reply) => reply_text(alloc, step.verb, reply.as_slice()),
+            Err(OutOfMemory) => Err(CaseFault::OutOfMemory),
+        }
     }
 }
