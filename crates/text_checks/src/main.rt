@@ -5,6 +5,8 @@ mod answered;
 mod classes;
 mod digests;
 mod pins;
+mod rule_table;
+mod rules;
 mod settings;
 mod show;
 mod tokens;
@@ -32,6 +34,7 @@ fn answer_into(alloc: Global, case: &mut Case<'_>, out: &mut String) -> Result<(
         "class" => classes::class(alloc, case, out),
         "opening" => classes::opening(alloc, case.rest_text(), out),
         "pins" => pins::pins(alloc, case.rest_text(), out),
+        "route" | "as" | "pattern" => rules::answer(alloc, case, out),
         _ => Err(CaseFault::Bad),
     }
 }

@@ -102,9 +102,12 @@ fn read_row(alloc: Global, text: &str) -> Result<RuleRow, CaseFault> {
     Ok(row)
 }
 
-/// The rows of a table.
+/// The rows of a table, none of an empty text.
 pub fn read_rows(alloc: Global, text: &str) -> Result<Vec<RuleRow>, CaseFault> {
     let mut rows = Vec::new(alloc);
+    if text.is_empty() {
+        return Ok(rows);
+    }
     for part in text.split("; ") {
         rows.push(read_row(alloc, part)?)?;
     }

@@ -1,27 +1,55 @@
 // What rules say of a session's texts.
-use crate::table::read_rows;
-use check_lines::{CaseFault, bytes_of};
+use crate::rule_table::read_rows;
+use check_lines::{Case, CaseFault, bytes_of};
 use mx_base::{Bytes, Hostgroup};
-use query_rules::{Ask, Routed, Rules, Stop};
+use query_rules::{Ask, Routed, Rules, Stop, is_pattern};
 use std::alloc::Global;
 
 // The client's default.
 const DEFAULT_HOSTGROUP: Hostgroup = Hostgroup(0);
 
-/// What the rules of a case say of each text behind the ` => `, one after the other in a session of this user and schema:
-/// the hostgroup and the text, and what else a rule has set. Texts have ` | ` between them. Rules may be missing.
-pub fn route(alloc: Global, client: (&str, &str), case: &str) -> Result<String, CaseFault> {
+/// Appends what rules say of texts, or whether a text is a pattern.
+pub fn answer(alloc: Global, case: &mut Case<'_>, out: &mut String) -> Result<(), CaseFault> {
+    match case.reader {
+        "route" => route(alloc, ("app", "shop"), case.rest_text(), out),
+        "as" => {
+            let client = (case.text()?, case.text()?);
+            route(alloc, client, case.rest_text(), out)
+        }
+        _ => pattern(alloc, case.rest_text(), out),
+    }
+}
+
+fn pattern(alloc: Global, text: &str, out: &mut String) -> Result<(), CaseFault> {
+    let text = bytes_of(alloc, text)?;
+    let word = if is_pattern(alloc, &text)? {
+        "accepted"
+    } else {
+        "refused"
+    };
+    out.push_str(word)?;
+    Ok(())
+}
+
+// Appends what the rules of a case say of each text behind the ` => `, one after the other in a session of this user and schema:
+// the hostgroup and the text, and what else a rule has set. Texts have ` | ` between them. Rules may be missing.
+fn route(
+    alloc: Global,
+    client: (&str, &str),
+    case: &str,
+    out: &mut String,
+) -> Result<(), CaseFault> {
     let (table, texts) = match case.split_once("=> ") {
         Some((table, texts)) => (table.trim_end(), texts),
         None => (case, ""),
     };
-    let mut rows = Vec::new(alloc);
-    if !table.is_empty() {
-        rows = read_rows(alloc, table)?;
-    }
+    let rows = read_rows(alloc, table)?;
     match Rules::build(alloc, &rows) {
-        Ok(rules) => follow(alloc, &rules, client, texts),
-        Err(fault) => Ok(format!(in alloc; "refused: {fault:?}")?),
+        Ok(rules) => follow(alloc, &rules, client, texts, out),
+        Err(fault) => {
+            write!(out, "refused: {fault:?}")?;
+            Ok(())
+        }
     }
 }
 
@@ -35,29 +63,29 @@ fn ask_of(alloc: Global, client: (&str, &str), flag: u16, text: &str) -> Result<
     })
 }
 
-// Appends what the rules say of a text, and gives the flag of the next one.
-fn push_answer(out: &mut String, rules: &Rules, ask: &Ask) -> Result<u16, CaseFault> {
-    if !out.is_empty() {
-        out.push_str(" | ")?;
-    }
-    let routed = rules.route(ask)?;
-    push_routed(out, &routed)?;
-    Ok(routed.next_flag.unwrap_or(ask.flag))
-}
-
 fn follow(
     alloc: Global,
     rules: &Rules,
     client: (&str, &str),
     texts: &str,
-) -> Result<String, CaseFault> {
-    let mut out = String::new(alloc);
+    out: &mut String,
+) -> Result<(), CaseFault> {
     let mut flag = 0;
+    let mut gap = "";
     for text in texts.split(" | ") {
+        out.push_str(gap)?;
         let ask = ask_of(alloc, client, flag, text)?;
-        flag = push_answer(&mut out, rules, &ask)?;
+        flag = push_answer(out, rules, &ask)?;
+        gap = " | ";
     }
-    Ok(out)
+    Ok(())
+}
+
+// Appends what the rules say of a text, and gives the flag of the next one.
+fn push_answer(out: &mut String, rules: &Rules, ask: &Ask) -> Result<u16, CaseFault> {
+    let routed = rules.route(ask)?;
+    push_routed(out, &routed)?;
+    Ok(routed.next_flag.unwrap_or(ask.flag))
 }
 
 fn push_routed(out: &mut String, routed: &Routed) -> Result<(), CaseFault> {
