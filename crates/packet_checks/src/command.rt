@@ -1,14 +1,16 @@
 // Commands of clients.
-use crate::show::{Spelled, debug, word};
-use check_lines::{Case, CaseFault};
+use crate::fields::Fields;
+use crate::show::{debug, named, word};
+use check_lines::CaseFault;
 use command_parse::{Command, Known};
 use std::alloc::Global;
 
 /// `parse <params> <bound> <payload>`: the command of a payload, where the statement that it names is known to have so many
 /// parameters, whose types are bound or not; `parse none none <payload>` where none is known.
-pub fn parse(alloc: Global, case: &mut Case<'_>) -> Result<String, CaseFault> {
-    let known = known(case.text()?, case.text()?)?;
-    match command_parse::parse(&case.rest_bytes(alloc)?, known) {
+pub fn parse(alloc: Global, fields: &mut Fields<'_>) -> Result<String, CaseFault> {
+    let known = known(fields.text(), fields.text())?;
+    let payload = fields.rest_bytes(alloc);
+    match command_parse::parse(&payload, known) {
         Ok(command) => show(alloc, command),
         Err(fault) => debug(alloc, fault),
     }
@@ -19,18 +21,9 @@ fn show(alloc: Global, command: Command<'_>) -> Result<String, CaseFault> {
     match command {
         Command::Quit => word(alloc, "quit"),
         Command::Ping => word(alloc, "ping"),
-        Command::Query { text } => {
-            let text = Spelled(text);
-            Ok(format!(in alloc; "query {text}")?)
-        }
-        Command::InitDb { schema } => {
-            let schema = Spelled(schema);
-            Ok(format!(in alloc; "init_db {schema}")?)
-        }
-        Command::FieldList { rest } => {
-            let rest = Spelled(rest);
-            Ok(format!(in alloc; "field_list {rest}")?)
-        }
+        Command::Query { text } => named(alloc, "query", text),
+        Command::InitDb { schema } => named(alloc, "init_db", schema),
+        Command::FieldList { rest } => named(alloc, "field_list", rest),
         Command::Refused(byte) => Ok(format!(in alloc; "refused {byte}")?),
         _ => Err(CaseFault::Bad),
     }
@@ -48,6 +41,9 @@ fn known(params: &str, bound: &str) -> Result<Option<Known>, CaseFault> {
 }
 
 /// `statement_of <payload>`: the statement that it names.
-pub fn statement_of(alloc: Global, case: &mut Case<'_>) -> Result<String, CaseFault> {
-    debug(alloc, command_parse::statement_of(&case.rest_bytes(alloc)?))
+pub fn statement_of(alloc: Global, fields: &mut Fields<'_>) -> Result<String, CaseFault> {
+    debug(
+        alloc,
+        command_parse::statement_of(&fields.rest_bytes(alloc)),
+    )
 }

@@ -1,29 +1,48 @@
 // The payloads of a login, read.
 ghost use Rattle.std.specs.Prelude.{◌≡◌, ◌<◌, ◌↔◌, length, slice_index, IsTrue};
 
-use crate::show::{Spelled, SpelledOrNone, debug};
-use check_lines::{Case, CaseFault};
+use crate::fields::Fields;
+use crate::show::{Spelled, SpelledOrNone, append, debug};
+use check_lines::CaseFault;
 use handshake::{Greeting, HandFault, Response, Switch, read_greeting, read_response, read_switch};
 use std::alloc::Global;
 
 /// `read_greeting <payload>`, and so `read_response` and `read_switch`: its fields in order, capabilities in hex digits, or its
 /// fault. `greeting_fronts <payload>` and so on: the fault of each of its fronts, each from the length on that stands before it.
-pub fn read(alloc: Global, case: &mut Case<'_>) -> Result<String, CaseFault> {
-    let payload = case.bytes(alloc)?;
-    match case.reader {
-        "read_greeting" => match read_greeting(alloc, &payload) {
-            Ok(greeting) => show_greeting(alloc, &greeting),
-            Err(fault) => debug(alloc, fault),
-        },
-        "read_response" => match read_response(alloc, &payload) {
-            Ok(response) => show_response(alloc, &response),
-            Err(fault) => debug(alloc, fault),
-        },
-        "read_switch" if may_switch(&payload) => match read_switch(alloc, &payload) {
-            Ok(switch) => show_switch(alloc, &switch),
-            Err(fault) => debug(alloc, fault),
-        },
+pub fn read(alloc: Global, fields: &mut Fields<'_>) -> Result<String, CaseFault> {
+    let payload = fields.bytes(alloc);
+    match fields.case.reader {
+        "read_greeting" => greeting(alloc, &payload),
+        "read_response" => response(alloc, &payload),
+        "read_switch" => switch(alloc, &payload),
         reader => fronts(alloc, reader, &payload),
+    }
+}
+
+// A greeting, or its fault.
+fn greeting(alloc: Global, payload: &[u8]) -> Result<String, CaseFault> {
+    match read_greeting(alloc, payload) {
+        Ok(greeting) => show_greeting(alloc, &greeting),
+        Err(fault) => debug(alloc, fault),
+    }
+}
+
+// A response, or its fault.
+fn response(alloc: Global, payload: &[u8]) -> Result<String, CaseFault> {
+    match read_response(alloc, payload) {
+        Ok(response) => show_response(alloc, &response),
+        Err(fault) => debug(alloc, fault),
+    }
+}
+
+// A request to switch, or its fault.
+fn switch(alloc: Global, payload: &[u8]) -> Result<String, CaseFault> {
+    if !may_switch(payload) {
+        return Err(CaseFault::Bad);
+    }
+    match read_switch(alloc, payload) {
+        Ok(switch) => show_switch(alloc, &switch),
+        Err(fault) => debug(alloc, fault),
     }
 }
 
@@ -45,8 +64,8 @@ fn show_greeting(alloc: Global, greeting: &Greeting) -> Result<String, CaseFault
 pub fn show_response(alloc: Global, response: &Response) -> Result<String, CaseFault> {
     let user = Spelled(response.user.as_slice());
     let answer = Spelled(response.answer.as_slice());
-    let schema = SpelledOrNone(response.schema.as_ref().map(|text| text.as_slice()));
-    let plugin = SpelledOrNone(response.plugin.as_ref().map(|text| text.as_slice()));
+    let schema = SpelledOrNone(&response.schema);
+    let plugin = SpelledOrNone(&response.plugin);
     let capabilities = response.capabilities;
     let max_packet = response.max_packet;
     let collation = response.collation;
@@ -79,23 +98,19 @@ fn fronts(alloc: Global, reader: &str, payload: &[u8]) -> Result<String, CaseFau
     for length in 0..=payload.len() {
         let fault = fault_of(alloc, reader, &payload[..length])?;
         if length == 0 || fault != last {
-            append(&mut answer, length, fault)?;
+            append(&mut answer, "; ", front(alloc, length, fault))?;
             last = fault;
         }
     }
     Ok(answer)
 }
 
-// Appends the fault that comes from a length on.
-fn append(answer: &mut String, length: usize, fault: Option<HandFault>) -> Result<(), CaseFault> {
-    if !answer.is_empty() {
-        answer.push_str("; ")?;
-    }
+// The fault that comes from a length on.
+fn front(alloc: Global, length: usize, fault: Option<HandFault>) -> Result<String, CaseFault> {
     match fault {
-        Some(fault) => write!(answer, "{length} {fault:?}")?,
-        None => write!(answer, "{length} none")?,
+        Some(fault) => Ok(format!(in alloc; "{length} {fault:?}")?),
+        None => Ok(format!(in alloc; "{length} none")?),
     }
-    Ok(())
 }
 
 // The fault of a payload.

@@ -4,6 +4,7 @@
 
 mod client;
 mod command;
+mod fields;
 mod framing;
 mod login;
 mod number;
@@ -17,33 +18,48 @@ mod table;
 mod text;
 mod track;
 
+use crate::fields::Fields;
 use check_lines::{Case, CaseFault};
 use std::alloc::Global;
 use std::io;
 
+fn answered(alloc: Global, fields: &mut Fields<'_>) -> Result<String, CaseFault> {
+    match fields.case.reader {
+        "put_lenenc" => number::put(alloc, fields),
+        "framer" => framing::feed(alloc, fields),
+        "payloads_of" => framing::join(alloc, fields),
+        "write_message" => framing::write(alloc, fields),
+        "write_ok" => reply::ok(alloc, fields),
+        "write_err" => reply::err(alloc, fields),
+        "write_eof" => reply::eof(alloc, fields),
+        "write_table" => table::write(alloc, fields),
+        "track" => track::track(alloc, fields),
+        "is_lone_reply" => reply::is_lone(alloc, fields),
+        "sha1" => password::digest(alloc, fields),
+        "answer" => password::answer(alloc, fields),
+        "check" => password::check(alloc, fields),
+        "parse" => command::parse(alloc, fields),
+        "statement_of" => command::statement_of(alloc, fields),
+        "write_switch" => rewrite::switch(alloc, fields),
+        "greeted" | "told" => client::serve(alloc, fields),
+        "backend" => server::log_in(alloc, fields),
+        reader if reader.starts_with("get_") => number::get(alloc, fields),
+        reader if reader.starts_with("rewrite_") => rewrite::again(alloc, fields),
+        _ => login::read(alloc, fields),
+    }
+}
+
+// What is answered where no field has a fault.
 fn answer(alloc: Global, case: &mut Case<'_>) -> Result<String, CaseFault> {
-    match case.reader {
-        "put_lenenc" => number::put(alloc, case),
-        "framer" => framing::feed(alloc, case),
-        "payloads_of" => framing::join(alloc, case),
-        "write_message" => framing::write(alloc, case),
-        "write_ok" => reply::write_ok(alloc, case),
-        "write_err" => reply::write_err(alloc, case),
-        "write_eof" => reply::write_eof(alloc, case),
-        "write_table" => table::write(alloc, case),
-        "track" => track::track(alloc, case),
-        "is_lone_reply" => reply::is_lone(alloc, case),
-        "sha1" => password::digest(alloc, case),
-        "answer" => password::answer(alloc, case),
-        "check" => password::check(alloc, case),
-        "parse" => command::parse(alloc, case),
-        "statement_of" => command::statement_of(alloc, case),
-        "write_switch" => rewrite::switch(alloc, case),
-        "greeted" | "told" => client::serve(alloc, case),
-        "backend" => server::log_in(alloc, case),
-        reader if reader.starts_with("get_") => number::get(alloc, case),
-        reader if reader.starts_with("rewrite_") => rewrite::again(alloc, case),
-        _ => login::read(alloc, case),
+    let mut fields = Fields {
+        case: *case,
+        fault: None,
+    };
+    let answer = answered(alloc, &mut fields);
+    *case = fields.case;
+    match fields.fault {
+        Some(fault) => Err(fault),
+        None => answer,
     }
 }
 

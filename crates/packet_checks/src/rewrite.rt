@@ -3,8 +3,10 @@ ghost use Rattle.std.specs.Prelude.{◌≤◌, length, IsTrue};
 ghost use Rattle.std.specs.Option.{ForSome};
 ghost use Rattle.handshake.specs.Spelling.{IsText};
 
-use crate::text::{is_text, salt_of};
-use check_lines::{Case, CaseFault, shown};
+use crate::fields::Fields;
+use crate::show::appended;
+use crate::text::is_text;
+use check_lines::CaseFault;
 use handshake::{
     Response, read_greeting, read_response, write_greeting, write_response, write_switch,
 };
@@ -12,35 +14,35 @@ use mx_base::Bytes;
 use std::alloc::Global;
 
 /// `rewrite_greeting <before> <payload>`, and so `rewrite_response`: the bytes before, and what is read of the payload, written.
-pub fn again(alloc: Global, case: &mut Case<'_>) -> Result<String, CaseFault> {
-    let mut out = case.bytes(alloc)?;
-    let payload = case.bytes(alloc)?;
-    let done = match case.reader {
+pub fn again(alloc: Global, fields: &mut Fields<'_>) -> Result<String, CaseFault> {
+    let mut out = fields.bytes(alloc);
+    let payload = fields.bytes(alloc);
+    match fields.case.reader {
         "rewrite_greeting" => greeting(alloc, &mut out, &payload),
         "rewrite_response" => response(alloc, &mut out, &payload),
         _ => Err(CaseFault::Bad),
-    };
-    match done {
-        Ok(()) => shown(alloc, &out),
-        Err(fault) => Err(fault),
     }
 }
 
-// Appends a greeting as it is read.
-fn greeting(alloc: Global, out: &mut Vec<u8>, payload: &[u8]) -> Result<(), CaseFault> {
+// The bytes before, and a greeting as it is read.
+fn greeting(alloc: Global, out: &mut Vec<u8>, payload: &[u8]) -> Result<String, CaseFault> {
     match read_greeting(alloc, payload) {
         Ok(greeting)
             if is_text(greeting.version.as_slice()) && is_text(greeting.plugin.as_slice()) => {
-            Ok(write_greeting(out, &greeting)?)
+            let done = write_greeting(out, &greeting);
+            appended(alloc, done, out)
         }
         _ => Err(CaseFault::Bad),
     }
 }
 
-// Appends a response as it is read.
-fn response(alloc: Global, out: &mut Vec<u8>, payload: &[u8]) -> Result<(), CaseFault> {
+// The bytes before, and a response as it is read.
+fn response(alloc: Global, out: &mut Vec<u8>, payload: &[u8]) -> Result<String, CaseFault> {
     match read_response(alloc, payload) {
-        Ok(response) if may_be_written(&response) => Ok(write_response(out, &response)?),
+        Ok(response) if may_be_written(&response) => {
+            let done = write_response(out, &response);
+            appended(alloc, done, out)
+        }
         _ => Err(CaseFault::Bad),
     }
 }
@@ -69,9 +71,9 @@ fn is_text_or_none(text: &Option<Bytes>) -> bool
 }
 
 /// `write_switch <salt> <before>`: the bytes before and the request to switch.
-pub fn switch(alloc: Global, case: &mut Case<'_>) -> Result<String, CaseFault> {
-    let salt = salt_of(alloc, case)?;
-    let mut out = case.bytes(alloc)?;
-    write_switch(&mut out, &salt)?;
-    shown(alloc, &out)
+pub fn switch(alloc: Global, fields: &mut Fields<'_>) -> Result<String, CaseFault> {
+    let salt = fields.array(alloc);
+    let mut out = fields.bytes(alloc);
+    let done = write_switch(&mut out, &salt);
+    appended(alloc, done, &out)
 }

@@ -1,8 +1,9 @@
 // The link to a server.
+use crate::fields::Fields;
 use crate::show::{Spelled, debug, nothing, word};
 use crate::steps::{Steps, take_steps};
 use crate::text::{id_of, is_text, number_of};
-use check_lines::{Case, CaseFault, bytes_of, shown};
+use check_lines::{CaseFault, bytes_of, shown};
 use mx_base::{ClientNo, Tag};
 use server_side::{Backend, BackendFault, Heard, Stage};
 use std::alloc::Global;
@@ -16,24 +17,33 @@ const COMMAND: Tag = Tag::For {
 /// `backend <found rows> <user> <password> <step> ..`: a Backend that is led through the steps `got=<piece>`, `each=<piece>`,
 /// whose bytes come each alone, `command=<first>:<payload>`, `write`, which is outgoing and then taken whole,
 /// `taken=<count>`, `withdraw` and the words of `look`.
-pub fn log_in(alloc: Global, case: &mut Case<'_>) -> Result<String, CaseFault> {
-    let found_rows = case.text()? == "true";
-    let user = case.bytes(alloc)?;
-    let password = case.bytes(alloc)?;
+pub fn log_in(alloc: Global, fields: &mut Fields<'_>) -> Result<String, CaseFault> {
+    let found_rows = fields.text() == "true";
+    let user = fields.bytes(alloc);
+    let password = fields.bytes(alloc);
     if !is_text(&user) {
         return Err(CaseFault::Bad);
     }
-    let mut backend = Backend::new(alloc, &user, &password, found_rows)?;
-    take_steps(alloc, case, &mut backend)
+    take_steps(
+        alloc,
+        fields,
+        Backend::new(alloc, &user, &password, found_rows),
+    )
 }
 
 impl Steps for Backend {
-    fn step(&mut self, alloc: Global, call: &str, argument: &str) -> Result<String, CaseFault> {
+    fn step(
+        &mut self,
+        alloc: Global,
+        call: &str,
+        argument: &str,
+        bytes: &mut [u8],
+    ) -> Result<String, CaseFault> {
         match call {
-            "got" => debug(alloc, self.got(&mut bytes_of(alloc, argument)?)),
-            "each" => debug(alloc, each(self, &mut bytes_of(alloc, argument)?)),
-            "command" => command(alloc, self, argument),
-            "taken" => take(alloc, self, number_of(argument)?),
+            "got" => debug(alloc, self.got(bytes)),
+            "each" => debug(alloc, each(self, bytes)),
+            "command" => command(alloc, self, command_of(alloc, argument)),
+            "taken" => take(alloc, self, number_of(argument)),
             "write" => write(alloc, self),
             "withdraw" => {
                 self.withdraw();
@@ -73,13 +83,15 @@ fn look(alloc: Global, backend: &Backend, call: &str) -> Result<String, CaseFaul
 // What is to be written, and what it is for.
 fn outgoing(alloc: Global, backend: &Backend) -> Result<String, CaseFault> {
     match backend.outgoing() {
-        Some(left) => {
-            let tag = left.tag;
-            let bytes = Spelled(left.bytes);
-            Ok(format!(in alloc; "{tag:?} {bytes}")?)
-        }
+        Some(left) => tagged(alloc, left.tag, left.bytes),
         None => word(alloc, "none"),
     }
+}
+
+// Bytes behind their tag.
+fn tagged(alloc: Global, tag: Tag, bytes: &[u8]) -> Result<String, CaseFault> {
+    let bytes = Spelled(bytes);
+    Ok(format!(in alloc; "{tag:?} {bytes}")?)
 }
 
 // What is to be written, all of which is written then.
@@ -92,11 +104,19 @@ fn write(alloc: Global, backend: &mut Backend) -> Result<String, CaseFault> {
     answer
 }
 
-// A command is to be written, where the router is logged in and none is.
-fn command(alloc: Global, backend: &mut Backend, argument: &str) -> Result<String, CaseFault> {
+// The sequence id and the payload of a command.
+fn command_of(alloc: Global, argument: &str) -> Result<(u8, Vec<u8>), CaseFault> {
     let (first, payload) = argument.split_once(':').unwrap_or((argument, ""));
-    let first = id_of(first)?;
-    let payload = bytes_of(alloc, payload)?;
+    Ok((id_of(first)?, bytes_of(alloc, payload)?))
+}
+
+// A command is to be written, where the router is logged in and none is.
+fn command(
+    alloc: Global,
+    backend: &mut Backend,
+    command: Result<(u8, Vec<u8>), CaseFault>,
+) -> Result<String, CaseFault> {
+    let (first, payload) = command?;
     if backend.stage() != Stage::In || backend.has_command() {
         return Err(CaseFault::Bad);
     }
@@ -104,9 +124,13 @@ fn command(alloc: Global, backend: &mut Backend, argument: &str) -> Result<Strin
 }
 
 // So many bytes were written of what is left.
-fn take(alloc: Global, backend: &mut Backend, count: u64) -> Result<String, CaseFault> {
-    match backend.outgoing() {
-        Some(left) if count <= left.bytes.len() as u64 => {
+fn take(
+    alloc: Global,
+    backend: &mut Backend,
+    count: Result<u64, CaseFault>,
+) -> Result<String, CaseFault> {
+    match (backend.outgoing(), count) {
+        (Some(left), Ok(count)) if count <= left.bytes.len() as u64 => {
             backend.taken(count as usize);
             Ok(String::new(alloc))
         }

@@ -1,6 +1,6 @@
 // What an answer shows of a value.
 use check_lines::{CaseFault, shown};
-use mx_base::OutOfMemory;
+use mx_base::{Bytes, OutOfMemory};
 use std::alloc::Global;
 use std::{fmt, str};
 
@@ -22,10 +22,46 @@ pub fn nothing(alloc: Global, done: Result<(), OutOfMemory>) -> Result<String, C
     }
 }
 
-/// Bytes, behind a sequence id.
-pub fn with_id(alloc: Global, id: u8, bytes: &[u8]) -> Result<String, CaseFault> {
+/// Bytes to which more were appended, unless memory was refused.
+pub fn appended(
+    alloc: Global,
+    done: Result<(), OutOfMemory>,
+    bytes: &[u8],
+) -> Result<String, CaseFault> {
+    match done {
+        Ok(()) => shown(alloc, bytes),
+        Err(OutOfMemory) => Err(CaseFault::OutOfMemory),
+    }
+}
+
+/// Bytes behind a sequence id, unless memory was refused.
+pub fn with_id(
+    alloc: Global,
+    id: Result<u8, OutOfMemory>,
+    bytes: &[u8],
+) -> Result<String, CaseFault> {
+    let id = id?;
     let bytes = shown(alloc, bytes)?;
     Ok(format!(in alloc; "{id} {bytes}")?)
+}
+
+/// A name, and bytes as a field of a case spells them.
+pub fn named(alloc: Global, name: &str, bytes: &[u8]) -> Result<String, CaseFault> {
+    let bytes = Spelled(bytes);
+    Ok(format!(in alloc; "{name} {bytes}")?)
+}
+
+/// Appends a part that isn't empty, behind what stands between parts.
+pub fn append(
+    answer: &mut String,
+    between: &str,
+    part: Result<String, CaseFault>,
+) -> Result<(), CaseFault> {
+    let part = part?;
+    if !answer.is_empty() && !part.is_empty() {
+        answer.push_str(between)?;
+    }
+    Ok(answer.push_str(&part)?)
 }
 
 /// Bytes as a field of a case spells them: as text where they are one without blanks, else behind `hex:`.
@@ -62,12 +98,12 @@ fn write_digits<W: fmt::Write>(f: &mut fmt::Formatter<W>, bytes: &[u8]) -> fmt::
 
 /// The same, and `none` where there are no bytes.
 #[derive(Clone, Copy)]
-pub struct SpelledOrNone<'a>(pub Option<&'a [u8]>);
+pub struct SpelledOrNone<'a>(pub &'a Option<Bytes>);
 
 impl fmt::Display for SpelledOrNone<'_> {
     fn fmt<W: fmt::Write>(&self, f: &mut fmt::Formatter<W>) -> fmt::Result {
         match self.0 {
-            Some(bytes) => write!(f, "{}", Spelled(bytes)),
+            Some(bytes) => Spelled(bytes.as_slice()).fmt(f),
             None => f.write_str("none"),
         }
     }

@@ -2,16 +2,7 @@
 ghost use Rattle.std.specs.Prelude.{◌↔◌, IsTrue};
 ghost use Rattle.handshake.specs.Spelling.{IsText};
 
-use check_lines::{Case, CaseFault};
-use std::alloc::Global;
-
-/// The next field, the 20 bytes of a salt.
-pub fn salt_of(alloc: Global, case: &mut Case<'_>) -> Result<[u8; 20], CaseFault> {
-    match <[u8; 20]>::try_from(case.bytes(alloc)?.as_slice()) {
-        Ok(salt) => Ok(salt),
-        Err(_) => Err(CaseFault::Bad),
-    }
-}
+use check_lines::CaseFault;
 
 /// Whether bytes are a text, which has no NUL.
 pub fn is_text(bytes: &[u8]) -> bool

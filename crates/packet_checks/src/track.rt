@@ -1,21 +1,26 @@
 // Replies that are followed to their ends.
-use check_lines::{Case, CaseFault, bytes_of, shown};
+use crate::fields::Fields;
+use crate::show::append;
+use check_lines::{CaseFault, bytes_of, shown};
 use reply_track::{Progress, ReplyKind, Tracker};
 use std::alloc::Global;
 
 /// `track <kind> <first id> <number> <piece> ..`: what the tracker of a reply answers to each piece, and the piece as it is then.
-pub fn track(alloc: Global, case: &mut Case<'_>) -> Result<String, CaseFault> {
-    let kind = kind_of(case.text()?)?;
-    let first = case.number()?;
-    let number = case.number()?;
+pub fn track(alloc: Global, fields: &mut Fields<'_>) -> Result<String, CaseFault> {
+    let kind = kind_of(fields.text())?;
+    let first = fields.number();
+    let number = fields.number();
     let mut tracker = Tracker::start(kind, first, 1, number);
+    answers_of(alloc, fields.case.rest_text(), &mut tracker)
+}
+
+// The answers to the pieces, up to the last one of the reply.
+fn answers_of(alloc: Global, pieces: &str, tracker: &mut Tracker) -> Result<String, CaseFault> {
     let mut answers = String::new(alloc);
-    for piece in case.rest_text().split(' ') {
-        let (progress, answer) = taken(alloc, &mut tracker, piece)?;
-        if !answers.is_empty() {
-            answers.push_str("; ")?;
-        }
-        answers.push_str(&answer)?;
+    for piece in pieces.split(' ') {
+        let mut piece = bytes_of(alloc, piece)?;
+        let progress = tracker.take(&mut piece);
+        append(&mut answers, "; ", shows(alloc, progress, &piece))?;
         if !matches!(progress, Progress::More) {
             break;
         }
@@ -23,16 +28,10 @@ pub fn track(alloc: Global, case: &mut Case<'_>) -> Result<String, CaseFault> {
     Ok(answers)
 }
 
-// What the tracker answers to the next piece.
-fn taken(
-    alloc: Global,
-    tracker: &mut Tracker,
-    piece: &str,
-) -> Result<(Progress, String), CaseFault> {
-    let mut piece = bytes_of(alloc, piece)?;
-    let progress = tracker.take(&mut piece);
-    let bytes = shown(alloc, &piece)?;
-    Ok((progress, format!(in alloc; "{progress:?} {bytes}")?))
+// An answer, and the piece.
+fn shows(alloc: Global, progress: Progress, piece: &[u8]) -> Result<String, CaseFault> {
+    let bytes = shown(alloc, piece)?;
+    Ok(format!(in alloc; "{progress:?} {bytes}")?)
 }
 
 // The kind of a reply, by its name.
