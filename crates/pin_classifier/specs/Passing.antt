@@ -18,13 +18,13 @@ opening_of tokens = record { first = slice_get tokens 0; second = slice_get toke
 -- with one token more, where there is room
 abbrev pub with_token : Opening → Token → Opening
 with_token opening token =
-    if is_none opening.first then record opening { first = Some token }
+    if not (is_none opening.sixth) then opening
+    else if is_none opening.first then record opening { first = Some token }
     else if is_none opening.second then record opening { second = Some token }
     else if is_none opening.third then record opening { third = Some token }
     else if is_none opening.fourth then record opening { fourth = Some token }
     else if is_none opening.fifth then record opening { fifth = Some token }
-    else if is_none opening.sixth then record opening { sixth = Some token }
-    else opening
+    else record opening { sixth = Some token }
 
 -- the function that a `(` behind a token calls
 abbrev pub callee : (text : List ℕ) → (before : Option Token) → Token → Option (List ℕ)

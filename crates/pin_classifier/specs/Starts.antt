@@ -23,11 +23,11 @@ upkeep_words = codes "ANALYZE" ∷ codes "OPTIMIZE" ∷ codes "CHECK" ∷ codes 
 
 -- what is shown, and the session itself
 abbrev pub session_words : List (List ℕ)
-session_words = codes "SHOW" ∷ codes "DESCRIBE" ∷ codes "DESC" ∷ codes "EXPLAIN" ∷ codes "SET" ∷ codes "USE" ∷ codes "GET" ∷ codes "KILL" ∷ []
+session_words = codes "SET" ∷ codes "SHOW" ∷ codes "DESCRIBE" ∷ codes "DESC" ∷ codes "EXPLAIN" ∷ codes "USE" ∷ codes "GET" ∷ codes "KILL" ∷ []
 
 -- the words that begin the statements whose effect on a session is known
 abbrev pub known_words : List (List ℕ)
-known_words = data_words ++ definition_words ++ transaction_words ++ upkeep_words ++ session_words
+known_words = data_words ++ transaction_words ++ session_words ++ definition_words ++ upkeep_words
 
 abbrev pub is_known : Option (List ℕ) → Bool
 is_known None = false

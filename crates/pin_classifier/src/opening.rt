@@ -33,6 +33,9 @@ impl Opening {
     pub(crate) fn take(&mut self, token: Token)
         ensures { self.new ≡ with_token self.old token }
     {
+        if self.sixth.is_some() {
+            return;
+        }
         if self.first.is_none() {
             self.first = Some(token);
         } else if self.second.is_none() {
@@ -43,7 +46,7 @@ impl Opening {
             self.fourth = Some(token);
         } else if self.fifth.is_none() {
             self.fifth = Some(token);
-        } else if self.sixth.is_none() {
+        } else {
             self.sixth = Some(token);
         }
     }

@@ -5,7 +5,7 @@ ghost use Rattle.pin_classifier.specs.Starts.{is_known, begins_unknown, analyzes
 use crate::words::opening_word;
 use sql_tokens::{Token, is_one_of, is_word};
 
-// The words that begin the statements whose effect on a session is known.
+// The words that begin the statements whose effect on a session is known, mostly the likelier ones first.
 static KNOWN_WORDS: [&[u8]; 36] = [
     // MySQL Reference Manual, "Data Manipulation Statements".
     b"SELECT",
@@ -17,12 +17,6 @@ static KNOWN_WORDS: [&[u8]; 36] = [
     b"VALUES",
     b"TABLE",
     b"DO",
-    // "Data Definition Statements".
-    b"CREATE",
-    b"ALTER",
-    b"DROP",
-    b"TRUNCATE",
-    b"RENAME",
     // "Transactional and Locking Statements".
     b"BEGIN",
     b"START",
@@ -32,6 +26,21 @@ static KNOWN_WORDS: [&[u8]; 36] = [
     b"RELEASE",
     b"LOCK",
     b"UNLOCK",
+    // "SET Statements", "SHOW Statements", "Utility Statements", "GET DIAGNOSTICS Statement" and "KILL Statement".
+    b"SET",
+    b"SHOW",
+    b"DESCRIBE",
+    b"DESC",
+    b"EXPLAIN",
+    b"USE",
+    b"GET",
+    b"KILL",
+    // "Data Definition Statements".
+    b"CREATE",
+    b"ALTER",
+    b"DROP",
+    b"TRUNCATE",
+    b"RENAME",
     // "Table Maintenance Statements" and "Account Management Statements".
     b"ANALYZE",
     b"OPTIMIZE",
@@ -39,15 +48,6 @@ static KNOWN_WORDS: [&[u8]; 36] = [
     b"REPAIR",
     b"GRANT",
     b"REVOKE",
-    // "SHOW Statements", "Utility Statements", "SET Statements", "GET DIAGNOSTICS Statement" and "KILL Statement".
-    b"SHOW",
-    b"DESCRIBE",
-    b"DESC",
-    b"EXPLAIN",
-    b"SET",
-    b"USE",
-    b"GET",
-    b"KILL",
 ];
 
 fn is_known(word: Option<&[u8]>) -> bool

@@ -1,6 +1,7 @@
 pub mod Added
 pub mod Adding
 mod Again
+pub mod Alike
 pub mod Assigned
 pub mod BothLead
 pub mod Dispatch
@@ -9,6 +10,7 @@ pub mod Gives
 pub mod Joining
 pub mod OneToken
 pub mod Kept
+pub mod LastTokens
 pub mod Leading
 pub mod ModeLists
 pub mod Named

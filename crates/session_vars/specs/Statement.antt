@@ -29,6 +29,11 @@ abbrev pub says_first : (text : List ℕ) → List Token → (word : List ℕ) �
 says_first text [] word = false
 says_first text (token ∷ tokens) word = says text token word
 
+-- whether a token that is there is this word
+abbrev pub says_there : (text : List ℕ) → Option Token → (word : List ℕ) → Bool
+says_there text None word = false
+says_there text (Some token) word = says text token word
+
 abbrev pub begins_with_session : (text : List ℕ) → List Token → Bool
 begins_with_session text tokens = says_first text tokens (codes "SESSION") || says_first text tokens (codes "LOCAL")
 
@@ -44,8 +49,3 @@ without_end text (token ∷ next ∷ tokens) = token ∷ without_end text (next 
 -- the tokens of a statement: no comments, and no `;` at the end
 abbrev pub statement_of : (text : List ℕ) → List Token
 statement_of text = without_end text (without_comments (tokens_of text))
-
--- the tokens of a statement that are left, by the one that is ahead and the tokens of the text behind it
-abbrev pub left_with : (text : List ℕ) → (ahead : Option Token) → List Token → List Token
-left_with text None tokens = []
-left_with text (Some token) tokens = without_end text (token ∷ without_comments tokens)

@@ -29,7 +29,7 @@ plain_value _ bytes = None
 
 -- the character sets that SET NAMES and character_set_results may name
 abbrev pub character_sets : List (List ℕ)
-character_sets = codes "latin1" ∷ codes "ascii" ∷ codes "utf8" ∷ codes "utf8mb3" ∷ codes "utf8mb4" ∷ codes "binary" ∷ []
+character_sets = codes "utf8mb4" ∷ codes "utf8" ∷ codes "latin1" ∷ codes "utf8mb3" ∷ codes "ascii" ∷ codes "binary" ∷ []
 
 abbrev pub is_character_set : List ℕ → Bool
 is_character_set word = list_any (same_text word) character_sets

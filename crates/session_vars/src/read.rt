@@ -1,5 +1,5 @@
 // SET statements that are read.
-ghost use Rattle.std.specs.Prelude.{◌≡◌, true, length, filter, IfOk};
+ghost use Rattle.std.specs.Prelude.{◌≡◌, true, length, filter, slice_get, IfOk};
 ghost use Rattle.std.specs.List.{list_any};
 ghost use Rattle.session_vars.specs.Modes.{takes_modes as is_mode};
 ghost use Rattle.session_vars.specs.Scopes.{server_set};
@@ -10,9 +10,11 @@ ghost use Rattle.session_vars.specs.Transactions.{mode_changes};
 use crate::assignment::assignments;
 use crate::modes::takes_modes;
 use crate::set_tokens::SetTokens;
+use crate::statement::says_there;
 use crate::transaction::{Mode, mode_of};
 use crate::{Change, Changes, SetShape, SlotValue};
 use mx_base::{Bytes, OutOfMemory};
+use sql_tokens::Token;
 use std::alloc::Global;
 
 fn mode_changes(alloc: Global, mode: Option<Mode>) -> Result<Option<Changes>, OutOfMemory>
@@ -42,7 +44,7 @@ fn scoped_changes(
     ensures scope { server_set text.now tokens.new ≡ server_set text.now tokens.old }
 {
     let scope = tokens.next(text);
-    if tokens.begins_with(text, b"TRANSACTION") {
+    if says_there(text, tokens.left.first(), b"TRANSACTION") {
         let _transaction = tokens.next(text);
         mode_changes(alloc, mode_of(text, tokens))
     } else {
@@ -54,13 +56,15 @@ fn scoped_changes(
 fn own_changes(
     alloc: Global,
     text: &[u8],
+    first: Option<Token>,
     tokens: &mut SetTokens,
 ) -> Result<Option<Changes>, OutOfMemory>
-    requires { tokens.old.depth ≡ 0 }
+    requires first { first ≡ slice_get tokens.old.left 0 }
+    requires outside { tokens.old.depth ≡ 0 }
     ensures changes { IfOk result (λ changes. changes ≡ own_changes text.now tokens.old.left) }
     ensures scope { server_set text.now tokens.new ≡ server_set text.now tokens.old }
 {
-    if tokens.begins_with(text, b"SESSION") || tokens.begins_with(text, b"LOCAL") {
+    if says_there(text, first, b"SESSION") || says_there(text, first, b"LOCAL") {
         return scoped_changes(alloc, text, tokens);
     }
     assignments(alloc, text, None, tokens)
@@ -97,10 +101,11 @@ fn own_shape(alloc: Global, text: &[u8], tokens: &mut SetTokens) -> Result<SetSh
     ensures shape { IfOk result (λ shape. shape ≡ own_shape text.now tokens.old.left) }
     ensures scope { server_set text.now tokens.new ≡ server_set text.now tokens.old }
 {
-    if tokens.begins_with(text, b"TRANSACTION") {
+    let first = tokens.left.first();
+    if says_there(text, first, b"TRANSACTION") {
         return Ok(SetShape::NextTransaction);
     }
-    match own_changes(alloc, text, tokens)? {
+    match own_changes(alloc, text, first, tokens)? {
         Some(changes) if sets_mode_once(changes.as_slice()) => Ok(SetShape::Tracked(changes)),
         _ => Ok(SetShape::Other),
     }

@@ -27,7 +27,6 @@ pub(crate) struct SetTokens<'a> {
 impl<'a> SetTokens<'a> {
     ghost use Rattle.session_vars.specs.Scopes.{before_comma, behind_comma, deeper, divides, server_set};
     ghost use Rattle.session_vars.specs.Shapes.{own_shape, set_shape};
-    ghost use Rattle.session_vars.specs.Statement.{says_first};
 
     // The tokens behind SET. None where the statement isn't a SET statement.
     #[tactic(auto, using(crate::proofs::Sizes::statement_size), unfolding(crate::specs::Shapes::shape_behind))]
@@ -49,14 +48,8 @@ impl<'a> SetTokens<'a> {
         })
     }
 
-    // Whether the next token is this word.
-    pub(crate) fn begins_with(&self, text: &[u8], word: &[u8]) -> bool
-        ensures { result ≡ says_first text.now self.now.left word.now }
-    {
-        self.left.begins_with(text, word)
-    }
-
-    // The next token.
+    // The next token. Nearly all calls are that of `next_part`, in a loop over a statement's tokens.
+    #[inline(always)]
     pub(crate) fn next(&mut self, text: &[u8]) -> Option<Token>
         ensures token { MatchOption result ((self.old.left ≡ []) × (self.new.left ≡ [])) (λ token. self.old.left ≡ token ∷ self.new.left) }
         ensures depth { MatchOption result (self.new.depth ≡ self.old.depth) (λ token. self.new.depth ≡ deeper text.now token self.old.depth) }

@@ -1,5 +1,6 @@
 // The settings of a session that are tracked, and their names.
 ghost use Rattle.std.specs.Prelude.{◌≡◌};
+ghost use Rattle.sql_tokens.specs.Words.{same_text};
 ghost use Rattle.session_vars.specs.Slots.{name_of, place_of, slot_named, unless_transaction};
 
 use sql_tokens::same_text;
@@ -101,7 +102,7 @@ impl Slot {
         Slot::ALL[1..]
             .iter()
             .copied()
-            .find(|slot| same_text(name, slot.name()))
+            .find(|slot| is_named(name, slot.name()))
     }
 
     // None for the two that behind `@@` alone set the next transaction and not the session.
@@ -113,4 +114,12 @@ impl Slot {
             _ => Some(self),
         }
     }
+}
+
+// Whether two names are one in any case. Mostly they are written alike, which takes less to see.
+#[tactic(auto, using(crate::proofs::Alike::alike_or_same))]
+fn is_named(name: &[u8], other: &[u8]) -> bool
+    ensures { result ≡ same_text name.now other.now }
+{
+    name == other || same_text(name, other)
 }

@@ -1,8 +1,7 @@
 // The tokens of a statement that count.
-ghost use Rattle.std.specs.Prelude.{◌≡◌};
+ghost use Rattle.std.specs.Prelude.{◌≡◌, nat_eq, length, slice_get, [], ◌∷◌, MatchOption, option_copied};
 ghost use Rattle.std.specs.Iterator.{YieldsFirst, item_count};
-ghost use Rattle.std.specs.Prelude.{[], ◌∷◌, MatchOption, option_copied};
-ghost use Rattle.session_vars.specs.Statement.{statement_of, without_comments, says_first, is_session_word, spoken_by};
+ghost use Rattle.session_vars.specs.Statement.{statement_of, without_comments, says_there, is_session_word, spoken_by};
 ghost use Rattle.sql_tokens.specs.Words.{bytes_of as bytes_at};
 
 use sql_tokens::{Token, TokenKind, Tokens, bytes_of, inside, is_symbol, says};
@@ -13,18 +12,17 @@ use std::marker::Model;
 #[derive(Drop)]
 pub struct Statement<'a> {
     text: &'a [u8],
-    ahead: Option<Token>,
     tokens: Tokens<'a>,
 }
 
 impl<'a> Model for Statement<'a> {
     ghost use Rattle.std.specs.Prelude.{List};
     ghost use Rattle.sql_tokens.specs.declared.token.Token.{Token};
-    ghost use Rattle.session_vars.specs.Statement.{left_with};
+    ghost use Rattle.session_vars.specs.Statement.{without_comments, without_end};
 
     ghost Value = { List Token };
 
-    ghost view = { λ s. left_with s.text.now s.ahead s.tokens };
+    ghost view = { λ s. without_end s.text.now (without_comments s.tokens) };
 }
 
 impl<'a> Statement<'a> {
@@ -33,23 +31,21 @@ impl<'a> Statement<'a> {
     pub fn of(text: &'a [u8]) -> Self
         ensures { result ≡ statement_of text.now }
     {
-        let mut tokens = Tokens::of(text);
-        let ahead = next_counting(&mut tokens);
         Statement {
             text,
-            ahead,
-            tokens,
+            tokens: Tokens::of(text),
         }
     }
 
-    // Whether the next token is this word in this text.
-    pub(crate) fn begins_with(&self, text: &[u8], word: &[u8]) -> bool
-        ensures { result ≡ says_first text.now self.now word.now }
+    // The next token, which stays there.
+    pub(crate) fn first(&self) -> Option<Token>
+        ensures { result ≡ slice_get self.now 0 }
     {
-        match &self.ahead {
-            Some(token) => says(text, token, word),
-            None => false,
-        }
+        let mut ahead = Statement {
+            text: self.text,
+            tokens: self.tokens.copy(),
+        };
+        ahead.next()
     }
 }
 
@@ -60,19 +56,29 @@ impl<'a> Iterator for Statement<'a> {
 
     ghost remaining = { item_count (λ tokens. tokens) };
 
+    // For the loop over a SET statement's tokens.
+    #[inline(always)]
+    #[tactic(auto, using(crate::proofs::LastTokens::end_alone, crate::proofs::LastTokens::no_end, crate::proofs::LastTokens::more_behind))]
     fn next(&mut self) -> Option<Token> {
-        let token = self.ahead?;
-        self.ahead = next_counting(&mut self.tokens);
-        if self.ahead.is_none() && is_symbol(self.text, &token, b';') {
+        let token = next_counting(&mut self.tokens)?;
+        if is_symbol(self.text, &token, b';') && is_at_end(&self.tokens) {
             return None;
         }
         Some(token)
     }
 }
 
+// Whether only comments are left. A `;` is rare, so this is kept out of the loops over tokens.
+#[inline(never)]
+fn is_at_end(tokens: &Tokens) -> bool
+    ensures { result ≡ nat_eq (length (without_comments tokens.now)) 0 }
+{
+    next_counting(&mut tokens.copy()).is_none()
+}
+
 // The next token that is no comment.
 fn next_counting(tokens: &mut Tokens) -> Option<Token>
-    ensures { MatchOption result (without_comments tokens.old ≡ []) (λ token. without_comments tokens.old ≡ token ∷ without_comments tokens.new) }
+    ensures { MatchOption result ((without_comments tokens.old ≡ []) × (without_comments tokens.new ≡ [])) (λ token. without_comments tokens.old ≡ token ∷ without_comments tokens.new) }
 {
     while let Some(token) = tokens.next() {
         if token.kind != TokenKind::Comment {
@@ -80,6 +86,16 @@ fn next_counting(tokens: &mut Tokens) -> Option<Token>
         }
     }
     None
+}
+
+// Whether a token that is there is this word.
+pub(crate) fn says_there(text: &[u8], token: Option<Token>, word: &[u8]) -> bool
+    ensures { result ≡ says_there text.now token word.now }
+{
+    match token {
+        Some(token) => says(text, &token, word),
+        None => false,
+    }
 }
 
 // SESSION or LOCAL, which are one.

@@ -72,9 +72,9 @@ fn plain_value(
     }
 }
 
-// The character sets that SET NAMES and character_set_results may name.
+// The character sets that SET NAMES and character_set_results may name, the likeliest first.
 static CHARACTER_SETS: [&[u8]; 6] = [
-    b"latin1", b"ascii", b"utf8", b"utf8mb3", b"utf8mb4", b"binary",
+    b"utf8mb4", b"utf8", b"latin1", b"utf8mb3", b"ascii", b"binary",
 ];
 
 pub(crate) fn is_character_set(word: &[u8]) -> bool

@@ -1,11 +1,11 @@
 -- Ends that are looked for from left to right: where they are found, and that they are within the text.
-use Rattle.std.proofs.Common.{◌≡◌, ◌≤◌, ◌<◌, ℕ, ◌+◌, ◌^◌, true, false, cond, nat_eq, List, [], ◌∷◌, length, get_or, drop, Option, Some, None, IfSome, refl, sym, ◌∙◌, ap, arith, length-drop}
+use Rattle.std.proofs.Common.{◌≡◌, ◌≤◌, ◌<◌, ℕ, ◌+◌, ◌^◌, true, false, cond, nat_eq, List, [], ◌∷◌, length, get_or, drop, not, Option, Some, None, IfSome, refl, sym, ◌∙◌, ap, arith, length-drop}
 use Rattle.std.proofs.lemmas.List.{drop-drop}
-use Rattle.std.proofs.lemmas.Bool.{cond_both, cond-true, cond-false, and_parts, ltb-true, eq-eqb, ne_eqb}
+use Rattle.std.proofs.lemmas.Bool.{cond_both, cond-true, cond-false, and_parts, and_left, or_from, not-true, ltb-true, eq-eqb, ne_eqb, eqb-false}
 use Rattle.std.proofs.lemmas.Bool.Decides.{nat_tests}
 use Rattle.sql_tokens.specs.Bytes.{has_byte, later}
 use Rattle.sql_tokens.specs.Comments.{closes_block, to_block_end}
-use Rattle.sql_tokens.specs.Quotes.{is_pair, begins_pair, to_closing}
+use Rattle.sql_tokens.specs.Quotes.{is_inside, is_pair, begins_pair, to_closing}
 
 pub later-later : (a b : ℕ) (end : Option ℕ) → later a (later b end) ≡ later (a + b) end
 later-later a b None = refl
@@ -64,6 +64,19 @@ pub past_byte : (quote : ℕ) (bytes : List ℕ) → 0 < length bytes → begins
 past_byte quote [] some h is = absurd (omega arith)
 past_byte quote (b ∷ []) some h is = cond-false (nat_eq b quote) (Some 1) None (ne_eqb b quote is)
 past_byte quote (b ∷ c ∷ bytes) some h is = cond-false (is_pair quote b c) _ _ h ∙ cond-false (nat_eq b quote) _ _ (ne_eqb b quote is)
+
+no_pair : (quote : ℕ) (bytes : List ℕ) → is_inside quote (get_or bytes 0 0) ≡ true → begins_pair quote bytes ≡ false
+no_pair quote [] inside = refl
+no_pair quote (b ∷ []) inside = refl
+no_pair quote (b ∷ c ∷ bytes) inside =
+    let neither = and_parts (not (nat_eq b quote)) (not (nat_eq b 92)) inside in
+    or_from _ _ (and_left _ _ (not-true _ neither.1)) (and_left _ _ (not-true _ neither.0))
+
+pub past_plain : (quote : ℕ) (bytes : List ℕ) → 0 < length bytes → is_inside quote (get_or bytes 0 0) ≡ true → to_closing quote bytes ≡ later 1 (to_closing quote (drop 1 bytes))
+past_plain quote bytes some inside =
+    let first = get_or bytes 0 0 in
+    let other : nat_eq first quote ≡ false = not-true _ (and_parts (not (nat_eq first quote)) (not (nat_eq first 92)) inside).0 in
+    past_byte quote bytes some (no_pair quote bytes inside) (eqb-false first quote other)
 
 pub to_closing-within : (quote : ℕ) (bytes : List ℕ) → EndsWithin (length bytes) (to_closing quote bytes)
 to_closing-within quote [] = tt

@@ -6,6 +6,7 @@ pub mod OneList
 pub mod Runs
 pub mod Scan
 pub mod Sizes
+pub mod SymbolStarts
 pub mod WordBytes
 pub mod WordStarts
 pub mod Worked

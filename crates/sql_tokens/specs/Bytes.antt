@@ -18,6 +18,14 @@ is_word_byte b = is_ascii_alphanumeric b || nat_eq b 95 || nat_eq b 36 || nat_le
 abbrev pub begins_word : List ℕ → Bool
 begins_word bytes = is_word_byte (slice_index_or bytes 0 0) && not (is_ascii_digit (slice_index_or bytes 0 0))
 
+-- bytes that begin no token but a Symbol: `(` to `,`, and `;` to `?`
+abbrev pub is_lone_byte : ℕ → Bool
+is_lone_byte b = (nat_le 40 b && nat_le b 44) || (nat_le 59 b && nat_le b 63)
+
+-- one of them stands at the front
+abbrev pub begins_symbol : List ℕ → Bool
+begins_symbol bytes = is_lone_byte (slice_index_or bytes 0 0)
+
 -- the bytes of a variable's name: those of words, and `.`
 abbrev pub is_name_byte : ℕ → Bool
 is_name_byte b = is_word_byte b || nat_eq b 46

@@ -10,6 +10,10 @@ escapes quote byte = nat_eq byte 92 && not (nat_eq quote 96)
 abbrev pub is_pair : (quote first second : ℕ) → Bool
 is_pair quote first second = escapes quote first || (nat_eq first quote && nat_eq second quote)
 
+-- a byte that neither ends what is quoted nor begins a pair
+abbrev pub is_inside : (quote byte : ℕ) → Bool
+is_inside quote byte = not (nat_eq byte quote) && not (nat_eq byte 92)
+
 abbrev pub begins_pair : (quote : ℕ) → List ℕ → Bool
 begins_pair quote [] = false
 begins_pair quote (b ∷ []) = false

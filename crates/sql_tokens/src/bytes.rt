@@ -2,7 +2,7 @@
 ghost use Rattle.std.specs.Prelude.{◌≡◌, ◌+◌, ◌<◌, ◌^◌, length, take, drop};
 ghost use Rattle.std.specs.List.{prefix_len};
 ghost use Rattle.std.specs.Char.{is_ascii_digit, is_ascii_hexdigit};
-ghost use Rattle.sql_tokens.specs.Bytes.{has_byte, followed_by, is_white, is_word_byte, begins_word, is_name_byte};
+ghost use Rattle.sql_tokens.specs.Bytes.{has_byte, followed_by, is_white, is_word_byte, begins_word, begins_symbol, is_lone_byte, is_name_byte};
 
 // Whether this byte stands at this place.
 pub(crate) fn has_byte(bytes: &[u8], place: usize, byte: u8) -> bool
@@ -73,6 +73,19 @@ pub(crate) fn begins_word(bytes: &[u8]) -> bool
     ensures { result ≡ begins_word bytes.now }
 {
     !bytes.is_empty() && is_word_byte(bytes[0]) && !bytes[0].is_ascii_digit()
+}
+
+// Whether a byte is here that begins no token but a Symbol, as those between words mostly are.
+pub(crate) fn begins_symbol(bytes: &[u8]) -> bool
+    ensures { result ≡ begins_symbol bytes.now }
+{
+    !bytes.is_empty() && is_lone_byte(bytes[0])
+}
+
+fn is_lone_byte(byte: u8) -> bool
+    ensures { result ≡ is_lone_byte byte }
+{
+    (b'(' <= byte && byte <= b',') || (b';' <= byte && byte <= b'?')
 }
 
 fn is_name_byte(byte: u8) -> bool

@@ -1,6 +1,6 @@
 // Quoted texts and names (MySQL Reference Manual, "String Literals" and "Schema Object Names").
 ghost use Rattle.std.specs.Prelude.{◌≡◌};
-ghost use Rattle.sql_tokens.specs.Quotes.{escapes, is_pair, begins_pair, to_closing, begins_quoted, begins_name, quoted_length};
+ghost use Rattle.sql_tokens.specs.Quotes.{escapes, is_inside, is_pair, begins_pair, to_closing, begins_quoted, begins_name, quoted_length};
 
 use crate::bytes::{behind, has_byte};
 
@@ -27,6 +27,13 @@ fn is_pair(quote: u8, first: u8, second: u8) -> bool
     (first == b'\\' && quote != b'`') || (first == quote && second == quote)
 }
 
+// Most bytes: they neither end what is quoted nor begin a pair.
+fn is_inside(quote: u8, byte: u8) -> bool
+    ensures { result ≡ is_inside quote byte }
+{
+    byte != quote && byte != b'\\'
+}
+
 fn begins_pair(quote: u8, bytes: &[u8]) -> bool
     ensures { result ≡ begins_pair quote bytes.now }
 {
@@ -42,7 +49,9 @@ fn to_closing(quote: u8, bytes: &[u8]) -> Option<usize>
 {
     let mut i = 0;
     while i < bytes.len() {
-        if begins_pair(quote, behind(bytes, i)) {
+        if is_inside(quote, bytes[i]) {
+            i += 1;
+        } else if begins_pair(quote, behind(bytes, i)) {
             i += 2;
         } else if bytes[i] == quote {
             return Some(i + 1);

@@ -3,7 +3,7 @@ ghost use Rattle.std.specs.Prelude.{◌≡◌, ◌<◌, length};
 ghost use Rattle.sql_tokens.specs.Tokens.{closed, plain_token_at, token_at};
 
 use crate::TokenKind;
-use crate::bytes::{begins_word, behind, has_byte, word_run};
+use crate::bytes::{begins_symbol, begins_word, behind, has_byte, word_run};
 use crate::comment::{begins_block, begins_line_comment, block_length, executes, line_length};
 use crate::number::number_length;
 use crate::quote::{begins_name, begins_quoted, quoted_length};
@@ -45,14 +45,13 @@ fn plain_token_at(bytes: &[u8]) -> (TokenKind, usize)
     (TokenKind::Symbol, 1)
 }
 
-// The token at the front of these bytes: its kind and how many bytes it takes.
-#[tactic(auto, using(crate::proofs::WordStarts::word_token), unfolding(crate::specs::Tokens::token_at))]
-pub(crate) fn token_at(bytes: &[u8]) -> (TokenKind, usize)
+// The token at the front of these bytes, whatever they are: its kind and how many bytes it takes.
+#[inline(never)]
+#[tactic(auto, unfolding(crate::specs::Tokens::token_at))]
+fn any_token_at(bytes: &[u8]) -> (TokenKind, usize)
     ensures { result ≡ token_at bytes.now }
 {
-    if begins_word(bytes) {
-        (TokenKind::Word, word_run(bytes))
-    } else if begins_line_comment(bytes) {
+    if begins_line_comment(bytes) {
         (TokenKind::Comment, line_length(bytes))
     } else if begins_block(bytes) {
         let kind = if executes(bytes) {
@@ -67,5 +66,20 @@ pub(crate) fn token_at(bytes: &[u8]) -> (TokenKind, usize)
         closed(TokenKind::Name, quoted_length(bytes), bytes)
     } else {
         plain_token_at(bytes)
+    }
+}
+
+// The same. Most tokens are words and symbols, which are told by their first byte; what else there may be is kept out of the
+// loops over tokens.
+#[tactic(auto, using(crate::proofs::SymbolStarts::symbol_token, crate::proofs::WordStarts::word_token))]
+pub(crate) fn token_at(bytes: &[u8]) -> (TokenKind, usize)
+    ensures { result ≡ token_at bytes.now }
+{
+    if begins_word(bytes) {
+        (TokenKind::Word, word_run(bytes))
+    } else if begins_symbol(bytes) {
+        (TokenKind::Symbol, 1)
+    } else {
+        any_token_at(bytes)
     }
 }

@@ -35,6 +35,16 @@ impl<'a> Tokens<'a> {
     {
         Tokens { text, place: 0 }
     }
+
+    /// The same tokens, for whoever looks ahead. Takes no memory.
+    pub fn copy(&self) -> Self
+        ensures { result ≡ self.now }
+    {
+        Tokens {
+            text: self.text,
+            place: self.place,
+        }
+    }
 }
 
 impl<'a> Iterator for Tokens<'a> {

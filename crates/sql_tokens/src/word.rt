@@ -1,5 +1,5 @@
 // What tokens say.
-ghost use Rattle.std.specs.Prelude.{◌≡◌, ◌↔◌, IsTrue, Option, option_copied, slice_range};
+ghost use Rattle.std.specs.Prelude.{◌≡◌, ◌↔◌, IsTrue, bytes_eq, [], ◌∷◌, Option, option_copied, slice_range};
 ghost use Rattle.std.specs.List.{list_any};
 ghost use Rattle.sql_tokens.specs.Words.{bytes_of, inside, is_symbol, is_word, same_text, says, word_of, NamesWord};
 
@@ -72,9 +72,18 @@ pub fn says(text: &[u8], token: &Token, word: &[u8]) -> bool
     is_word(word_of(text, token), word)
 }
 
+fn is_byte(bytes: &[u8], byte: u8) -> bool
+    ensures { result ≡ bytes_eq bytes.now (byte ∷ []) }
+{
+    match bytes {
+        [one] => *one == byte,
+        _ => false,
+    }
+}
+
 /// Whether a token of this text is this one byte. Takes no memory.
 pub fn is_symbol(text: &[u8], token: &Token, byte: u8) -> bool
     ensures { result ≡ is_symbol text.now token.now byte }
 {
-    token.kind == TokenKind::Symbol && bytes_of(text, token) == [byte].as_slice()
+    token.kind == TokenKind::Symbol && is_byte(bytes_of(text, token), byte)
 }
