@@ -1,0 +1,5 @@
+mod Cutting
+mod Draining
+mod Entering
+mod Following
+mod Linking

@@ -1,0 +1,6 @@
+pub mod Forms
+pub mod Login
+pub mod Reading
+pub mod Steps
+pub mod Told
+pub mod Written

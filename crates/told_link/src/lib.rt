@@ -1,0 +1,14 @@
+//! The bytes on one link to a server, as the story of a log reads them.
+#![tactic(auto)]
+
+mod fault;
+mod link;
+mod login;
+mod payloads;
+mod reading;
+mod step;
+mod written;
+
+pub use fault::Lost;
+pub use link::ToldLink;
+pub use step::StepText;
