@@ -5,12 +5,14 @@ use Rattle.std.specs.Option.{option_map_or}
 use Rattle.packet_frame.specs.declared.fault.FrameFault.{FrameFault}
 use Rattle.packet_frame.specs.declared.message.Message.{Message}
 use Rattle.packet_frame.specs.FramerState.{FramerState, answer, look, look_by, past, seen}
+use Rattle.packet_frame.specs.Joining.{told}
 use Rattle.packet_frame.specs.Laws.{first_message-empty, first_message-shorter, split-faulty, split-grown, split-nothing, split-whole}
 use Rattle.packet_frame.specs.MessageLaws.{first_message-goes}
 use Rattle.packet_frame.specs.Packets.{Found, Framed, Split, first_message, grown, split, with_front}
 use Rattle.packet_frame.specs.Packets.Found.{Faulty, Nothing, Whole}
 use Rattle.packet_frame.specs.Pieces.{pending, pending_by}
 use Rattle.log_story.specs.Servers.{last_id, written_in}
+use Rattle.told_link.proofs.Found.{Answer, HasNone, found-message}
 use Rattle.told_link.specs.Written.{IsDrained, IsWritten, last_by, left}
 use Rattle.told_link.specs.declared.written.Written.{Written}
 
@@ -29,7 +31,9 @@ last_or-append found [] more = refl
 last_or-append found (message ∷ front) more = last_or-append (Some message) front more
 
 last_id-append : (front more : List Framed) → last_by (last_id front) more ≡ last_id (front ++ more)
-last_id-append front more = last_by-is (last_id front) more (last_or None front) refl ∙ ap (λ o. option_map_or (λ message. message.last) o 0) (sym (last_or-append None front more))
+last_id-append front more =
+    last_by-is (last_id front) more (last_or None front) refl
+    ∙ ap (λ o. option_map_or (λ message. message.last) o 0) (sym (last_or-append None front more))
 
 -- nothing was written
 
@@ -45,14 +49,18 @@ nothing-written code is last =
 
 -- more bytes were written, of which the messages that are whole were taken
 
-fed-left : (fault : Option FrameFault) (messages : List Framed) (kept bytes : List ℕ)
-    → (last_by (last_id messages) (pending_by fault (kept ++ bytes) (split most 0 (kept ++ bytes))).messages ≡ last_id (grown most 0 messages kept fault bytes).messages)
-    × ((pending_by fault (kept ++ bytes) (split most 0 (kept ++ bytes))).rest ≡ (grown most 0 messages kept fault bytes).rest)
-    × ((pending_by fault (kept ++ bytes) (split most 0 (kept ++ bytes))).fault ≡ (grown most 0 messages kept fault bytes).fault)
-fed-left None messages kept bytes = (last_id-append messages (split most 0 (kept ++ bytes)).messages, refl, refl)
-fed-left (Some fault) messages kept bytes = (refl, refl, refl)
+record IsFed (last : ℕ) (now whole : Split) : Type 0 where
+  pub last_is : last_by last now.messages ≡ last_id whole.messages
+  pub rest : now.rest ≡ whole.rest
+  pub fault : now.fault ≡ whole.fault
 
-pub more-written : (old fed new : Written) (bytes : List ℕ) → fed ≡ record old { framer = record old.framer { kept = old.framer.kept ++ bytes } } → IsDrained fed new
+fed-left : (fault : Option FrameFault) (messages : List Framed) (kept bytes : List ℕ)
+    → IsFed (last_id messages) (pending_by fault (kept ++ bytes) (split most 0 (kept ++ bytes))) (grown most 0 messages kept fault bytes)
+fed-left None messages kept bytes = record { last_is = last_id-append messages (split most 0 (kept ++ bytes)).messages; rest = refl; fault = refl }
+fed-left (Some fault) messages kept bytes = record { last_is = refl; rest = refl; fault = refl }
+
+pub more-written : (old fed new : Written) (bytes : List ℕ) → fed ≡ record old { framer = record old.framer { kept = old.framer.kept ++ bytes } }
+    → IsDrained fed new
     → (written : List ℕ) → IsWritten old written → IsWritten new (written ++ bytes)
 more-written old fed new bytes is drained written at =
     let was : Split = written_in written in
@@ -62,9 +70,10 @@ more-written old fed new bytes is drained written at =
     let by = fed-left was.fault was.messages was.rest bytes in
     record {
       limit = drained.limit ∙ ap (λ (w : Written). w.framer.limit) is ∙ at.limit;
-      last = drained.last ∙ (λ i. last_by ((ap (λ (w : Written). w.last) is ∙ at.last) i) (same i).messages) ∙ by.0 ∙ sym (ap (λ (s : Split). last_id s.messages) grows);
-      rest = drained.rest ∙ ap (λ (s : Split). s.rest) same ∙ by.1 ∙ sym (ap (λ (s : Split). s.rest) grows);
-      fault = drained.fault ∙ ap (λ (s : Split). s.fault) same ∙ by.2 ∙ sym (ap (λ (s : Split). s.fault) grows);
+      last = drained.last ∙ (λ i. last_by ((ap (λ (w : Written). w.last) is ∙ at.last) i) (same i).messages) ∙ by.last_is
+          ∙ sym (ap (λ (s : Split). last_id s.messages) grows);
+      rest = drained.rest ∙ ap (λ (s : Split). s.rest) same ∙ by.rest ∙ sym (ap (λ (s : Split). s.rest) grows);
+      fault = drained.fault ∙ ap (λ (s : Split). s.fault) same ∙ by.fault ∙ sym (ap (λ (s : Split). s.fault) grows);
     }
 
 -- while the messages are taken
@@ -96,90 +105,69 @@ record IsDry (state : FramerState) : Type 0 where
   pub rest : (pending 0 state).rest ≡ state.kept
   pub fault : (pending 0 state).fault ≡ state.fault
 
-dry-nothing : (limit : ℕ) (kept : List ℕ) (was : Option Framed) (fault : Option FrameFault) → look_by fault (first_message limit 0 kept) ≡ Nothing
-    → IsDry (record { limit = limit; kept = kept; found = was; fault = fault })
-dry-nothing limit kept was None is =
-    let none = split-nothing limit 0 kept is in
-    record { messages = ap (λ (s : Split). s.messages) none; rest = ap (λ (s : Split). s.rest) none; fault = ap (λ (s : Split). s.fault) none }
-dry-nothing limit kept was (Some fault) is = absurd (cc)
-
-found-none : (found : Found) → answer found ≡ Ok None → found ≡ Nothing
-found-none Nothing is = refl
-found-none (Whole message rest) is = absurd (cc)
-found-none (Faulty fault) is = absurd (cc)
-
-found-fault : (found : Found) (fault : FrameFault) → answer found ≡ Err fault → found ≡ Faulty fault
-found-fault Nothing fault is = absurd (cc)
-found-fault (Whole message rest) fault is = absurd (cc)
-found-fault (Faulty other) fault is = cc
-
-last_told : Result (Option Message) FrameFault → ℕ
-last_told (Ok (Some message)) = message.last
-last_told _ = 0
-
-found-message : (found : Found) (message : Message) → answer found ≡ Ok (Some message) → (framed : Framed) × (rest : List ℕ) × (found ≡ Whole framed rest) × (framed.last ≡ message.last)
-unfolding last_told
-found-message Nothing message is = absurd (cc)
-found-message (Whole framed rest) message is = (framed, rest, refl, ap last_told is)
-found-message (Faulty fault) message is = absurd (cc)
-
-drained : (old now new : Written) → IsDraining old now → new ≡ record now { framer = seen now.framer (look 0 now.framer) } → IsDry new.framer → IsDrained old new
-drained old now new at is dry =
-    let same : left new ≡ left now = ap left is ∙ seen-left now.framer in
+dry-by : (limit : ℕ) (kept : List ℕ) (was : Option Framed) (fault : Option FrameFault) (found : Found) → look_by fault (first_message limit 0 kept) ≡ found
+    → HasNone (answer found) → IsDry (seen (record { limit = limit; kept = kept; found = was; fault = fault }) found)
+dry-by limit kept was None Nothing is none =
+    let left = split-nothing limit 0 kept is in
     record {
-      limit = ap (λ (w : Written). w.framer.limit) is ∙ seen-limit now.framer (look 0 now.framer) ∙ at.limit;
+      messages = ap (λ (s : Split). s.messages) left;
+      rest = ap (λ (s : Split). s.rest) left;
+      fault = ap (λ (s : Split). s.fault) left;
+    }
+dry-by limit kept was (Some fault) Nothing is none = absurd (cc)
+dry-by limit kept was fault (Whole message rest) is none = absurd (none (told message) refl)
+dry-by limit kept was fault (Faulty other) is none = record { messages = refl; rest = refl; fault = refl }
+
+pub drained : (old now new : Written) (answered : Answer) → IsDraining old now → new ≡ record now { framer = seen now.framer (look 0 now.framer) }
+    → answered ≡ answer (look 0 now.framer) → HasNone answered → IsDrained old new
+drained old now new answered at is gives none =
+    let f : FramerState = now.framer in
+    let dry : IsDry new.framer = subst IsDry (sym (ap (λ (w : Written). w.framer) is))
+    (dry-by f.limit f.kept f.found f.fault (look 0 f) refl (subst HasNone gives none)) in
+    let same : left new ≡ left now = ap left is ∙ seen-left f in
+    record {
+      limit = ap (λ (w : Written). w.framer.limit) is ∙ seen-limit f (look 0 f) ∙ at.limit;
       last = ap (λ (w : Written). w.last) is ∙ ap (last_by now.last) (sym dry.messages) ∙ ap (λ (s : Split). last_by now.last s.messages) same ∙ at.last;
       rest = sym dry.rest ∙ ap (λ (s : Split). s.rest) same ∙ at.rest;
       fault = sym dry.fault ∙ ap (λ (s : Split). s.fault) same ∙ at.fault;
     }
 
-pub drained-none : (old now new : Written) (result : Result (Option Message) FrameFault) → IsDraining old now → new ≡ record now { framer = seen now.framer (look 0 now.framer) }
-    → result ≡ answer (look 0 now.framer) → result ≡ Ok None → IsDrained old new
-drained-none old now new result at is gives none =
-    let nothing : look 0 now.framer ≡ Nothing = found-none (look 0 now.framer) (sym gives ∙ none) in
-    let seen_is : new.framer ≡ record now.framer { found = None } = ap (λ (w : Written). w.framer) is ∙ ap (seen now.framer) nothing in
-    drained old now new at is (subst IsDry (sym seen_is) (dry-nothing now.framer.limit now.framer.kept None now.framer.fault nothing))
-
-pub drained-fault : (old now new : Written) (result : Result (Option Message) FrameFault) (fault : FrameFault) → IsDraining old now
-    → new ≡ record now { framer = seen now.framer (look 0 now.framer) } → result ≡ answer (look 0 now.framer) → result ≡ Err fault → IsDrained old new
-drained-fault old now new result fault at is gives faulty =
-    let found : look 0 now.framer ≡ Faulty fault = found-fault (look 0 now.framer) fault (sym gives ∙ faulty) in
-    let seen_is : new.framer ≡ record now.framer { found = None; fault = Some fault } = ap (λ (w : Written). w.framer) is ∙ ap (seen now.framer) found in
-    drained old now new at is (subst IsDry (sym seen_is) (record { messages = refl; rest = refl; fault = refl }))
-
 -- a message was whole
-record IsFound (state : FramerState) (message : Framed) : Type 0 where
+record IsFirst (state : FramerState) (message : Framed) : Type 0 where
   pub left : pending 0 state ≡ with_front (message ∷ []) (pending 0 (past state))
   pub shorter : length (past state).kept < length state.kept
 
-found-by : (limit : ℕ) (kept : List ℕ) (was : Option Framed) (fault : Option FrameFault) (message : Framed) (rest : List ℕ) → look_by fault (first_message limit 0 kept) ≡ Whole message rest
-    → IsFound (record { limit = limit; kept = kept; found = was; fault = fault }) message
-found-by limit kept was None message rest is =
+first-by : (limit : ℕ) (kept : List ℕ) (was : Option Framed) (fault : Option FrameFault) (message : Framed) (rest : List ℕ)
+    → look_by fault (first_message limit 0 kept) ≡ Whole message rest → IsFirst (record { limit = limit; kept = kept; found = was; fault = fault }) message
+first-by limit kept was None message rest is =
     let goes : rest ≡ (past (record { limit = limit; kept = kept; found = was; fault = None })).kept = first_message-goes limit 0 kept message rest is in
     record {
       left = split-whole limit 0 kept message rest is ∙ ap (λ xs. with_front (message ∷ []) (split limit 0 xs)) goes;
       shorter = omega (arith, first_message-shorter limit 0 kept message rest is, ap length goes);
     }
-found-by limit kept was (Some fault) message rest is = absurd (cc)
+first-by limit kept was (Some fault) message rest is = absurd (cc)
 
 pub record Goes (old now new : Written) : Type 0 where
   pub draining : IsDraining old new
   pub shorter : length new.framer.kept < length now.framer.kept
 
-pub goes-on : (old now new : Written) (result : Result (Option Message) FrameFault) (message : Message) → IsDraining old now
-    → new ≡ record { framer = past (seen now.framer (look 0 now.framer)); last = message.last } → result ≡ answer (look 0 now.framer) → result ≡ Ok (Some message) → Goes old now new
-goes-on old now new result message at is gives some =
+pub goes-on : (old now new : Written) (answered : Answer) (message : Message) → IsDraining old now
+    → new ≡ record { framer = past (seen now.framer (look 0 now.framer)); last = message.last } → answered ≡ answer (look 0 now.framer)
+    → answered ≡ Ok (Some message) → Goes old now new
+goes-on old now new answered message at is gives some =
     let found = found-message (look 0 now.framer) message (sym gives ∙ some) in
-    let whole : IsFound now.framer found.0 = found-by now.framer.limit now.framer.kept now.framer.found now.framer.fault found.0 found.1 found.2 in
-    let framer : new.framer ≡ record (past now.framer) { found = None } = ap (λ (w : Written). w.framer) is ∙ ap (λ f. past (seen now.framer f)) found.2 in
-    let last : new.last ≡ (found.0).last = ap (λ (w : Written). w.last) is ∙ sym found.3 in
-    let front : left now ≡ with_front (found.0 ∷ []) (left new) = whole.left ∙ ap (λ (f : FramerState). with_front (found.0 ∷ []) (pending 0 f)) (sym framer) in
+    let f : FramerState = now.framer in
+    let whole : IsFirst f found.framed = first-by f.limit f.kept f.found f.fault found.framed found.rest found.is in
+    let framer : new.framer ≡ record (past f) { found = None } = ap (λ (w : Written). w.framer) is ∙ ap (λ o. past (seen f o)) found.is in
+    let last : new.last ≡ (found.framed).last = ap (λ (w : Written). w.last) is ∙ sym found.last in
+    let front : left now ≡ with_front (found.framed ∷ []) (left new) =
+    whole.left ∙ ap (λ (g : FramerState). with_front (found.framed ∷ []) (pending 0 g)) (sym framer) in
     record {
       draining = record {
-        limit = ap (λ (f : FramerState). f.limit) framer ∙ at.limit;
+        limit = ap (λ (g : FramerState). g.limit) framer ∙ at.limit;
         last = ap (λ n. last_by n (left new).messages) last ∙ sym (ap (λ (s : Split). last_by now.last s.messages) front) ∙ at.last;
         rest = sym (ap (λ (s : Split). s.rest) front) ∙ at.rest;
         fault = sym (ap (λ (s : Split). s.fault) front) ∙ at.fault;
       };
-      shorter = omega (arith, whole.shorter, ap (λ (f : FramerState). length f.kept) framer);
+      shorter = omega (arith, whole.shorter, ap (λ (g : FramerState). length g.kept) framer);
     }

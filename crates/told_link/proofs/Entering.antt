@@ -1,5 +1,6 @@
 -- The login, message by message.
-use Rattle.std.proofs.Common.{◌≡◌, ℕ, ◌-◌, List, [], ◌++◌, length, take, drop, IfSome, Bool, true, false, not, ◌&&◌, Option, Some, None, Result, Ok, Err, refl, ◌∙◌, sym, ap, subst, arith, append_assoc, length-append}
+use Rattle.std.proofs.Common.{◌≡◌, ℕ, ◌-◌, List, [], ◌++◌, length, take, drop, IfSome, Bool, true, false, not, ◌&&◌, Option, Some, None, Result, Ok, Err}
+use Rattle.std.proofs.Common.{refl, ◌∙◌, sym, ap, subst, arith, append_assoc, length-append}
 use Rattle.std.specs.Prelude.{bytes_eq, if◌then◌else◌, is_some}
 use Rattle.std.proofs.lemmas.List.{take-append-drop}
 use Rattle.std.proofs.Math.Seq.{drop-append_seam}
@@ -17,8 +18,10 @@ use Rattle.handshake.specs.Greeting.{greeting_of}
 use Rattle.handshake.specs.Switch.{native_password, switch_of}
 use Rattle.server_side.specs.Account.{Account}
 use Rattle.server_side.specs.declared.fault.BackendFault.TheVariants.{Plugin}
-use Rattle.server_side.specs.Login.{Fails, LogsIn, answer_said, asks_switch, bad, by_end, by_greeting, by_switch, denied, end_by, end_in, greeting_by, greeting_or_not, lacks_found_rows}
+use Rattle.server_side.specs.Login.{Fails, LogsIn, answer_said, asks_switch, bad, by_end, by_greeting, by_switch, denied, end_by, end_in, greeting_by}
+use Rattle.server_side.specs.Login.{greeting_or_not, lacks_found_rows}
 use Rattle.server_side.specs.Login.{most_payload, opening, response_said, welcome_by, welcome_in}
+use Rattle.told_link.proofs.Found.{Answer, found-message}
 use Rattle.told_link.specs.Login.{Enters, IsFresh, Takes, is_end, rest_of}
 
 -- a message is taken, or there is none
@@ -26,62 +29,64 @@ use Rattle.told_link.specs.Login.{Enters, IsFresh, Takes, is_end, rest_of}
 looks : (first : ℕ) (framer : FramerState) → IsFresh framer → look first framer ≡ first_message most_payload first framer.kept
 looks first framer fresh = λ i. look_by (fresh.fault i) (first_message (fresh.limit i) first framer.kept)
 
-pub message-taken : (first : ℕ) (old middle new : FramerState) (result : Result (Option Message) FrameFault) (message : Message) (payload : List ℕ) → IsFresh old
-    → middle ≡ seen old (look first old) → result ≡ answer (look first old) → result ≡ Ok (Some message) → IfSome middle.found (λ m. payload ≡ m.payload) → new ≡ past middle
-    → Takes (Some payload) new.kept (first_message most_payload first old.kept)
-message-taken first old middle new result message payload fresh sees gives some is_payload is_new =
-    go (first_message most_payload first old.kept) refl (looks first old fresh)
-  where
-    go : (found : Found) → first_message most_payload first old.kept ≡ found → look first old ≡ found → Takes (Some payload) new.kept found
-    go Nothing at is = absurd (let e = sym some ∙ gives ∙ ap answer is in cc)
-    go (Whole framed rest) at is =
-        let mid : middle ≡ record old { found = Some framed } = sees ∙ ap (seen old) is in
-        let same : payload ≡ framed.payload = subst (λ (o : Option Framed). IfSome o (λ m. payload ≡ m.payload)) (ap (λ (f : FramerState). f.found) mid) is_payload in
-        (ap (λ p. Some p) same, ap (λ (f : FramerState). f.kept) (is_new ∙ ap past mid) ∙ sym (first_message-goes most_payload first old.kept framed rest at))
-    go (Faulty fault) at is = absurd (let e = sym some ∙ gives ∙ ap answer is in cc)
+pub message-taken : (first : ℕ) (old middle new : FramerState) (answered : Answer) (message : Message) (payload : List ℕ) → IsFresh old
+    → middle ≡ seen old (look first old) → answered ≡ answer (look first old) → answered ≡ Ok (Some message) → IfSome middle.found (λ m. payload ≡ m.payload)
+    → new ≡ past middle → Takes (Some payload) new.kept (first_message most_payload first old.kept)
+message-taken first old middle new answered message payload fresh sees gives some is_payload is_new =
+    let found = found-message (look first old) message (sym gives ∙ some) in
+    let framed : Framed = found.framed in
+    let at : first_message most_payload first old.kept ≡ Whole framed found.rest = sym (looks first old fresh) ∙ found.is in
+    let mid : middle ≡ record old { found = Some framed } = sees ∙ ap (seen old) found.is in
+    let same : payload ≡ framed.payload =
+    subst (λ (o : Option Framed). IfSome o (λ m. payload ≡ m.payload)) (ap (λ (f : FramerState). f.found) mid) is_payload in
+    let kept : new.kept ≡ found.rest =
+    ap (λ (f : FramerState). f.kept) (is_new ∙ ap past mid) ∙ sym (first_message-goes most_payload first old.kept framed found.rest at) in
+    subst (Takes (Some payload) new.kept) (sym at) (ap (λ p. Some p) same, kept)
 
 -- the end
 
 by_end-rest : (said : List ℕ) (message : Framed) (rest : List ℕ) → Enters (is_end message.payload) rest (by_end said (denied message.payload) message rest)
 by_end-rest said message rest = go (denied message.payload) (is_lone message.payload) refl
   where
-    go : (code : Option ℕ) (lone : Bool) → is_lone message.payload ≡ lone → rest_of (by_end said code message rest) ≡ (if not (is_some code) && lone then Some rest else None)
+    go : (code : Option ℕ) (lone : Bool) → is_lone message.payload ≡ lone
+        → rest_of (by_end said code message rest) ≡ (if not (is_some code) && lone then Some rest else None)
     go (Some code) lone is = refl
     go None true is = ap (λ b. rest_of (if b then LogsIn said rest else bad said)) is
     go None false is = ap (λ b. rest_of (if b then LogsIn said rest else bad said)) is
 
-same_payload : (a b : List ℕ) → Some a ≡ Some b → a ≡ b
-same_payload a b e = cc
+same_bytes : (a b : List ℕ) → Some a ≡ Some b → a ≡ b
+same_bytes a b e = cc
 
-pub end-some : (said payload kept : List ℕ) (found : Found) (entered : Bool) → Takes (Some payload) kept found → entered ≡ is_end payload → Enters entered kept (end_by said found)
+pub end-some : (said payload kept : List ℕ) (found : Found) (entered : Bool) → Takes (Some payload) kept found → entered ≡ is_end payload
+    → Enters entered kept (end_by said found)
 end-some said payload kept Nothing entered takes is = absurd (cc)
 end-some said payload kept (Whole message rest) entered takes is =
-    by_end-rest said message rest ∙ (λ i. if (ap is_end (sym (same_payload payload message.payload takes.0)) ∙ sym is) i then Some (sym takes.1 i) else None)
+    by_end-rest said message rest ∙ (λ i. if (ap is_end (sym (same_bytes payload message.payload takes.0)) ∙ sym is) i then Some (sym takes.1 i) else None)
 end-some said payload kept (Faulty fault) entered takes is = absurd (cc)
 
 -- what is behind a login is the end of its bytes
 
-IsEnd : (bytes rest : List ℕ) → Type 0
-IsEnd bytes rest = (front : List ℕ) × (bytes ≡ front ++ rest)
+record IsEnd (bytes rest : List ℕ) : Type 0 where
+  pub front : List ℕ
+  pub is : bytes ≡ front ++ rest
 
 end-of : (limit first : ℕ) (bytes : List ℕ) (message : Framed) (rest : List ℕ) → first_message limit first bytes ≡ Whole message rest → IsEnd bytes rest
-unfolding IsEnd
 end-of limit first bytes message rest is =
-    (take (message_size bytes) bytes, sym (take-append-drop (message_size bytes) bytes) ∙ ap (λ r. take (message_size bytes) bytes ++ r) (sym (first_message-goes limit first bytes message rest is)))
+    let front : List ℕ = take (message_size bytes) bytes in
+    record {
+      front = front;
+      is = sym (take-append-drop (message_size bytes) bytes) ∙ ap (λ r. front ++ r) (sym (first_message-goes limit first bytes message rest is));
+    }
 
 end-further : (bytes middle rest : List ℕ) → IsEnd bytes middle → IsEnd middle rest → IsEnd bytes rest
-unfolding IsEnd
-end-further bytes middle rest a b = (a.0 ++ b.0, a.1 ∙ ap (λ r. a.0 ++ r) b.1 ∙ sym (append_assoc a.0 b.0 rest))
-
-some-rest : (a b : List ℕ) → Some a ≡ Some b → a ≡ b
-some-rest a b e = cc
+end-further bytes middle rest a b = record { front = a.front ++ b.front; is = a.is ∙ ap (λ r. a.front ++ r) b.is ∙ sym (append_assoc a.front b.front rest) }
 
 ends-by_end : (said : List ℕ) (code : Option ℕ) (message : Framed) (bytes rest : List ℕ) → rest_of (by_end said code message bytes) ≡ Some rest → bytes ≡ rest
 ends-by_end said (Some code) message bytes rest is = absurd (cc)
 ends-by_end said None message bytes rest is = go (is_lone message.payload) is
   where
     go : (lone : Bool) → rest_of (if lone then LogsIn said bytes else bad said) ≡ Some rest → bytes ≡ rest
-    go true is = some-rest bytes rest is
+    go true is = same_bytes bytes rest is
     go false is = absurd (cc)
 
 ends-end_in : (said bytes rest : List ℕ) → rest_of (end_in said bytes) ≡ Some rest → IsEnd bytes rest
@@ -89,35 +94,40 @@ ends-end_in said bytes rest is = go (first_message most_payload 4 bytes) refl is
   where
     go : (found : Found) → first_message most_payload 4 bytes ≡ found → rest_of (end_by said found) ≡ Some rest → IsEnd bytes rest
     go Nothing at is = absurd (cc)
-    go (Whole message behind) at is = subst (IsEnd bytes) (ends-by_end said (denied message.payload) message behind rest is) (end-of most_payload 4 bytes message behind at)
+    go (Whole message behind) at is =
+        subst (IsEnd bytes) (ends-by_end said (denied message.payload) message behind rest is) (end-of most_payload 4 bytes message behind at)
     go (Faulty fault) at is = absurd (cc)
 
-ends-by_switch : (account : Account) (said : List ℕ) (read : Result Switch HandFault) (bytes rest : List ℕ) → rest_of (by_switch account said read bytes) ≡ Some rest → IsEnd bytes rest
+ends-by_switch : (account : Account) (said : List ℕ) (read : Result Switch HandFault) (bytes rest : List ℕ)
+    → rest_of (by_switch account said read bytes) ≡ Some rest → IsEnd bytes rest
 ends-by_switch account said (Err fault) bytes rest is = absurd (cc)
 ends-by_switch account said (Ok switch) bytes rest is = go (bytes_eq switch.plugin native_password) is
   where
-    go : (native : Bool) → rest_of (if native then end_in (said ++ answer_said account switch.salt) bytes else Fails said (Plugin switch.plugin)) ≡ Some rest → IsEnd bytes rest
+    go : (native : Bool) → rest_of (if native then end_in (said ++ answer_said account switch.salt) bytes else Fails said (Plugin switch.plugin)) ≡ Some rest
+        → IsEnd bytes rest
     go true is = ends-end_in (said ++ answer_said account switch.salt) bytes rest is
     go false is = absurd (cc)
 
 same-end : (bytes rest : List ℕ) → bytes ≡ rest → IsEnd bytes rest
-unfolding IsEnd
-same-end bytes rest is = ([], is)
+same-end bytes rest is = record { front = []; is = is }
 
 ends-welcome_in : (account : Account) (said bytes rest : List ℕ) → rest_of (welcome_in account said bytes) ≡ Some rest → IsEnd bytes rest
 ends-welcome_in account said bytes rest is = go (first_message most_payload 2 bytes) refl is
   where
     by : (message : Framed) (behind : List ℕ) (asks : Bool)
-        → rest_of (if asks then by_switch account said (switch_of message.payload) behind else by_end said (denied message.payload) message behind) ≡ Some rest → IsEnd behind rest
+        → rest_of (if asks then by_switch account said (switch_of message.payload) behind else by_end said (denied message.payload) message behind) ≡ Some rest
+        → IsEnd behind rest
     by message behind true is = ends-by_switch account said (switch_of message.payload) behind rest is
     by message behind false is = same-end behind rest (ends-by_end said (denied message.payload) message behind rest is)
 
     go : (found : Found) → first_message most_payload 2 bytes ≡ found → rest_of (welcome_by account said found) ≡ Some rest → IsEnd bytes rest
     go Nothing at is = absurd (cc)
-    go (Whole message behind) at is = end-further bytes behind rest (end-of most_payload 2 bytes message behind at) (by message behind (asks_switch message.payload) is)
+    go (Whole message behind) at is =
+        end-further bytes behind rest (end-of most_payload 2 bytes message behind at) (by message behind (asks_switch message.payload) is)
     go (Faulty fault) at is = absurd (cc)
 
-ends-by_greeting : (account : Account) (read : Result Greeting HandFault) (bytes rest : List ℕ) → rest_of (by_greeting account read bytes) ≡ Some rest → IsEnd bytes rest
+ends-by_greeting : (account : Account) (read : Result Greeting HandFault) (bytes rest : List ℕ) → rest_of (by_greeting account read bytes) ≡ Some rest
+    → IsEnd bytes rest
 ends-by_greeting account (Err fault) bytes rest is = absurd (cc)
 ends-by_greeting account (Ok greeting) bytes rest is = go (lacks_found_rows account.found_rows greeting.capabilities) is
   where
@@ -135,13 +145,14 @@ ends-opening account bytes rest is = go (first_message most_payload 0 bytes) ref
 
     go : (found : Found) → first_message most_payload 0 bytes ≡ found → rest_of (greeting_by account found) ≡ Some rest → IsEnd bytes rest
     go Nothing at is = absurd (cc)
-    go (Whole message behind) at is = end-further bytes behind rest (end-of most_payload 0 bytes message behind at) (by (denied message.payload) message behind is)
+    go (Whole message behind) at is =
+        end-further bytes behind rest (end-of most_payload 0 bytes message behind at) (by (denied message.payload) message behind is)
     go (Faulty fault) at is = absurd (cc)
 
-pub behind-login : (account : Account) (bytes kept : List ℕ) → Enters true kept (opening account bytes) → rest_of (opening account bytes) ≡ Some (drop (length bytes - length kept) bytes)
-unfolding IsEnd
+pub behind-login : (account : Account) (bytes kept : List ℕ) → Enters true kept (opening account bytes)
+    → rest_of (opening account bytes) ≡ Some (drop (length bytes - length kept) bytes)
 behind-login account bytes kept is =
     let at = ends-opening account bytes kept is in
-    let size : length bytes - length kept ≡ length at.0 = omega (arith, ap length at.1, length-append at.0 kept) in
-    let left : drop (length bytes - length kept) bytes ≡ kept = (λ i. drop (size i) (at.1 i)) ∙ drop-append_seam at.0 kept in
+    let size : length bytes - length kept ≡ length at.front = omega (arith, ap length at.is, length-append at.front kept) in
+    let left : drop (length bytes - length kept) bytes ≡ kept = (λ i. drop (size i) (at.is i)) ∙ drop-append_seam at.front kept in
     is ∙ ap (λ (r : List ℕ). Some r) (sym left)

@@ -28,13 +28,15 @@ going size (Going next) is state stands = ap Going (sym stands)
 going size (Ended end behind) is state stands = absurd (cc)
 going size (Failed behind) is state stands = absurd (cc)
 
-pub walks-more : (from to : State) (bytes piece made : List ℕ) (at size : ℕ) (progress : Progress) → IsNext bytes at size piece → Walked from piece to made progress → progress ≡ More
+pub walks-more : (from to : State) (bytes piece made : List ℕ) (at size : ℕ) (progress : Progress) → IsNext bytes at size piece
+    → Walked from piece to made progress → progress ≡ More
     → run from (drop at bytes) ≡ run to (drop (at + size) bytes)
 walks-more from to bytes piece made at size progress is walked more =
     ap (run from) (parts bytes at size piece is)
     ∙ run-more from to piece (drop (at + size) bytes) (going (length piece) (run from piece) (sym walked.answers ∙ more) to walked.stands)
 
-ended : (size used : ℕ) (end : ReplyEnd) (ending : Ending) → progress_of size ending ≡ Done used end → (rest : List ℕ) × (ending ≡ Ended end rest) × (used ≡ size - length rest)
+ended : (size used : ℕ) (end : ReplyEnd) (ending : Ending) → progress_of size ending ≡ Done used end
+    → (rest : List ℕ) × (ending ≡ Ended end rest) × (used ≡ size - length rest)
 ended size used end (Going next) is = absurd (cc)
 ended size used end (Ended other rest) is = (rest, (let same : other ≡ end = cc in ap (λ (e : ReplyEnd). Ended e rest) same), cc)
 ended size used end (Failed rest) is = absurd (cc)
@@ -43,7 +45,8 @@ pub record EndsAt (bytes : List ℕ) (used : ℕ) (end : ReplyEnd) (ending : End
   pub within : used ≤ length bytes
   pub ends : ending ≡ Ended end (drop used bytes)
 
-pub walks-done : (from to : State) (bytes piece made : List ℕ) (at size used : ℕ) (progress : Progress) (end : ReplyEnd) → at + size ≤ length bytes → IsNext bytes at size piece
+pub walks-done : (from to : State) (bytes piece made : List ℕ) (at size used : ℕ) (progress : Progress) (end : ReplyEnd) → at + size ≤ length bytes
+    → IsNext bytes at size piece
     → Walked from piece to made progress → progress ≡ Done used end → EndsAt bytes (at + used) end (run from (drop at bytes))
 walks-done from to bytes piece made at size used progress end inside is walked done =
     let found = ended (length piece) used end (run from piece) (sym walked.answers ∙ done) in
@@ -64,7 +67,8 @@ failed size at (Going next) is = absurd (cc)
 failed size at (Ended end rest) is = absurd (cc)
 failed size at (Failed rest) is = (rest, refl)
 
-pub walks-bad : (from to : State) (bytes piece made : List ℕ) (at size place : ℕ) (progress : Progress) → IsNext bytes at size piece → Walked from piece to made progress → progress ≡ Bad place
+pub walks-bad : (from to : State) (bytes piece made : List ℕ) (at size place : ℕ) (progress : Progress) → IsNext bytes at size piece
+    → Walked from piece to made progress → progress ≡ Bad place
     → HasFailed (run from (drop at bytes))
 walks-bad from to bytes piece made at size place progress is walked bad =
     let found = failed (length piece) place (run from piece) (sym walked.answers ∙ bad) in
@@ -73,12 +77,14 @@ walks-bad from to bytes piece made at size place progress is walked bad =
 
 -- a reply that was followed through the bytes that are there
 
-pub resumes : (kind other : ReplyKind) (id first read : ℕ) (tracker : Tracker) (unread more : List ℕ) → kind ≡ other → first ≡ id → length unread ≡ read → IsAt (Goes other first tracker) unread
+pub resumes : (kind other : ReplyKind) (id first read : ℕ) (tracker : Tracker) (unread more : List ℕ) → kind ≡ other → first ≡ id → length unread ≡ read
+    → IsAt (Goes other first tracker) unread
     → run (awaited kind id) (unread ++ more) ≡ run tracker.state (drop read (unread ++ more))
 resumes kind other id first read tracker unread more same is size at =
     run-more (awaited kind id) tracker.state unread more ((λ i. run (awaited (same i) (sym is i)) unread) ∙ at)
     ∙ ap (run tracker.state) (sym (drop-append_seam unread more) ∙ ap (λ n. drop n (unread ++ more)) size)
 
-pub fails-still : (kind other : ReplyKind) (id first : ℕ) (unread more : List ℕ) → kind ≡ other → first ≡ id → IsAt (Fails other first) unread → HasFailed (run (awaited kind id) (unread ++ more))
+pub fails-still : (kind other : ReplyKind) (id first : ℕ) (unread more : List ℕ) → kind ≡ other → first ≡ id → IsAt (Fails other first) unread
+    → HasFailed (run (awaited kind id) (unread ++ more))
 fails-still kind other id first unread more same is at =
     (at.0 ++ more, failed-more (awaited kind id) unread more at.0 ((λ i. run (awaited (same i) (sym is i)) unread) ∙ at.1))

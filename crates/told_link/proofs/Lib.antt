@@ -2,4 +2,5 @@ mod Cutting
 mod Draining
 mod Entering
 mod Following
+mod Found
 mod Linking

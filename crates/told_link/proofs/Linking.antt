@@ -6,7 +6,7 @@ use Rattle.reply_track.specs.Runs.Ending.{Ended}
 use Rattle.server_side.specs.Login.{Fails, Goes, LogsIn, Opening}
 use Rattle.log_story.specs.Tale.{Wire}
 use Rattle.told_link.specs.Login.{rest_of}
-use Rattle.told_link.specs.Steps.{entered_by, heard_by, reset_by, taken}
+use Rattle.told_link.specs.Steps.{after_login, after_reply, after_reset, taken}
 use Rattle.told_link.specs.Told.{IsWire}
 use Rattle.told_link.specs.declared.link.ToldLink.{ToldLink}
 
@@ -14,9 +14,9 @@ same_rest : (a b : List ℕ) → Some a ≡ Some b → a ≡ b
 same_rest a b e = cc
 
 pub link-entered : (link new : ToldLink) (wire : Wire) (used : ℕ) (said : Opening) → new ≡ record link { entered = true } → IsWire link (taken used wire)
-    → rest_of said ≡ Some (drop used wire.unread) → IsWire new (entered_by said wire)
+    → rest_of said ≡ Some (drop used wire.unread) → IsWire new (after_login said wire)
 link-entered link new wire used (Goes said) is at rest = absurd (cc)
-link-entered link new wire used (LogsIn said rest) is at behind = subst (λ x. IsWire x (entered_by (LogsIn said rest) wire)) (sym is) (record {
+link-entered link new wire used (LogsIn said rest) is at behind = subst (λ x. IsWire x (after_login (LogsIn said rest) wire)) (sym is) (record {
   server = at.server;
   entered = refl;
   quits = at.quits;
@@ -28,15 +28,17 @@ link-entered link new wire used (LogsIn said rest) is at behind = subst (λ x. I
 })
 link-entered link new wire used (Fails said fault) is at rest = absurd (cc)
 
-pub link-heard : (link : ToldLink) (wire : Wire) (used : ℕ) (unread : List ℕ) (end : ReplyEnd) (ending : Ending) → ending ≡ Ended end (drop used unread) → wire.unread ≡ unread
-    → IsWire link (taken used wire) → IsWire link (heard_by ending wire)
+pub link-heard : (link : ToldLink) (wire : Wire) (used : ℕ) (unread : List ℕ) (end : ReplyEnd) (ending : Ending) → ending ≡ Ended end (drop used unread)
+    → wire.unread ≡ unread
+    → IsWire link (taken used wire) → IsWire link (after_reply ending wire)
 link-heard link wire used unread end ending is same at =
-    subst (λ (e : Ending). IsWire link (heard_by e wire)) (ap (λ (xs : List ℕ). Ended end (drop used xs)) same ∙ sym is) at
+    subst (λ (e : Ending). IsWire link (after_reply e wire)) (ap (λ (xs : List ℕ). Ended end (drop used xs)) same ∙ sym is) at
 
-pub link-reset : (link new : ToldLink) (wire : Wire) (used : ℕ) (unread : List ℕ) (end : ReplyEnd) (ending : Ending) → new ≡ record link { step = None } → ending ≡ Ended end (drop used unread)
-    → wire.unread ≡ unread → IsWire link (taken used wire) → IsWire new (reset_by ending wire)
+pub link-reset : (link new : ToldLink) (wire : Wire) (used : ℕ) (unread : List ℕ) (end : ReplyEnd) (ending : Ending) → new ≡ record link { step = None }
+    → ending ≡ Ended end (drop used unread)
+    → wire.unread ≡ unread → IsWire link (taken used wire) → IsWire new (after_reset ending wire)
 link-reset link new wire used unread end ending gone is same at =
-    let by : IsWire (record link { step = None }) (reset_by (Ended end (drop used wire.unread)) wire) = record {
+    let by : IsWire (record link { step = None }) (after_reset (Ended end (drop used wire.unread)) wire) = record {
       server = at.server;
       entered = at.entered;
       quits = at.quits;
@@ -46,4 +48,5 @@ link-reset link new wire used unread end ending gone is same at =
       written = at.written;
       reading = at.reading;
     } in
-    subst (λ x. IsWire x (reset_by ending wire)) (sym gone) (subst (λ (e : Ending). IsWire (record link { step = None }) (reset_by e wire)) (ap (λ (xs : List ℕ). Ended end (drop used xs)) same ∙ sym is) by)
+    subst (λ x. IsWire x (after_reset ending wire)) (sym gone)
+    (subst (λ (e : Ending). IsWire (record link { step = None }) (after_reset e wire)) (ap (λ (xs : List ℕ). Ended end (drop used xs)) same ∙ sym is) by)

@@ -2,6 +2,7 @@
 #![tactic(auto)]
 
 mod fault;
+mod laws;
 mod link;
 mod login;
 mod payloads;
@@ -10,5 +11,6 @@ mod step;
 mod written;
 
 pub use fault::Lost;
+pub use laws::as_told;
 pub use link::ToldLink;
 pub use step::StepText;

@@ -24,7 +24,8 @@ use story_view::Reply;
 
 /// What a log told of a link to a server: whether the router is logged in there and sent a QUIT, the bytes read that no reply was made
 /// of, what is asked of the bytes written, the step that these are, and how many questions were begun. Behind an error nothing is
-/// promised. Each byte that is written, and each that is read behind the login, is moved and looked at a bounded number of times.
+/// promised. Behind the login each byte that is read or written is moved a bounded number of times: where a reply comes in many reads,
+/// each goes on where the last one ended.
 #[derive(Drop)]
 pub struct ToldLink {
     alloc: Global,
@@ -110,7 +111,7 @@ impl ToldLink {
     /// is unread. All bytes of the login are read again at each call.
     pub fn logs_in(&mut self, account: &Account, bytes: &[u8]) -> Result<bool, OutOfMemory>
         ensures told { IfOk result (λ entered. Knows self.old (λ wire. entered ≡ steps.has_entered (steps.login_of account.now bytes.now wire))) }
-        ensures ok { OnOk result (Follows self.old self.new (steps.logged_in account.now bytes.now)) }
+        ensures ok { OnOk result (Follows self.old self.new (steps.logs_in account.now bytes.now)) }
     {
         self.hears(bytes)?;
         match login_size(self.alloc, account, self.unread.as_slice())? {
@@ -125,7 +126,7 @@ impl ToldLink {
 
     /// Bytes are read where no question's reply is due.
     pub fn hears(&mut self, bytes: &[u8]) -> Result<(), OutOfMemory>
-        ensures { OnOk result (Follows self.old self.new (steps.with_read bytes.now)) }
+        ensures { OnOk result (Follows self.old self.new (steps.after_read bytes.now)) }
     {
         self.unread.push(bytes)?;
         self.reading = Reading::Anew;
@@ -139,8 +140,8 @@ impl ToldLink {
         to_prepare: bool,
         bytes: &[u8],
     ) -> Result<Option<Reply>, OutOfMemory>
-        ensures told { IfOk result (λ reply. Knows self.old (λ wire. option_map reply_of reply ≡ steps.reply_heard kind to_prepare bytes.now wire)) }
-        ensures ok { OnOk result (Follows self.old self.new (steps.heard kind bytes.now)) }
+        ensures told { IfOk result (λ reply. Knows self.old (λ wire. option_map reply_of reply ≡ steps.reply_read kind to_prepare bytes.now wire)) }
+        ensures ok { OnOk result (Follows self.old self.new (steps.replies kind bytes.now)) }
     {
         match self.reads(kind, bytes)? {
             Reach::Ends { used } => {
@@ -160,12 +161,12 @@ impl ToldLink {
     /// whole by them.
     pub fn replies_to_reset(&mut self, bytes: &[u8]) -> Result<bool, OutOfMemory>
         ensures told { IfOk result (λ ended. Knows self.old (λ wire. ended ≡ steps.has_ended (steps.reach_of kinds.Command bytes.now wire))) }
-        ensures ok { OnOk result (Follows self.old self.new (steps.reset_heard bytes.now)) }
+        ensures ok { OnOk result (Follows self.old self.new (steps.replies_to_reset bytes.now)) }
     {
         match self.reads(ReplyKind::Command, bytes)? {
             Reach::Ends { used } => {
                 self.takes(used);
-                self.steps(None);
+                self.set_step(None);
                 Ok(true)
             }
             _ => Ok(false),
@@ -175,17 +176,17 @@ impl ToldLink {
     /// A question begins with these bytes, of this tag. TooMany where 2 ^ 64 - 1 were begun before.
     pub fn begins(&mut self, tag: Tag, step: StepText, bytes: &[u8]) -> Result<(), Lost>
         ensures many { IsErrOf result Lost.TooMany → Knows self.old (λ wire. wire.begun ≡ 18446744073709551615) }
-        ensures ok { OnOk result (Follows self.old self.new (steps.begun_by tag (step_of step) bytes.now)) }
+        ensures ok { OnOk result (Follows self.old self.new (steps.after_begin tag (step_of step) bytes.now)) }
     {
         let step = with(self.asks(bytes), step)?;
         self.quits = self.quits || step.quits_for(tag);
-        self.steps(step.kept_for(tag));
+        self.set_step(step.kept_for(tag));
         Ok(())
     }
 
     /// Bytes go on with a question, or are what the router says in a login.
     pub fn goes_on(&mut self, bytes: &[u8]) -> Result<(), OutOfMemory>
-        ensures { OnOk result (Follows self.old self.new (steps.written_on bytes.now)) }
+        ensures { OnOk result (Follows self.old self.new (steps.after_write bytes.now)) }
     {
         self.written.extend(bytes)
     }
@@ -206,7 +207,7 @@ impl ToldLink {
     }
 
     // This step stands there. Takes no memory.
-    fn steps(&mut self, step: Option<StepText>)
+    fn set_step(&mut self, step: Option<StepText>)
         ensures { self.new ≡ record self.old { step = step } }
     {
         let_go(mem::replace(&mut self.step, step));
@@ -216,7 +217,7 @@ impl ToldLink {
     fn reads(&mut self, kind: ReplyKind, bytes: &[u8]) -> Result<Reach, OutOfMemory>
         ensures within { IfOk result (λ reach. IsWithin reach self.new.unread) }
         ensures comes { IfOk result (λ reach. Knows self.old (λ wire. Comes reach self.new.unread (steps.reach_of kind bytes.now wire))) }
-        ensures ok { OnOk result (Follows self.old self.new (steps.with_read bytes.now)) }
+        ensures ok { OnOk result (Follows self.old self.new (steps.after_read bytes.now)) }
     {
         let read = self.unread.as_slice().len();
         self.unread.push(bytes)?;

@@ -1,11 +1,27 @@
 // The payloads of a reply.
-ghost use Rattle.std.specs.Prelude.{◌≡◌, IfOk};
+ghost use Rattle.std.specs.Prelude.{◌≡◌, ◌++◌, ◌∷◌, [], IfOk, IfSome, IsSome, OnOk};
+ghost use Rattle.packet_frame.specs.FramerState.{past};
 ghost use Rattle.reply_track.specs.Replying.{payloads_in};
 
 use mx_base::{Bytes, OutOfMemory};
 use packet_frame::Framer;
 use server_rule::ReplyList;
 use std::alloc::Global;
+
+// Takes the message that was found.
+fn take_payload(
+    alloc: Global,
+    framer: &mut Framer,
+    payloads: &mut ReplyList,
+) -> Result<(), OutOfMemory>
+    requires { IsSome framer.old.found }
+    ensures payload { OnOk result (IfSome framer.old.found (λ message. payloads.new ≡ payloads.old ++ message.payload ∷ [])) }
+    ensures rest { OnOk result (framer.new ≡ past framer.old) }
+{
+    payloads.push(Bytes::from_slice(alloc, framer.payload())?)?;
+    framer.done();
+    Ok(())
+}
 
 // The payloads of messages whose sequence ids run on from `first`.
 pub(crate) fn payloads_from(
@@ -22,8 +38,7 @@ pub(crate) fn payloads_from(
     loop {
         match framer.next(id) {
             Ok(Some(message)) => {
-                payloads.push(Bytes::from_slice(alloc, framer.payload())?)?;
-                framer.done();
+                take_payload(alloc, &mut framer, &mut payloads)?;
                 id = message.last.wrapping_add(1);
             }
             Ok(None) => return Ok(payloads),

@@ -4,6 +4,7 @@ ghost use Rattle.std.specs.Option.{option_map};
 ghost use Rattle.log_story.specs.Servers as story;
 ghost use Rattle.told_link.specs.Forms.{step_of};
 
+use crate::fault::let_go;
 use mx_base::Tag;
 use story_view::Command;
 
@@ -44,7 +45,10 @@ impl StepText {
         match tag {
             Tag::Own => Some(self),
             Tag::Sync { .. } => Some(self),
-            _ => None,
+            _ => {
+                let_go(self);
+                None
+            }
         }
     }
 }
