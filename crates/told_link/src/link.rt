@@ -133,7 +133,8 @@ impl ToldLink {
         Ok(())
     }
 
-    /// Bytes are read of the reply to a question (client/server protocol, "Command Phase"): the reply, where it is whole by them.
+    /// Bytes are read of the reply to a question, of the kind that `reply_kind` gives (client/server protocol, "Command Phase"): the reply,
+    /// where it is whole by them. `to_prepare` is what `prepares` says of the question.
     pub fn replies(
         &mut self,
         kind: ReplyKind,

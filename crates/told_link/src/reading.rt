@@ -112,7 +112,7 @@ fn piece_at(alloc: Global, bytes: &[u8], at: usize, size: usize) -> Result<Vec<u
 }
 
 // Follows a reply through the bytes from this place on.
-pub(crate) fn follow(
+fn follow(
     alloc: Global,
     mut tracker: Tracker,
     bytes: &[u8],
