@@ -1,0 +1,6 @@
+mod Cutting
+mod Draining
+mod Entering
+mod Following
+mod Found
+mod Linking
