@@ -1,6 +1,5 @@
 pub mod Entries
 pub mod Made
-pub mod Names
 pub mod Runs
 pub mod Turns
 pub mod World

@@ -1,7 +1,6 @@
 //! Runs sessions of clients' own, as the private world says, over any tame server.
 #![tactic(auto)]
 
-mod keys;
 mod own;
 mod prepared;
 mod world;

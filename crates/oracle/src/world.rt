@@ -1,26 +1,27 @@
 // Sessions of clients' own, and what they answered.
 ghost use Rattle.std.specs.Prelude.{◌≡◌, ℕ, true, false, Some, IfOk, OnOk, [], option_copied};
 ghost use Rattle.std.specs.Option.{option_map};
-ghost use Rattle.session_state.specs.declared.names.MessageName.{MessageName as TheMessage};
-ghost use Rattle.session_state.specs.declared.names.SessionName.{SessionName as TheName};
+ghost use Rattle.session_state.specs.declared.names.MessageName.{MessageName};
+ghost use Rattle.session_state.specs.declared.names.SessionName.{SessionName};
 ghost use Rattle.server_rule.specs.Classes.{is_prepare as prepares};
 ghost use Rattle.server_rule.specs.Servers.{Tests};
 ghost use Rattle.private_model.specs.Commands.{Command, Reset, cmd_of, fresh_of, runs};
 ghost use Rattle.private_model.specs.Story.{Due as TheDue, End, is_message, is_name, put};
 ghost use Rattle.private_model.specs.View.{Setup};
 ghost use Rattle.private_model.specs.Worlds.{closed, first_private, in_session, in_table, private_prep, private_statement};
+ghost use Rattle.story_view.specs.Names.{message_of, session_of as name_of};
 ghost use Rattle.oracle.specs.Entries.{prepared_at};
 ghost use Rattle.oracle.specs.Turns.{IsOf, Leads};
 ghost use Rattle.oracle.specs.World.{AreTaken, IsWorld, answer_at, own_at, prepared_of, reply_of, session_of};
 
-use crate::keys::{MessageKey, NameKey, key_of, message_key};
 use crate::{Own, Prepared};
 use mx_base::{Bytes, OutOfMemory};
 use server_rule::{Cmd, ReplyList, Session, TameServer};
-use session_state::{MessageName, Place, SessionName};
+use session_state::Place;
 use session_vars::Settings;
 use std::alloc::Global;
 use std::collections::HashMap;
+use story_view::{MessageKey, SessionKey};
 
 /// A reply, and whether it answers a STMT_PREPARE.
 #[derive(Drop)]
@@ -32,7 +33,7 @@ pub struct Answer {
 /// Whose a session is: its name, and the account of its client.
 #[derive(Clone, Copy)]
 pub struct Who<'a> {
-    pub name: SessionName,
+    pub name: SessionKey,
     pub user: &'a [u8],
     pub found_rows: bool,
 }
@@ -40,7 +41,7 @@ pub struct Who<'a> {
 /// A session of its own for each client, hostgroup and life, and what was answered there.
 #[derive(Drop)]
 pub struct World {
-    owns: HashMap<NameKey, Own>,
+    owns: HashMap<SessionKey, Own>,
     answers: HashMap<MessageKey, Answer>,
 }
 
@@ -93,40 +94,53 @@ impl World {
     }
 
     /// What a message was answered, None where it wasn't. Takes no memory.
-    pub fn answered(&self, name: MessageName) -> Option<&Answer>
-        ensures { option_map reply_of (option_copied result) ≡ answer_at self.now name }
+    pub fn answered(&self, name: MessageKey) -> Option<&Answer>
+        ensures { option_map reply_of (option_copied result) ≡ answer_at self.now (message_of name) }
     {
-        self.answers.get(&message_key(name))
+        name.party.fits();
+        self.answers.get(&name)
+    }
+
+    // Takes out the session of a name, where something ran in it.
+    fn remove(&mut self, name: SessionKey) -> Option<Own>
+        ensures own { result ≡ own_at self.old (name_of name) }
+        ensures others { (n : SessionName) → is_name n (name_of name) ≡ false → own_at self.new n ≡ own_at self.old n }
+        ensures answers { self.new.answers ≡ self.old.answers }
+    {
+        name.party.fits();
+        self.owns.remove(&name)
     }
 
     // Takes out the session of a name.
     fn take(&mut self, alloc: Global, who: &Who<'_>) -> Result<Own, OutOfMemory>
-        ensures session { IfOk result (λ own. own.session ≡ session_of (own_at self.old who.now.name) (record { user = who.now.user.now; found_rows = who.now.found_rows })) }
-        ensures prepared { IfOk result (λ own. (key : ℕ) → prepared_at own.prepared key ≡ prepared_of (own_at self.old who.now.name) key) }
-        ensures others { (n : TheName) → is_name n who.now.name ≡ false → own_at self.new n ≡ own_at self.old n }
+        ensures session { IfOk result (λ own. own.session ≡ session_of (own_at self.old (name_of who.now.name)) (record { user = who.now.user.now; found_rows = who.now.found_rows })) }
+        ensures prepared { IfOk result (λ own. (key : ℕ) → prepared_at own.prepared key ≡ prepared_of (own_at self.old (name_of who.now.name)) key) }
+        ensures others { (n : SessionName) → is_name n (name_of who.now.name) ≡ false → own_at self.new n ≡ own_at self.old n }
         ensures answers { self.new.answers ≡ self.old.answers }
     {
-        match self.owns.remove(&key_of(who.name)) {
+        match self.remove(who.name) {
             Some(own) => Ok(own),
             None => fresh(alloc, who),
         }
     }
 
     // Puts a session under a name.
-    fn put(&mut self, name: SessionName, own: Own) -> Result<(), OutOfMemory>
-        ensures own { OnOk result ((n : TheName) → own_at self.new n ≡ put is_name (own_at self.old) name (Some own) n) }
+    fn put(&mut self, name: SessionKey, own: Own) -> Result<(), OutOfMemory>
+        ensures own { OnOk result ((n : SessionName) → own_at self.new n ≡ put is_name (own_at self.old) (name_of name) (Some own) n) }
         ensures answers { self.new.answers ≡ self.old.answers }
     {
-        self.owns.insert(key_of(name), own)?;
+        name.party.fits();
+        self.owns.insert(name, own)?;
         Ok(())
     }
 
     // Puts the answer to a message.
-    fn answer(&mut self, name: MessageName, answer: Answer) -> Result<(), OutOfMemory>
-        ensures answer { OnOk result ((message : TheMessage) → answer_at self.new message ≡ put is_message (answer_at self.old) name (Some (reply_of answer)) message) }
+    fn answer(&mut self, name: MessageKey, answer: Answer) -> Result<(), OutOfMemory>
+        ensures answer { OnOk result ((message : MessageName) → answer_at self.new message ≡ put is_message (answer_at self.old) (message_of name) (Some (reply_of answer)) message) }
         ensures owns { self.new.owns ≡ self.old.owns }
     {
-        self.answers.insert(message_key(name), answer)?;
+        name.party.fits();
+        self.answers.insert(name, answer)?;
         Ok(())
     }
 
@@ -141,7 +155,7 @@ impl World {
         requires sessions { AreTaken R.tests self.old }
         ensures data { OnOk result (R.tests.is_data (R.stored server.new) ≡ true) }
         ensures sessions { OnOk result (AreTaken R.tests self.new) }
-        ensures turn { OnOk result (Leads who.now self.old (R.stored server.old) self.new (R.stored server.new) (λ private server. closed (runs R.step) private server who.now.name)) }
+        ensures turn { OnOk result (Leads who.now self.old (R.stored server.old) self.new (R.stored server.new) (λ private server. closed (runs R.step) private server (name_of who.now.name))) }
     {
         R::tame();
         let mut own = self.take(alloc, who)?;
@@ -160,7 +174,7 @@ impl World {
         requires sessions { AreTaken R.tests self.old }
         ensures data { OnOk result (R.tests.is_data (R.stored server.new) ≡ true) }
         ensures sessions { OnOk result (AreTaken R.tests self.new) }
-        ensures turn { OnOk result (Leads who.now self.old (R.stored server.old) self.new (R.stored server.new) (λ private server. in_table (runs R.step) private server who.now.name (private.sessions who.now.name) Reset (End who.now.name))) }
+        ensures turn { OnOk result (Leads who.now self.old (R.stored server.old) self.new (R.stored server.new) (λ private server. in_table (runs R.step) private server (name_of who.now.name) (private.sessions (name_of who.now.name)) Reset (End (name_of who.now.name)))) }
     {
         R::tame();
         let mut own = self.take(alloc, who)?;
@@ -180,7 +194,7 @@ impl World {
         requires sessions { AreTaken R.tests self.old }
         ensures data { OnOk result (R.tests.is_data (R.stored server.new) ≡ true) }
         ensures sessions { OnOk result (AreTaken R.tests self.new) }
-        ensures turn { OnOk result ((c : Command) → command.now ≡ cmd_of c → Leads who.now self.old (R.stored server.old) self.new (R.stored server.new) (λ private server. in_session (runs R.step) private server who.now.name (private.sessions who.now.name) c)) }
+        ensures turn { OnOk result ((c : Command) → command.now ≡ cmd_of c → Leads who.now self.old (R.stored server.old) self.new (R.stored server.new) (λ private server. in_session (runs R.step) private server (name_of who.now.name) (private.sessions (name_of who.now.name)) c)) }
     {
         R::tame();
         let mut own = self.take(alloc, who)?;
@@ -201,7 +215,7 @@ impl World {
         requires sessions { AreTaken R.tests self.old }
         ensures data { OnOk result (R.tests.is_data (R.stored server.new) ≡ true) }
         ensures sessions { OnOk result (AreTaken R.tests self.new) }
-        ensures turn { OnOk result (Leads who.now self.old (R.stored server.old) self.new (R.stored server.new) (λ private server. private_prep (runs R.step) private true server who.now.name key text)) }
+        ensures turn { OnOk result (Leads who.now self.old (R.stored server.old) self.new (R.stored server.new) (λ private server. private_prep (runs R.step) private true server (name_of who.now.name) key text)) }
     {
         R::tame();
         let mut own = self.take(alloc, who)?;
@@ -221,14 +235,14 @@ impl World {
         requires sessions { AreTaken R.tests self.old }
         ensures data { OnOk result (R.tests.is_data (R.stored server.new) ≡ true) }
         ensures sessions { OnOk result (AreTaken R.tests self.new) }
-        ensures turn { OnOk result ((due : TheDue) → IsOf due asked.entry → Leads who.now self.old (R.stored server.old) self.new (R.stored server.new) (λ private server. private_statement (runs R.step) private server who.now.name due)) }
+        ensures turn { OnOk result ((due : TheDue) → IsOf due asked.entry → Leads who.now self.old (R.stored server.old) self.new (R.stored server.new) (λ private server. private_statement (runs R.step) private server (name_of who.now.name) due)) }
     {
         R::tame();
         let mut own = self.take(alloc, who)?;
         let to_prepare = is_prepare(&asked.command);
         let payloads = own.statement(alloc, server, asked.place, asked.key, asked.command)?;
-        let message = MessageName {
-            client: who.name.client,
+        let message = MessageKey {
+            party: who.name.party,
             ordinal: asked.ordinal,
         };
         self.answer(

@@ -4,9 +4,9 @@ use check_lines::{Case, CaseFault, shown};
 use mx_base::{Bytes, ClientNo, Hostgroup, OutOfMemory};
 use oracle::{Statement, Who, World};
 use server_rule::Cmd;
-use session_state::{MessageName, SessionName};
 use small_server::Refuser;
 use std::alloc::Global;
+use story_view::{MessageKey, Party, SessionKey};
 
 #[derive(Drop)]
 struct Private {
@@ -43,8 +43,8 @@ impl<'a> Turn<'a> {
 
 fn who(client: u64) -> Who<'static> {
     Who {
-        name: SessionName {
-            client: ClientNo(client),
+        name: SessionKey {
+            party: Party::accepted(ClientNo(client)),
             hostgroup: Hostgroup(0),
             life: 0,
         },
@@ -103,8 +103,8 @@ impl Private {
 
 // The first payload of the answer to a message.
 fn answered(alloc: Global, world: &World, turn: Turn<'_>) -> Result<String, CaseFault> {
-    let name = MessageName {
-        client: ClientNo(turn.client),
+    let name = MessageKey {
+        party: Party::accepted(ClientNo(turn.client)),
         ordinal: turn.number,
     };
     let Some(answer) = world.answered(name) else {

@@ -1,6 +1,6 @@
 mod Called
 mod Changing
-mod Keys
+pub mod Keys
 mod Knowing
 mod Leaving
 mod Said

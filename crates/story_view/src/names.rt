@@ -58,8 +58,8 @@ impl Party {
         }
     }
 
-    // Its client's number has 64 bits.
-    pub(crate) fn fits(self)
+    /// Its client's number has 64 bits. Does nothing.
+    pub fn fits(self)
         ensures { self.client.0 < 18446744073709551616 }
     {
         is_wide(self.client.0);

@@ -1,11 +1,10 @@
-use Rattle.std.specs.Prelude.{Some}
-use Rattle.private_model.proofs.Maps.{messages}
-use Rattle.oracle.specs.Names.{message_named}
-use Rattle.oracle.specs.World.{answer_at, reply_of}
-use Rattle.oracle.proofs.Lookups.{option_cond, put_by}
+use Rattle.std.specs.Option.{option_map}
+use Rattle.std.proofs.Common.{Some, refl}
+use Rattle.story_view.specs.Names.{message_at}
+use Rattle.story_view.proofs.Keys.{message_test, put_at}
+use Rattle.oracle.specs.World.{reply_of}
 use Rattle.oracle.proofs.world.World.answer.Goals as goal
 
 pub returns-clause-answer : goal.returns-clause-answer
-returns-clause-answer c = put_by messages (answer_at c.args.self.now) (answer_at (record { owns = c.args.self.now.owns; answers = c.insert.new.self })) (message_named c.message_key.result) c.args.name
-    (Some (reply_of c.args.answer)) c.message_key.ensures
-    (λ m. option_cond reply_of _ _ _ _ (c.in_ok-insert.ensures.updates.0 (record { client = m.client; ordinal = m.ordinal })))
+returns-clause-answer c = λ m. put_at (option_map reply_of) _ _ _ _ (Some c.args.answer) (Some (reply_of c.args.answer)) (c.in_ok-insert.ensures.updates.0 (message_at m))
+    (message_test c.args.name m c.fits.ensures) refl

@@ -1,10 +1,7 @@
-use Rattle.std.specs.Prelude.{Some}
-use Rattle.private_model.proofs.Maps.{names}
-use Rattle.oracle.specs.Names.{named}
-use Rattle.oracle.specs.World.{own_at}
-use Rattle.oracle.proofs.Lookups.{put_by}
+use Rattle.std.proofs.Common.{Some, refl}
+use Rattle.story_view.specs.Names.{session_at}
+use Rattle.story_view.proofs.Keys.{put_at, session_test}
 use Rattle.oracle.proofs.world.World.put.Goals as goal
 
 pub returns-clause-own : goal.returns-clause-own
-returns-clause-own c = put_by names (own_at c.args.self.now) (own_at (record { owns = c.insert.new.self; answers = c.args.self.now.answers })) (named c.key_of.result) c.args.name (Some c.args.own)
-    c.key_of.ensures (λ n. c.in_ok-insert.ensures.updates.0 (record { client = n.client; hostgroup = n.hostgroup; life = n.life }))
+returns-clause-own c = λ n. put_at (λ o. o) _ _ _ _ (Some c.args.own) (Some c.args.own) (c.in_ok-insert.ensures.updates.0 (session_at n)) (session_test c.args.name n c.fits.ensures) refl
