@@ -1,4 +1,4 @@
-// Configurations, by name.
+// Configurations.
 
 /// The table `proxy` of each configuration, up to what differs.
 pub const PROXY: &str = "[proxy]
@@ -9,7 +9,7 @@ admin_password = \"\"
 ";
 
 /// The users u without a password and p with one, and one server.
-const ONE_SERVER: &str = "[[users]]
+pub const ONE_SERVER: &str = "[[users]]
 name = \"u\"
 password = \"\"
 [[users]]
@@ -22,7 +22,7 @@ port = 3306
 ";
 
 /// The user u without a password, and no server. One client may be connected, and its messages are short.
-const NO_SERVER: &str = "max_clients = 1
+pub const NO_SERVER: &str = "max_clients = 1
 max_packet = 1024
 [[users]]
 name = \"u\"
@@ -30,7 +30,7 @@ password = \"\"
 ";
 
 /// The user u without a password, and two servers. Two clients may be connected.
-const TWO_CLIENTS: &str = "max_clients = 2
+pub const TWO_CLIENTS: &str = "max_clients = 2
 [[users]]
 name = \"u\"
 password = \"\"
@@ -45,7 +45,7 @@ port = 3307
 ";
 
 /// A key that no user has, and one that no server has.
-const UNKNOWN_KEYS: &str = "[[users]]
+pub const UNKNOWN_KEYS: &str = "[[users]]
 name = \"u\"
 password = \"\"
 nick = \"v\"
@@ -55,11 +55,3 @@ host = \"127.0.0.1\"
 port = 3306
 rack = 4
 ";
-
-/// What stands behind `PROXY` in the configurations, by name.
-pub const CONFIGS: [(&str, &str); 4] = [
-    ("one_server", ONE_SERVER),
-    ("no_server", NO_SERVER),
-    ("two_clients", TWO_CLIENTS),
-    ("unknown_keys", UNKNOWN_KEYS),
-];

@@ -66,20 +66,22 @@ const NAMES: [(&str, &str); 17] = [
     ("{ping}", "010000000e"),
 ];
 
+// The names of a text become their digits, or where it is `back` the digits their names.
+fn replaced(alloc: Global, text: &str, back: bool) -> Result<String, AllocError> {
+    let mut replaced = String::from_str(alloc, text)?;
+    for (name, digits) in NAMES {
+        let (from, to) = if back { (digits, name) } else { (name, digits) };
+        replaced = replaced.as_str().replace(alloc, from, to)?;
+    }
+    Ok(replaced)
+}
+
 /// A text with the digits of the names that stand in it.
 pub fn spelled(alloc: Global, text: &str) -> Result<String, AllocError> {
-    let mut spelled = String::from_str(alloc, text)?;
-    for (name, digits) in NAMES {
-        spelled = spelled.as_str().replace(alloc, name, digits)?;
-    }
-    Ok(spelled)
+    replaced(alloc, text, false)
 }
 
 /// A text with names in place of the digits that they stand for.
 pub fn named(alloc: Global, text: &str) -> Result<String, AllocError> {
-    let mut named = String::from_str(alloc, text)?;
-    for (name, digits) in NAMES {
-        named = named.as_str().replace(alloc, digits, name)?;
-    }
-    Ok(named)
+    replaced(alloc, text, true)
 }

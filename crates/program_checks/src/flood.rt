@@ -1,11 +1,12 @@
-// A client that sends much at once, over a machine and a wire of the test's own.
+// A client that sends much at once, over a machine and a wire of the case's own.
 ghost use Rattle.std.specs.Prelude.{None, Some, [], ◌∷◌, replicate, true, false};
 ghost use Rattle.mx_base.specs.declared.tag.Tag.TheVariants as tag;
 
+use check_lines::{Case, CaseFault};
 use mx_base::{Address, LinkId, OutOfMemory, Piece, Port, ServerId, Tag};
 use mx_wire::{Accepted, Got, Listened, Opened, Took, Wire, Woke};
 use ready_loop::{Act, Event, Machine, ServeEnd, serve};
-use std::test::Fail;
+use std::alloc::Global;
 
 const GREETING: &[u8] = &[7];
 
@@ -170,19 +171,29 @@ impl Wire for Flood {
     fn close(&mut self, _: LinkId) {}
 }
 
-#[test]
-fn reads_a_link_until_nothing_is_there(rt: HostRuntime) -> Result<(), Fail> {
+// The sizes of the reads, and whether a write was offered, where the loop ends as the wire says.
+fn reads(alloc: Global, left: usize) -> Option<([usize; 4], bool)> {
     let mut wire = Flood {
-        left: 70_000,
+        left,
         came: false,
         woke: false,
         sizes: [7; 4],
         reads: 0,
         offered: false,
     };
-    let end = serve(rt.alloc(), &mut Reader, &mut wire, 5);
-    assert!(rt; matches!(end, ServeEnd::Over));
-    assert_eq!(rt; wire.sizes, [65_536, 4_464, 0, 7]);
-    assert!(rt; wire.offered);
-    Ok(())
+    let end = serve(alloc, &mut Reader, &mut wire, 5);
+    if matches!(end, ServeEnd::Over) {
+        Some((wire.sizes, wire.offered))
+    } else {
+        None
+    }
+}
+
+/// `flood <bytes>` lets one client send so many bytes at one wake. The answer is the sizes of the first four reads, 7 for one that isn't
+/// made, and whether a write was offered.
+pub fn answer(alloc: Global, case: &mut Case<'_>) -> Result<String, CaseFault> {
+    match reads(alloc, case.number()?) {
+        Some((sizes, offered)) => Ok(format!(in alloc; "{sizes:?} {offered}")?),
+        None => Err(CaseFault::Bad),
+    }
 }
