@@ -13,19 +13,26 @@ mod taken;
 use check_lines::{Case, CaseFault};
 use std::alloc::Global;
 use std::io;
+use std::thread::Threads;
 
-fn answer(rt: &HostRuntime, alloc: Global, case: &mut Case<'_>) -> Result<String, CaseFault> {
+fn answer<R: Threads + Sync>(
+    rt: &R,
+    alloc: Global,
+    case: &mut Case<'_>,
+) -> Result<String, CaseFault> {
     match case.reader {
         "replay" => runs::replay(rt, alloc, case),
         "serve" => runs::serve(rt, alloc, case),
         "run" => runs::words(rt, alloc, case),
         "taken" => runs::taken(rt, alloc, case),
         "flood" => flood::answer(alloc, case),
-        "sockets" => sockets::answer(rt, case),
         _ => Err(CaseFault::Bad),
     }
 }
 
 fn main(rt: HostRuntime) -> io::Result<()> {
-    check_lines::run(&rt, |alloc, case| answer(&rt, alloc, case))
+    check_lines::run(&rt, |alloc, case| match case.reader {
+        "sockets" => sockets::answer(&rt, case),
+        _ => answer(&rt, alloc, case),
+    })
 }
