@@ -1,7 +1,6 @@
 -- Payloads that are cut from a reply's bytes, one message after the other.
-use Rattle.std.proofs.Common.{◌≡◌, ◌≤◌, ◌<◌, ℕ, zero, suc, List, [], ◌∷◌, ◌++◌, length, IfSome, Option, Some, None, Result, Ok, Err, refl, ◌∙◌, sym, ap}
+use Rattle.std.proofs.Common.{◌≡◌, ◌≤◌, ◌<◌, ℕ, zero, suc, List, [], ◌∷◌, ◌++◌, length, IfSome, Option, Some, None, Ok, refl, ◌∙◌, sym, ap}
 use Rattle.std.proofs.Common.{subst, arith, append_assoc, append-nil}
-use Rattle.packet_frame.specs.declared.fault.FrameFault.{FrameFault}
 use Rattle.packet_frame.specs.declared.message.Message.{Message}
 use Rattle.packet_frame.specs.FramerState.{FramerState, answer, look, look_by, past, seen}
 use Rattle.packet_frame.specs.Joining.{told}

@@ -4,7 +4,6 @@ use Rattle.std.proofs.Common.{refl, ◌∙◌, sym, ap, subst, arith, append_ass
 use Rattle.std.specs.Prelude.{bytes_eq, if◌then◌else◌, is_some}
 use Rattle.std.proofs.lemmas.List.{take-append-drop}
 use Rattle.std.proofs.Math.Seq.{drop-append_seam}
-use Rattle.packet_frame.specs.declared.fault.FrameFault.{FrameFault}
 use Rattle.packet_frame.specs.declared.message.Message.{Message}
 use Rattle.packet_frame.specs.FramerState.{FramerState, answer, look, look_by, past, seen}
 use Rattle.packet_frame.specs.MessageLaws.{first_message-goes}

@@ -1,5 +1,5 @@
 // What a tale makes of a link.
-ghost use Rattle.std.specs.Prelude.{◌≡◌, ◌&&◌, ℕ, List};
+ghost use Rattle.std.specs.Prelude.{◌≡◌, ◌&&◌, ℕ, List, if◌then◌else◌};
 ghost use Rattle.mx_base.specs.declared.names.LinkId.{LinkId};
 ghost use Rattle.mx_base.specs.declared.tag.Tag.{Tag};
 ghost use Rattle.reply_track.specs.Runs.{Ending};
@@ -26,8 +26,10 @@ pub fn as_told()
         → story.reset_by link wire ending tale ≡ with_wire link (steps.after_reset ending wire) tale }
     ensures may_begin { (setup : Setup) (link : LinkId) (wire : Wire) (tale : Tale)
         → story.may_begin setup link wire tale ≡ (story.is_quiet (link_in setup tale link).stage && steps.is_free wire) }
-    ensures begins { (setup : Setup) (plan : Plan) (link : LinkId) (tag : Tag) (bytes : List ℕ) (wire : Wire) (tale : Tale)
-        → story.begins setup plan link tag bytes wire tale
-        ≡ story.tell_all (story.begun_by setup plan (view_of setup tale) link wire.begun tag)
-        (with_wire link (steps.after_begin tag (plan.steps link wire.begun) bytes wire) tale) }
+    ensures writes { (setup : Setup) (plan : Plan) (link : LinkId) (tag : Tag) (bytes : List ℕ) (wire : Wire) (tale : Tale)
+        → story.writes setup plan link tag bytes wire tale
+        ≡ (if story.may_begin setup link wire tale
+        then story.tell_all (story.begun_by setup plan (view_of setup tale) link wire.begun tag)
+        (with_wire link (steps.after_begin tag (plan.steps link wire.begun) bytes wire) tale)
+        else with_wire link (steps.after_write bytes wire) tale) }
 {}

@@ -174,7 +174,7 @@ impl ToldLink {
         }
     }
 
-    /// A question begins with these bytes, of this tag. TooMany where 2 ^ 64 - 1 were begun before.
+    /// A question begins with these bytes, of this tag. TooMany only where 2 ^ 64 - 1 were begun before.
     pub fn begins(&mut self, tag: Tag, step: StepText, bytes: &[u8]) -> Result<(), Lost>
         ensures many { IsErrOf result Lost.TooMany → Knows self.old (λ wire. wire.begun ≡ 18446744073709551615) }
         ensures ok { OnOk result (Follows self.old self.new (steps.after_begin tag (step_of step) bytes.now)) }

@@ -1,14 +1,13 @@
-use Rattle.std.proofs.Common.{◌≡◌, Bool, true, false, ◌&&◌, not, refl}
+use Rattle.std.proofs.Common.{◌≡◌, refl}
 use Rattle.mx_base.specs.declared.names.LinkId.{LinkId}
 use Rattle.private_model.specs.Commands.{is_prepare}
 use Rattle.private_model.specs.Story.{Question, command_of}
 use Rattle.reply_track.specs.Runs.{Ending}
 use Rattle.reply_track.specs.Runs.Ending.{Ended, Failed, Going}
-use Rattle.server_rule.specs.Servers.{is_some_of}
 use Rattle.server_side.specs.Login.{Fails, Goes, LogsIn, Opening}
 use Rattle.log_story.specs.Plan.{Plan}
 use Rattle.log_story.specs.Servers as story
-use Rattle.log_story.specs.Tale.{Tale, Wire, is_reset_step, link_in, with_wire}
+use Rattle.log_story.specs.Tale.{Tale, Wire, with_wire}
 use Rattle.told_link.specs.Steps as steps
 use Rattle.told_link.specs.Tales.{tell_login, tell_reply}
 use Rattle.told_link.proofs.laws.as_told.Goals as goal

@@ -1,5 +1,5 @@
 use Rattle.std.proofs.Common.{◌++◌, ◌∙◌, List, ℕ, Ok, ap, refl, subst, sym}
-use Rattle.told_link.proofs.Cutting.{IsCut, IsCutMore, cut-more, cut-none}
+use Rattle.told_link.proofs.Cutting.{IsCut, cut-more, cut-none}
 use Rattle.told_link.proofs.payloads.payloads_from.Goals as goal
 
 pub loop-message-init : goal.loop-message-init

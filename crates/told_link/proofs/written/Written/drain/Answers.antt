@@ -1,7 +1,6 @@
-use Rattle.std.proofs.Common.{◌≡◌, ◌∙◌, Ok, ap}
+use Rattle.std.proofs.Common.{◌∙◌, Ok, ap}
 use Rattle.packet_frame.specs.FramerState.{past}
-use Rattle.told_link.specs.declared.written.Written.{Written}
-use Rattle.told_link.proofs.Draining.{Goes, drained, goes-on}
+use Rattle.told_link.proofs.Draining.{drained, goes-on}
 use Rattle.told_link.proofs.Found.{none-behind, none-there}
 use Rattle.told_link.proofs.written.Written.drain.Goals as goal
 
