@@ -16,10 +16,10 @@ within-ids (suc others) limit announced id bytes message rest small is = (
     let begins : by.packet.first ≡ id = ap (λ (m : Framed). m.first) by.at.is in
     let ends : by.packet.last ≡ id = ap (λ (m : Framed). m.last) by.at.is in
     elim by.goes [
-      inl (short, same, behind) ↦ (ap (λ (m : Framed). m.first) (sym same) ∙ begins, subst (λ n. n < 256) (sym (ap (λ (m : Framed). m.last) (sym same) ∙ ends)) small)
-    | inr (long, next, whole, joined) ↦
-      (let later = within-ids others limit (announced + longest) (next_id id) by.behind next rest (omega arith) whole in
-      (ap (λ (m : Framed). m.first) joined ∙ begins, subst (λ n. n < 256) (sym (ap (λ (m : Framed). m.last) joined)) later.1))
+      | inl (short, same, behind) ↦ (ap (λ (m : Framed). m.first) (sym same) ∙ begins, subst (λ n. n < 256) (sym (ap (λ (m : Framed). m.last) (sym same) ∙ ends)) small)
+      | inr (long, next, whole, joined) ↦
+          (let later = within-ids others limit (announced + longest) (next_id id) by.behind next rest (omega arith) whole in
+          (ap (λ (m : Framed). m.first) joined ∙ begins, subst (λ n. n < 256) (sym (ap (λ (m : Framed). m.last) joined)) later.1))
     ])
 
 message-ids : (limit : ℕ) (bytes : List ℕ) (message : Framed) (rest : List ℕ) → first_message limit 0 bytes ≡ Whole message rest → HasIds message

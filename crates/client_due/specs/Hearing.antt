@@ -17,7 +17,6 @@ use Rattle.client_due.specs.declared.phase.Phase.TheVariants as phase
 use Rattle.client_due.specs.Heard.{Heard}
 use Rattle.client_due.specs.Standing.{IsHeard, IsIn, IsLogging, IsOver}
 
-
 -- Its login.
 
 -- these packets are the last that are said to it

@@ -72,16 +72,14 @@ impl ToldClient {
     pub fn due<A: Answers>(&self, alloc: Global, answers: &A) -> Result<Vec<u8>, OutOfMemory>
         ensures { IfOk result (λ due. (setup : Service) (plan : Plan) (moment : ℕ) (client : TheClient) → IsTold setup self.now client → IsPlanned setup (record { own = A.own answers.now; replies = A.replies answers.now; numbers = A.numbers answers.now }) plan moment client → due.items ≡ due_bytes (A.replies answers.now) plan moment client) }
     {
-        self.written_out(alloc, answers, &self.heard.messages, &self.heard.last)
+        self.written_out(alloc, answers, self.messages(), self.last())
     }
 
     /// How many bytes for it aren't written, by those of its login and of the answers to messages that were taken up.
     pub fn unwritten<A: Answers>(&self, alloc: Global, answers: &A) -> Result<u64, OutOfMemory>
         ensures { IfOk result (λ count. (setup : Service) (plan : Plan) (moment : ℕ) (client : TheClient) → IsTold setup self.now client → IsPlanned setup (record { own = A.own answers.now; replies = A.replies answers.now; numbers = A.numbers answers.now }) plan moment client → count ≡ unwritten (A.replies answers.now) plan moment client) }
     {
-        let taken = self.taken().min(self.heard.messages.len());
-        let (messages, _) = self.heard.messages.split_at(taken);
-        let owed = self.written_out(alloc, answers, messages, &[])?;
+        let owed = self.written_out(alloc, answers, self.taken_up(), &[])?;
         Ok((owed.len() as u64).saturating_sub(self.written()))
     }
 
@@ -95,7 +93,7 @@ impl ToldClient {
     ) -> Result<Vec<u8>, OutOfMemory>
         ensures { IfOk result (λ bytes. bytes.items ≡ self.now.heard.side.outgoing ++ answers_from (record { own = A.own answers.now; replies = A.replies answers.now; numbers = A.numbers answers.now }) self.now.heard.side.number last.now 1 messages.now) }
     {
-        let mut out = self.heard.side.outgoing().to_vec(alloc)?;
+        let mut out = self.said().to_vec(alloc)?;
         write_answers(alloc, &mut out, answers, self.number(), messages, last)?;
         Ok(out)
     }

@@ -32,7 +32,12 @@ impl Heard {
     ghost use Rattle.client_due.specs.Standing.{GoesOn, IsIn, IsLogging, IsOf, Stands};
 
     /// Bytes were read of it: its login is read, as far as it is there, and no message.
-    pub(crate) fn reads(&mut self, alloc: Global, setup: &Setup, bytes: &[u8]) -> Result<(), OutOfMemory>
+    pub(crate) fn reads(
+        &mut self,
+        alloc: Global,
+        setup: &Setup,
+        bytes: &[u8],
+    ) -> Result<(), OutOfMemory>
         ensures same { OnOk result (IsSame self.old self.new) }
         ensures reached { OnOk result ((talk : Talk) → talk.setup ≡ setup.now → IsOf self.old talk → GoesOn self.old.phase self.old talk → HasReached self.new.phase self.new (heard_more talk bytes.now)) }
     {

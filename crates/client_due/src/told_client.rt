@@ -27,7 +27,7 @@ impl Model for ToldClient {
 }
 
 impl ToldClient {
-    ghost use Rattle.std.specs.Prelude.{◌≡◌, ◌<◌, suc, length, slice_get, option_copied, IfOk, OnOk};
+    ghost use Rattle.std.specs.Prelude.{◌≡◌, ◌<◌, suc, length, slice_get, take, option_copied, IfOk, OnOk};
     ghost use Rattle.client_session.specs.Setups.{Setup as Service};
     ghost use Rattle.log_story.specs.Tale.{Client as TheClient, client_gets, client_hears, new_client};
     ghost use Rattle.client_due.specs.Standing.{IsTold};
@@ -79,6 +79,32 @@ impl ToldClient {
         &self.heard.messages
     }
 
+    // Those that were taken up.
+    pub(crate) fn taken_up(&self) -> &[Message]
+        ensures { result.now ≡ take self.now.taken self.now.heard.messages }
+    {
+        let messages = self.messages();
+        if self.taken < messages.len() {
+            messages.split_at(self.taken).0
+        } else {
+            messages
+        }
+    }
+
+    // The error for a message that can't be.
+    pub(crate) fn last(&self) -> &[u8]
+        ensures { result.now ≡ self.now.heard.last }
+    {
+        &self.heard.last
+    }
+
+    // What is said to its login.
+    pub(crate) fn said(&self) -> &[u8]
+        ensures { result.now ≡ self.now.heard.side.outgoing }
+    {
+        self.heard.side.outgoing()
+    }
+
     /// The message of this ordinal; they count from 1.
     pub fn message(&self, ordinal: usize) -> Option<&Message>
         ensures { option_copied result ≡ message_at self.now.heard.messages ordinal }
@@ -112,12 +138,7 @@ impl ToldClient {
 
     /// Bytes were read of it. What they make whole is read: its login, and the messages behind it (client/server protocol, "Connection
     /// Phase", "Command Phase"). After OutOfMemory nothing is promised of the client.
-    pub fn hears(
-        &mut self,
-        alloc: Global,
-        setup: &Setup,
-        bytes: &[u8],
-    ) -> Result<(), OutOfMemory>
+    pub fn hears(&mut self, alloc: Global, setup: &Setup, bytes: &[u8]) -> Result<(), OutOfMemory>
         ensures { OnOk result ((client : TheClient) → IsTold setup.now self.old client → IsTold setup.now self.new (client_hears client.link bytes.now client)) }
     {
         self.heard.reads(alloc, setup, bytes)?;
