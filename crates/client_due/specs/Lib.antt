@@ -2,4 +2,3 @@ pub mod Heard
 pub mod Told
 pub mod Standing
 pub mod Hearing
-pub mod Answering

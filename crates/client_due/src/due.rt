@@ -1,7 +1,10 @@
 // The bytes that a client is due.
-ghost use Rattle.std.specs.Prelude.{◌≡◌, ℕ, List, ◌++◌, IfOk, OnOk, if◌then◌else◌};
-ghost use Rattle.log_story.specs.Owed.{answered_with};
-ghost use Rattle.client_due.specs.Answering.{answers_from};
+ghost use Rattle.std.specs.Prelude.{◌≡◌, ℕ, List, ◌++◌, Option, IfOk, OnOk, if◌then◌else◌};
+ghost use Rattle.session_state.specs.declared.names.MessageName.{MessageName as Name};
+ghost use Rattle.private_model.specs.Commands.{Reply as TheReply};
+ghost use Rattle.log_story.specs.Owed.{answered_with, due_for, number_of};
+ghost use Rattle.log_story.specs.Plan.{Plan, own_at};
+ghost use Rattle.log_story.specs.Tale.{Client as TheClient};
 
 use crate::answers::Answers;
 use crate::message::Message;
@@ -19,7 +22,7 @@ fn write_answer<A: Answers>(
     name: MessageName,
     first: u8,
 ) -> Result<bool, OutOfMemory>
-    ensures { IfOk result (λ there. (later : List ℕ) → (if there then out.new.items ++ later else out.new.items) ≡ out.old.items ++ answered_with (A.own answers.now name) (A.replies answers.now name) (A.numbers answers.now name) first later) }
+    ensures { IfOk result (λ there. (plan : Plan) (moment : ℕ) (replies : Name → Option TheReply) → A.stands_for answers.now plan moment replies → (later : List ℕ) → (if there then out.new.items ++ later else out.new.items) ≡ out.old.items ++ answered_with (own_at plan moment name) (replies name) (number_of plan name) first later) }
 {
     if let Some(payloads) = answers.own(name) {
         write_payloads(out, first, payloads.as_slice())?;
@@ -28,8 +31,7 @@ fn write_answer<A: Answers>(
     let Some(reply) = answers.reply(name) else {
         return Ok(false);
     };
-    let number = answers.number(name);
-    write_reply(alloc, out, first, number, reply)?;
+    write_reply(alloc, out, first, answers.number(name), reply)?;
     Ok(true)
 }
 
@@ -38,15 +40,15 @@ fn write_answers<A: Answers>(
     alloc: Global,
     out: &mut Vec<u8>,
     answers: &A,
-    client: ClientNo,
+    number: ClientNo,
     messages: &[Message],
     last: &[u8],
 ) -> Result<(), OutOfMemory>
-    ensures { OnOk result (out.new.items ≡ out.old.items ++ answers_from (record { own = A.own answers.now; replies = A.replies answers.now; numbers = A.numbers answers.now }) client last.now 1 messages.now) }
+    ensures { OnOk result ((plan : Plan) (moment : ℕ) (replies : Name → Option TheReply) (client : TheClient) → A.stands_for answers.now plan moment replies → number ≡ client.number → out.new.items ≡ out.old.items ++ due_for replies plan moment client last.now 1 messages.now) }
 {
     for (i, message) in messages.iter().enumerate() {
         let name = MessageName {
-            client,
+            client: number,
             ordinal: i as u64 + 1,
         };
         if !write_answer(alloc, out, answers, name, message.last.wrapping_add(1))? {
@@ -58,26 +60,26 @@ fn write_answers<A: Answers>(
 }
 
 impl ToldClient {
-    ghost use Rattle.std.specs.Prelude.{◌≡◌, ℕ, ◌++◌, IfOk, take};
-    ghost use Rattle.client_session.specs.Setups.{Setup as Service};
-    ghost use Rattle.log_story.specs.Owed.{due_bytes, unwritten};
+    ghost use Rattle.std.specs.Prelude.{◌≡◌, ℕ, ◌++◌, Option, IfOk};
+    ghost use Rattle.session_state.specs.declared.names.MessageName.{MessageName as Name};
+    ghost use Rattle.private_model.specs.Commands.{Reply as TheReply};
+    ghost use Rattle.log_story.specs.Owed.{due_bytes, due_for, unwritten};
     ghost use Rattle.log_story.specs.Plan.{Plan};
     ghost use Rattle.log_story.specs.Tale.{Client as TheClient};
-    ghost use Rattle.client_due.specs.Answering.{IsPlanned, answers_from};
     ghost use Rattle.client_due.specs.Standing.{IsTold};
-    ghost use Rattle.client_due.specs.Told.{Told};
 
-    /// The bytes that it is due, those of its login first (client/server protocol, "Connection Phase"): the answers to its messages, in
-    /// order up to the first that has none, and the error for a message that can't be.
+    /// The bytes that it is due: what is said to its login (client/server protocol, "Connection Phase"), the answers to its messages, in
+    /// order up to the first that has none, and where each has one the error for a message that can't be. The only error is want of memory.
     pub fn due<A: Answers>(&self, alloc: Global, answers: &A) -> Result<Vec<u8>, OutOfMemory>
-        ensures { IfOk result (λ due. (setup : Service) (plan : Plan) (moment : ℕ) (client : TheClient) → IsTold setup self.now client → IsPlanned setup (record { own = A.own answers.now; replies = A.replies answers.now; numbers = A.numbers answers.now }) plan moment client → due.items ≡ due_bytes (A.replies answers.now) plan moment client) }
+        ensures { IfOk result (λ due. (plan : Plan) (moment : ℕ) (replies : Name → Option TheReply) (client : TheClient) → IsTold plan.service self.now client → A.stands_for answers.now plan moment replies → due.items ≡ due_bytes replies plan moment client) }
     {
         self.written_out(alloc, answers, self.messages(), self.last())
     }
 
-    /// How many bytes for it aren't written, by those of its login and of the answers to messages that were taken up.
+    /// How many bytes for it aren't written, by what is said to its login and the answers to its messages that were taken up: while they
+    /// are too many, the next message waits. The only error is want of memory.
     pub fn unwritten<A: Answers>(&self, alloc: Global, answers: &A) -> Result<u64, OutOfMemory>
-        ensures { IfOk result (λ count. (setup : Service) (plan : Plan) (moment : ℕ) (client : TheClient) → IsTold setup self.now client → IsPlanned setup (record { own = A.own answers.now; replies = A.replies answers.now; numbers = A.numbers answers.now }) plan moment client → count ≡ unwritten (A.replies answers.now) plan moment client) }
+        ensures { IfOk result (λ count. (plan : Plan) (moment : ℕ) (replies : Name → Option TheReply) (client : TheClient) → IsTold plan.service self.now client → A.stands_for answers.now plan moment replies → count ≡ unwritten replies plan moment client) }
     {
         let owed = self.written_out(alloc, answers, self.taken_up(), &[])?;
         Ok((owed.len() as u64).saturating_sub(self.written()))
@@ -91,7 +93,7 @@ impl ToldClient {
         messages: &[Message],
         last: &[u8],
     ) -> Result<Vec<u8>, OutOfMemory>
-        ensures { IfOk result (λ bytes. bytes.items ≡ self.now.heard.side.outgoing ++ answers_from (record { own = A.own answers.now; replies = A.replies answers.now; numbers = A.numbers answers.now }) self.now.heard.side.number last.now 1 messages.now) }
+        ensures { IfOk result (λ bytes. (plan : Plan) (moment : ℕ) (replies : Name → Option TheReply) (client : TheClient) → A.stands_for answers.now plan moment replies → self.now.heard.side.number ≡ client.number → bytes.items ≡ self.now.heard.side.outgoing ++ due_for replies plan moment client last.now 1 messages.now) }
     {
         let mut out = self.said().to_vec(alloc)?;
         write_answers(alloc, &mut out, answers, self.number(), messages, last)?;

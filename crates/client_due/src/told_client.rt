@@ -29,6 +29,8 @@ impl Model for ToldClient {
 impl ToldClient {
     ghost use Rattle.std.specs.Prelude.{◌≡◌, ◌<◌, suc, length, slice_get, take, option_copied, IfOk, OnOk};
     ghost use Rattle.client_session.specs.Setups.{Setup as Service};
+    ghost use Rattle.log_story.specs.Owed.{messages};
+    ghost use Rattle.log_story.specs.Plan.{Plan};
     ghost use Rattle.log_story.specs.Tale.{Client as TheClient, client_gets, client_hears, new_client};
     ghost use Rattle.client_due.specs.Standing.{IsTold};
     ghost use Rattle.client_due.specs.Told.{Told, message_at};
@@ -74,7 +76,8 @@ impl ToldClient {
 
     /// Its messages behind its login that became whole, in order. Takes no memory.
     pub fn messages(&self) -> &[Message]
-        ensures { result.now ≡ self.now.heard.messages }
+        ensures now { result.now ≡ self.now.heard.messages }
+        ensures told { (plan : Plan) (client : TheClient) → IsTold plan.service self.now client → result.now ≡ messages plan client }
     {
         &self.heard.messages
     }
@@ -107,7 +110,7 @@ impl ToldClient {
 
     /// The message of this ordinal; they count from 1.
     pub fn message(&self, ordinal: usize) -> Option<&Message>
-        ensures { option_copied result ≡ message_at self.now.heard.messages ordinal }
+        ensures { (plan : Plan) (client : TheClient) → IsTold plan.service self.now client → option_copied result ≡ message_at (messages plan client) ordinal }
     {
         if ordinal == 0 {
             return None;
@@ -131,7 +134,7 @@ impl ToldClient {
 
     /// The message that is the next to be taken up, None where it isn't whole.
     pub fn next_message(&self) -> Option<&Message>
-        ensures { option_copied result ≡ slice_get self.now.heard.messages self.now.taken }
+        ensures { (plan : Plan) (client : TheClient) → IsTold plan.service self.now client → option_copied result ≡ slice_get (messages plan client) client.taken }
     {
         self.heard.messages.get(self.taken)
     }

@@ -1,8 +1,11 @@
-use Rattle.std.proofs.Common.{◌≡◌, ◌++◌, ◌+◌, drop}
-use Rattle.client_due.specs.Answering.{Table, answers_from}
+use Rattle.std.proofs.Common.{◌≡◌, ℕ, ◌++◌, ◌+◌, drop, Option}
+use Rattle.session_state.specs.declared.names.MessageName.{MessageName}
+use Rattle.private_model.specs.Commands.{Reply}
+use Rattle.log_story.specs.Owed.{due_for}
+use Rattle.log_story.specs.Plan.{Plan}
+use Rattle.log_story.specs.Tale.{Client}
 use Rattle.client_due.proofs.due.write_answers.Given as goal
 
 abbrev pub invariant-loop-i : goal.invariant-loop-i
-invariant-loop-i g l =
-    let table : Table = record { own = g.A.Answers.own l.answers; replies = g.A.Answers.replies l.answers; numbers = g.A.Answers.numbers l.answers } in
-    l.out.items ++ answers_from table l.client l.last (l.i + 1) (drop l.i l.messages) ≡ l.fn.out.items ++ answers_from table l.client l.last 1 l.messages
+invariant-loop-i g l = (plan : Plan) (moment : ℕ) (replies : MessageName → Option Reply) (client : Client) → g.A.Answers.stands_for l.answers plan moment replies → l.number ≡ client.number
+    → l.out.items ++ due_for replies plan moment client l.last (l.i + 1) (drop l.i l.messages) ≡ l.fn.out.items ++ due_for replies plan moment client l.last 1 l.messages
