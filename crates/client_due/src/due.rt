@@ -1,10 +1,9 @@
 // The bytes that a client is due.
-ghost use Rattle.std.specs.Prelude.{◌≡◌, ℕ, List, ◌++◌, Option, IfOk, OnOk, if◌then◌else◌};
-ghost use Rattle.session_state.specs.declared.names.MessageName.{MessageName as Name};
-ghost use Rattle.private_model.specs.Commands.{Reply as TheReply};
+ghost use Rattle.std.specs.Prelude.{◌≡◌, ℕ, List, ◌++◌, IfOk, OnOk, if◌then◌else◌};
 ghost use Rattle.log_story.specs.Owed.{answered_with, due_for, number_of};
-ghost use Rattle.log_story.specs.Plan.{Plan, own_at};
+ghost use Rattle.log_story.specs.Plan.{own_at};
 ghost use Rattle.log_story.specs.Tale.{Client as TheClient};
+ghost use Rattle.client_due.specs.Known.{Known};
 
 use crate::answers::Answers;
 use crate::message::Message;
@@ -22,7 +21,7 @@ fn write_answer<A: Answers>(
     name: MessageName,
     first: u8,
 ) -> Result<bool, OutOfMemory>
-    ensures { IfOk result (λ there. (plan : Plan) (moment : ℕ) (replies : Name → Option TheReply) → A.stands_for answers.now plan moment replies → (later : List ℕ) → (if there then out.new.items ++ later else out.new.items) ≡ out.old.items ++ answered_with (own_at plan moment name) (replies name) (number_of plan name) first later) }
+    ensures { IfOk result (λ there. (known : Known) → A.stands_for answers.now known → (later : List ℕ) → (if there then out.new.items ++ later else out.new.items) ≡ out.old.items ++ answered_with (own_at known.plan known.moment name) (known.replies name) (number_of known.plan name) first later) }
 {
     if let Some(payloads) = answers.own(name) {
         write_payloads(out, first, payloads.as_slice())?;
@@ -44,7 +43,7 @@ fn write_answers<A: Answers>(
     messages: &[Message],
     last: &[u8],
 ) -> Result<(), OutOfMemory>
-    ensures { OnOk result ((plan : Plan) (moment : ℕ) (replies : Name → Option TheReply) (client : TheClient) → A.stands_for answers.now plan moment replies → number ≡ client.number → out.new.items ≡ out.old.items ++ due_for replies plan moment client last.now 1 messages.now) }
+    ensures { OnOk result ((known : Known) (client : TheClient) → A.stands_for answers.now known → number ≡ client.number → out.new.items ≡ out.old.items ++ due_for known.replies known.plan known.moment client last.now 1 messages.now) }
 {
     for (i, message) in messages.iter().enumerate() {
         let name = MessageName {
@@ -60,18 +59,16 @@ fn write_answers<A: Answers>(
 }
 
 impl ToldClient {
-    ghost use Rattle.std.specs.Prelude.{◌≡◌, ℕ, ◌++◌, Option, IfOk};
-    ghost use Rattle.session_state.specs.declared.names.MessageName.{MessageName as Name};
-    ghost use Rattle.private_model.specs.Commands.{Reply as TheReply};
+    ghost use Rattle.std.specs.Prelude.{◌≡◌, ◌++◌, IfOk};
     ghost use Rattle.log_story.specs.Owed.{due_bytes, due_for, unwritten};
-    ghost use Rattle.log_story.specs.Plan.{Plan};
     ghost use Rattle.log_story.specs.Tale.{Client as TheClient};
+    ghost use Rattle.client_due.specs.Known.{Known};
     ghost use Rattle.client_due.specs.Standing.{IsTold};
 
     /// The bytes that it is due: what is said to its login (client/server protocol, "Connection Phase"), the answers to its messages, in
     /// order up to the first that has none, and where each has one the error for a message that can't be. The only error is want of memory.
     pub fn due<A: Answers>(&self, alloc: Global, answers: &A) -> Result<Vec<u8>, OutOfMemory>
-        ensures { IfOk result (λ due. (plan : Plan) (moment : ℕ) (replies : Name → Option TheReply) (client : TheClient) → IsTold plan.service self.now client → A.stands_for answers.now plan moment replies → due.items ≡ due_bytes replies plan moment client) }
+        ensures { IfOk result (λ due. (known : Known) (client : TheClient) → IsTold known.plan.service self.now client → A.stands_for answers.now known → due.items ≡ due_bytes known.replies known.plan known.moment client) }
     {
         self.written_out(alloc, answers, self.messages(), self.last())
     }
@@ -79,7 +76,7 @@ impl ToldClient {
     /// How many bytes for it aren't written, by what is said to its login and the answers to its messages that were taken up: while they
     /// are too many, the next message waits. The only error is want of memory.
     pub fn unwritten<A: Answers>(&self, alloc: Global, answers: &A) -> Result<u64, OutOfMemory>
-        ensures { IfOk result (λ count. (plan : Plan) (moment : ℕ) (replies : Name → Option TheReply) (client : TheClient) → IsTold plan.service self.now client → A.stands_for answers.now plan moment replies → count ≡ unwritten replies plan moment client) }
+        ensures { IfOk result (λ count. (known : Known) (client : TheClient) → IsTold known.plan.service self.now client → A.stands_for answers.now known → count ≡ unwritten known.replies known.plan known.moment client) }
     {
         let owed = self.written_out(alloc, answers, self.taken_up(), &[])?;
         Ok((owed.len() as u64).saturating_sub(self.written()))
@@ -93,7 +90,7 @@ impl ToldClient {
         messages: &[Message],
         last: &[u8],
     ) -> Result<Vec<u8>, OutOfMemory>
-        ensures { IfOk result (λ bytes. (plan : Plan) (moment : ℕ) (replies : Name → Option TheReply) (client : TheClient) → A.stands_for answers.now plan moment replies → self.now.heard.side.number ≡ client.number → bytes.items ≡ self.now.heard.side.outgoing ++ due_for replies plan moment client last.now 1 messages.now) }
+        ensures { IfOk result (λ bytes. (known : Known) (client : TheClient) → A.stands_for answers.now known → self.now.heard.side.number ≡ client.number → bytes.items ≡ self.now.heard.side.outgoing ++ due_for known.replies known.plan known.moment client last.now 1 messages.now) }
     {
         let mut out = self.said().to_vec(alloc)?;
         write_answers(alloc, &mut out, answers, self.number(), messages, last)?;

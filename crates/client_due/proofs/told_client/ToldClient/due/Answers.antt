@@ -8,8 +8,8 @@ use Rattle.client_due.proofs.told_client.ToldClient.due.Goals as goal
 pub returns : goal.returns
 returns g c =
     let told : Told = c.args.self.now in
-    IfOk-weaker c.written_out.result _ _ (λ due is plan moment replies client at stands.
-    is plan moment replies client stands at.number
-    ∙ ap (λ last. told.heard.side.outgoing ++ due_for replies plan moment client last 1 c.messages.result.now) c.last.ensures
-    ∙ ap (λ these. told.heard.side.outgoing ++ due_for replies plan moment client told.heard.last 1 these) c.messages.ensures.now
-    ∙ due-told plan moment replies client told at) c.written_out.ensures
+    IfOk-weaker c.written_out.result _ _ (λ due is known client at stands.
+    is known client stands at.number
+    ∙ ap (λ last. told.heard.side.outgoing ++ due_for known.replies known.plan known.moment client last 1 c.messages.result.now) c.last.ensures
+    ∙ ap (λ these. told.heard.side.outgoing ++ due_for known.replies known.plan known.moment client told.heard.last 1 these) c.messages.ensures.now
+    ∙ due-told known.plan known.moment known.replies client told at) c.written_out.ensures
