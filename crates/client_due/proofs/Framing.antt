@@ -1,9 +1,9 @@
 -- Messages that are taken from what is kept, one after the other.
-use Rattle.std.proofs.Common.{◌≡◌, ◌⊎◌, ◌<◌, ◌≤◌, ℕ, zero, suc, ◌+◌, List, [], ◌∷◌, ◌++◌, length, drop, Option, Some, None, refl, ◌∙◌, sym, ap, subst, inl, inr, arith, append_assoc, append-nil}
+use Rattle.std.proofs.Common.{◌≡◌, ◌<◌, ℕ, zero, suc, ◌+◌, List, [], ◌∷◌, ◌++◌, length, Option, Some, None, refl, ◌∙◌, sym, ap, subst, inl, inr, arith, append_assoc, append-nil}
 use Rattle.packet_frame.specs.declared.fault.FrameFault.{FrameFault}
-use Rattle.packet_frame.specs.Packets.{Framed, Found, Split, first_message, grown, longest, message_size, message_within, next_id, split, with_front}
+use Rattle.packet_frame.specs.Packets.{Framed, Found, Split, first_message, grown, longest, message_within, next_id, split, with_front}
 use Rattle.packet_frame.specs.Packets.Found.{Nothing, Whole, Faulty}
-use Rattle.packet_frame.specs.FramerState.{FramerState, look, look_by, past, seen}
+use Rattle.packet_frame.specs.FramerState.{FramerState, look, look_by, past}
 use Rattle.packet_frame.specs.Pieces.{pending, pending_by}
 use Rattle.packet_frame.specs.Laws.{first_message-shorter, split-faulty, split-grown, split-nothing, split-whole}
 use Rattle.packet_frame.specs.MessageLaws.{first_message-goes, led}

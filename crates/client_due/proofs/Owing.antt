@@ -1,5 +1,5 @@
 -- What a client is due is written one answer after the other.
-use Rattle.std.proofs.Common.{◌≡◌, ℕ, suc, ◌+◌, ◌-◌, min, ◌<◌, ◌≤◌, Bool, true, false, cond, List, [], ◌∷◌, ◌++◌, length, get_or, take, drop, Option, refl, ◌∙◌, sym, ap, arith}
+use Rattle.std.proofs.Common.{◌≡◌, ℕ, suc, ◌+◌, ◌-◌, min, ◌<◌, ◌≤◌, Bool, true, false, cond, List, [], ◌∷◌, ◌++◌, length, get_or, take, drop, Option, ◌∙◌, sym, ap, arith}
 use Rattle.std.proofs.lemmas.List.{drop_all, drop_more}
 use Rattle.packet_frame.specs.Packets.{Framed, next_id}
 use Rattle.client_session.specs.Answers.{front}
@@ -48,14 +48,12 @@ module _ (plan : Plan) (moment : ℕ) (replies : MessageName → Option Reply) (
         ∙ ap (λ last. front (talk_of plan client) ++ due_for replies plan moment client last 1 told.heard.messages) (sym heard.ends)
         ∙ ap (λ these. front (talk_of plan client) ++ due_for replies plan moment client (last_error plan client) 1 these) (sym heard.whole)
 
-    pub unwritten-told : (count : ℕ) → count ≡ length (told.heard.side.outgoing ++ due_for replies plan moment client [] 1 (take told.taken told.heard.messages)) → count < 18446744073709551616
+    pub unwritten-told : (count : ℕ) → count ≡ length (told.heard.side.outgoing ++ due_for replies plan moment client [] 1 (take client.taken (messages plan client))) → count < 18446744073709551616
         → count - told.written ≡ unwritten replies plan moment client
     unwritten-told count is small =
         let heard = at.stands.all in
         let all : count ≡ length (front (talk_of plan client) ++ due_for replies plan moment client [] 1 (take client.taken (messages plan client))) =
-        is ∙ ap (λ said. length (said ++ due_for replies plan moment client [] 1 (take told.taken told.heard.messages))) (sym heard.said)
-        ∙ ap (λ n. length (front (talk_of plan client) ++ due_for replies plan moment client [] 1 (take n told.heard.messages))) at.taken
-        ∙ ap (λ these. length (front (talk_of plan client) ++ due_for replies plan moment client [] 1 (take client.taken these))) (sym heard.whole) in
+        is ∙ ap (λ said. length (said ++ due_for replies plan moment client [] 1 (take client.taken (messages plan client)))) (sym heard.said) in
         let capped : told.written ≡ min client.written 18446744073709551615 = at.written in
         let least : count - told.written ≡ count - client.written = omega arith in
         least ∙ ap (λ n. n - client.written) all

@@ -1,5 +1,5 @@
 -- Where a client stands by what was read of it.
-use Rattle.std.proofs.Common.{◌≡◌, ℕ, Bool, false, List, [], ◌∷◌, ◌++◌, length, ◌<◌, ◌+◌, suc, min, nat_eq, true, cond, Option, Some, None, refl, ◌∙◌, sym, ap, subst, append_assoc, append-nil, arith}
+use Rattle.std.proofs.Common.{◌≡◌, ℕ, Bool, false, List, [], ◌++◌, length, ◌<◌, ◌+◌, suc, min, nat_eq, true, cond, Option, Some, None, refl, ◌∙◌, sym, ap, subst, append_assoc, append-nil, arith}
 use Rattle.std.proofs.lemmas.Bool.{eq-eqb}
 use Rattle.mx_base.specs.declared.names.ClientNo.{ClientNo}
 use Rattle.mx_base.specs.declared.names.LinkId.{LinkId}
@@ -25,10 +25,9 @@ use Rattle.client_session.specs.Answers.{Talk, client_messages, commands_in, fau
 use Rattle.client_session.specs.Errors.{access_denied, own_ok}
 use Rattle.client_session.specs.Setups.{Setup}
 use Rattle.log_story.specs.Tale as tale
-use Rattle.client_due.specs.declared.phase.Phase.{Phase}
 use Rattle.client_due.specs.declared.phase.Phase.TheVariants as phase
 use Rattle.client_due.specs.Heard.{Heard}
-use Rattle.client_due.specs.Hearing.{HasReached, IsDry, IsKept, IsNext, IsSame, admitted, ended, kept}
+use Rattle.client_due.specs.Hearing.{HasReached, IsDry, IsKept, IsNext, IsSame, admitted, ended}
 use Rattle.client_due.specs.Standing.{GoesOn, IsHeard, IsIn, IsLogging, IsOf, IsOver, IsTold, Stands, talk_by}
 use Rattle.client_due.specs.Told.{Told}
 use Rattle.client_due.proofs.Framing.{AreTaken, IsAll, faulty-more, taken-faulty, taken-fed, taken-first, taken-none, taken-one, whole-shorter}
@@ -345,13 +344,16 @@ told-gets setup told client count written is at =
       stands = at.stands;
     })
 
-pub told-takes : (setup : Setup) (told : Told) (client : tale.Client) (taken : ℕ) → taken ≡ suc told.taken → IsTold setup told client → IsTold setup (record told { taken = taken }) (record client { taken = suc client.taken })
-told-takes setup told client taken is at = record {
-  number = at.number;
-  link = at.link;
-  salt = at.salt;
-  limit = at.limit;
-  written = at.written;
-  taken = is ∙ ap suc at.taken;
-  stands = at.stands;
-}
+pub told-takes : (setup : Setup) (told : Told) (client : tale.Client) (taken : ℕ) → taken ≡ min (told.taken + 1) 18446744073709551615
+    → IsTold setup told client → IsTold setup (record told { taken = taken }) (record client { taken = suc client.taken })
+told-takes setup told client taken is at =
+    let before : told.taken ≡ min client.taken 18446744073709551615 = at.taken in
+    record {
+      number = at.number;
+      link = at.link;
+      salt = at.salt;
+      limit = at.limit;
+      written = at.written;
+      taken = omega arith;
+      stands = at.stands;
+    }

@@ -1,6 +1,5 @@
 -- What the next step of a client tells.
-use Rattle.std.proofs.Common.{◌≡◌, ℕ, ◌+◌, ◌%◌, ◌<◌, Bool, true, false, cond, List, Option, Some, None, Result, Ok, Err, refl, ◌∙◌, sym, ap, subst, arith}
-use Rattle.packet_frame.specs.declared.fault.FrameFault.{FrameFault}
+use Rattle.std.proofs.Common.{◌≡◌, ℕ, Bool, true, false, cond, List, Result, Ok, Err, refl, sym, subst}
 use Rattle.packet_frame.specs.FramerState.{look}
 use Rattle.packet_frame.specs.Packets.{Framed, Found, next_id}
 use Rattle.packet_frame.specs.Packets.Found.{Nothing, Whole, Faulty}
@@ -11,7 +10,7 @@ use Rattle.client_side.specs.declared.stage.Stage.{Stage}
 use Rattle.client_side.specs.declared.stage.Stage.TheVariants as stage
 use Rattle.client_side.specs.declared.step.ClientStep.{ClientStep}
 use Rattle.client_side.specs.declared.step.ClientStep.TheVariants as says
-use Rattle.client_side.specs.Client.{ClientState, counted}
+use Rattle.client_side.specs.Client.{ClientState}
 use Rattle.client_side.specs.Login.{needs_switch}
 use Rattle.client_side.specs.Steps.{Next, answer_found, asked, behind, command_found, logs_in, looked, next_of, response_found, response_read}
 

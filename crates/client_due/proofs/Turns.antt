@@ -1,8 +1,7 @@
 -- What each function leaves of a client, by what its calls leave.
-use Rattle.std.proofs.Common.{◌≡◌, ℕ, ◌++◌, List, Option, Some, None, refl, ◌∙◌, sym, ap, subst}
+use Rattle.std.proofs.Common.{◌≡◌, ℕ, List, Option, Some, None, refl, ◌∙◌, sym, ap, subst}
 use Rattle.std.specs.Prelude.{IfSome}
-use Rattle.packet_frame.specs.Packets.{Framed, next_id, spelling}
-use Rattle.packet_frame.specs.Packets.Found.{Whole}
+use Rattle.packet_frame.specs.Packets.{next_id, spelling}
 use Rattle.handshake.specs.declared.response.Response.{Response}
 use Rattle.client_side.specs.declared.stage.Stage.{Stage}
 use Rattle.client_side.specs.declared.stage.Stage.TheVariants as stage
@@ -10,12 +9,11 @@ use Rattle.client_side.specs.declared.step.ClientFault.{ClientFault}
 use Rattle.client_side.specs.declared.step.ClientStep.{ClientStep}
 use Rattle.client_side.specs.declared.step.ClientStep.TheVariants as step
 use Rattle.client_side.specs.Client.{ClientState, IsSame as IsSameClient, fed, login_of}
-use Rattle.client_side.specs.Steps.{Next, looked, next_of}
+use Rattle.client_side.specs.Steps.{Next, next_of}
 use Rattle.server_side.specs.Account.{Account}
 use Rattle.client_session.specs.Accounts.{account_of}
 use Rattle.client_session.specs.Answers.{Talk, fault_error, heard_more}
 use Rattle.client_session.specs.Setups.{Setup}
-use Rattle.client_due.specs.declared.phase.Phase.{Phase}
 use Rattle.client_due.specs.declared.phase.Phase.TheVariants as phase
 use Rattle.client_due.specs.Heard.{Heard}
 use Rattle.client_due.specs.Hearing.{HasIds, HasReached, IsKept, IsSame, ended, judged, kept}

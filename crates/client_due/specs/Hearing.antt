@@ -1,7 +1,7 @@
 -- What reading makes of a client.
 use Rattle.std.specs.Prelude.{◌≡◌, ◌<◌, ℕ, Bool, true, false, List, [], ◌∷◌, ◌++◌, Option, Some, None}
 use Rattle.packet_frame.specs.FramerState.{look}
-use Rattle.packet_frame.specs.Packets.{Framed, Found, next_id, spelling}
+use Rattle.packet_frame.specs.Packets.{Framed, Found, spelling}
 use Rattle.packet_frame.specs.Packets.Found.{Nothing, Whole, Faulty}
 use Rattle.handshake.specs.declared.response.Response.{Response}
 use Rattle.client_side.specs.declared.stage.Stage.TheVariants as stage
@@ -10,7 +10,7 @@ use Rattle.client_side.specs.Client.{counted}
 use Rattle.client_side.specs.Login.{fault_id}
 use Rattle.client_side.specs.Steps.{behind, looked}
 use Rattle.server_side.specs.Account.{Account}
-use Rattle.client_session.specs.Answers.{Talk, fault_error, frame_error, heard_more}
+use Rattle.client_session.specs.Answers.{Talk, fault_error, frame_error}
 use Rattle.client_session.specs.Errors.{access_denied, own_ok}
 use Rattle.client_due.specs.declared.phase.Phase.{Phase}
 use Rattle.client_due.specs.declared.phase.Phase.TheVariants as phase

@@ -76,5 +76,5 @@ pub record IsTold (setup : Setup) (told : Told) (client : Client) : Type 0 where
   pub salt : told.heard.side.salt ≡ client.salt
   pub limit : told.heard.side.framer.limit ≡ setup.limit
   pub written : told.written ≡ capped client.written
-  pub taken : told.taken ≡ client.taken
+  pub taken : told.taken ≡ capped client.taken
   pub stands : Stands told.heard (talk_by setup client)

@@ -66,7 +66,7 @@ impl ToldClient {
     ghost use Rattle.client_due.specs.Standing.{IsTold};
 
     /// The bytes that it is due: what is said to its login (client/server protocol, "Connection Phase"), the answers to its messages, in
-    /// order up to the first that has none, and where each has one the error for a message that can't be. The only error is want of memory.
+    /// order up to the first that has none, and where each has one the error for a message that can't be. OutOfMemory where memory is refused.
     pub fn due<A: Answers>(&self, alloc: Global, answers: &A) -> Result<Vec<u8>, OutOfMemory>
         ensures { IfOk result (λ due. (known : Known) (client : TheClient) → IsTold known.plan.service self.now client → A.stands_for answers.now known → due.items ≡ due_bytes known.replies known.plan known.moment client) }
     {
@@ -74,7 +74,7 @@ impl ToldClient {
     }
 
     /// How many bytes for it aren't written, by what is said to its login and the answers to its messages that were taken up: while they
-    /// are too many, the next message waits. The only error is want of memory.
+    /// are too many, the next message waits. OutOfMemory where memory is refused.
     pub fn unwritten<A: Answers>(&self, alloc: Global, answers: &A) -> Result<u64, OutOfMemory>
         ensures { IfOk result (λ count. (known : Known) (client : TheClient) → IsTold known.plan.service self.now client → A.stands_for answers.now known → count ≡ unwritten known.replies known.plan known.moment client) }
     {

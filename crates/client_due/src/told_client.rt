@@ -9,7 +9,8 @@ use std::alloc::Global;
 use std::marker::Model;
 
 /// A client of a log, by what was read of it and written to it so far. Bytes are kept until the message that they belong to is whole, and
-/// each is moved a bounded number of times. Of a client that was refused, or whose next message can't be, no more is kept.
+/// each is moved a bounded number of times. Of a client that was refused, or whose next message can't be, no more is kept. Only `new`,
+/// `hears`, `due` and `unwritten` take memory.
 #[derive(Drop)]
 pub struct ToldClient {
     link: LinkId,
@@ -27,7 +28,7 @@ impl Model for ToldClient {
 }
 
 impl ToldClient {
-    ghost use Rattle.std.specs.Prelude.{◌≡◌, ◌<◌, suc, length, slice_get, take, option_copied, IfOk, OnOk};
+    ghost use Rattle.std.specs.Prelude.{◌≡◌, suc, slice_get, take, option_copied, IfOk, OnOk};
     ghost use Rattle.client_session.specs.Setups.{Setup as Service};
     ghost use Rattle.log_story.specs.Owed.{messages};
     ghost use Rattle.log_story.specs.Plan.{Plan};
@@ -35,7 +36,7 @@ impl ToldClient {
     ghost use Rattle.client_due.specs.Standing.{IsTold};
     ghost use Rattle.client_due.specs.Told.{Told, message_at};
 
-    /// A client that came, of which nothing was read and to which nothing was written.
+    /// A client that came, of which nothing was read and to which nothing was written. OutOfMemory where memory is refused.
     pub fn new(
         alloc: Global,
         setup: &Setup,
@@ -60,7 +61,7 @@ impl ToldClient {
         })
     }
 
-    /// The client's number. Takes no memory.
+    /// The client's number.
     pub fn number(&self) -> ClientNo
         ensures { result ≡ self.now.heard.side.number }
     {
@@ -74,7 +75,7 @@ impl ToldClient {
         self.link
     }
 
-    /// Its messages behind its login that became whole, in order. Takes no memory.
+    /// Its messages behind its login that became whole, in order.
     pub fn messages(&self) -> &[Message]
         ensures now { result.now ≡ self.now.heard.messages }
         ensures told { (plan : Plan) (client : TheClient) → IsTold plan.service self.now client → result.now ≡ messages plan client }
@@ -82,9 +83,9 @@ impl ToldClient {
         &self.heard.messages
     }
 
-    // Those that were taken up.
-    pub(crate) fn taken_up(&self) -> &[Message]
-        ensures { result.now ≡ take self.now.taken self.now.heard.messages }
+    /// Those that were taken up.
+    pub fn taken_up(&self) -> &[Message]
+        ensures { (plan : Plan) (client : TheClient) → IsTold plan.service self.now client → result.now ≡ take client.taken (messages plan client) }
     {
         let messages = self.messages();
         if self.taken < messages.len() {
@@ -110,7 +111,8 @@ impl ToldClient {
 
     /// The message of this ordinal; they count from 1.
     pub fn message(&self, ordinal: usize) -> Option<&Message>
-        ensures { (plan : Plan) (client : TheClient) → IsTold plan.service self.now client → option_copied result ≡ message_at (messages plan client) ordinal }
+        ensures now { option_copied result ≡ message_at self.now.heard.messages ordinal }
+        ensures told { (plan : Plan) (client : TheClient) → IsTold plan.service self.now client → option_copied result ≡ message_at (messages plan client) ordinal }
     {
         if ordinal == 0 {
             return None;
@@ -125,7 +127,7 @@ impl ToldClient {
         self.written
     }
 
-    /// How many of its messages were taken up.
+    /// How many of its messages were taken up; the count stands still at its type's end.
     pub fn taken(&self) -> usize
         ensures { result ≡ self.now.taken }
     {
@@ -134,9 +136,15 @@ impl ToldClient {
 
     /// The message that is the next to be taken up, None where it isn't whole.
     pub fn next_message(&self) -> Option<&Message>
-        ensures { (plan : Plan) (client : TheClient) → IsTold plan.service self.now client → option_copied result ≡ slice_get (messages plan client) client.taken }
+        ensures now { option_copied result ≡ slice_get self.now.heard.messages self.now.taken }
+        ensures told { (plan : Plan) (client : TheClient) → IsTold plan.service self.now client → option_copied result ≡ slice_get (messages plan client) client.taken }
     {
-        self.heard.messages.get(self.taken)
+        let messages = self.messages();
+        if self.taken < messages.len() {
+            Some(&messages[self.taken])
+        } else {
+            None
+        }
     }
 
     /// Bytes were read of it. What they make whole is read: its login, and the messages behind it (client/server protocol, "Connection
@@ -155,12 +163,10 @@ impl ToldClient {
         self.written = self.written.saturating_add(count as u64);
     }
 
-    /// Its next message is taken up.
+    /// A message more was taken up.
     pub fn takes(&mut self)
-        requires { self.old.taken < length self.old.heard.messages }
         ensures { (setup : Service) (client : TheClient) → IsTold setup self.old client → IsTold setup self.new (record client { taken = suc client.taken }) }
     {
-        let _there = self.heard.messages.len();
-        self.taken += 1;
+        self.taken = self.taken.saturating_add(1);
     }
 }

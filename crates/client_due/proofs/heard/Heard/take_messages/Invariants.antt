@@ -1,4 +1,4 @@
-use Rattle.std.proofs.Common.{◌≡◌, length}
+use Rattle.std.proofs.Common.{length}
 use Rattle.client_session.specs.Answers.{Talk}
 use Rattle.client_due.specs.Hearing.{IsSame}
 use Rattle.client_due.specs.Standing.{IsIn}

@@ -11,5 +11,5 @@ returns g c = λ known client at stands.
     c.saturating_sub.ensures ∙ ap (λ n. c.len.result - n) c.written.ensures
     ∙ unwritten-told known.plan known.moment known.replies client told at c.len.result
     (c.len.ensures ∙ items ∙ ap length (c.in_ok-owed.ensures known client stands at.number)
-    ∙ ap (λ these. length (told.heard.side.outgoing ++ due_for known.replies known.plan known.moment client [] 1 these)) c.taken_up.ensures)
+    ∙ ap (λ these. length (told.heard.side.outgoing ++ due_for known.replies known.plan known.moment client [] 1 these)) (c.taken_up.ensures known.plan client at))
     (omega arith)
