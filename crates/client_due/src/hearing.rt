@@ -28,7 +28,7 @@ impl Heard {
     ghost use Rattle.client_side.specs.Client.{HasFound, login_of};
     ghost use Rattle.client_session.specs.Accounts.{account_of};
     ghost use Rattle.client_session.specs.Answers.{Talk, heard_more};
-    ghost use Rattle.client_due.specs.Hearing.{HasIds, HasReached, IsNext, IsSame, ended, judged, kept};
+    ghost use Rattle.client_due.specs.Hearing.{HasIds, HasReached, IsNext, IsSame, admitted, ended, judged, kept};
     ghost use Rattle.client_due.specs.Standing.{GoesOn, IsIn, IsLogging, IsOf, Stands};
 
     /// Bytes were read of it: its login is read, as far as it is there, and no message.
@@ -86,20 +86,27 @@ impl Heard {
         let Some(response) = self.side.login() else {
             unreachable!()
         };
-        let mut packet = Vec::new(alloc);
         match account_of(alloc, setup, response, self.side.salt())? {
-            Some(_) => {
-                write_own_ok(&mut packet, first)?;
-                self.side.answer_grown(&packet)?;
-                self.side.done();
-                self.phase = Phase::LoggedIn;
-                Ok(())
-            }
+            Some(_) => self.admit(alloc, first),
             None => {
+                let mut packet = Vec::new(alloc);
                 write_denied(alloc, &mut packet, first, response.user.as_slice())?;
                 self.end_with(&packet)
             }
         }
+    }
+
+    // It is logged in.
+    fn admit(&mut self, alloc: Global, first: u8) -> Result<(), OutOfMemory>
+        requires { IsSome (login_of self.old.side.stage) }
+        ensures { OnOk result (self.new ≡ admitted first self.old) }
+    {
+        let mut packet = Vec::new(alloc);
+        write_own_ok(&mut packet, first)?;
+        self.side.answer_grown(&packet)?;
+        self.side.done();
+        self.phase = Phase::LoggedIn;
+        Ok(())
     }
 
     /// All messages that are whole are taken, where it is logged in.
