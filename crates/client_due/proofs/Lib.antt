@@ -1,0 +1,5 @@
+pub mod Framing
+pub mod Reading
+pub mod Stepping
+pub mod Turns
+pub mod Owing

@@ -1,0 +1,5 @@
+pub mod Heard
+pub mod Told
+pub mod Known
+pub mod Standing
+pub mod Hearing
