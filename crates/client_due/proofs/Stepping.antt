@@ -1,5 +1,6 @@
 -- What the next step of a client tells.
-use Rattle.std.proofs.Common.{◌≡◌, ℕ, Bool, true, false, cond, List, Result, Ok, Err, refl, sym, subst}
+use Rattle.packet_frame.specs.declared.fault.FrameFault.{FrameFault}
+use Rattle.std.proofs.Common.{◌≡◌, ℕ, Bool, true, false, cond, List, Result, Ok, Err, refl, sym, subst, ◌∙◌, ap}
 use Rattle.packet_frame.specs.FramerState.{look}
 use Rattle.packet_frame.specs.Packets.{Framed, Found, next_id}
 use Rattle.packet_frame.specs.Packets.Found.{Nothing, Whole, Faulty}
@@ -8,10 +9,12 @@ use Rattle.handshake.specs.declared.response.Response.{Response}
 use Rattle.handshake.specs.Response.{response_of}
 use Rattle.client_side.specs.declared.stage.Stage.{Stage}
 use Rattle.client_side.specs.declared.stage.Stage.TheVariants as stage
+use Rattle.client_side.specs.declared.step.ClientFault.{ClientFault}
+use Rattle.client_side.specs.declared.step.ClientFault.TheVariants.{Frame}
 use Rattle.client_side.specs.declared.step.ClientStep.{ClientStep}
 use Rattle.client_side.specs.declared.step.ClientStep.TheVariants as says
 use Rattle.client_side.specs.Client.{ClientState}
-use Rattle.client_side.specs.Login.{needs_switch}
+use Rattle.client_side.specs.Login.{fault_id, needs_switch}
 use Rattle.client_side.specs.Steps.{Next, answer_found, asked, behind, command_found, logs_in, looked, next_of, response_found, response_read}
 
 -- a message was found in the bytes of commands
@@ -58,3 +61,26 @@ next-comes stage.Commands client = command-comes client (look 0 client.framer) r
 
 pub message-comes : (at : Stage) (old new : ClientState) (ordinal first : ℕ) → record { step = says.Message ordinal first; client = new } ≡ next_of at old → IsCommand at old new first
 message-comes at old new ordinal first is = subst (λ (n : Next). Comes n.step at old n.client) (sym is) (next-comes at old)
+
+-- Nothing is whole where commands come, or what comes can't be.
+
+pub record IsUnframed (what : Found) (old new : ClientState) (first : ℕ) (fault : ClientFault) : Type 0 where
+  pub why : FrameFault
+  pub at : what ≡ Faulty why
+  pub is_frame : fault ≡ Frame why
+  pub id : first ≡ fault_id 0 why
+  pub is : new ≡ looked old (Faulty why)
+
+abbrev pub Ends : ClientStep → Found → (old new : ClientState) → Type 0
+Ends (says.Refused first fault) found old new = IsUnframed found old new first fault
+Ends (says.Message ordinal first) found old new = Unit {0}
+Ends _ found old new = (found ≡ Nothing) × (new ≡ looked old Nothing)
+
+command-ends : (client : ClientState) (found : Found) → Ends (command_found client found).step found client (command_found client found).client
+command-ends client Nothing = (refl, refl)
+command-ends client (Whole message rest) = tt
+command-ends client (Faulty fault) = record { why = fault; at = refl; is_frame = refl; id = refl; is = refl }
+
+pub step-ends : (what : ClientStep) (old new : ClientState) → old.stage ≡ stage.Commands → record { step = what; client = new } ≡ next_of old.stage old → Ends what (look 0 old.framer) old new
+step-ends what old new at is =
+    subst (λ (n : Next). Ends n.step (look 0 old.framer) old n.client) (sym (is ∙ ap (λ (s : Stage). next_of s old) at)) (command-ends old (look 0 old.framer))
