@@ -1,23 +1,84 @@
+-- Lists of links.
+use Rattle.router_world.proofs.Calm.{or-none, any-still}
+use Rattle.std.proofs.lemmas.Bool.{and_right, or_parts, or_from, or_right, false_from_ne_true, eqb-true}
+use Rattle.router_world.proofs.Names.{◌≡◌, ◌⊎◌, ℕ, ◌+◌, Bool, true, false, nat_eq, not, ◌&&◌, ◌||◌, List, [], ◌∷◌, ◌++◌, length, refl, sym, ◌∙◌, ap, inl, inr}
+use Rattle.router_world.proofs.Names.{arith, LinkId, bool_cases, without, zero, suc, ◌-◌, slice_get, Some, None, list_any, cons_option, subst, list_any-append}
+use Rattle.router_world.proofs.Names.{fold-append, Port, Traffic, Admin, Log, link_of, is_link, open_step, is_open, AllLawful, lawful-each, IsNew, IsOpen, Fits}
+use Rattle.router_world.proofs.Names.{same_number, step-same, step-other, Entry, Accepted, Opened, Closed, Arrival, arrivals_behind, arrival_in, arrival_of}
+use Rattle.router_world.proofs.Names.{is_traffic, connected_step, connected, some-same, came_as, came-names, named-none, same-link, or-inl, or-inr}
+use Rattle.promises.proofs.Causes.{or-cases}
+use Rattle.mx_wire.specs.Growth.{nat_eq-sym}
+
+abbrev pub is_among : LinkId → List LinkId → Bool
+is_among link [] = false
+is_among link (other ∷ links) = nat_eq link.0 other.0 || is_among link links
+
+-- no link stands there twice
+abbrev pub AreDistinct : List LinkId → Type 0
+AreDistinct [] = Unit {0}
+AreDistinct (link ∷ links) = (is_among link links ≡ false) × AreDistinct links
+
+-- One link more at the end.
+
+pub among-end : (link new : LinkId) (links : List LinkId) → is_among link (links ++ new ∷ []) ≡ (is_among link links || nat_eq link.0 new.0)
+among-end link new [] = or-none (nat_eq link.0 new.0)
+among-end link new (other ∷ links) = ap (λ b. nat_eq link.0 other.0 || b) (among-end link new links) ∙ assoc (nat_eq link.0 other.0) (is_among link links) (nat_eq link.0 new.0) where
+  assoc : (a b c : Bool) → (a || (b || c)) ≡ ((a || b) || c)
+  assoc true b c = refl
+  assoc false b c = refl
+
+pub distinct-end : (links : List LinkId) (new : LinkId) → is_among new links ≡ false → AreDistinct links → AreDistinct (links ++ new ∷ [])
+distinct-end [] new apart distinct = (refl, tt)
+distinct-end (link ∷ links) new apart distinct =
+    let both = or_parts (nat_eq new.0 link.0) (is_among new links) apart in
+    (among-end link new links ∙ or_from (is_among link links) (nat_eq link.0 new.0) distinct.0 (nat_eq-sym new.0 link.0 both.0), distinct-end links new both.1 distinct.1)
+
+-- A link is taken out.
+
+pub without-apart : (link : LinkId) (links : List LinkId) → is_among link links ≡ false → without link links ≡ links
+without-apart link [] apart = refl
+without-apart link (other ∷ links) apart =
+    let both = or_parts (nat_eq link.0 other.0) (is_among link links) apart in
+    rw (nat_eq-sym link.0 other.0 both.0) (ap (λ (rest : List LinkId). other ∷ rest) (without-apart link links both.1))
+
+-- it was there once
+pub length-without : (link : LinkId) (links : List LinkId) → AreDistinct links → is_among link links ≡ true → length (without link links) + 1 ≡ length links
+length-without link [] distinct among = cc
+length-without link (other ∷ links) distinct among = elim (bool_cases (nat_eq other.0 link.0)) [
+  | inl same ↦ (
+      let apart : is_among link links ≡ false = ap (λ (n : ℕ). is_among (record { 0 = n }) links) (sym (eqb-true other.0 link.0 same)) ∙ distinct.0 in
+      rw same (let rest : length (without link links) ≡ length links = ap length (without-apart link links apart) in omega arith))
+  | inr apart ↦ (
+      let later : is_among link links ≡ true = ap (λ b. b || is_among link links) (sym (nat_eq-sym other.0 link.0 apart)) ∙ among in
+      rw apart (let rest : length (without link links) + 1 ≡ length links = length-without link links distinct.1 later in omega arith))
+]
+
+-- the others are left
+same-out : (b c : Bool) → (c && not b) ≡ ((b || c) && not b)
+same-out true true = refl
+same-out true false = refl
+same-out false c = refl
+
+still-in : (a b c : Bool) → (a ≡ true → b ≡ false) → (a || (c && not b)) ≡ ((a || c) && not b)
+still-in true b c apart = rw (apart refl) refl
+still-in false b c apart = refl
+
+pub among-without : (link gone : LinkId) (links : List LinkId) → is_among link (without gone links) ≡ (is_among link links && not (nat_eq link.0 gone.0))
+among-without link gone [] = refl
+among-without link gone (other ∷ links) = elim (bool_cases (nat_eq other.0 gone.0)) [
+  | inl same ↦ rw same (among-without link gone links ∙ same-out (nat_eq link.0 gone.0) (is_among link links) ∙ ap (λ (n : ℕ). (nat_eq link.0 n || is_among link links) && not (nat_eq link.0 gone.0)) (sym (eqb-true other.0 gone.0 same)))
+  | inr apart ↦ rw apart (ap (λ b. nat_eq link.0 other.0 || b) (among-without link gone links)
+      ∙ still-in (nat_eq link.0 other.0) (nat_eq link.0 gone.0) (is_among link links) (λ same. ap (λ (n : ℕ). nat_eq n gone.0) (eqb-true link.0 other.0 same) ∙ apart))
+]
+
+pub distinct-without : (gone : LinkId) (links : List LinkId) → AreDistinct links → AreDistinct (without gone links)
+distinct-without gone [] distinct = tt
+distinct-without gone (other ∷ links) distinct = elim (bool_cases (nat_eq other.0 gone.0)) [
+  | inl same ↦ rw same (distinct-without gone links distinct.1)
+  | inr apart ↦ rw apart (among-without other gone links ∙ ap (λ b. b && not (nat_eq other.0 gone.0)) distinct.0, distinct-without gone links distinct.1)
+]
+
 -- How many clients are connected: the open links that came to the port of clients.
-use Rattle.std.specs.Prelude.{◌≡◌, ◌⊎◌, ℕ, zero, suc, ◌+◌, ◌-◌, ◌<◌, ◌≤◌, Bool, true, false, nat_eq, not, ◌&&◌, ◌||◌, List, [], ◌∷◌, ◌++◌, length, slice_get, Option, Some, None, refl}
-use Rattle.std.specs.List.{list_any, cons_option}
-use Rattle.std.proofs.Common.{sym, ◌∙◌, ap, subst, inl, inr, arith}
-use Rattle.std.proofs.lemmas.List.Folds.{list_any-append}
-use Rattle.std.proofs.lemmas.List.Sums.{fold-append}
-use Rattle.mx_base.specs.declared.names.LinkId.{LinkId}
-use Rattle.mx_base.specs.declared.names.Port.{Port}
-use Rattle.mx_base.specs.declared.names.Port.TheVariants.{Traffic, Admin}
-use Rattle.mx_wire.specs.Log.{Log, link_of, is_link, open_step, is_open}
-use Rattle.mx_wire.specs.Moments.{AllLawful, lawful-each}
-use Rattle.mx_wire.specs.Tells.{IsNew, IsOpen, Fits}
-use Rattle.mx_wire.specs.Growth.{bool_cases, same_number, step-same, step-other}
-use Rattle.mx_wire.specs.declared.entry.Entry.{Entry}
-use Rattle.mx_wire.specs.declared.entry.Entry.TheVariants.{Accepted, Opened, Closed}
-use Rattle.client_session.specs.Arrivals.{Arrival, arrivals_behind, arrival_in, arrival_of, is_traffic, without, connected_step, connected}
-use Rattle.promises.proofs.InWork.{some-same}
-use Rattle.promises.proofs.Causes.{came_as, came-names, named-none, same-link, or-cases, or-inl, or-inr}
-use Rattle.router_world.proofs.Calm.{any-still}
-use Rattle.router_world.proofs.LinkLists.{is_among, AreDistinct, among-end, or-right, distinct-end, without-apart, length-without, among-without, distinct-without}
 
 abbrev pub traffic_as : LinkId → Entry → Bool
 traffic_as link (Accepted Traffic other salt) = nat_eq link.0 other.0
@@ -30,17 +91,9 @@ pub record Counts (log : Log) : Type 0 where
 pub connected-more : (log : Log) (e : Entry) → connected (log ++ e ∷ []) ≡ connected_step (connected log) e
 connected-more log e = fold-append connected_step [] log (e ∷ [])
 
-and-false : (b : Bool) → (b && false) ≡ false
-and-false true = refl
-and-false false = refl
-
-and-true : (b : Bool) → (b && true) ≡ b
+pub and-true : (b : Bool) → (b && true) ≡ b
 and-true true = refl
 and-true false = refl
-
-or-none : (b : Bool) → (b || false) ≡ b
-or-none true = refl
-or-none false = refl
 
 any-last : (p : Entry → Bool) (log : Log) (e : Entry) → list_any p (log ++ e ∷ []) ≡ (list_any p log || p e)
 any-last p log e = list_any-append p log (e ∷ []) ∙ ap (λ b. list_any p log || b) (or-none (p e))
@@ -55,7 +108,7 @@ counts-plain log e stays none opens counts = record {
   among = λ link. ap (is_among link) (connected-more log e ∙ stays (connected log)) ∙ counts.among link ∙ sym (opens link) ∙ ap (λ b. b && is_open link (log ++ e ∷ [])) (sym (any-still (traffic_as link) log e (none link)));
 }
 
-open-kept : (link : LinkId) (log : Log) (e : Entry) → ((was : Bool) → open_step was e ≡ was) → is_open link (log ++ e ∷ []) ≡ is_open link log
+pub open-kept : (link : LinkId) (log : Log) (e : Entry) → ((was : Bool) → open_step was e ≡ was) → is_open link (log ++ e ∷ []) ≡ is_open link log
 open-kept link log e stays = by (bool_cases (is_link link (link_of e))) where
   by : (is_link link (link_of e) ≡ true) ⊎ (is_link link (link_of e) ≡ false) → is_open link (log ++ e ∷ []) ≡ is_open link log
   by (inl here) = step-same open_step false link log e here ∙ stays (is_open link log)
@@ -72,10 +125,7 @@ traffic-came link (e ∷ log) is = by e (or-cases (traffic_as link e) (list_any 
   by _ (inr there) later = later there
 
 new-untrafficked : (link : LinkId) (log : Log) → IsNew link log → list_any (traffic_as link) log ≡ false
-new-untrafficked link log new = by (bool_cases (list_any (traffic_as link) log)) where
-  by : (list_any (traffic_as link) log ≡ true) ⊎ (list_any (traffic_as link) log ≡ false) → list_any (traffic_as link) log ≡ false
-  by (inl is) = absurd (named-none link (came_as link) log (came-names link) new (traffic-came link log is))
-  by (inr none) = none
+new-untrafficked link log new = false_from_ne_true (list_any (traffic_as link) log) (λ is. named-none link (came_as link) log (came-names link) new (traffic-came link log is))
 
 counts-opened : (log : Log) (e : Entry) (new : LinkId) → link_of e ≡ Some new → IsNew new log → ((links : List LinkId) → connected_step links e ≡ links) → ((link : LinkId) → traffic_as link e ≡ false) → Counts log → Counts (log ++ e ∷ [])
 counts-opened log e new names fresh stays none counts = counts-plain log e stays none opens counts where
@@ -87,22 +137,20 @@ counts-opened log e new names fresh stays none counts = counts-plain log e stays
     by false at = ap (λ b. list_any (traffic_as link) log && b) (step-other open_step false link log e (ap (is_link link) names ∙ at))
 
 counts-came : (log : Log) (link : LinkId) (salt : List ℕ) → IsNew link log → Counts log → Counts (log ++ Accepted Traffic link salt ∷ [])
-counts-came log link salt fresh counts = record {
-  distinct = subst AreDistinct (sym (connected-more log e)) (distinct-end (connected log) link unknown counts.distinct);
-  among = λ other. ap (is_among other) (connected-more log e) ∙ among-end other link (connected log) ∙ by other (nat_eq other.0 link.0) refl;
-} where
-  e : Entry
-  e = Accepted Traffic link salt
+counts-came log link salt fresh counts = (let unknown : is_among link (connected log) ≡ false = counts.among link ∙ ap (λ b. b && is_open link log) (new-untrafficked link log fresh) in
+    record {
+      distinct = subst AreDistinct (sym (connected-more log e)) (distinct-end (connected log) link unknown counts.distinct);
+      among = λ other. ap (is_among other) (connected-more log e) ∙ among-end other link (connected log) ∙ by other (nat_eq other.0 link.0) refl;
+    }) where
+      e : Entry
+      e = Accepted Traffic link salt
 
-  unknown : is_among link (connected log) ≡ false
-  unknown = counts.among link ∙ ap (λ b. b && is_open link log) (new-untrafficked link log fresh)
-
-  by : (other : LinkId) (b : Bool) → nat_eq other.0 link.0 ≡ b → (is_among other (connected log) || nat_eq other.0 link.0) ≡ (list_any (traffic_as other) (log ++ e ∷ []) && is_open other (log ++ e ∷ []))
-  by other true same = ap (λ b. is_among other (connected log) || b) same ∙ or-right (is_among other (connected log))
-      ∙ sym (ap (λ b. b && is_open other (log ++ e ∷ [])) (any-last (traffic_as other) log e ∙ ap (λ b. list_any (traffic_as other) log || b) same ∙ or-right (list_any (traffic_as other) log)) ∙ step-same open_step false other log e same)
-  by other false apart = ap (λ b. is_among other (connected log) || b) apart ∙ or-none (is_among other (connected log)) ∙ counts.among other
-      ∙ sym (ap (λ b. b && is_open other (log ++ e ∷ [])) (any-last (traffic_as other) log e ∙ ap (λ b. list_any (traffic_as other) log || b) apart ∙ or-none (list_any (traffic_as other) log))
-      ∙ ap (λ b. list_any (traffic_as other) log && b) (step-other open_step false other log e apart))
+      by : (other : LinkId) (b : Bool) → nat_eq other.0 link.0 ≡ b → (is_among other (connected log) || nat_eq other.0 link.0) ≡ (list_any (traffic_as other) (log ++ e ∷ []) && is_open other (log ++ e ∷ []))
+      by other true same = ap (λ b. is_among other (connected log) || b) same ∙ or_right (is_among other (connected log)) true refl
+          ∙ sym (ap (λ b. b && is_open other (log ++ e ∷ [])) (any-last (traffic_as other) log e ∙ ap (λ b. list_any (traffic_as other) log || b) same ∙ or_right (list_any (traffic_as other) log) true refl) ∙ step-same open_step false other log e same)
+      by other false apart = ap (λ b. is_among other (connected log) || b) apart ∙ or-none (is_among other (connected log)) ∙ counts.among other
+          ∙ sym (ap (λ b. b && is_open other (log ++ e ∷ [])) (any-last (traffic_as other) log e ∙ ap (λ b. list_any (traffic_as other) log || b) apart ∙ or-none (list_any (traffic_as other) log))
+          ∙ ap (λ b. list_any (traffic_as other) log && b) (step-other open_step false other log e apart))
 
 counts-closed : (log : Log) (link : LinkId) → Counts log → Counts (log ++ Closed link ∷ [])
 counts-closed log link counts = record {
@@ -114,8 +162,8 @@ counts-closed log link counts = record {
   e = Closed link
 
   by : (other : LinkId) (b : Bool) → nat_eq other.0 link.0 ≡ b → ((list_any (traffic_as other) log && is_open other log) && not (nat_eq other.0 link.0)) ≡ (list_any (traffic_as other) log && is_open other (log ++ e ∷ []))
-  by other true same = ap (λ b. (list_any (traffic_as other) log && is_open other log) && not b) same ∙ and-false (list_any (traffic_as other) log && is_open other log)
-      ∙ sym (ap (λ b. list_any (traffic_as other) log && b) (step-same open_step false other log e same) ∙ and-false (list_any (traffic_as other) log))
+  by other true same = ap (λ b. (list_any (traffic_as other) log && is_open other log) && not b) same ∙ and_right (list_any (traffic_as other) log && is_open other log) false refl
+      ∙ sym (ap (λ b. list_any (traffic_as other) log && b) (step-same open_step false other log e same) ∙ and_right (list_any (traffic_as other) log) false refl)
   by other false apart = ap (λ b. (list_any (traffic_as other) log && is_open other log) && not b) apart ∙ and-true (list_any (traffic_as other) log && is_open other log)
       ∙ ap (λ b. list_any (traffic_as other) log && b) (sym (step-other open_step false other log e apart))
 

@@ -1,26 +1,17 @@
 -- The pieces that were written on a link, and the commands in them.
-use Rattle.std.specs.Prelude.{◌≡◌, ◌≢◌, ◌≤◌, ◌<◌, ℕ, zero, suc, ◌+◌, ◌-◌, ◌/◌, ◌%◌, Bool, true, false, not, nat_le, ◌||◌, cond, List, [], ◌∷◌, ◌++◌, length, drop, fold, Option, Some, None, refl}
-use Rattle.std.specs.List.{list_all, list_any, filter_map, cons_option}
-use Rattle.std.proofs.Common.{sym, ◌∙◌, ap, append-nil, arith, length-append}
-use Rattle.std.proofs.lemmas.Bool.{leb-false, and_parts, and_from, and_right, or_parts, or_from}
-use Rattle.std.proofs.lemmas.List.Folds.{list_all-append}
-use Rattle.std.proofs.lemmas.List.Elements.{filter_map-append}
-use Rattle.std.proofs.lemmas.Grind.{flat_map-append}
-use Rattle.mx_base.specs.declared.names.LinkId.{LinkId}
-use Rattle.mx_base.specs.declared.tag.Tag.{Tag}
-use Rattle.mx_base.specs.declared.tag.Tag.TheVariants.{For, Sync, Prep, Mirror, End, Own, Reply}
-use Rattle.mx_wire.specs.Log.{Log, link_of, is_link, of_link}
-use Rattle.mx_wire.specs.Tells.{Fits}
-use Rattle.mx_wire.specs.Moments.{AllLawful, lawful-each}
-use Rattle.mx_wire.specs.Growth.{same_number}
-use Rattle.mx_wire.specs.declared.entry.Entry.{Entry}
-use Rattle.mx_wire.specs.declared.entry.Entry.TheVariants.{Wrote}
-use Rattle.packet_frame.specs.Packets.{Framed, Found, Nothing, Whole, Faulty, first_message, spelling, longest}
-use Rattle.packet_frame.specs.Laws.{first_message-whole-more}
+use Rattle.router_world.proofs.Names.{◌≡◌, ◌≤◌, ◌<◌, ℕ, zero, suc, ◌+◌, ◌-◌, ◌/◌, ◌%◌, Bool, true, false, not, ◌||◌, cond, List, [], ◌∷◌, ◌++◌, length, drop}
+use Rattle.router_world.proofs.Names.{fold, Option, Some, None, refl, list_all, list_any, filter_map, cons_option, sym, ◌∙◌, ap, append-nil, arith}
+use Rattle.router_world.proofs.Names.{length-append, and_parts, and_from, or_parts, list_all-append, filter_map-append, flat_map-append, LinkId, Tag, For, Own}
+use Rattle.router_world.proofs.Names.{Reply, Log, link_of, is_link, of_link, Fits, AllLawful, lawful-each, same_number, Entry, Wrote, Framed, Found, longest}
+use Rattle.router_world.proofs.Names.{first_message-whole-more, is_empty, is_loss, until_loss, Command, piece, pieces_of, most_command, whole_by, with_piece}
+use Rattle.router_world.proofs.Names.{commands_in, behind, is_command, place_in, piece_bytes, bytes_in, is_of}
+use Rattle.std.specs.Prelude.{nat_le}
+use Rattle.std.proofs.lemmas.Bool.{leb-false, or_from}
+use Rattle.mx_base.specs.declared.tag.Tag.TheVariants.{Sync, Prep, Mirror, End}
+use Rattle.packet_frame.specs.Packets.{Nothing, Whole, Faulty, first_message, spelling}
 use Rattle.packet_frame.specs.RoundTrip.{first_message-again}
-use Rattle.exchange.specs.Logins.{is_empty, is_loss, until_loss, sound_of}
-use Rattle.exchange.specs.Commands.{Command, piece, pieces_of, most_command, same_tag, whole_by, is_whole, joins, with_piece, commands_in, behind, is_command, place_in}
-use Rattle.router_world.specs.Rows.{piece_bytes, bytes_in, is_of}
+use Rattle.exchange.specs.Logins.{sound_of}
+use Rattle.exchange.specs.Commands.{same_tag, joins}
 
 -- a piece has a byte
 abbrev pub has_bytes : Command → Bool
@@ -38,20 +29,16 @@ pub empty-not : (bytes : List ℕ) → 0 < length bytes → is_empty bytes ≡ f
 empty-not [] some = absurd (omega arith)
 empty-not (b ∷ bytes) some = refl
 
-pub not-empty : (bytes : List ℕ) → bytes ≢ [] → 0 < length bytes
-not-empty [] some = absurd (some refl)
-not-empty (b ∷ bytes) some = omega arith
-
 -- No piece is empty, since no write of none is told.
 piece-some : (log : Log) (e : Entry) → Fits log e → list_all has_bytes (filter_map piece (e ∷ [])) ≡ true
 piece-some log (Wrote link tag bytes) fits = and_from (not (is_empty bytes)) true (bytes-some bytes fits.some) refl
 piece-some log _ fits = refl
 
 told-some : (log : Log) → AllLawful Fits log → list_all has_bytes (filter_map piece log) ≡ true
-told-some log told = lawful-each Fits (λ l. list_all has_bytes (filter_map piece l) ≡ true) log more refl told where
-  more : (l : Log) (e : Entry) → Fits l e → list_all has_bytes (filter_map piece l) ≡ true → list_all has_bytes (filter_map piece (l ++ e ∷ [])) ≡ true
-  more l e fits was = ap (list_all has_bytes) (filter_map-append piece l (e ∷ [])) ∙ list_all-append has_bytes (filter_map piece l) (filter_map piece (e ∷ []))
-      ∙ and_from (list_all has_bytes (filter_map piece l)) (list_all has_bytes (filter_map piece (e ∷ []))) was (piece-some l e fits)
+told-some log told = (let more : (l : Log) (e : Entry) → Fits l e → list_all has_bytes (filter_map piece l) ≡ true → list_all has_bytes (filter_map piece (l ++ e ∷ [])) ≡ true =
+    λ l e fits was. ap (list_all has_bytes) (filter_map-append piece l (e ∷ [])) ∙ list_all-append has_bytes (filter_map piece l) (filter_map piece (e ∷ []))
+    ∙ and_from (list_all has_bytes (filter_map piece l)) (list_all has_bytes (filter_map piece (e ∷ []))) was (piece-some l e fits) in
+    lawful-each Fits (λ l. list_all has_bytes (filter_map piece l) ≡ true) log more refl told)
 
 others-some : (o : Option Command) (pieces : List Command) → list_all has_bytes (cons_option o pieces) ≡ true → list_all has_bytes pieces ≡ true
 others-some None pieces all = all
@@ -134,16 +121,6 @@ part-spelt payload front back is some short = by (first_message most_command 0 f
       let none : length (rest ++ back) ≡ 0 = ap length empty in
       omega arith)
 
--- A piece behind whole commands begins one.
-apart : (c next : Command) → is_whole c ≡ true → joins c next ≡ false
-apart c next is = and_right (same_tag c.tag next.tag) (not (is_whole c)) (ap not is)
-
-pub with-piece-behind : (others last : List Command) (next : Command) → list_all is_whole others ≡ true → with_piece (others ++ last) next ≡ others ++ with_piece last next
-with-piece-behind [] last next all = refl
-with-piece-behind (c ∷ []) [] next all = ap (λ b. cond b (record c { bytes = c.bytes ++ next.bytes } ∷ []) (c ∷ next ∷ [])) (apart c next (and_parts (is_whole c) true all).0)
-with-piece-behind (c ∷ []) (d ∷ last) next all = refl
-with-piece-behind (c ∷ d ∷ others) last next all = ap (λ l. c ∷ l) (with-piece-behind (d ∷ others) last next (and_parts (is_whole c) (list_all is_whole (d ∷ others)) all).1)
-
 -- A piece for the same goes on with a command that isn't whole.
 same-tag : (tag : Tag) → same_tag tag tag ≡ true
 same-tag (For client ordinal) = and_from _ _ (same_number client.0) (same_number ordinal)
@@ -192,10 +169,3 @@ place-last n i from (d ∷ others) c none is = by (is_command n i d.tag) none (p
       → cond b (Some from) (place_in n i (suc from) (others ++ c ∷ [])) ≡ Some (from + suc (length others))
   by true other later = absurd (let no : true ≡ false = other in cc)
   by false other later = (let same : suc from + length others ≡ from + suc (length others) = omega arith in later other is ∙ ap Some same)
-
-pub place-none : (n i from : ℕ) (commands : List Command) → list_any (is_of n i) commands ≡ false → place_in n i from commands ≡ None
-place-none n i from [] none = refl
-place-none n i from (c ∷ commands) none = by (is_command n i c.tag) none (place-none n i (suc from) commands) where
-  by : (b : Bool) → (b || list_any (is_of n i) commands) ≡ false → (list_any (is_of n i) commands ≡ false → place_in n i (suc from) commands ≡ None) → cond b (Some from) (place_in n i (suc from) commands) ≡ None
-  by true other later = absurd (let no : true ≡ false = other in cc)
-  by false other later = later other

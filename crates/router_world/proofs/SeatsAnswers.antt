@@ -1,20 +1,29 @@
 -- The answers of a client, up to the first that isn't there.
-use Rattle.std.specs.Prelude.{◌≡◌, ◌≢◌, ◌≤◌, ◌<◌, ℕ, suc, ◌+◌, Bool, true, false, is_some, cond, List, [], ◌∷◌, ◌++◌, length, Option, Some, None, Result, Ok, Err, refl}
-use Rattle.std.proofs.Common.{sym, ◌∙◌, ap, subst, append-nil, append_assoc, arith, length-append}
-use Rattle.packet_frame.specs.Packets.{Framed, next_id}
-use Rattle.command_parse.specs.Meaning.{Meaning, parsed}
-use Rattle.command_parse.specs.Meaning.Meaning.{Query, InitDb, FieldList, Ping, Quit}
-use Rattle.command_parse.specs.declared.fault.CommandFault.{CommandFault}
-use Rattle.client_session.specs.Setups.{Setup}
-use Rattle.client_session.specs.Answers.{query_by, is_query, quit_by, is_quit}
-use Rattle.client_session.specs.Errors.{no_server, own_ok}
-use Rattle.client_session.specs.Refusals.{payload_of}
-use Rattle.client_talk.specs.declared.asked.Asked.{Asked}
-use Rattle.client_talk.specs.declared.asked.Asked.TheVariants as asked
+use Rattle.promises.proofs.Staying.{by-stays}
+use Rattle.promises.proofs.InWork.{query-answer, some-same}
+use Rattle.router_world.specs.Seats.{IsOf}
+use Rattle.router_world.proofs.Names.{◌≡◌, ◌≢◌, ◌≤◌, ◌<◌, ℕ, suc, ◌+◌, Bool, true, false, is_some, cond, List, [], ◌∷◌, ◌++◌, length, Option, Some, None}
+use Rattle.router_world.proofs.Names.{Result, Ok, Err, refl, sym, ◌∙◌, ap, subst, append-nil, append_assoc, arith, length-append, Framed, next_id, Meaning}
+use Rattle.router_world.proofs.Names.{parsed, InitDb, FieldList, Ping, Quit, CommandFault, Setup, query_by, is_query, is_quit, no_server, own_ok, payload_of}
+use Rattle.router_world.proofs.Names.{Asked, Answer, spelt, answer_by, answered, Work, answer_of, answers_by, first_open, ClientState, IsLoggingIn, Account}
+use Rattle.router_world.proofs.Names.{Talk, account, front, Phase, Session, Turned, still, left_to_say, due_said, over_said, IsTaken, SeatAt, Unanswered, Asks}
+use Rattle.router_world.proofs.Names.{drop, FrameFault, Split, split, with_front, message_size, Nothing, Whole, Faulty, first_message-empty}
+use Rattle.router_world.proofs.Names.{first_message-whole-more, first_message-goes, Response, fed, counted, Opening, Waits, Says, opening-says-more, account_of}
+use Rattle.router_world.proofs.Names.{heard_more, opening_of, account_in, if_known, commands, messages_of, front_in, fault_answer, ends_in, ends_by, if_user}
+use Rattle.router_world.proofs.Names.{work_said}
+use Rattle.command_parse.specs.Meaning.Meaning.{Query}
+use Rattle.client_session.specs.Answers.{quit_by, commands_in, client_messages}
 use Rattle.client_talk.specs.Asked.{query_if, asked_by}
-use Rattle.exchange.specs.Replies.{Answer, spelt}
-use Rattle.promises.specs.Due.{answer_by, answered, Work}
-use Rattle.router_world.specs.Replied.{answer_of, answers_by, first_open}
+use Rattle.client_talk.specs.declared.step.Turn.{Turn}
+use Rattle.client_talk.specs.Steps.{Step}
+use Rattle.packet_frame.specs.Packets.{first_message}
+use Rattle.packet_frame.specs.Laws.{split-nothing, split-whole, split-faulty, split-count}
+use Rattle.client_side.specs.Client.{past_message}
+use Rattle.client_side.specs.Login.{Fails}
+use Rattle.client_session.specs.Openings.{opening-shorter}
+use Rattle.client_talk.specs.declared.asked.Asked.TheVariants as asked
+use Rattle.client_talk.specs.declared.session.Phase.TheVariants as phase
+use Rattle.client_talk.specs.declared.step.Turn.TheVariants as turn
 
 -- Of one message.
 
@@ -42,13 +51,6 @@ means-asked has_server reply (Ok Ping) = refl
 means-asked has_server reply (Ok Quit) = (refl, refl)
 means-asked has_server reply (Ok _) = refl
 
-query-by : (reply : Option Answer) (meaning : Result Meaning CommandFault) → query_by meaning ≡ true → answer_by reply meaning ≡ reply
-query-by reply (Ok (Query text)) is = refl
-query-by reply (Ok (InitDb schema)) is = refl
-query-by reply (Ok (FieldList rest)) is = refl
-query-by reply (Err fault) is = absurd (let no : false ≡ true = is in cc)
-query-by reply (Ok _) is = absurd (let no : false ≡ true = is in cc)
-
 no-quit : (meaning : Result Meaning CommandFault) → query_by meaning ≡ true → quit_by meaning ≡ false
 no-quit (Ok (Query text)) is = refl
 no-quit (Ok (InitDb schema)) is = refl
@@ -65,20 +67,13 @@ pub record IsOpen (setup : Setup) (reply : Option Answer) : Type 0 where
   pub none : reply ≡ None
 
 pub query-open : (setup : Setup) (reply : Option Answer) (payload : List ℕ) → is_query payload ≡ true → answer_of setup reply payload ≡ None → IsOpen setup reply
-query-open setup reply payload query none = by (is_some setup.target) refl (sym (query-by (served (is_some setup.target) reply) (parsed payload) query) ∙ none) where
+query-open setup reply payload query none = by (is_some setup.target) refl (sym (query-answer (served (is_some setup.target) reply) (parsed payload) query) ∙ none) where
   by : (b : Bool) → is_some setup.target ≡ b → served b reply ≡ None → IsOpen setup reply
   by true at none = record { server = at; none = none }
   by false at none = absurd (let no : Some (no_server ∷ []) ≡ None = none in cc)
 
 pub query-served : (setup : Setup) (reply : Option Answer) (payload : List ℕ) → is_query payload ≡ true → is_some setup.target ≡ true → answer_of setup reply payload ≡ reply
-query-served setup reply payload query server = query-by (served (is_some setup.target) reply) (parsed payload) query ∙ ap (λ b. served b reply) server
-
--- an answer that is there stays where replies stay
-answer-by-stays : (old new : Option Answer) (meaning : Result Meaning CommandFault) (answer : Answer) → (old ≡ Some answer → new ≡ Some answer) → answer_by old meaning ≡ Some answer → answer_by new meaning ≡ Some answer
-answer-by-stays old new (Ok (Query text)) answer stays is = stays is
-answer-by-stays old new (Ok (InitDb schema)) answer stays is = stays is
-answer-by-stays old new (Ok (FieldList rest)) answer stays is = stays is
-answer-by-stays old new _ answer stays is = is
+query-served setup reply payload query server = query-answer (served (is_some setup.target) reply) (parsed payload) query ∙ ap (λ b. served b reply) server
 
 served-stays : (has_server : Bool) (old new : Option Answer) (answer : Answer) → (old ≡ Some answer → new ≡ Some answer) → served has_server old ≡ Some answer → served has_server new ≡ Some answer
 served-stays true old new answer stays is = stays is
@@ -86,7 +81,7 @@ served-stays false old new answer stays is = is
 
 answer-stays : (setup : Setup) (old new : Option Answer) (payload : List ℕ) (answer : Answer) → (old ≡ Some answer → new ≡ Some answer) → answer_of setup old payload ≡ Some answer → answer_of setup new payload ≡ Some answer
 answer-stays setup old new payload answer stays is =
-    answer-by-stays (served (is_some setup.target) old) (served (is_some setup.target) new) (parsed payload) answer (served-stays (is_some setup.target) old new answer stays) is
+    by-stays (served (is_some setup.target) old) (served (is_some setup.target) new) (parsed payload) answer (served-stays (is_some setup.target) old new answer stays) is
 
 -- and one that isn't there comes only of a reply to a query
 answer-by-none : (old new : Option Answer) (meaning : Result Meaning CommandFault) → (query_by meaning ≡ true → new ≡ None) → answer_by old meaning ≡ None → answer_by new meaning ≡ None
@@ -101,15 +96,12 @@ served-none false old new none is = is
 
 answer-none : (setup : Setup) (old new : Option Answer) (payload : List ℕ) → (is_query payload ≡ true → new ≡ None) → answer_of setup old payload ≡ None → answer_of setup new payload ≡ None
 answer-none setup old new payload stays is = answer-by-none (served (is_some setup.target) old) (served (is_some setup.target) new) (parsed payload)
-    (λ query. served-none (is_some setup.target) old new (stays query) (sym (query-by (served (is_some setup.target) old) (parsed payload) query) ∙ is)) is
+    (λ query. served-none (is_some setup.target) old new (stays query) (sym (query-answer (served (is_some setup.target) old) (parsed payload) query) ∙ is)) is
 
 -- The first message without an answer.
 
 abbrev pub at_place : (ordinal : ℕ) → Framed → Work
 at_place ordinal message = record { ordinal = ordinal; message = message }
-
-some-same : {A : Type 0} (x y : A) → Some x ≡ Some y → x ≡ y
-some-same x y same = cc
 
 -- its place isn't before that of the first
 pub open-from : (setup : Setup) (reply : ℕ → Option Answer) (i : ℕ) (messages : List Framed) (work : Work) → first_open setup reply i messages ≡ Some work → i ≤ work.ordinal
@@ -159,21 +151,20 @@ done-none setup reply = record { joins = λ later last. refl; goes = λ later. r
 -- and one more
 pub done-one : (setup : Setup) (reply : ℕ → Option Answer) (past : List Framed) (said : List ℕ) (message : Framed) (answer : Answer) → AreDone setup reply past said → answer_of setup (reply (suc (length past))) message.payload ≡ Some answer
     → AreDone setup reply (past ++ message ∷ []) (said ++ spelt (next_id message.last) answer)
-done-one setup reply past said message answer done is = record {
-  joins = λ later last.
-      ap (λ ms. answers_by setup reply 1 ms last) (append_assoc past (message ∷ []) later)
-      ∙ done.joins (message ∷ later) last
-      ∙ ap (λ o. said ++ answered (next_id message.last) o (answers_by setup reply (suc (suc (length past))) later last)) is
-      ∙ sym (append_assoc said (spelt (next_id message.last) answer) (answers_by setup reply (suc (suc (length past))) later last))
-      ∙ ap (λ k. (said ++ spelt (next_id message.last) answer) ++ answers_by setup reply (suc k) later last) (sym size);
-  goes = λ later.
-      ap (first_open setup reply 1) (append_assoc past (message ∷ []) later)
-      ∙ done.goes (message ∷ later)
-      ∙ ap (λ o. cond (is_some o) (first_open setup reply (suc (suc (length past))) later) (Some (at_place (suc (length past)) message))) is
-      ∙ ap (λ k. first_open setup reply (suc k) later) (sym size);
-} where
-  size : length (past ++ message ∷ []) ≡ suc (length past)
-  size = omega (arith, length-append past (message ∷ []))
+done-one setup reply past said message answer done is = (let size : length (past ++ message ∷ []) ≡ suc (length past) = omega (arith, length-append past (message ∷ [])) in
+    record {
+      joins = λ later last.
+          ap (λ ms. answers_by setup reply 1 ms last) (append_assoc past (message ∷ []) later)
+          ∙ done.joins (message ∷ later) last
+          ∙ ap (λ o. said ++ answered (next_id message.last) o (answers_by setup reply (suc (suc (length past))) later last)) is
+          ∙ sym (append_assoc said (spelt (next_id message.last) answer) (answers_by setup reply (suc (suc (length past))) later last))
+          ∙ ap (λ k. (said ++ spelt (next_id message.last) answer) ++ answers_by setup reply (suc k) later last) (sym size);
+      goes = λ later.
+          ap (first_open setup reply 1) (append_assoc past (message ∷ []) later)
+          ∙ done.goes (message ∷ later)
+          ∙ ap (λ o. cond (is_some o) (first_open setup reply (suc (suc (length past))) later) (Some (at_place (suc (length past)) message))) is
+          ∙ ap (λ k. first_open setup reply (suc k) later) (sym size);
+    })
 
 -- where none is without an answer
 joins-all : (setup : Setup) (reply : ℕ → Option Answer) (i : ℕ) (past later : List Framed) (last : List ℕ) → first_open setup reply i past ≡ None
@@ -204,12 +195,11 @@ goes-all setup reply i (m ∷ past) later all = by (answer_of setup (reply i) m.
   by (Some answer) all others = others all ∙ ap (λ k. first_open setup reply k later) same
 
 pub done-all : (setup : Setup) (reply : ℕ → Option Answer) (past : List Framed) → first_open setup reply 1 past ≡ None → AreDone setup reply past (answers_by setup reply 1 past [])
-done-all setup reply past all = record {
-  joins = λ later last. joins-all setup reply 1 past later last all ∙ ap (λ k. answers_by setup reply 1 past [] ++ answers_by setup reply k later last) same;
-  goes = λ later. goes-all setup reply 1 past later all ∙ ap (λ k. first_open setup reply k later) same;
-} where
-  same : 1 + length past ≡ suc (length past)
-  same = omega arith
+done-all setup reply past all = (let same : 1 + length past ≡ suc (length past) = omega arith in
+    record {
+      joins = λ later last. joins-all setup reply 1 past later last all ∙ ap (λ k. answers_by setup reply 1 past [] ++ answers_by setup reply k later last) same;
+      goes = λ later. goes-all setup reply 1 past later all ∙ ap (λ k. first_open setup reply k later) same;
+    })
 
 -- the first one without an answer is among those at whose places it stands
 pub open-within : (setup : Setup) (reply : ℕ → Option Answer) (i : ℕ) (past later : List Framed) (work : Work) → first_open setup reply i (past ++ later) ≡ Some work → work.ordinal < i + length past → first_open setup reply i past ≡ Some work
@@ -289,3 +279,225 @@ agree setup reply other i (m ∷ messages) last stays none = by (answer_of setup
         goes = ap (λ o. cond (is_some o) (first_open setup other (suc i) messages) (Some (at_place i m))) now ∙ done.goes
             ∙ ap (λ o. cond (is_some o) (first_open setup reply (suc i) messages) (Some (at_place i m))) (sym at);
       })
+
+-- How a client's session stands between the steps that it takes.
+
+-- it isn't logged in
+pub record IsComing (talk : Talk) (bytes : List ℕ) (client : ClientState) : Type 0 where
+  pub login : IsLoggingIn client.stage client talk.setup.version talk.read bytes
+  pub arrived : client.arrived ≡ 0
+
+-- all that was taken of it is answered
+pub record IsGoing (talk : Talk) (reply : ℕ → Option Answer) (user : Account) (bytes : List ℕ) (client : ClientState) : Type 0 where
+  pub taken : IsTaken talk client
+  pub account : account talk ≡ Some user
+  pub said : List ℕ
+  pub done : AreDone talk.setup reply taken.past said
+  pub put : bytes ≡ front talk ++ said
+
+abbrev pub MayGo : Phase → Talk → (ℕ → Option Answer) → (bytes : List ℕ) → ClientState → Type 0
+MayGo phase.LoggingIn talk reply bytes client = IsComing talk bytes client
+MayGo (phase.Idle user) talk reply bytes client = IsGoing talk reply user bytes client
+MayGo (phase.Working user) talk reply bytes client = ⊥
+MayGo phase.Ending talk reply bytes client = ⊥
+
+pub record GoesAt (talk : Talk) (reply : ℕ → Option Answer) (written : List ℕ) (session : Session) : Type 0 where
+  pub mine : IsOf session.client.number.0 talk.number session.client.salt talk.salt session.client.framer.limit talk.setup.limit
+  pub few : length talk.read < 18446744073709551616
+  pub later : (i : ℕ) → suc session.client.arrived ≤ i → reply i ≡ None
+  pub at : MayGo session.phase talk reply (written ++ session.client.outgoing) session.client
+
+-- How it stands behind the last step: nothing comes yet of a query that came up, and it is the message in work.
+pub record SeatTurned (talk : Talk) (reply : ℕ → Option Answer) (written : List ℕ) (old : Session) (turned : Turned) : Type 0 where
+  pub seat : SeatAt talk reply written turned.session
+  pub unanswered : Unanswered reply turned.session
+  pub asks : Asks turned.query talk reply old turned.session
+
+abbrev pub LeadsTo : Turn → (left : ℕ) → Talk → (ℕ → Option Answer) → (written : List ℕ) → Session → Type 0
+LeadsTo turn.More left talk reply written new = GoesAt talk reply written new × (left_to_say new < left)
+LeadsTo (turn.Work query) left talk reply written new = (old : Session) → SeatTurned talk reply written old (record { session = new; query = Some query })
+LeadsTo turn.Rests left talk reply written new = (old : Session) → SeatTurned talk reply written old (still new)
+
+abbrev pub Leads : (left : ℕ) → Talk → (ℕ → Option Answer) → (written : List ℕ) → Step → Type 0
+Leads left talk reply written next = LeadsTo next.turn left talk reply written next.session
+
+-- A session that ends is asked for nothing.
+pub ends-so : (talk : Talk) (reply : ℕ → Option Answer) (written : List ℕ) (client : ClientState) → IsOf client.number.0 talk.number client.salt talk.salt client.framer.limit talk.setup.limit
+    → ((i : ℕ) → suc client.arrived ≤ i → reply i ≡ None) → over_said reply talk ≡ true → written ++ client.outgoing ≡ due_said reply talk
+    → (old : Session) → SeatTurned talk reply written old (still (record { client = client; phase = phase.Ending }))
+ends-so talk reply written client mine later over due old = record {
+  seat = record { mine = mine; due = due; at = over };
+  unanswered = λ i from. later i from;
+  asks = λ user working. absurd (let no : phase.Ending ≡ phase.Working user = working in cc);
+}
+
+-- What a client said, and what it is due by that.
+
+-- Of a client that isn't logged in, or can't be, nothing is due behind the answer to its login.
+
+abbrev pub due_behind : (ℕ → Option Answer) → Talk → (messages : Split) → List ℕ
+due_behind reply talk messages = answers_by talk.setup reply 1 messages.messages (fault_answer talk.setup.limit messages.fault)
+
+abbrev due_by : (ℕ → Option Answer) → Talk → Opening → List ℕ
+due_by reply talk begun = front_in talk begun ++ due_behind reply talk (client_messages talk.setup.limit (commands_in talk begun))
+
+pub no-messages : (limit : ℕ) → client_messages limit [] ≡ record { messages = []; rest = []; fault = None }
+no-messages limit = split-nothing limit 0 [] (first_message-empty limit 0)
+
+pub due-alone : (reply : ℕ → Option Answer) (talk : Talk) (begun : Opening) → opening_of talk ≡ begun → commands_in talk begun ≡ [] → due_said reply talk ≡ front_in talk begun
+due-alone reply talk begun at none =
+    ap (due_by reply talk) at
+    ∙ ap (λ bytes. front_in talk begun ++ due_behind reply talk (client_messages talk.setup.limit bytes)) none
+    ∙ ap (λ messages. front_in talk begun ++ due_behind reply talk messages) (no-messages talk.setup.limit)
+    ∙ append-nil (front_in talk begun)
+
+pub work-alone : (reply : ℕ → Option Answer) (talk : Talk) (begun : Opening) → opening_of talk ≡ begun → commands_in talk begun ≡ [] → work_said reply talk ≡ None
+work-alone reply talk begun at none =
+    ap (λ (o : Opening). first_open talk.setup reply 1 (client_messages talk.setup.limit (commands_in talk o)).messages) at
+    ∙ ap (λ bytes. first_open talk.setup reply 1 (client_messages talk.setup.limit bytes).messages) none
+    ∙ ap (λ (messages : Split). first_open talk.setup reply 1 messages.messages) (no-messages talk.setup.limit)
+
+-- A client that is logged in.
+
+pub record IsIn (talk : Talk) (user : Account) : Type 0 where
+  pub switched : Bool
+  pub response : Response
+  pub id : ℕ
+  pub rest : List ℕ
+  pub says : opening_of talk ≡ Says switched response id rest
+  pub known : account_of talk.setup.users talk.salt response ≡ Some user
+
+pub is-in : (talk : Talk) (user : Account) → account talk ≡ Some user → IsIn talk user
+is-in talk user is = by (opening_of talk) refl is where
+  by : (o : Opening) → opening_of talk ≡ o → account_in talk o ≡ Some user → IsIn talk user
+  by (Waits switched) at is = absurd (let no : None ≡ Some user = is in cc)
+  by (Says switched response id rest) at is = record { switched = switched; response = response; id = id; rest = rest; says = at; known = is }
+  by (Fails switched fault id) at is = absurd (let no : None ≡ Some user = is in cc)
+
+says-more : (talk : Talk) (more : List ℕ) (user : Account) (who : IsIn talk user) → opening_of (heard_more talk more) ≡ Says who.switched who.response who.id (who.rest ++ more)
+says-more talk more user who = opening-says-more talk.setup.limit talk.read more who.switched who.response who.id who.rest who.says
+
+in-commands : (talk : Talk) (user : Account) (who : IsIn talk user) → commands talk ≡ who.rest
+in-commands talk user who = ap (commands_in talk) who.says ∙ ap (λ o. if_known o who.rest) who.known
+
+pub front-more : (talk : Talk) (more : List ℕ) (user : Account) → account talk ≡ Some user → front (heard_more talk more) ≡ front talk
+front-more talk more user is = (let who = is-in talk user is in ap (front_in (heard_more talk more)) (says-more talk more user who) ∙ sym (ap (front_in talk) who.says))
+
+pub commands-more : (talk : Talk) (more : List ℕ) (user : Account) → account talk ≡ Some user → commands (heard_more talk more) ≡ commands talk ++ more
+commands-more talk more user is = (let who = is-in talk user is in
+    ap (commands_in (heard_more talk more)) (says-more talk more user who) ∙ ap (λ o. if_known o (who.rest ++ more)) who.known ∙ sym (ap (λ bytes. bytes ++ more) (in-commands talk user who)))
+
+pub commands-shorter : (talk : Talk) (user : Account) → account talk ≡ Some user → length (commands talk) ≤ length talk.read
+commands-shorter talk user is = (let who = is-in talk user is in
+    rw (in-commands talk user who) (opening-shorter talk.setup.limit talk.read who.switched who.response who.id who.rest who.says))
+
+-- whether it is at its end
+pub over-in : (reply : ℕ → Option Answer) (talk : Talk) (user : Account) → account talk ≡ Some user → over_said reply talk ≡ ends_by (work_said reply talk) (is_some (messages_of talk).fault)
+over-in reply talk user is = (let who = is-in talk user is in
+    ap (λ (o : Opening). ends_in o (account talk) (ends_by (work_said reply talk) (is_some (messages_of talk).fault))) who.says
+    ∙ ap (λ o. if_user o (ends_by (work_said reply talk) (is_some (messages_of talk).fault))) is)
+
+-- The messages that were taken of it.
+
+pub taken-messages : (talk : Talk) (client : ClientState) (taken : IsTaken talk client) → messages_of talk ≡ with_front taken.past (split talk.setup.limit 0 client.framer.kept)
+taken-messages talk client taken =
+    ap (split talk.setup.limit 0) (sym (append-nil (commands talk))) ∙ taken.whatever [] ∙ ap (λ bytes. with_front taken.past (split talk.setup.limit 0 bytes)) (append-nil client.framer.kept)
+
+pub taken-nothing : (talk : Talk) (client : ClientState) (taken : IsTaken talk client) → first_message talk.setup.limit 0 client.framer.kept ≡ Nothing
+    → messages_of talk ≡ record { messages = taken.past ++ []; rest = client.framer.kept; fault = None }
+taken-nothing talk client taken at = taken-messages talk client taken ∙ ap (with_front taken.past) (split-nothing talk.setup.limit 0 client.framer.kept at)
+
+pub taken-whole : (talk : Talk) (client : ClientState) (message : Framed) (rest : List ℕ) (taken : IsTaken talk client) → first_message talk.setup.limit 0 client.framer.kept ≡ Whole message rest
+    → messages_of talk ≡ with_front taken.past (with_front (message ∷ []) (split talk.setup.limit 0 rest))
+taken-whole talk client message rest taken at = taken-messages talk client taken ∙ ap (with_front taken.past) (split-whole talk.setup.limit 0 client.framer.kept message rest at)
+
+pub taken-faulty : (talk : Talk) (client : ClientState) (fault : FrameFault) (taken : IsTaken talk client) → first_message talk.setup.limit 0 client.framer.kept ≡ Faulty fault
+    → messages_of talk ≡ record { messages = taken.past ++ []; rest = client.framer.kept; fault = Some fault }
+taken-faulty talk client fault taken at = taken-messages talk client taken ∙ ap (with_front taken.past) (split-faulty talk.setup.limit 0 client.framer.kept fault at)
+
+-- there are no more of them than bytes
+pub taken-few : (talk : Talk) (client : ClientState) (message : Framed) (rest : List ℕ) (user : Account) (taken : IsTaken talk client) → account talk ≡ Some user → first_message talk.setup.limit 0 client.framer.kept ≡ Whole message rest
+    → suc (length taken.past) ≤ length talk.read
+taken-few talk client message rest user taken is at = (
+    let others = (split talk.setup.limit 0 rest).messages in
+    let all : length (messages_of talk).messages ≡ length taken.past + suc (length others) = ap (λ (s : Split). length s.messages) (taken-whole talk client message rest taken at) ∙ length-append taken.past (message ∷ others) in
+    let count : length (messages_of talk).messages ≤ length (commands talk) = split-count talk.setup.limit 0 (commands talk) in
+    let short : length (commands talk) ≤ length talk.read = commands-shorter talk user is in
+    omega arith)
+
+counted-one : (n : ℕ) → n < 18446744073709551615 → counted n ≡ n + 1
+counted-one n small = grind arith
+
+pub counted-suc : (n k : ℕ) → n ≡ k → suc k < 18446744073709551616 → counted n ≡ suc k
+counted-suc n k same few = (let more : counted n ≡ n + 1 = counted-one n (omega arith) in omega arith)
+
+-- more bytes are kept
+abbrev pub taken-fed : (talk : Talk) (client : ClientState) (bytes : List ℕ) (user : Account) → account talk ≡ Some user → IsTaken talk client → IsTaken (heard_more talk bytes) (fed client bytes)
+taken-fed talk client bytes user is taken = record {
+  stage = taken.stage;
+  framer = record { unfound = taken.framer.unfound; faultless = taken.framer.faultless };
+  past = taken.past;
+  arrived = taken.arrived;
+  whatever = λ more.
+      ap (λ said. split talk.setup.limit 0 (said ++ more)) (commands-more talk bytes user is)
+      ∙ ap (split talk.setup.limit 0) (append_assoc (commands talk) bytes more)
+      ∙ taken.whatever (bytes ++ more)
+      ∙ ap (λ kept. with_front taken.past (split talk.setup.limit 0 kept)) (sym (append_assoc client.framer.kept bytes more));
+}
+
+pub past-count : (past : List Framed) (message : Framed) → suc (length past) ≡ length (past ++ message ∷ [])
+past-count past message = omega (arith, length-append past (message ∷ []))
+
+-- one message more is taken
+abbrev pub client_past : Framed → (outgoing : List ℕ) → ClientState → ClientState
+client_past message outgoing client = record client { framer = past_message message client.framer; arrived = counted client.arrived; outgoing = outgoing }
+
+pub past-whatever : (talk : Talk) (client : ClientState) (message : Framed) (rest : List ℕ) → (taken : IsTaken talk client) → first_message talk.setup.limit 0 client.framer.kept ≡ Whole message rest
+    → (more : List ℕ) → split talk.setup.limit 0 (commands talk ++ more) ≡ with_front (taken.past ++ message ∷ []) (split talk.setup.limit 0 (drop (message_size client.framer.kept) client.framer.kept ++ more))
+past-whatever talk client message rest taken at more = (
+    let others = split talk.setup.limit 0 (rest ++ more) in
+    taken.whatever more
+    ∙ ap (with_front taken.past) (split-whole talk.setup.limit 0 (client.framer.kept ++ more) message (rest ++ more) (first_message-whole-more talk.setup.limit 0 client.framer.kept more message rest at))
+    ∙ ap (λ (messages : List Framed). record { messages = messages; rest = others.rest; fault = others.fault }) (sym (append_assoc taken.past (message ∷ []) others.messages))
+    ∙ ap (λ bytes. with_front (taken.past ++ message ∷ []) (split talk.setup.limit 0 (bytes ++ more))) (first_message-goes talk.setup.limit 0 client.framer.kept message rest at))
+
+abbrev pub taken-one : (talk : Talk) (client : ClientState) (message : Framed) (rest outgoing : List ℕ) → (taken : IsTaken talk client) → first_message talk.setup.limit 0 client.framer.kept ≡ Whole message rest
+    → suc (length taken.past) < 18446744073709551616 → IsTaken talk (client_past message outgoing client)
+taken-one talk client message rest outgoing taken at few = record {
+  stage = taken.stage;
+  framer = record { unfound = refl; faultless = taken.framer.faultless };
+  past = taken.past ++ message ∷ [];
+  arrived = counted-suc client.arrived (length taken.past) taken.arrived few ∙ past-count taken.past message;
+  whatever = past-whatever talk client message rest taken at;
+}
+
+-- What is due by them.
+
+pub record IsAllDue (reply : ℕ → Option Answer) (talk : Talk) (bytes : List ℕ) : Type 0 where
+  pub due : due_said reply talk ≡ bytes
+  pub none : work_said reply talk ≡ None
+
+-- where all are answered
+pub due-all : (reply : ℕ → Option Answer) (talk : Talk) (past : List Framed) (said rest : List ℕ) (fault : Option FrameFault) → AreDone talk.setup reply past said → messages_of talk ≡ record { messages = past ++ []; rest = rest; fault = fault }
+    → IsAllDue reply talk (front talk ++ (said ++ fault_answer talk.setup.limit fault))
+due-all reply talk past said rest fault done at = record {
+  due = ap (λ messages. front talk ++ due_behind reply talk messages) at ∙ ap (λ l. front talk ++ l) (done.joins [] (fault_answer talk.setup.limit fault));
+  none = ap (λ (messages : Split). first_open talk.setup reply 1 messages.messages) at ∙ done.goes [];
+}
+
+-- where the next one isn't
+pub record IsDueTo (reply : ℕ → Option Answer) (talk : Talk) (bytes : List ℕ) (work : Work) : Type 0 where
+  pub due : due_said reply talk ≡ bytes
+  pub first : work_said reply talk ≡ Some work
+
+pub due-open : (reply : ℕ → Option Answer) (talk : Talk) (past : List Framed) (said : List ℕ) (message : Framed) (others : Split) → AreDone talk.setup reply past said → messages_of talk ≡ with_front past (with_front (message ∷ []) others)
+    → answer_of talk.setup (reply (suc (length past))) message.payload ≡ None → IsDueTo reply talk (front talk ++ said) (at_place (suc (length past)) message)
+due-open reply talk past said message others done at none = (let last = fault_answer talk.setup.limit others.fault in record {
+  due = ap (λ messages. front talk ++ due_behind reply talk messages) at
+      ∙ ap (λ l. front talk ++ l) (done.joins (message ∷ others.messages) last
+      ∙ ap (λ o. said ++ answered (next_id message.last) o (answers_by talk.setup reply (suc (suc (length past))) others.messages last)) none
+      ∙ append-nil said);
+  first = ap (λ (messages : Split). first_open talk.setup reply 1 messages.messages) at
+      ∙ done.goes (message ∷ others.messages)
+      ∙ ap (λ o. cond (is_some o) (first_open talk.setup reply (suc (suc (length past))) others.messages) (Some (at_place (suc (length past)) message))) none;
+})
