@@ -1,4 +1,5 @@
 -- What comes of a client's command, and its session goes on.
+use Rattle.router_world.proofs.Names.{common_steps}
 use Rattle.router_world.proofs.Names.{◌+◌, lawful-more, ◌≡◌, ◌⊎◌, ◌<◌, ℕ, false, nat_eq, [], ◌∷◌, ◌++◌, length, Some, None, refl, sym, ◌∙◌, ap, subst, inl, inr}
 use Rattle.router_world.proofs.Names.{LinkId, Log, IsOpen, Fits, Entry, Account, Handed, Phase, Ask, Lent, Lends, Told, Turn, Service, turn_of, some-same, Seat}
 use Rattle.router_world.proofs.Names.{replied, Tables, with_lends, ◌≢◌, ◌≤◌, Bool, true, cond, List, Option, arith, ClientNo, read_of, written_of, same_number}
@@ -23,35 +24,17 @@ use Rattle.client_talk.specs.declared.session.Phase.TheVariants as phase
 
 -- A command in work is one alone.
 pub busy-same : (lends : Lends) (n i j : ℕ) → Busy lends n i → Busy lends n j → i ≡ j
-busy-same lends n i j (Waits ask is same unowned waits) (Waits other at that none waits2) = sym same ∙ ap (λ (a : Ask). a.ordinal) (some-same ask other (sym is ∙ at)) ∙ that
-busy-same lends n i j (Waits ask is same unowned waits) (Logs other at that link lent owns there stage) = sym same ∙ ap (λ (a : Ask). a.ordinal) (some-same ask other (sym is ∙ at)) ∙ that
-busy-same lends n i j (Waits ask is same unowned waits) (On unasked link lent command owns there stage has tag) = absurd (none-some (lends.asks n) unasked is)
-busy-same lends n i j (Logs ask is same link lent owns there stage) (Waits other at that none waits2) = sym same ∙ ap (λ (a : Ask). a.ordinal) (some-same ask other (sym is ∙ at)) ∙ that
-busy-same lends n i j (Logs ask is same link lent owns there stage) (Logs other at that link2 lent2 owns2 there2 stage2) = sym same ∙ ap (λ (a : Ask). a.ordinal) (some-same ask other (sym is ∙ at)) ∙ that
-busy-same lends n i j (Logs ask is same link lent owns there stage) (On unasked link2 lent2 command owns2 there2 stage2 has tag) = absurd (none-some (lends.asks n) unasked is)
-busy-same lends n i j (On unasked link lent command owns there stage has tag) (Waits other at that none waits2) = absurd (none-some (lends.asks n) unasked at)
-busy-same lends n i j (On unasked link lent command owns there stage has tag) (Logs other at that link2 lent2 owns2 there2 stage2) = absurd (none-some (lends.asks n) unasked at)
-busy-same lends n i j (On unasked link lent command owns there stage has tag) (On unasked2 link2 lent2 command2 owns2 there2 stage2 has2 tag2) = (let links : link ≡ link2 = some-same link link2 (sym owns ∙ owns2) in
-    let lents : lent ≡ lent2 = some-same lent lent2 (sym there ∙ ap (λ (l : LinkId). lends.links l.0) links ∙ there2) in
-    let commands : command ≡ command2 = some-same command command2 (sym has ∙ ap (λ (l : Lent). l.backend.command) lents ∙ has2) in
-    same-ordinal n i j command.tag tag (ap (λ (c : Handed). c.tag) commands ∙ tag2))
+busy-same lends n i j h4 h5 = grind (arith, common_steps, some-same, none-some, same-ordinal)
 
 pub free-busy : (lends : Lends) (n i : ℕ) → Free lends n → Busy lends n i → ⊥
-free-busy lends n i free (Waits ask is same unowned waits) = none-some (lends.asks n) free.unasked is
-free-busy lends n i free (Logs ask is same link lent owns there stage) = none-some (lends.asks n) free.unasked is
-free-busy lends n i free (On unasked link lent command owns there stage has tag) = none-some lent.backend.command (free.idle link lent owns there).1 has
+free-busy lends n i free h4 = grind (arith, common_steps, none-some)
 
 pub gone-busy : (lends : Lends) (n i : ℕ) → Gone lends n → Busy lends n i → ⊥
-gone-busy lends n i gone (Waits ask is same unowned waits) = none-some (lends.asks n) gone.unasked is
-gone-busy lends n i gone (Logs ask is same link lent owns there stage) = none-some (lends.asks n) gone.unasked is
-gone-busy lends n i gone (On unasked link lent command owns there stage has tag) = none-some (lends.owned n) gone.unowned owns
+gone-busy lends n i gone h4 = grind (arith, common_steps, none-some)
 
 -- so its client works
 pub working-busy : (at : Phase) (lends : Lends) (n arrived i : ℕ) → Serves at lends n arrived → Busy lends n i → (user : Account) × (at ≡ phase.Working user) × (arrived ≡ i)
-working-busy phase.LoggingIn lends n arrived i serves busy = absurd (gone-busy lends n i serves busy)
-working-busy (phase.Idle user) lends n arrived i serves busy = absurd (free-busy lends n i serves busy)
-working-busy (phase.Working user) lends n arrived i serves busy = (user, refl, busy-same lends n arrived i serves busy)
-working-busy phase.Ending lends n arrived i serves busy = absurd (gone-busy lends n i serves busy)
+working-busy at lends n arrived i serves busy = grind (arith, common_steps, gone-busy, free-busy, busy-same)
 
 -- What an entry of a server makes of the tables.
 pub record FromServer (service : Service) (log : Log) (e : Entry) (n : ℕ) (tables : Tables) (news : Told) : Type 0 where
@@ -103,8 +86,7 @@ quiet-step service log e n tables news sound from busy free gone none = (let wor
 
 -- a client that is logged in stays so
 never-enters : (talk : Talk) (reply : ℕ → Option Answer) (written : List ℕ) (session : Session) (user : Account) → account talk ≡ Some user → SeatAt talk reply written session → session.phase ≡ phase.LoggingIn → ⊥
-never-enters talk reply written session user known seat is = (let enters = subst (λ (p : Phase). PhaseAt p talk reply (written ++ session.client.outgoing) session.client) is seat.at in
-    let none : None ≡ Some user = sym (ap (account_in talk) enters.waits) ∙ known in cc)
+never-enters talk reply written session user known seat is = grind (arith, common_steps)
 
 -- behind the answer all messages that were taken are answered
 all-answered : (talk : Talk) (reply other : ℕ → Option Answer) (user : Account) (session : Session) (working : IsWorking talk reply user session.client) (answer : Answer) → other session.client.arrived ≡ Some answer → ((i : ℕ) → i ≢ session.client.arrived → other i ≡ reply i)

@@ -1,4 +1,5 @@
 -- Tables with one other row.
+use Rattle.router_world.proofs.Names.{common_steps}
 use Rattle.router_world.proofs.Names.{arith, ◌≡◌, ◌≢◌, ℕ, Bool, true, false, nat_eq, cond, Option, Some, refl, ap, same_number, nat_eq-true, set, ◌⊎◌, [], ◌∷◌}
 use Rattle.router_world.proofs.Names.{None, sym, ◌∙◌, ClientNo, LinkId, Log, In, Phase, Lent, Lends, Service, subst, some-same, Ask, Turn, turn_of, List, inl}
 use Rattle.router_world.proofs.Names.{inr, Account, BackendState, is_begun, Command, Forms, LinkAt, Entering, Inside, Framed, next_id, Answered, Told, is_query}
@@ -15,10 +16,7 @@ set-other f key other value apart = ap (λ b. cond b value (f other)) apart
 
 -- what holds of this number, and of each other one
 pub one-or-other : (k n : ℕ) (P : ℕ → Type 0) → P n → (nat_eq k n ≡ false → P k) → P k
-one-or-other k n P same other = by (nat_eq k n) refl where
-  by : (b : Bool) → nat_eq k n ≡ b → P k
-  by true at = subst P (sym (nat_eq-true k n at)) same
-  by false at = other at
+one-or-other k n h2 same other = grind (arith, common_steps, nat_eq-true)
 
 pub link-or-other : (l link : LinkId) (P : LinkId → Type 0) → P link → (nat_eq l.0 link.0 ≡ false → P l) → P l
 link-or-other l link P same other = one-or-other l.0 link.0 (λ n. P (record { 0 = n })) same other
@@ -29,8 +27,7 @@ pub data Row {X : Type 0} (f : ℕ → Option X) (key : ℕ) (value : Option X) 
   There : nat_eq k key ≡ false → f k ≡ Some x → Row f key value k x
 
 pub row-of : {X : Type 0} (f : ℕ → Option X) (key : ℕ) (value : Option X) (k : ℕ) (x : X) → set f key value k ≡ Some x → Row f key value k x
-row-of f key value k x is = one-or-other k key (λ m. set f key value m ≡ Some x → Row f key value m x) (λ at. Here refl (sym (set-same f key value) ∙ at))
-    (λ apart at. There apart (sym (set-other f key k value apart) ∙ at)) is
+row-of f key value k x is = grind (arith, common_steps)
 
 pub apart-numbers : (a b : ℕ) → a ≢ b → nat_eq a b ≡ false
 apart-numbers a b apart = grind arith
@@ -50,10 +47,7 @@ pub gone-apart : (n k : ℕ) (lends other : Lends) → Apart n lends other → n
 gone-apart n k lends other apart differs gone = record { unasked = apart.asks k differs ∙ gone.unasked; unowned = apart.owned k differs ∙ gone.unowned }
 
 pub free-apart : (n k : ℕ) (lends other : Lends) → Apart n lends other → nat_eq k n ≡ false → Free lends k → Free other k
-free-apart n k lends other apart differs free = record {
-  unasked = apart.asks k differs ∙ free.unasked;
-  idle = λ link lent owns is. (let owned : lends.owned k ≡ Some link = sym (apart.owned k differs) ∙ owns in free.idle link lent owned (sym (apart.links k link differs owned) ∙ is));
-}
+free-apart n k lends other apart differs free = grind (arith, common_steps)
 
 pub busy-apart : (n k i : ℕ) (lends other : Lends) → Apart n lends other → nat_eq k n ≡ false → Busy lends k i → Busy other k i
 busy-apart n k i lends other apart differs (Waits ask is same unowned waits) = Waits ask (apart.asks k differs ∙ is) same (apart.owned k differs ∙ unowned) (apart.waiting k differs waits)
@@ -69,34 +63,15 @@ serves-apart phase.Ending n k i lends other apart differs serves = gone-apart n 
 -- what stands of a link stands of it among other links and with another owner, where the ask of its login and its owner are there
 pub row-among : (service : Service) (log : Log) (lends other : Lends) (link : LinkId) (lent : Lent) (owner : Option ClientNo) (stands : RowStands service log lends link lent) → (lent.backend.stage ≢ In → Enters other stands.turn)
     → Owned service log other link stands.turn.client (record lent { owner = owner }) → RowStands service log other link (record lent { owner = owner })
-row-among service log lends other link lent owner stands enters owned = record {
-  opened = stands.opened;
-  unlost = stands.unlost;
-  turn = stands.turn;
-  is_turn = stands.is_turn;
-  hostgroup = stands.hostgroup;
-  user = stands.user;
-  some = stands.some;
-  at = stands.at;
-  command = stands.command;
-  enters = enters;
-  owned = owned;
-}
+row-among service log lends other link lent owner stands enters owned = grind (arith, common_steps)
 
 -- a link of another client, or of one that has gone
 pub row-apart : (service : Service) (log : Log) (n : ℕ) (lends other : Lends) (link : LinkId) (lent : Lent) → Apart n lends other → (stands : RowStands service log lends link lent) → nat_eq stands.turn.client n ≡ false → RowStands service log other link lent
-row-apart service log n lends other link lent apart stands differs = row-among service log lends other link lent lent.owner stands
-    (λ stage. (let enters = stands.enters stage in record { ask = enters.ask; is = apart.asks stands.turn.client differs ∙ enters.is; same = enters.same })) (by stands.owned) where
-      by : Owned service log lends link stands.turn.client lent → Owned service log other link stands.turn.client lent
-      by (Own is owns) = Own is (apart.owned stands.turn.client differs ∙ owns)
-      by (Left none gone begun) = Left none gone begun
+row-apart service log n lends other link lent apart stands differs = grind (arith, common_steps, row-among)
 
 -- a link of this client that isn't its own any more
 pub row-left : (service : Service) (log : Log) (lends other : Lends) (link : LinkId) (lent : Lent) → RowStands service log lends link lent → lent.owner ≡ None → lent.backend.stage ≡ In → RowStands service log other link lent
-row-left service log lends other link lent stands unowned inside = row-among service log lends other link lent lent.owner stands (λ stage. absurd (stage inside)) (by stands.owned) where
-  by : Owned service log lends link stands.turn.client lent → Owned service log other link stands.turn.client lent
-  by (Own is owns) = absurd (let no : None ≡ Some _ = sym unowned ∙ is in cc)
-  by (Left none gone begun) = Left none gone begun
+row-left service log lends other link lent stands unowned inside = grind (arith, common_steps, row-among)
 
 -- Which links there are: rows come from rows, and a row that goes is to be closed.
 pub record Traces (lends other : Lends) : Type 0 where
@@ -163,8 +138,7 @@ put-other f key k value apart = set-other (set f key None) key k value apart ∙
 
 -- a link on which a command is begun is logged in
 pub begun-inside : (forms : Forms) (user : Account) (heard : List ℕ) (pieces : List Command) (backend : BackendState) → LinkAt forms user heard pieces backend → is_begun backend.command ≡ true → backend.stage ≡ In
-begun-inside forms user heard pieces backend (Entering at) begun = absurd (let no' : false ≡ true = sym (ap is_begun at.login.idle) ∙ begun in cc)
-begun-inside forms user heard pieces backend (Inside at) begun = at.stage
+begun-inside forms user heard pieces backend h5 begun = grind (arith, common_steps)
 
 -- a row that is another client's, this client's own, or nobody's any more
 pub kept-row : (service : Service) (log : Log) (n : ℕ) (lends other : Lends) (link : LinkId) (lent : Lent) → LendsSound service log lends → lends.links link.0 ≡ Some lent → (lends.owned n ≡ Some link → RowStands service log other link lent) → RowNow service log n lends other link lent
@@ -199,12 +173,7 @@ pub apart-none : (n : ℕ) (lends other : Lends) → NoRow n lends other → Apa
 apart-none n lends other none = record { asks = none.asks; owned = none.owned; links = λ k link differs owns. none.links link.0; waiting = none.waiting }
 
 pub traces-none : (n : ℕ) (lends other : Lends) → NoRow n lends other → Traces lends other
-traces-none n lends other none = record {
-  from = λ link lent is. (lent, sym (none.links link.0) ∙ is);
-  to = λ link lent is. inl (lent, none.links link.0 ∙ is);
-  closed = λ link is. inl (sym none.closing ∙ is);
-  closes = λ link is. none.closing ∙ is;
-}
+traces-none n lends other none = grind (arith, common_steps)
 
 -- One link changes, or is to be closed.
 pub data RowGoes (link : LinkId) (lends other : Lends) : Type 0 where
@@ -235,12 +204,7 @@ others-link lends link other lent n k owned there mine differs owns = apart-link
     mine k differs (ap (λ (l : Lent). l.owner) (sym same) ∙ it.owner)))
 
 pub apart-one : (n : ℕ) (link : LinkId) (lends other : Lends) (lent : Lent) → ((m : ℕ) (l : LinkId) → lends.owned m ≡ Some l → Owns lends m l) → lends.links link.0 ≡ Some lent → Mine n lent → OneRow n link lends other → Apart n lends other
-apart-one n link lends other lent owned there mine one = record {
-  asks = one.asks;
-  owned = one.owned;
-  links = λ k l differs owns. one.links l.0 (others-link lends link l lent n k owned there mine differs owns);
-  waiting = one.waiting;
-}
+apart-one n link lends other lent owned there mine one = grind (arith, common_steps, others-link)
 
 pub traces-one : (n : ℕ) (link : LinkId) (lends other : Lends) (lent : Lent) → lends.links link.0 ≡ Some lent → OneRow n link lends other → Traces lends other
 traces-one n link lends other lent there one = record {
@@ -266,8 +230,7 @@ pub close-kept : (service : Service) (log : Log) (lends other : Lends) (link : L
 close-kept service log lends other link stands unlent = record { opened = stands.opened; unlent = unlent; turn = stands.turn; is_turn = stands.is_turn; may = stands.may }
 
 pub close-other : (service : Service) (log : Log) (n : ℕ) (lends other : Lends) (link : LinkId) (lent : Lent) (closing : LinkId) → lends.links link.0 ≡ Some lent → OneRow n link lends other → CloseStands service log lends closing → CloseStands service log other closing
-close-other service log n lends other link lent closing there one stands = close-kept service log lends other closing stands
-    (one.links closing.0 (apart-links closing link (λ at. (let no' : None ≡ Some lent = sym stands.unlent ∙ ap (λ (l : LinkId). lends.links l.0) at ∙ there in cc))) ∙ stands.unlent)
+close-other service log n lends other link lent closing there one stands = grind (arith, common_steps, close-kept, apart-links)
 
 -- What is done for one client among the links to servers.
 

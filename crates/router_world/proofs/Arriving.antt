@@ -1,4 +1,5 @@
 -- Nothing was sent for a client before it came, nor refused; and how many came.
+use Rattle.router_world.proofs.Names.{common_steps}
 use Rattle.router_world.proofs.Hands.{numbered-seat, known-as, away-gone, none-some}
 use Rattle.router_world.proofs.Apart.{none-one, one-or-other, link-or-other, apart-links, apart-numbers, set-same, set-other, Row, Here, There, row-of}
 use Rattle.router_world.proofs.Apart.{one-same}
@@ -26,20 +27,13 @@ abbrev Unborn : Service → Log → Type 0
 Unborn service log = (n i : ℕ) → arrival_of n log ≡ None → (carrier_of n i log ≡ None) × (is_refused service n i log ≡ false)
 
 arrived-user : (service : Service) (n : ℕ) (user : Account) (log : Log) → user_of service n log ≡ Some user → (came : Arrival) × (arrival_of n log ≡ Some came)
-arrived-user service n user log is = by (arrival_of n log) is where
-  by : (o : Option Arrival) → option_and_then account (option_map (λ (came : Arrival). talk_with service n came log) o) ≡ Some user → (came : Arrival) × (o ≡ Some came)
-  by None at = absurd (let none : None ≡ Some user = at in cc)
-  by (Some came) at = (came, refl)
+arrived-user service n user log is = grind (arith, common_steps)
 
 never-here : (n : ℕ) (log : Log) (e : Entry) (came : Arrival) → arrival_of n (log ++ e ∷ []) ≡ None → arrival_of n log ≡ Some came → ⊥
 never-here n log e came none is = none-some (arrival_of n (log ++ e ∷ [])) none (arrival-stays n log (e ∷ []) came is)
 
 writes-none : (service : Service) (n i : ℕ) (log : Log) (e : Entry) → IsLawful service log e → arrival_of n (log ++ e ∷ []) ≡ None → carries n i e ≡ None
-writes-none service n i log (Wrote link (For client ordinal) bytes) may none = by (nat_eq n client.0 && nat_eq i ordinal) refl where
-  by : (b : Bool) → (nat_eq n client.0 && nat_eq i ordinal) ≡ b → cond b (Some link) None ≡ None
-  by false at = refl
-  by true at = absurd (never-here n log (Wrote link (For client ordinal) bytes) may.asks.came none (ap (λ k. arrival_of k log) (nat_eq-true n client.0 (and-true (nat_eq n client.0) (nat_eq i ordinal) at).0) ∙ may.asks.is_came))
-writes-none service n i log _ may none = refl
+writes-none service n i log e may none = grind (arith, common_steps, never-here, nat_eq-true, and-true)
 
 turn-client : (n i : ℕ) (turn : Turn) → is_turn n i turn ≡ true → n ≡ turn.client
 turn-client n i turn is = nat_eq-true n turn.client (and-true (nat_eq n turn.client) (nat_eq i turn.ordinal) is).0
@@ -65,25 +59,17 @@ unborn service log lawful = lawful-each (IsLawful service) (Unborn service) log 
 -- There are no more arrivals than entries.
 arrivals-behind-few : (before log : Log) → length (arrivals_behind before log) ≤ length log
 arrivals-behind-few before [] = omega arith
-arrivals-behind-few before (e ∷ log) = by (arrival_in before e) (arrivals-behind-few (before ++ e ∷ []) log) where
-  by : (o : Option Arrival) → length (arrivals_behind (before ++ e ∷ []) log) ≤ length log → length (cons_option o (arrivals_behind (before ++ e ∷ []) log)) ≤ length (e ∷ log)
-  by None later = omega arith
-  by (Some came) later = omega arith
+arrivals-behind-few before (e ∷ log) = grind (arith, common_steps, (arrivals-behind-few (before ++ e ∷ []) log))
 
 pub arrivals-few : (log : Log) → length (arrivals log) ≤ length log
 arrivals-few log = arrivals-behind-few [] log
 
 without-few : (link : LinkId) (links : List LinkId) → length (without link links) ≤ length links
 without-few link [] = omega arith
-without-few link (other ∷ links) = by (nat_eq other.0 link.0) (without-few link links) where
-  by : (b : Bool) → length (without link links) ≤ length links → length (cond (Rattle.std.specs.Prelude.not b) (other ∷ without link links) (without link links)) ≤ length (other ∷ links)
-  by true later = omega arith
-  by false later = omega arith
+without-few link (other ∷ links) = grind (arith, common_steps, (without-few link links))
 
 few-step : (links : List LinkId) (e : Entry) → length (connected_step links e) ≤ length links + 1
-few-step links (Accepted Traffic link salt) = (let one : length (links ++ link ∷ []) ≡ length links + 1 = length-append links (link ∷ []) in omega arith)
-few-step links (Closed link) = (let less = without-few link links in omega arith)
-few-step links _ = omega arith
+few-step links e = grind (arith, common_steps, length-append, without-few)
 
 fold-few : (links : List LinkId) (log : Log) → length (fold connected_step links log) ≤ length links + length log
 fold-few links [] = omega arith
@@ -93,10 +79,7 @@ pub connected-few : (log : Log) → length (connected log) ≤ length log
 connected-few log = (let all : length (fold connected_step [] log) ≤ 0 + length log = fold-few [] log in omega arith)
 
 pub counted-few : (n : ℕ) → n < 281474976710656 → counted n ≡ suc n
-counted-few n few = by (nat_lt n 18446744073709551615) refl where
-  by : (b : Bool) → nat_lt n 18446744073709551615 ≡ b → cond b (n + 1) n ≡ suc n
-  by true at = omega arith
-  by false at = absurd (let never : false ≡ true = sym at ∙ (let less : nat_lt n 18446744073709551615 ≡ true = search arith in less) in cc)
+counted-few n few = grind (arith, common_steps)
 
 -- A client comes.
 
@@ -140,8 +123,7 @@ bystands-new service log port link salt tables sound coming = record {
 
 -- a link that is open behind it was open, or is the new one
 opened-now : (log : Log) (port : Port) (link : LinkId) (salt : List ℕ) (other : LinkId) → IsOpen other (log ++ Accepted port link salt ∷ []) → (IsOpen other log) ⊎ (other ≡ link)
-opened-now log port link salt other opened = link-or-other other link (λ l. IsOpen l (log ++ Accepted port link salt ∷ []) → (IsOpen l log) ⊎ (l ≡ link)) (λ now. inr refl)
-    (λ at now. inl (sym (step-other open_step false other log (Accepted port link salt) at) ∙ now)) opened
+opened-now log port link salt other opened = grind (arith, common_steps, link-or-other, step-other)
 
 -- No seat for it: its link is to be closed.
 pub turned-away-step : (service : Service) (log : Log) (port : Port) (link : LinkId) (salt : List ℕ) (tables : Tables) (came here : ℕ) (bytes : List ℕ) → Sound service log None tables → IsComing service log port link salt tables → came ≡ length (arrivals (log ++ Accepted port link salt ∷ [])) → here ≡ length (connected (log ++ Accepted port link salt ∷ []))
@@ -301,18 +283,13 @@ abbrev later : Log → Port → LinkId → (salt : List ℕ) → Log
 later log port link salt = log ++ Accepted port link salt ∷ []
 
 one-more : (log : Log) (port : Port) (link : LinkId) (salt : List ℕ) → length (arrivals (later log port link salt)) ≡ suc (length (arrivals log))
-one-more log port link salt = (let sum : length (arrivals log ++ arriving log port link salt ∷ []) ≡ length (arrivals log) + 1 = length-append (arrivals log) (arriving log port link salt ∷ []) in
-    let one : length (arrivals log) + 1 ≡ suc (length (arrivals log)) = omega arith in ap length (arrivals-now log port link salt) ∙ sum ∙ one)
+one-more log port link salt = grind (arith, common_steps, length-append, arrivals-now)
 
 came-now : (service : Service) (log : Log) (port : Port) (link : LinkId) (salt : List ℕ) (tables : Tables) → Sound service log None tables → length log + 1 < 281474976710656 → counted tables.came ≡ suc (length (arrivals log))
 came-now service log port link salt tables sound few = (let most : length (arrivals log) ≤ length log = arrivals-few log in ap counted sound.came ∙ counted-few (length (arrivals log)) (omega arith))
 
 here-now : (service : Service) (log : Log) (link : LinkId) (salt : List ℕ) (tables : Tables) → Sound service log None tables → length log + 1 < 281474976710656 → counted tables.here ≡ length (connected (later log Traffic link salt))
-here-now service log link salt tables sound few = (let most : length (connected log) ≤ length log = connected-few log in
-    let now : length (connected (later log Traffic link salt)) ≡ length (connected log ++ link ∷ []) = ap length (connected-more log (Accepted Traffic link salt)) in
-    let sum : length (connected log ++ link ∷ []) ≡ length (connected log) + 1 = length-append (connected log) (link ∷ []) in
-    let one : length (connected log) + 1 ≡ suc (length (connected log)) = omega arith in
-    ap counted sound.here ∙ counted-few (length (connected log)) (omega arith) ∙ sym (now ∙ sum ∙ one))
+here-now service log link salt tables sound few = grind (arith, common_steps, connected-few, connected-more, length-append, counted-few)
 
 -- Its link is one of those of clients, where it came to the port of clients.
 among-traffic : (log : Log) (link : LinkId) (salt : List ℕ) → is_among link (connected (later log Traffic link salt)) ≡ true

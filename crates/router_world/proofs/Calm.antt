@@ -1,4 +1,5 @@
 -- What an entry leaves of what is said of a link, and of a client's command.
+use Rattle.router_world.proofs.Names.{arith, common_steps}
 use Rattle.std.proofs.lemmas.Bool.{or_from, false_from_ne_true}
 use Rattle.router_world.proofs.Names.{◌≡◌, ℕ, Bool, true, false, ◌||◌, cond, List, [], ◌∷◌, ◌++◌, Option, Some, None, refl, option_and_then, cons_option}
 use Rattle.router_world.proofs.Names.{flat_map, filter_map, list_any, sym, ◌∙◌, ap, append-nil, filter_map-append, flat_map-append, list_any-append, LinkId}
@@ -28,37 +29,18 @@ pub record Leaves (link : LinkId) (log : Log) (e : Entry) : Type 0 where
 
 -- So does an entry of another link.
 pub leaves-other : (link : LinkId) (log : Log) (e : Entry) → is_link link (link_of e) ≡ false → Leaves link log e
-leaves-other link log e other = record {
-  read = bytes-other got_bytes link log e other;
-  written = bytes-other wrote_bytes link log e other;
-  lost = ap (list_any is_loss) (of_link-other link log e other);
-  broken = ap (list_any is_failure) (of_link-other link log e other);
-  heard = ap (λ l. flat_map got_bytes (until_loss l)) (of_link-other link log e other);
-  pieces = ap (λ l. filter_map piece (until_loss l)) (of_link-other link log e other);
-  opened = step-other open_step false link log e other;
-}
+leaves-other link log e other = grind (arith, common_steps, bytes-other, of_link-other, piece, step-other)
 
 -- And one that neither reads nor writes, and loses no link.
 pub until-still : (log : Log) (e : Entry) → is_loss e ≡ false → until_loss (log ++ e ∷ []) ≡ cond (list_any is_loss log) (until_loss log) (until_loss log ++ e ∷ [])
 until-still [] e calm = ap (λ b. cond b [] (e ∷ [])) calm
-until-still (d ∷ log) e calm = by (is_loss d) (until-still log e calm) where
-  by : (b : Bool) → until_loss (log ++ e ∷ []) ≡ cond (list_any is_loss log) (until_loss log) (until_loss log ++ e ∷ [])
-      → cond b [] (d ∷ until_loss (log ++ e ∷ [])) ≡ cond (b || list_any is_loss log) (cond b [] (d ∷ until_loss log)) (cond b [] (d ∷ until_loss log) ++ e ∷ [])
-  by true later = refl
-  by false later = ap (λ (l : Log). d ∷ l) later ∙ choice (list_any is_loss log) where
-    choice : (c : Bool) → d ∷ cond c (until_loss log) (until_loss log ++ e ∷ []) ≡ cond c (d ∷ until_loss log) (d ∷ until_loss log ++ e ∷ [])
-    choice true = refl
-    choice false = refl
+until-still (d ∷ log) e calm = grind (arith, common_steps, (until-still log e calm))
 
 pub sound-still : {X : Type 0} (f : Log → List X) (log : Log) (e : Entry) → is_loss e ≡ false → ((l : Log) → f (l ++ e ∷ []) ≡ f l) → f (until_loss (log ++ e ∷ [])) ≡ f (until_loss log)
-sound-still f log e calm same = ap f (until-still log e calm) ∙ by (list_any is_loss log) where
-  by : (b : Bool) → f (cond b (until_loss log) (until_loss log ++ e ∷ [])) ≡ f (until_loss log)
-  by true = refl
-  by false = same (until_loss log)
+sound-still f log e calm same = grind (arith, common_steps, until-still)
 
 pub or-none : (b : Bool) → (b || false) ≡ b
-or-none true = refl
-or-none false = refl
+or-none b = grind (arith, common_steps)
 
 pub any-still : (p : Entry → Bool) (log : Log) (e : Entry) → p e ≡ false → list_any p (log ++ e ∷ []) ≡ list_any p log
 any-still p log e none = list_any-append p log (e ∷ []) ∙ ap (λ b. list_any p log || (b || false)) none ∙ or-none (list_any p log)
@@ -72,10 +54,7 @@ pieces-still log e none = filter_map-append piece log (e ∷ []) ∙ ap (λ o. f
 -- A command of which the entry writes nothing is where it was.
 
 pub carrier-same : (n i : ℕ) (log : Log) (e : Entry) → carries n i e ≡ None → carrier_of n i (log ++ e ∷ []) ≡ carrier_of n i log
-carrier-same n i log e none = carrier-more n i log e ∙ ap (first_some (carrier_of n i log)) none ∙ by (carrier_of n i log) where
-  by : (o : Option LinkId) → first_some o None ≡ o
-  by None = refl
-  by (Some link) = refl
+carrier-same n i log e none = grind (arith, common_steps, carrier-more)
 
 -- One that the entry doesn't refuse isn't refused.
 
@@ -83,11 +62,7 @@ abbrev pub Spares : Service → Log → Entry → (n i : ℕ) → Type 0
 Spares service log e n i = (turn : Turn) → refused_by service log e ≡ Some turn → is_turn n i turn ≡ false
 
 pub unrefused-more : (service : Service) (n i : ℕ) (log : Log) (e : Entry) → is_refused service n i log ≡ false → Spares service log e n i → is_refused service n i (log ++ e ∷ []) ≡ false
-unrefused-more service n i log e was spares = ap (list_any (is_turn n i)) (refused-more service log (e ∷ [])) ∙ list_any-append (is_turn n i) (refused service log) (cons_option (refused_by service log e) [])
-    ∙ or_from (list_any (is_turn n i) (refused service log)) (list_any (is_turn n i) (cons_option (refused_by service log e) [])) was (by (refused_by service log e) refl) where
-      by : (o : Option Turn) → refused_by service log e ≡ o → list_any (is_turn n i) (cons_option o []) ≡ false
-      by None at = refl
-      by (Some turn) at = or_from (is_turn n i turn) false (spares turn at) refl
+unrefused-more service n i log e was spares = grind (arith, common_steps, refused-more, list_any-append)
 
 -- A command that wasn't sent has no reply.
 pub unsent-unreplied : (service : Service) (n i : ℕ) (log : Log) → carrier_of n i log ≡ None → reply_to service n i log ≡ None
@@ -112,15 +87,7 @@ reply-left service n i log e link user at is leaves =
 
 -- What came of a command stays.
 pub replied-stays : (service : Service) (n i : ℕ) (log more : Log) (answer : Answer) → RefusedOrSent service (log ++ more) → replied service n i log ≡ Some answer → replied service n i (log ++ more) ≡ Some answer
-replied-stays service n i log more answer never is = by (is_refused service n i log) refl is where
-  sent : (b : Bool) → is_refused service n i (log ++ more) ≡ b → reply_to service n i log ≡ Some answer → cond b (Some (connection_refused ∷ [])) (reply_to service n i (log ++ more)) ≡ Some answer
-  sent false at is = reply-stays service n i log more answer is
-  sent true at is = (let one = then-of (carrier_of n i log) (λ link. option_and_then (reply_on service.forms n i link log) (user_on service link log)) answer is in
-      absurd (let no : Some one.x ≡ None = sym (carrier-stays n i log more one.x one.from) ∙ never n i at in cc))
-
-  by : (b : Bool) → is_refused service n i log ≡ b → cond b (Some (connection_refused ∷ [])) (reply_to service n i log) ≡ Some answer → replied service n i (log ++ more) ≡ Some answer
-  by true at is = ap (λ b. cond b (Some (connection_refused ∷ [])) (reply_to service n i (log ++ more))) (refused-stays service n i log more at) ∙ is
-  by false at is = sent (is_refused service n i (log ++ more)) refl is
+replied-stays service n i log more answer never is = grind (arith, common_steps, reply-stays, then-of, carrier-stays, refused-stays)
 
 -- A query that is in work stays so until something comes of it.
 
@@ -128,14 +95,7 @@ replied-stays service n i log more answer never is = by (is_refused service n i 
 first-still : (old new : ℕ → Option Answer) → ((i : ℕ) (reply : Answer) → old i ≡ Some reply → new i ≡ Some reply) → (i : ℕ) (messages later : List Framed) (work : Work) → first_without old i messages ≡ Some work → new work.ordinal ≡ None
     → first_without new i (messages ++ later) ≡ Some work
 first-still old new stay i [] later work is none = absurd (let no : None ≡ Some work = is in cc)
-first-still old new stay i (message ∷ messages) later work is none = by (old i) refl is (first-still old new stay (suc i) messages later work) where
-  here : Work
-  here = record { ordinal = i; message = message }
-
-  by : (o : Option Answer) → old i ≡ o → cond (is_some o) (first_without old (suc i) messages) (Some here) ≡ Some work → (first_without old (suc i) messages ≡ Some work → new work.ordinal ≡ None → first_without new (suc i) (messages ++ later) ≡ Some work) → cond (is_some (new i)) (first_without new (suc i) (messages ++ later)) (Some here) ≡ Some work
-  by (Some reply) at is further = ap (λ o. cond (is_some o) (first_without new (suc i) (messages ++ later)) (Some here)) (stay i reply at) ∙ further is none
-  by None at is further = (let same : here ≡ work = cc in
-      ap (λ o. cond (is_some o) (first_without new (suc i) (messages ++ later)) (Some here)) (ap (λ (w : Work). new w.ordinal) same ∙ none) ∙ is)
+first-still old new stay i (message ∷ messages) later work is none = grind (arith, common_steps, (first-still old new stay (suc i) messages later work))
 
 pub work-stays : (service : Service) (n : ℕ) (log more : Log) (work : Work) → AllLawful (IsLawful service) (log ++ more) → work_of service n log ≡ Some work → answer service n work.ordinal (log ++ more) ≡ None → work_of service n (log ++ more) ≡ Some work
 work-stays service n log more work lawful is none = by (arrival_of n log) refl is where

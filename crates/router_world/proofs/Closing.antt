@@ -1,4 +1,5 @@
 -- A link closes, and what is offered to it before.
+use Rattle.router_world.proofs.Names.{arith, common_steps}
 use Rattle.router_world.proofs.Hands.{away-gone, known-as}
 use Rattle.std.proofs.lemmas.Bool.{false_from_ne_true}
 use Rattle.router_world.proofs.Apart.{link-or-other, row-among, one-same}
@@ -22,11 +23,7 @@ use Rattle.router_world.proofs.Silences.{silent-calm, Silence, Passes, lends-pas
 use Rattle.client_talk.specs.declared.session.Phase.TheVariants as phase
 
 silence-closed : (log : Log) (link : LinkId) → Silence log (Closed link)
-silence-closed log link = record {
-  silent = record { got = refl; wrote = refl; try = refl; carries_none = λ n i. refl; refuses_none = λ service before. refuses-none service before (Closed link) refl (λ user other. refl) };
-  sounds = sounds-mute log (Closed link) (record { got = refl; wrote = refl; piece = refl; loss = refl; failure = refl });
-  arrives = λ before. refl;
-}
+silence-closed log link = grind (arith, common_steps, refuses-none, sounds-mute)
 
 passes-closed : (service : Service) (log : Log) (link : LinkId) (tables : Tables) → Happens service log (Closed link) tables → Passes service log (Closed link)
 passes-closed service log link tables shut = record { silence = silence-closed log link; fits = shut.fits; lawful = shut.lawful }
@@ -36,9 +33,7 @@ bystands-closed service log link tables shut unnumbered unlent = record { names 
 
 -- another link is open behind it
 opened-behind : (log : Log) (link other : LinkId) → IsOpen other (log ++ Closed link ∷ []) → (IsOpen other log) × (other.0 ≢ link.0)
-opened-behind log link other opened = link-or-other other link (λ l. IsOpen l (log ++ Closed link ∷ []) → (IsOpen l log) × (l.0 ≢ link.0))
-    (λ now. absurd (let none : false ≡ true = sym (step-same open_step false link log (Closed link) (same_number link.0)) ∙ now in cc))
-    (λ at now. (sym (step-other open_step false other log (Closed link) at) ∙ now, λ same. (let no' : true ≡ false = sym (same_number link.0) ∙ ap (λ k. nat_eq k link.0) (sym same) ∙ at in cc))) opened
+opened-behind log link other opened = grind (arith, common_steps, link-or-other, step-same, step-other)
 
 -- The link of a client closes.
 pub closed-client : (service : Service) (log : Log) (link : LinkId) (parting : Parting) (tables : Tables) → Sound service log None tables → Happens service log (Closed link) tables → tables.parting ≡ parting ∷ [] → parting.link ≡ link → Sound service (log ++ Closed link ∷ []) None (closed_by (parting ∷ []) tables)
@@ -81,10 +76,7 @@ serves-closed (phase.Working user) lends n i (On unasked link lent command owns 
 serves-closed phase.Ending lends n i gone = record { unasked = gone.unasked; unowned = gone.unowned }
 
 row-closed : (service : Service) (log : Log) (lends : Lends) (link : LinkId) (lent : Lent) → RowStands service log lends link lent → RowStands service log (without_close lends) link lent
-row-closed service log lends link lent stands = row-among service log lends (without_close lends) link lent lent.owner stands (λ stage. (let enters = stands.enters stage in record { ask = enters.ask; is = enters.is; same = enters.same })) (by stands.owned) where
-  by : Owned service log lends link stands.turn.client lent → Owned service log (without_close lends) link stands.turn.client lent
-  by (Own is owns) = Own is owns
-  by (Left none gone begun) = Left none gone begun
+row-closed service log lends link lent stands = grind (arith, common_steps, row-among)
 
 -- A link to a server closes.
 pub closed-server : (service : Service) (log : Log) (link : LinkId) (tables : Tables) → Sound service log None tables → Happens service log (Closed link) tables → tables.parting ≡ [] → tables.lends.closing ≡ link ∷ [] → Sound service (log ++ Closed link ∷ []) None (with_lends (without_close tables.lends) tables)
@@ -155,10 +147,7 @@ pub record IsOffer (service : Service) (log : Log) (e : Entry) (parting : Partin
   pub opens : (was : Bool) → open_step was e ≡ was
 
 refused-part : (service : Service) (log : Log) (n : ℕ) (came : Arrival) (bytes : List ℕ) → bytes ≢ [] → PartAt service log n came bytes → (is_served service.setup came ≡ false) × (came.port ≡ Traffic) × (written_of came.link log ≡ []) × (bytes ≡ spelling 0 too_many_connections)
-refused-part service log n came bytes some (Done served done) = absurd (some refl)
-refused-part service log n came bytes some (Refused refused port none) = (refused, port, none, refl)
-refused-part service log n came bytes some (Offered refused port offered) = absurd (some refl)
-refused-part service log n came bytes some (Strange port) = absurd (some refl)
+refused-part service log n came bytes some h6 = grind (arith, common_steps)
 
 pub offered-step : (service : Service) (log : Log) (e : Entry) (parting later : Parting) (tables : Tables) → Sound service log None tables → IsOffer service log e parting tables → later.link ≡ parting.link → later.is_client ≡ parting.is_client → (later.bytes ≡ []) ⊎ ((later.bytes ≡ parting.bytes) × (wrote_bytes e ≡ []))
     → Sound service (log ++ e ∷ []) None (record tables { parting = later ∷ [] })

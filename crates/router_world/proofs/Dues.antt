@@ -1,4 +1,5 @@
 -- What a client is due, by the replies to its queries.
+use Rattle.router_world.proofs.Names.{common_steps}
 use Rattle.router_world.proofs.Names.{and_from, ◌≡◌, ℕ, suc, ◌+◌, Bool, true, false, is_some, ◌&&◌, cond, List, [], ◌∷◌, ◌++◌, slice_get, Option, Some, None}
 use Rattle.router_world.proofs.Names.{refl, option_map, option_and_then, sym, ◌∙◌, ap, subst, append-nil, arith, Log, Framed, next_id, parsed, Arrival}
 use Rattle.router_world.proofs.Names.{arrival_of, Talk, messages_of, Answer, Service, talk_with, answer, answer_by, message_of, due_at, first_without, answers}
@@ -62,11 +63,7 @@ first-from service n i log (message ∷ messages) from =
 
 -- of a client that came
 came-messages : (service : Service) (n : ℕ) (came : Arrival) (log : Log) → arrival_of n log ≡ Some came → From service n 0 log (messages_of (talk_with service n came log)).messages
-came-messages service n came log is = record {
-  there = λ k message at. ap (λ (o : Option Arrival). option_and_then (λ (t : Talk). slice_get (messages_of t).messages (0 + k)) (option_map (λ (came : Arrival). talk_with service n came log) o)) is
-      ∙ ap (slice_get (messages_of (talk_with service n came log)).messages) (let same : 0 + k ≡ k = omega arith in same) ∙ at;
-  done = refl;
-}
+came-messages service n came log is = grind (arith, common_steps)
 
 pub answers-replied : (service : Service) (n : ℕ) (came : Arrival) (log : Log) (last : List ℕ) → arrival_of n log ≡ Some came
     → answers (λ k. answer service n k log) 1 (messages_of (talk_with service n came log)).messages last ≡ answers_by service.setup (λ k. replied service n k log) 1 (messages_of (talk_with service n came log)).messages last
@@ -80,10 +77,7 @@ first-replied service n came log is = first-from service n 0 log (messages_of (t
 
 -- the log before a loss, one entry at a time
 lost-first : (link : LinkId) (e : Entry) (log : Log) → was_lost link (e ∷ log) ≡ (loses link e || was_lost link log)
-lost-first link e log = by (is_link link (link_of e)) where
-  by : (b : Bool) → list_any is_loss (cond b (e ∷ of_link link log) (of_link link log)) ≡ ((b && is_loss e) || list_any is_loss (of_link link log))
-  by true = refl
-  by false = refl
+lost-first link e log = grind (arith, common_steps)
 
 pub before-all : (link : LinkId) (log more : Log) → was_lost link log ≡ false → before_loss link (log ++ more) ≡ log ++ before_loss link more
 before-all link [] more unlost = refl
@@ -92,10 +86,7 @@ before-all link (e ∷ log) more unlost = (let parts = or_parts (loses link e) (
 
 pub before-once : (link : LinkId) (log more : Log) → was_lost link log ≡ true → before_loss link (log ++ more) ≡ before_loss link log
 before-once link [] more lost = absurd (let no : false ≡ true = lost in cc)
-before-once link (e ∷ log) more lost = by (loses link e) (sym (lost-first link e log) ∙ lost) (before-once link log more) where
-  by : (b : Bool) → (b || was_lost link log) ≡ true → (was_lost link log ≡ true → before_loss link (log ++ more) ≡ before_loss link log) → cond b [] (e ∷ before_loss link (log ++ more)) ≡ cond b [] (e ∷ before_loss link log)
-  by true some later = refl
-  by false some later = ap (λ (l : Log). e ∷ l) (later some)
+before-once link (e ∷ log) more lost = grind (arith, common_steps, lost-first, (before-once link log more))
 
 -- a client that is served and whose link isn't lost
 pub due-came : (service : Service) (n : ℕ) (came : Arrival) (log : Log) → arrival_of n log ≡ Some came → is_served service.setup came ≡ true → due service n log ≡ due_then service n came (before_loss came.link log)

@@ -1,4 +1,5 @@
 -- What an entry leaves of what stands for the log.
+use Rattle.router_world.proofs.Names.{common_steps}
 use Rattle.std.proofs.lemmas.Bool.{and_right}
 use Rattle.router_world.proofs.Names.{◌≡◌, ◌⊎◌, ℕ, zero, suc, Bool, true, false, not, ◌&&◌, cond, List, [], ◌∷◌, ◌++◌, Option, Some, None, refl, sym, ◌∙◌, ap}
 use Rattle.router_world.proofs.Names.{subst, inl, inr, LinkId, Log, is_open, IsNew, Fits, bool_cases, option_map, option_and_then, AllLawful, Entry, Opened}
@@ -44,16 +45,7 @@ still-none service log e n i packets first never asked calm (There link user at 
     ∙ unreplied (is_refused service n i log) (Some (connection_refused ∷ [])) (reply_to service n i log) (asks-unrefused service n i asked.message asked.due log asked.asks) (asks-unreplied service n i asked.message asked.due log asked.asks)
 
 pub asked-stays : (service : Service) (log : Log) (e : Entry) (n i : ℕ) (packets : List ℕ) (first : ℕ) → AllLawful (IsLawful service) (log ++ e ∷ []) → IsAsked service n i packets first log → replied service n i (log ++ e ∷ []) ≡ None → IsAsked service n i packets first (log ++ e ∷ [])
-asked-stays service log e n i packets first lawful asked none = record {
-  message = asked.message;
-  due = asked.due;
-  asks = asks-stay service n i asked.message asked.due log (e ∷ []) lawful (asks-server service n i asked.message asked.due log asked.asks) asked.asks none;
-  begins = asked.begins;
-  form = asked.form;
-  short = asked.short;
-  packets = asked.packets;
-  first = asked.first;
-}
+asked-stays service log e n i packets first lawful asked none = grind (arith, common_steps, asks-stay, asks-server)
 
 pub asked-calm : (service : Service) (log : Log) (e : Entry) (n i : ℕ) (packets : List ℕ) (first : ℕ) → AllLawful (IsLawful service) (log ++ e ∷ []) → IsAsked service n i packets first log → Calm service log e n → Stays service log e n i → IsAsked service n i packets first (log ++ e ∷ [])
 asked-calm service log e n i packets first lawful asked calm stays =
@@ -61,11 +53,7 @@ asked-calm service log e n i packets first lawful asked calm stays =
 
 -- A command that waits.
 pub ask-calm : (service : Service) (log : Log) (e : Entry) (n : ℕ) (ask : Ask) → AllLawful (IsLawful service) (log ++ e ∷ []) → AskStands service log n ask → Calm service log e n → AskStands service (log ++ e ∷ []) n ask
-ask-calm service log e n ask lawful stands calm = record {
-  asked = asked-calm service log e n ask.ordinal ask.packets ask.first lawful stands.asked calm (Unbegun stands.unsent);
-  account = user-stays service n log (e ∷ []) ask.account stands.account;
-  unsent = carrier-same n ask.ordinal log e (calm.writes ask.ordinal) ∙ stands.unsent;
-}
+ask-calm service log e n ask lawful stands calm = grind (arith, common_steps, asked-calm, user-stays, carrier-same)
 
 -- A command on a link that is left.
 pub handed-stays : (service : Service) (log : Log) (e : Entry) (n : ℕ) (link : LinkId) (user : Account) (command : Handed) (ordinal : ℕ) → carrier_of n ordinal log ≡ carried_by link command.sent → user_on service link log ≡ Some user → Leaves link log e → Stays service log e n ordinal
@@ -85,8 +73,7 @@ handed-calm service log e n link user command lawful is stands calm leaves = rec
 
 -- A client that has gone stays gone.
 opened-new : (link : LinkId) (log : Log) (e : Entry) → Fits log e → opened_as link e ≡ true → IsNew link log
-opened-new link log (Opened server address other) fits is = subst (λ (l : LinkId). IsNew l log) (sym (same-link link other is)) fits
-opened-new link log _ fits is = absurd (let no : false ≡ true = is in cc)
+opened-new link log e fits is = grind (arith, common_steps, same-link)
 
 pub gone-stays : (service : Service) (n : ℕ) (user : Account) (log : Log) (e : Entry) → Fits log e → user_of service n log ≡ Some user → is_here n log ≡ false → is_here n (log ++ e ∷ []) ≡ false
 gone-stays service n user log e fits known gone = by (arrival_of n log) refl known where
@@ -143,33 +130,18 @@ row-calm service log e lends link lent lawful fits stands calm leaves = record {
 
 -- a client at its end has no query in work
 pub over-no-query : (reply : ℕ → Option Answer) (talk : Talk) (work : Work) → over_said reply talk ≡ true → work_said reply talk ≡ Some work → is_query work.message.payload ≡ true → ⊥
-over-no-query reply talk work over is query = by (account talk) refl where
-  quits : is_query work.message.payload ≡ true → ends_by (Some work) (is_some (messages_of talk).fault) ≡ true → ⊥
-  quits query ends = (let none : false ≡ true = sym (query-no-quit work.message.payload query) ∙ ends in cc)
-
-  silent : (o : Opening) → opening_of talk ≡ o → account_in talk o ≡ None → commands_in talk o ≡ []
-  silent (WaitsToLogIn switched) at none = refl
-  silent (Says switched response id rest) at none = ap (λ a. if_known a rest) none
-  silent (FailsToSay switched fault id) at none = refl
-
-  by : (o : Option Account) → account talk ≡ o → ⊥
-  by (Some user) at = quits query (sym (ap (λ w. ends_by w (is_some (messages_of talk).fault)) is) ∙ sym (over-in reply talk user at) ∙ over)
-  by None at = (let none : None ≡ Some work = sym (work-alone reply talk (opening_of talk) refl (silent (opening_of talk) refl at)) ∙ is in cc)
+over-no-query reply talk work over is query = grind (arith, common_steps, query-no-quit, over-in, work-alone)
 
 -- the query in work of a session that isn't at its end is the one that it waits for
 pub none-at : (at : Phase) (talk : Talk) (reply other : ℕ → Option Answer) (arrived : ℕ) → WaitsFor at talk reply arrived → ((user : Account) → at ≡ phase.Working user → other arrived ≡ None) → (work : Work) → work_said reply talk ≡ Some work → is_query work.message.payload ≡ true → other work.ordinal ≡ None
-none-at phase.LoggingIn talk reply other arrived waits none work is query = absurd (let no' : None ≡ Some work = sym waits.free ∙ is in cc)
-none-at (phase.Idle user) talk reply other arrived waits none work is query = absurd (let no' : None ≡ Some work = sym waits.free ∙ is in cc)
-none-at (phase.Working user) talk reply other arrived waits none work is query = ap (λ (w : Work). other w.ordinal) (sym (some-same (record { ordinal = arrived; message = waits.message }) work (sym waits.work ∙ is))) ∙ none user refl
-none-at phase.Ending talk reply other arrived waits none work is query = absurd (over-no-query reply talk work waits is query)
+none-at at talk reply other arrived waits none work is query = grind (arith, common_steps, some-same, over-no-query)
 
 -- What comes of a query in work.
 pub same-ordinal : (n i j : ℕ) (tag : Tag) → tag ≡ For (record { 0 = n }) i → tag ≡ For (record { 0 = n }) j → i ≡ j
 same-ordinal n i j tag one two = (let both : For (record { 0 = n }) i ≡ For (record { 0 = n }) j = sym one ∙ two in cc)
 
 pub owner-turn : (service : Service) (log : Log) (lends : Lends) (link : LinkId) (lent : Lent) (n m : ℕ) → Owned service log lends link m lent → lent.owner ≡ Some (record { 0 = n }) → m ≡ n
-owner-turn service log lends link lent n m (Own owner owns) is = ap (λ (c : ClientNo). c.0) (some-same (record { 0 = m }) (record { 0 = n }) (sym owner ∙ is))
-owner-turn service log lends link lent n m (Left none gone begun) is = absurd (let no' : None ≡ Some _ = sym none ∙ is in cc)
+owner-turn service log lends link lent n m h7 is = grind (arith, common_steps, some-same)
 
 pub busy-none : (service : Service) (log : Log) (e : Entry) (lends : Lends) (n i : ℕ) → AllLawful (IsLawful service) (log ++ e ∷ []) → LendsSound service log lends → Calm service log e n
     → ((link : LinkId) (lent : Lent) → lends.owned n ≡ Some link → lends.links link.0 ≡ Some lent → Leaves link log e) → Busy lends n i → replied service n i (log ++ e ∷ []) ≡ None

@@ -1,4 +1,5 @@
 -- A client's seat is taken out, and put back or not.
+use Rattle.router_world.proofs.Names.{common_steps}
 use Rattle.promises.proofs.Staying.{account-more, Grown}
 use Rattle.router_world.proofs.Apart.{none-one, one-or-other, link-or-other, apart-links, apart-numbers, set-same, set-other, Row, Here, There, row-of, Apart}
 use Rattle.router_world.proofs.Apart.{Traces, serves-apart, gone-apart, Went, Idle}
@@ -32,15 +33,11 @@ pub none-some : {X : Type 0} {x : X} (o : Option X) → o ≡ None → o ≡ Som
 none-some o none some = (let no' : None ≡ Some _ = sym none ∙ some in cc)
 
 pub away-gone : (lends : Lends) (n : ℕ) → InHand None n ⊎ Gone lends n → Gone lends n
-away-gone lends n (inl none) = absurd none
-away-gone lends n (inr gone) = gone
+away-gone lends n h2 = grind (arith, common_steps)
 
 -- The link of a client's seat.
 pub numbered-seat : (service : Service) (log : Log) (tables : Tables) (link : LinkId) (client : ClientNo) → Sound service log None tables → tables.numbers link.0 ≡ Some client → (seat : Seat) × (tables.seats client.0 ≡ Some seat) × (seat.link ≡ link)
-numbered-seat service log tables link client sound is = by (sound.numbers link client is) where
-  by : OnHand None client.0 link ⊎ ((seat : Seat) × (tables.seats client.0 ≡ Some seat) × (seat.link ≡ link)) → (seat : Seat) × (tables.seats client.0 ≡ Some seat) × (seat.link ≡ link)
-  by (inl none) = absurd none
-  by (inr has) = has
+numbered-seat service log tables link client sound is = grind (arith, common_steps)
 
 -- Whose a link is where its number is as it was, and others are to be closed.
 pub known-as : (numbers other : ℕ → Option ClientNo) (lends : Lends) (parting later : List Parting) (link : LinkId) → other link.0 ≡ numbers link.0 → ((p : Parting) → parting ≡ p ∷ [] → p.link ≡ link → Known other lends later link) → Known numbers lends parting link
@@ -290,10 +287,7 @@ record StaysOver (reply : ℕ → Option Answer) (talk now : Talk) : Type 0 wher
 
 over-alone : (reply : ℕ → Option Answer) (talk now : Talk) (o p : Opening) → opening_of talk ≡ o → opening_of now ≡ p → commands_in talk o ≡ [] → commands_in now p ≡ [] → front_in talk o ≡ front_in now p
     → (ended : Bool) → ((other : Bool) → ends_in p (account now) other ≡ true) → StaysOver reply talk now
-over-alone reply talk now o p was is none none-now same ended over = record {
-  due = due-alone reply now p is none-now ∙ sym same ∙ sym (due-alone reply talk o was none);
-  over = ap (λ (q : Opening). ends_in q (account now) (ends_by (work_said reply now) (is_some (messages_of now).fault))) is ∙ over (ends_by (work_said reply now) (is_some (messages_of now).fault));
-}
+over-alone reply talk now o p was is none h8 same ended over = grind (arith, common_steps, due-alone)
 
 over-known : (reply : ℕ → Option Answer) (talk : Talk) (more : List ℕ) (user : Account) → account talk ≡ Some user → over_said reply talk ≡ true → StaysOver reply talk (heard_more talk more)
 over-known reply talk more user is over = by (work_said reply talk) refl (messages_of talk).fault refl (sym (over-in reply talk user is) ∙ over) where
@@ -385,32 +379,21 @@ next-turned service log n came written old turned lends sound none idle is serve
 -- A client's link that is to be closed: its client is at its end and was told all.
 
 pub ending-is : (at : Phase) → is_ending at ≡ true → at ≡ phase.Ending
-ending-is phase.Ending is = refl
-ending-is phase.LoggingIn is = absurd (let none : false ≡ true = is in cc)
-ending-is (phase.Idle user) is = absurd (let none : false ≡ true = is in cc)
-ending-is (phase.Working user) is = absurd (let none : false ≡ true = is in cc)
+ending-is at is = grind (arith, common_steps)
 
 -- A seat in its end.
 pub over-is : (service : Service) (log : Log) (n : ℕ) (came : Arrival) (session : Session) → IsHeard service log n came session → session.phase ≡ phase.Ending → over_said (λ i. replied service n i log) (talk_with service n came log) ≡ true
-over-is service log n came session heard ends =
-    subst (λ (p : Phase). PhaseAt p (talk_with service n came log) (λ i. replied service n i log) (written_of came.link log ++ session.client.outgoing) session.client) ends heard.at.at
+over-is service log n came session heard ends = grind (arith, common_steps)
 
 pub ended-heard : (service : Service) (log : Log) (n : ℕ) (came : Arrival) (session : Session) → arrival_of n log ≡ Some came → IsHeard service log n came session → session.phase ≡ phase.Ending → has_ended service n came log ≡ true
-ended-heard service log n came session is heard ends = (let talk = talk_with service n came log in
-    or_right (was_lost came.link log) _ (ap (λ w. ends_in (opening_of talk) (account talk) (ends_by w (is_some (messages_of talk).fault))) (work-is service n came log is) ∙ over-is service log n came session heard ends))
+ended-heard service log n came session is heard ends = grind (arith, common_steps, work-is, over-is)
 
 pub ended-seat : (service : Service) (log : Log) (n : ℕ) (seat : Seat) (stands : SeatStands service log n seat) → seat.session.phase ≡ phase.Ending → has_ended service n stands.came log ≡ true
-ended-seat service log n seat stands ends = by stands.state where
-  by : IsHeard service log n stands.came seat.session ⊎ IsEnded service log n stands.came seat.session → has_ended service n stands.came log ≡ true
-  by (inl heard) = ended-heard service log n stands.came seat.session stands.is_came heard ends
-  by (inr ended) = ap (λ b. b || ends_in (opening_of (talk_with service n stands.came log)) (account (talk_with service n stands.came log)) (ends_by (work_of service n log) (is_some (messages_of (talk_with service n stands.came log)).fault))) ended.lost
+ended-seat service log n seat stands ends = grind (arith, common_steps, ended-heard)
 
 -- What is due to it is what was written, and what is to be.
 pub told-seat : (service : Service) (log : Log) (n : ℕ) (seat : Seat) (stands : SeatStands service log n seat) → written_of stands.came.link log ++ seat.session.client.outgoing ≡ due service n log
-told-seat service log n seat stands = by stands.state where
-  by : IsHeard service log n stands.came seat.session ⊎ IsEnded service log n stands.came seat.session → written_of stands.came.link log ++ seat.session.client.outgoing ≡ due service n log
-  by (inl heard) = heard.at.due ∙ sym (due-unlost service n stands.came log stands.is_came stands.served heard.unlost)
-  by (inr ended) = ended.told
+told-seat service log n seat stands = grind (arith, common_steps, due-unlost)
 
 pub finished-parted : (service : Service) (log : Log) (n : ℕ) (seat : Seat) → SeatStands service log n seat → is_finished seat.session ≡ true → Parted service log n seat.link
 finished-parted service log n seat stands finished = (let both = and_parts (is_ending seat.session.phase) (nat_eq (length seat.session.client.outgoing) 0) finished in

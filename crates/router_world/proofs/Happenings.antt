@@ -1,4 +1,5 @@
 -- What the entries on an open link make of what stands, by whose it is.
+use Rattle.router_world.proofs.Names.{common_steps}
 use Rattle.router_world.proofs.Sound.{Happens, Sound, AtMostOne, Nobody, One}
 use Rattle.router_world.proofs.Stepping.{OnLink, IsPlain, done, nobody-waits}
 use Rattle.router_world.proofs.Names.{refused_by, refused_on, option_and_then, ◌≡◌, ◌≢◌, ◌<◌, ◌+◌, ℕ, Bool, true, false, is_some, nat_eq, cond, List, [], ◌∷◌}
@@ -86,29 +87,11 @@ record Offers (tables : Tables) (link : LinkId) : Type 0 where
   pub some : parting.bytes ≢ []
 
 offers : (tables : Tables) (link : LinkId) → AtMostOne tables.parting → IsFarewell tables link → Offers tables link
-offers tables link one farewell = by tables.parting refl one farewell.is_next farewell.some where
-  bytes-some : (bytes : List ℕ) → is_some (reply_sent bytes) ≡ true → bytes ≢ []
-  bytes-some [] some none = (let no' : false ≡ true = some in cc)
-  bytes-some (byte ∷ bytes) some none = (let no' : byte ∷ bytes ≡ [] = none in cc)
-
-  by : (all : List Parting) → tables.parting ≡ all → AtMostOne all → close_of all tables.lends.closing ≡ Some link → is_some (farewell_of all) ≡ true → Offers tables link
-  by [] is Nobody next some = absurd (let no' : false ≡ true = some in cc)
-  by (p ∷ q ∷ later) is one next some = elim one [ ]
-  by (p ∷ []) is (One other) next some = record { parting = p; is = is; on = some-same p.link link next; some = bytes-some p.bytes some }
+offers tables link one farewell = grind (arith, common_steps, some-same)
 
 offer : (service : Service) (log : Log) (e : Entry) (link : LinkId) (tables : Tables) (offers : Offers tables link) → Happens service log e tables → link_of e ≡ Some link → Rattle.promises.specs.Closes.is_write e ≡ true → ((n i : ℕ) → carries n i e ≡ None)
     → Rattle.promises.specs.Owners.refused_by service log e ≡ Rattle.std.specs.Option.option_and_then (Rattle.promises.specs.Owners.refused_on service log e) (link_of e) → IsPlain e → ((was : Bool) → open_step was e ≡ was) → IsOffer service log e offers.parting tables
-offer service log e link tables offers happens names writes silent refuses plain stays = record {
-  happens = happens;
-  is = offers.is;
-  names = names ∙ ap Some (sym offers.on);
-  some = offers.some;
-  writes = writes;
-  silent = silent;
-  refuses = refuses ∙ ap (Rattle.std.specs.Option.option_and_then (Rattle.promises.specs.Owners.refused_on service log e)) (names ∙ ap Some (sym offers.on));
-  plain = plain;
-  opens = stays;
-}
+offer service log e link tables offers happens names writes silent refuses plain stays = grind (arith, common_steps)
 
 nobodys : (service : Service) (log : Log) (link : LinkId) (tables : Tables) → Sound service log None tables → (offers : Offers tables link) → (tables.numbers link.0 ≡ None) × (tables.lends.links link.0 ≡ None)
 nobodys service log link tables sound offers = (let stands = sound.parts offers.parting offers.is in (ap (λ (l : LinkId). tables.numbers l.0) (sym offers.on) ∙ stands.unnumbered, ap (λ (l : LinkId). tables.lends.links l.0) (sym offers.on) ∙ stands.unlent))

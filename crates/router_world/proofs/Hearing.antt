@@ -1,4 +1,5 @@
 -- A session that goes on never counts fewer messages, and what is read of a link is short.
+use Rattle.router_world.proofs.Names.{common_steps}
 use Rattle.promises.proofs.Staying.{account-more}
 use Rattle.router_world.proofs.Names.{◌≡◌, ◌⊎◌, ◌<◌, ◌≤◌, ◌*◌, ℕ, zero, suc, ◌+◌, Bool, true, false, nat_lt, cond, [], ◌∷◌, ◌++◌, length, Option, Some, None}
 use Rattle.router_world.proofs.Names.{ap, arith, length-append, inl, inr, LinkId, Log, link_of, is_link, got_bytes, read_of, AllLawful, lawful-each, Fits}
@@ -21,51 +22,27 @@ use Rattle.client_side.specs.declared.step.ClientStep.TheVariants as says
 use Rattle.client_talk.specs.declared.session.Phase.TheVariants as phase
 
 counted-more : (n : ℕ) → n ≤ counted n
-counted-more n = by (nat_lt n 18446744073709551615) where
-  by : (b : Bool) → n ≤ cond b (n + 1) n
-  by true = omega arith
-  by false = omega arith
+counted-more n = grind (arith, common_steps)
 
 abbrev count : Session → ℕ
 count session = session.client.arrived
 
 logs-more : (o : Option Account) (response : Response) (first : ℕ) (session : Session) → count session ≤ count (logs_in_as o response first session).session
-logs-more (Some account) response first session = omega arith
-logs-more None response first session = omega arith
+logs-more o response first session = grind (arith, common_steps)
 
 arrives-more : (asked : Asked) (message : Framed) (ordinal first : ℕ) (session : Session) → count session ≤ count (arrives_as asked message ordinal first session).session
-arrives-more AsksQuery message ordinal first session = counted-more (count session)
-arrives-more Ping message ordinal first session = counted-more (count session)
-arrives-more Quit message ordinal first session = omega arith
-arrives-more (Refused refusal) message ordinal first session = counted-more (count session)
+arrives-more asked message ordinal first session = grind (arith, common_steps, counted-more)
 
 says-more : (setup : Setup) (says : ClientStep) (session : Session) → count session ≤ count (step_by setup says session).session
-says-more setup says.Nothing session = omega arith
-says-more setup (says.Login first) session = by (login_of session.client.stage) where
-  by : (o : Option Response) → count session ≤ count (logs_in setup o first session).session
-  by None = omega arith
-  by (Some response) = logs-more (account_of setup.users session.client.salt response) response first session
-says-more setup (says.Message ordinal first) session = by session.client.framer.found where
-  by : (o : Option Framed) → count session ≤ count (arrives setup o ordinal first session).session
-  by None = omega arith
-  by (Some message) = arrives-more (asked_of (has_server setup) message.payload) message ordinal first session
-says-more setup (says.Refused first fault) session = omega arith
+says-more setup says session = grind (arith, common_steps, logs-more, arrives-more)
 
 step-more : (setup : Setup) (session : Session) → count session ≤ count (step setup session).session
-step-more setup session = (let same = next_same session.client.stage session.client in
-    let next = next_of session.client.stage session.client in
-    let more : next.client.arrived ≤ count (step setup session).session = says-more setup next.step (record { client = next.client; phase = session.phase }) in
-    let is : next.client.arrived ≡ session.client.arrived = same.3 in omega arith)
+step-more setup session = grind (arith, common_steps, says-more)
 
 pub goes-more : (n : ℕ) (setup : Setup) (session : Session) → count session ≤ count (goes_on n setup session).session
 unfolding goes_on
 goes-more zero setup session = omega arith
-goes-more (suc n) setup session = by (step setup session).turn (step-more setup session) (goes-more n setup (step setup session).session) where
-  by : (turn : Turn) → count session ≤ count (step setup session).session → count (step setup session).session ≤ count (goes_on n setup (step setup session).session).session
-      → count session ≤ count (turned_by turn (step setup session).session (goes_on n setup)).session
-  by More one two = omega arith
-  by (Work query) one two = one
-  by Rests one two = one
+goes-more (suc n) setup session = grind (arith, common_steps, step-more, (goes-more n setup (step setup session).session))
 
 pub turned-more : (setup : Setup) (session : Session) → session.client.arrived ≤ (turned setup session).session.client.arrived
 turned-more setup session = goes-more (suc (left_to_say session)) setup session
@@ -75,20 +52,7 @@ record IsShort (link : LinkId) (log : Log) : Type 0 where
   short : length (read_of link log) ≤ 65536 * length log
 
 short-more : (link : LinkId) (log : Log) (e : Entry) → Fits log e → IsShort link log → IsShort link (log ++ e ∷ [])
-short-more link log e fits was = record { short = by (bool_cases (is_link link (link_of e))) } where
-  long : length (log ++ e ∷ []) ≡ length log + 1
-  long = length-append log (e ∷ [])
-
-  most : (e : Entry) → Fits log e → length (got_bytes e) ≤ 65536
-  most (Got other bytes) fits = fits.most
-  most _ fits = omega arith
-
-  by : (is_link link (link_of e) ≡ true) ⊎ (is_link link (link_of e) ≡ false) → length (read_of link (log ++ e ∷ [])) ≤ 65536 * length (log ++ e ∷ [])
-  by (inl here) = (let size : length (read_of link (log ++ e ∷ [])) ≡ length (read_of link log ++ got_bytes e) = ap length (bytes-same got_bytes link log e here) in
-      let sum : length (read_of link log ++ got_bytes e) ≡ length (read_of link log) + length (got_bytes e) = length-append (read_of link log) (got_bytes e) in
-      let before : length (read_of link log) ≤ 65536 * length log = was.short in let one : length (got_bytes e) ≤ 65536 = most e fits in let grew : length (log ++ e ∷ []) ≡ length log + 1 = long in omega arith)
-  by (inr other) = (let size : length (read_of link (log ++ e ∷ [])) ≡ length (read_of link log) = ap length (bytes-other got_bytes link log e other) in
-      let before : length (read_of link log) ≤ 65536 * length log = was.short in let grew : length (log ++ e ∷ []) ≡ length log + 1 = long in omega arith)
+short-more link log e fits was = grind (arith, common_steps, length-append, bytes-same, bytes-other)
 
 pub read-short : (link : LinkId) (log : Log) → AllLawful Fits log → length log < 281474976710656 → length (read_of link log) < 18446744073709551616
 read-short link log told few = (let all : IsShort link log = lawful-each Fits (IsShort link) log (short-more link) (record { short = omega arith }) told in let most : length (read_of link log) ≤ 65536 * length log = all.short in omega arith)
@@ -115,13 +79,7 @@ pub record Coming (service : Service) (log : Log) (n : ℕ) (came : Arrival) (ta
 says-turned : (service : Service) (log : Log) (n : ℕ) (came : Arrival) (talk : Talk) (bytes written : List ℕ) (session old : Session) (lends : Lends) (next : Turned) → Coming service log n came talk bytes lends → Free lends n → (next.session.phase ≡ phase.LoggingIn → Gone lends n)
     → ((user : Account) → old.phase ≢ phase.Working user) → session.client.arrived ≤ next.session.client.arrived → (next.query ≢ None → session.client.arrived < next.session.client.arrived)
     → ((i : ℕ) → session.client.arrived < i → carrier_of n i log ≡ None) → SeatTurned (heard_more talk bytes) (λ i. replied service n i log) written old next → Says service log n came written session lends next
-says-turned service log n came talk bytes written session old lends next coming free entering unworking grows later unsent at = (let now : SeatTurned (talk_with service n came log) (λ i. replied service n i log) written old next =
-    subst (λ (t : Talk). SeatTurned t (λ i. replied service n i log) written old next) (sym coming.now) at in
-    record {
-      seat = now.seat;
-      grows = grows;
-      next = next-turned service log n came written old next lends coming.sound (inl coming.unclosed) coming.idle coming.is coming.served free entering unworking (λ some. unsent next.session.client.arrived (later some)) coming.formed now;
-    })
+says-turned service log n came talk bytes written session old lends next coming free entering unworking grows later unsent at = grind (arith, common_steps, next-turned)
 
 -- the query that came up is the message in work
 record InWork (talk : Talk) (reply : ℕ → Option Answer) (ordinal : ℕ) : Type 0 where
@@ -129,10 +87,7 @@ record InWork (talk : Talk) (reply : ℕ → Option Answer) (ordinal : ℕ) : Ty
   work : work_said reply talk ≡ Some (record { ordinal = ordinal; message = message })
 
 work-of-query : (talk : Talk) (reply : ℕ → Option Answer) (written : List ℕ) (old : Session) (next : Turned) → SeatTurned talk reply written old next → next.query ≢ None → InWork talk reply next.session.client.arrived
-work-of-query talk reply written old next at some = by next.query refl at.asks where
-  by : (q : Option Query) → next.query ≡ q → Asks q talk reply old next.session → InWork talk reply next.session.client.arrived
-  by None same asks = absurd (some same)
-  by (Some query) same asks = record { message = asks.1.message; work = asks.1.work }
+work-of-query talk reply written old next at some = grind (arith, common_steps)
 
 first-query : (talk : Talk) (reply : ℕ → Option Answer) (written : List ℕ) (session old : Session) (next : Turned) (now : Talk) (bytes : List ℕ) → session.phase ≡ phase.LoggingIn → SeatAt talk reply bytes session → SeatTurned now reply written old next → next.query ≢ None → session.client.arrived < next.session.client.arrived
 first-query talk reply written session old next now bytes is seat at some = (let work = work-of-query now reply written old next at some in

@@ -1,4 +1,5 @@
 -- What it says of a link that the router waits drained.
+use Rattle.router_world.proofs.Names.{common_steps}
 use Rattle.std.proofs.lemmas.Bool.{not-true}
 use Rattle.router_world.proofs.Names.{◌≡◌, ◌⊎◌, ℕ, Bool, true, false, is_some, nat_eq, nat_lt, ◌&&◌, cond, List, [], ◌∷◌, length, drop, Option, Some, None}
 use Rattle.router_world.proofs.Names.{refl, sym, ◌∙◌, ap, inl, inr, ClientNo, LinkId, Reply, Log, IsOpen, write_dry, IsDrained, BackendState, left_by, left}
@@ -52,8 +53,7 @@ unnumbered : (service : Service) (log : Log) (tables : Tables) (link : LinkId) (
 unnumbered service log tables link lent sound is = none-if (tables.numbers link.0) (λ client number. none-some (tables.lends.links link.0) (sound.unlent link client number) is)
 
 pub row-full : (service : Service) (log : Log) (tables : Tables) (link : LinkId) (lent : Lent) (l : ToSend) → IsDrained (reads tables) (sends tables) log → Sound service log None tables → IsOpen link log → tables.lends.links link.0 ≡ Some lent → left lent.backend ≡ Some l → write_dry link log ≡ true
-row-full service log tables link lent l drained sound opened is some = full log tables link (record { tag = l.tag; bytes = l.bytes }) drained opened
-    (ap (sends_by tables link) (unnumbered service log tables link lent sound is) ∙ ap left_in is ∙ some)
+row-full service log tables link lent l drained sound opened is some = grind (arith, common_steps, full, unnumbered)
 
 -- Something is left of a command that wasn't written whole.
 pub left-some : (backend : BackendState) (command : Handed) → backend.command ≡ Some command → nat_lt command.sent (length command.bytes) ≡ true → (l : ToSend) × (left backend ≡ Some l)
@@ -116,14 +116,7 @@ waits-on service log tables link lent n i bytes id work own asked is stays = sub
 -- while the login goes on there
 logs-in : (service : Service) (log : Log) (tables : Tables) (link : LinkId) (lent : Lent) (n i : ℕ) (bytes : List ℕ) (id : ℕ) → IsDrained (reads tables) (sends tables) log → Sound service log None tables → tables.lends.links link.0 ≡ Some lent → (row : RowStands service log tables.lends link lent)
     → lent.backend.stage ≢ In → (asked : IsAsked service n i bytes id log) → Stays service.forms n i asked.message lent.backend.account link log
-logs-in service log tables link lent n i bytes id drained sound is row outside asked = by lent.backend.own refl where
-  entering : IsEntering lent.backend.account (heard_of link log) (pieces_of link log) lent.backend
-  entering = entering-at service.forms lent.backend.account (heard_of link log) (pieces_of link log) lent.backend row.at outside
-
-  by : (own : List ℕ) → lent.backend.own ≡ own → Stays service.forms n i asked.message lent.backend.account link log
-  by [] at = LogsIn (row-standing service log tables.lends link lent row ∙ standing-entering service.forms lent.backend.account (heard_of link log) (pieces_of link log) lent.backend entering)
-      (entering.goes ∙ ap Goes (ap (λ own. bytes_in (pieces_of link log) ++ own) at ∙ append-nil (bytes_in (pieces_of link log)) ∙ sym (row-written link log row.unlost)))
-  by (byte ∷ bytes) at = Full (row-full service log tables link lent (record { tag = OwnTag; bytes = byte ∷ bytes }) drained sound row.opened is (ap (λ own. left_by own lent.backend.command) at))
+logs-in service log tables link lent n i bytes id drained sound is row outside asked = grind (arith, common_steps, entering-at, row-standing, standing-entering, append-nil, row-written, row-full)
 
 -- or as its command
 stays-on : (service : Service) (log : Log) (tables : Tables) (link : LinkId) (lent : Lent) (command : Handed) (n i : ℕ) → IsDrained (reads tables) (sends tables) log → Sound service log None tables → tables.lends.links link.0 ≡ Some lent → (row : RowStands service log tables.lends link lent)
@@ -167,16 +160,10 @@ busy-waits service log tables n i work drained sound acted (On unasked link lent
 -- One that waits for what it says, or for its query, isn't at its end.
 
 lasts-over : (at : Phase) (talk : Talk) (reply : ℕ → Option Answer) (arrived : ℕ) → WaitsFor at talk reply arrived → at ≢ phase.Ending → over_said reply talk ≡ false
-lasts-over phase.LoggingIn talk reply arrived waits lasts = waits.goes_on
-lasts-over (phase.Idle user) talk reply arrived waits lasts = waits.goes_on
-lasts-over (phase.Working user) talk reply arrived waits lasts = waits.goes_on
-lasts-over phase.Ending talk reply arrived waits lasts = absurd (lasts refl)
+lasts-over at talk reply arrived waits lasts = grind (arith, common_steps)
 
 lasts-heard : (service : Service) (log : Log) (n : ℕ) (seat : Seat) (stands : SeatStands service log n seat) → seat.session.phase ≢ phase.Ending → IsHeard service log n stands.came seat.session → has_ended service n stands.came log ≡ false
-lasts-heard service log n seat stands lasts heard = (let talk = talk_with service n stands.came log in
-    ap (λ b. b || ends_in (opening_of talk) (account talk) (ends_by (work_of service n log) (is_some (messages_of talk).fault))) heard.unlost
-    ∙ ap (λ w. ends_in (opening_of talk) (account talk) (ends_by w (is_some (messages_of talk).fault))) (work-is service n stands.came log stands.is_came)
-    ∙ lasts-over seat.session.phase talk (λ i. replied service n i log) seat.session.client.arrived (work-here talk (λ i. replied service n i log) (written_of stands.came.link log) seat.session heard.at) lasts)
+lasts-heard service log n seat stands lasts heard = grind (arith, common_steps, work-is, lasts-over, work-here)
 
 -- A client with a seat.
 record IsSeated (service : Service) (log : Log) (tables : Tables) (link : LinkId) (client : ClientNo) (seat : Seat) : Type 0 where
@@ -190,17 +177,11 @@ record IsSeated (service : Service) (log : Log) (tables : Tables) (link : LinkId
   pub on : stands.came.link ≡ link
 
 told-or-full : (service : Service) (log : Log) (tables : Tables) (link : LinkId) (client : ClientNo) (seat : Seat) (at : IsSeated service log tables link client seat) → WasToldAll service client.0 at.stands.came log ⊎ (write_dry at.stands.came.link log ≡ true)
-told-or-full service log tables link client seat at = by seat.session.client.outgoing refl where
-  by : (bytes : List ℕ) → seat.session.client.outgoing ≡ bytes → WasToldAll service client.0 at.stands.came log ⊎ (write_dry at.stands.came.link log ≡ true)
-  by [] none = inl (sym (append-nil (written_of at.stands.came.link log)) ∙ ap (λ bytes. written_of at.stands.came.link log ++ bytes) (sym none) ∙ told-seat service log client.0 seat at.stands)
-  by (byte ∷ bytes) some = inr (ap (λ (l : LinkId). write_dry l log) at.on ∙ seat-full log tables link client seat byte bytes at.drained at.opened at.number at.is some)
+told-or-full service log tables link client seat at = grind (arith, common_steps, append-nil, told-seat, seat-full)
 
 -- the phase says whether it is at its end
 ends-or-lasts : (at : Phase) → (at ≡ phase.Ending) ⊎ (at ≢ phase.Ending)
-ends-or-lasts phase.Ending = inl refl
-ends-or-lasts phase.LoggingIn = inr (λ is. (let none : phase.LoggingIn ≡ phase.Ending = is in cc))
-ends-or-lasts (phase.Idle user) = inr (λ is. (let none : phase.Idle user ≡ phase.Ending = is in cc))
-ends-or-lasts (phase.Working user) = inr (λ is. (let none : phase.Working user ≡ phase.Ending = is in cc))
+ends-or-lasts at = grind (arith, common_steps)
 
 lasts-or-full : (service : Service) (log : Log) (tables : Tables) (link : LinkId) (client : ClientNo) (seat : Seat) (at : IsSeated service log tables link client seat) → (has_ended service client.0 at.stands.came log ≡ false) ⊎ (write_dry at.stands.came.link log ≡ true)
 lasts-or-full service log tables link client seat at = by (ends-or-lasts seat.session.phase) at.stands.state where
@@ -248,8 +229,7 @@ client-answered service log tables n came told drained sound acted is opened = b
 
 -- A link to a server whose client has gone is busy.
 begun-there : (o : Option Handed) → is_begun o ≡ true → (command : Handed) × (o ≡ Some command) × (nat_eq command.sent 0 ≡ false)
-begun-there None begun = absurd (let none : false ≡ true = begun in cc)
-begun-there (Some command) begun = (command, refl, not-true (nat_eq command.sent 0) begun)
+begun-there o begun = grind (arith, common_steps, not-true)
 
 row-busy : (service : Service) (log : Log) (tables : Tables) (link : LinkId) (lent : Lent) → IsDrained (reads tables) (sends tables) log → Sound service log None tables → tables.lends.links link.0 ≡ Some lent → RowStands service log tables.lends link lent → is_begun lent.backend.command ≡ true
     → IsBusy service.forms lent.backend.account link log
@@ -295,16 +275,12 @@ rests-at service log tables told sound waits = record {
 
 -- so each wait comes at rest
 pub rests-entry : (service : Service) (log : Log) (e : Entry) → AllLawful Fits log → Sound service log None (tables_after service.setup log) → IsOurs service.setup log e → RestsAt service log e
-rests-entry service log (Woke until_ms now_ms) told sound ours = rests-at service log (tables_after service.setup log) told sound ours
-rests-entry service log WaitFailed told sound ours = rests-at service log (tables_after service.setup log) told sound ours
-rests-entry service log Over told sound ours = rests-at service log (tables_after service.setup log) told sound ours
-rests-entry service log _ told sound ours = tt
+rests-entry service log e told sound ours = grind (arith, common_steps, rests-at)
 
 -- What is written to each client goes on to be a beginning of what it is due.
 
 take-none : (k : ℕ) → take {A = ℕ} k [] ≡ []
-take-none zero = refl
-take-none (suc k) = refl
+take-none k = grind (arith, common_steps)
 
 -- A part of what a client is told as it is turned away, and of what else a link is told that closes: nothing.
 farewell-due : (service : Service) (log : Log) (n : ℕ) (came : Arrival) (bytes : List ℕ) (k : ℕ) → arrival_of n log ≡ Some came → IsPrefix (written_of came.link log) (due service n log) → PartAt service log n came bytes → IsPrefix (written_of came.link log ++ take k bytes) (due service n log)
@@ -343,10 +319,7 @@ written-due service log tables n came link tag bytes told sound is same (Farewel
 
 -- To one that comes nothing was written.
 none-new : (log : Log) (e : Entry) (came : Arrival) → arrival_in log e ≡ Some came → IsNew came.link log → written_of came.link (log ++ e ∷ []) ≡ []
-none-new log e came is fresh = bytes-idle wrote_bytes came.link log e (idle e is) ∙ ap (flat_map wrote_bytes) fresh where
-  idle : (e : Entry) → arrival_in log e ≡ Some came → wrote_bytes e ≡ []
-  idle (Wrote link tag bytes) is = absurd (let none : None ≡ Some came = is in cc)
-  idle _ is = refl
+none-new log e came is fresh = grind (arith, common_steps, bytes-idle)
 
 pub served-more : (service : Service) (log : Log) (e : Entry) → AllLawful Fits log → Fits log e → AllLawful (IsLawful service) (log ++ e ∷ []) → Sound service log None (tables_after service.setup log) → IsOurs service.setup log e → IsServed service (log ++ e ∷ [])
 served-more service log e told fits lawful sound ours n came is = by (comes-of log e n came fits is) where
@@ -382,10 +355,7 @@ none-served service zero came is = absurd (let none : None ≡ Some came = is in
 none-served service (suc n) came is = absurd (let none : None ≡ Some came = is in cc)
 
 pub keeps-none : (service : Service) → Keeps service []
-keeps-none service = record { served = each; lawful = tt; rests = tt } where
-  each : (n : ℕ) → IsServed service (take n [])
-  each zero = none-served service
-  each (suc n) = none-served service
+keeps-none service = grind (arith, common_steps, none-served)
 
 pub keeps-more : (service : Service) (log : Log) (e : Entry) → AllLawful Fits log → Fits log e → Sound service log None (tables_after service.setup log) → Covers service (log ++ e ∷ []) → IsOurs service.setup log e → Keeps service log → Keeps service (log ++ e ∷ [])
 keeps-more service log e told fits sound covers ours keeps = (let lawful : AllLawful (IsLawful service) (log ++ e ∷ []) = lawful-more (IsLawful service) log e keeps.lawful (lawful-entry service log e told sound covers ours) in
@@ -433,8 +403,7 @@ one-more service log more e goes opens formed stands follows ours = (let counts 
 
 pub stands-behind : (service : Service) (log more : Log) → GoesOn service → service.opens ≡ turns service.setup (log ++ more) → AreFormed service (log ++ more) → StandsFor service log → LawfulAfter MayFollow log more → LawfulAfter (IsOurs service.setup) log more → StandsFor service (log ++ more)
 stands-behind service log [] goes opens formed stands follow ours = subst (StandsFor service) (sym (append-nil log)) stands
-stands-behind service log (e ∷ more) goes opens formed stands follow ours = subst (StandsFor service) (append_assoc log (e ∷ []) more)
-    (stands-behind service (log ++ e ∷ []) more goes (opens ∙ ap (turns service.setup) (sym (append_assoc log (e ∷ []) more))) (subst (AreFormed service) (sym (append_assoc log (e ∷ []) more)) formed) (one-more service log more e goes opens formed stands follow.0 ours.0) follow.1 ours.1)
+stands-behind service log (e ∷ more) goes opens formed stands follow ours = grind (arith, common_steps, turns, one-more, (stands-behind service (log ++ e ∷ []) more goes (opens ∙ ap (turns service.setup) (sym (append_assoc log (e ∷ []) more))) (subst (AreFormed service) (sym (append_assoc log (e ∷ []) more)) formed) (one-more service log more e goes opens formed stands follow.0 ours.0) follow.1 ours.1))
 
 pub keeps-all : (setup : Setup) (log : Log) → ((service : Service) → service.setup ≡ setup → GoesOn service × Sound service [] None no_tables) → AllLawful MayFollow log → AllLawful (IsOurs setup) log → IsServing setup log
 keeps-all setup log goes follow ours = (let service : Service = service-of setup log in

@@ -1,4 +1,5 @@
 -- No two clients come on one link.
+use Rattle.router_world.proofs.Names.{common_steps}
 use Rattle.router_world.proofs.Hands.{away-gone, numbered-seat, none-some}
 use Rattle.router_world.proofs.Stepping.{IsQuiet, quiet-closes}
 use Rattle.router_world.proofs.Names.{◌≡◌, ℕ, zero, suc, List, [], ◌∷◌, ◌++◌, length, slice_get, Option, Some, None, refl, cons_option, sym, ◌∙◌, ap, subst}
@@ -42,18 +43,14 @@ place-of [] None k x is = absurd (let none : None ≡ Some x = is in cc)
 place-of [] (Some y) zero x is = Last refl is
 place-of [] (Some y) (suc k) x is = absurd (let none : None ≡ Some x = is in cc)
 place-of (z ∷ xs) y zero x is = Before is
-place-of (z ∷ xs) y (suc k) x is = by (place-of xs y k x is) where
-  by : Place xs y k x → Place (z ∷ xs) y (suc k) x
-  by (Before at) = Before at
-  by (Last at same) = Last (ap (λ n. suc n) at) same
+place-of (z ∷ xs) y (suc k) x is = grind (arith, common_steps, (place-of xs y k x is))
 
 abbrev pub Once : Log → Type 0
 Once log = (k j : ℕ) (came other : Arrival) → slice_get (arrivals log) k ≡ Some came → slice_get (arrivals log) j ≡ Some other → came.link ≡ other.link → k ≡ j
 
 -- the link of one that comes is new
 new-link : (log : Log) (e : Entry) (came : Arrival) → Fits log e → arrival_in log e ≡ Some came → IsNew came.link log
-new-link log (Accepted port link salt) came fits is = subst (λ (l : LinkId). IsNew l log) (ap (λ (a : Arrival). a.link) (some-same _ came is)) fits.fresh
-new-link log _ came fits is = absurd (let none : None ≡ Some came = is in cc)
+new-link log e came fits is = grind (arith, common_steps, some-same)
 
 apart : (log : Log) (e : Entry) (k : ℕ) (came other : Arrival) → Fits log e → slice_get (arrivals log) k ≡ Some came → arrival_in log e ≡ Some other → came.link ≡ other.link → ⊥
 apart log e k came other fits is new same = named-none came.link (came_as came.link) log (came-names came.link) (subst (λ (l : LinkId). IsNew l log) (sym same) (new-link log e other fits new)) (arrival-as [] log k came is)
@@ -73,9 +70,7 @@ once log told = lawful-each Fits Once log once-step (λ k j came other one two s
 
 -- A link says whose it is.
 pub same-client : (log : Log) (n m : ℕ) (came other : Arrival) → AllLawful Fits log → arrival_of n log ≡ Some came → arrival_of m log ≡ Some other → came.link ≡ other.link → n ≡ m
-same-client log zero m came other told one two same = absurd (let none : None ≡ Some came = one in cc)
-same-client log (suc n) zero came other told one two same = absurd (let none : None ≡ Some other = two in cc)
-same-client log (suc n) (suc m) came other told one two same = ap (λ n. suc n) (once log told n m came other one two same)
+same-client log n m came other told one two same = grind (arith, common_steps, once)
 
 -- A client came before, or by the last entry, and then its link is new.
 pub data Comes (log : Log) (e : Entry) (n : ℕ) (came : Arrival) : Type 0 where
@@ -93,10 +88,7 @@ comes-of log e (suc n) came fits is = by (place-of (arrivals log) (arrival_in lo
 
 -- A client with a seat that isn't at its end is connected.
 pub seat-here : (service : Service) (log : Log) (n : ℕ) (seat : Seat) → SeatStands service log n seat → seat.session.phase ≢ phase.Ending → is_here n log ≡ true
-seat-here service log n seat stands lasts = by stands.state where
-  by : IsHeard service log n stands.came seat.session ⊎ IsEnded service log n stands.came seat.session → is_here n log ≡ true
-  by (inl heard) = ap (λ o. is_here_as o log) stands.is_came ∙ ap (λ b. b && not (was_lost stands.came.link log)) (ap (λ (l : LinkId). is_open l log) stands.link ∙ stands.opened) ∙ ap not heard.unlost
-  by (inr ended) = absurd (lasts ended.ends)
+seat-here service log n seat stands lasts = grind (arith, common_steps)
 
 -- So is one of which something is left among the links to servers.
 pub record IsLive (log : Log) (tables : Tables) (n : ℕ) : Type 0 where
@@ -131,16 +123,12 @@ pub seat-unowned : (service : Service) (log : Log) (tables : Tables) (n : ℕ) (
 seat-unowned service log tables n seat link told sound is same = (let stands = (sound.seats n seat is).stands in ap (λ (l : LinkId). turn_of service l log) (sym (stands.link ∙ same)) ∙ clients-unowned service n stands.came log told stands.is_came)
 
 pub server-row : (service : Service) (log : Log) (tables : Tables) (link : LinkId) (turn : Turn) → AllLawful Fits log → Sound service log None tables → IsQuiet tables → IsOpen link log → turn_of service link log ≡ Some turn → (lent : Lent) × (tables.lends.links link.0 ≡ Some lent)
-server-row service log tables link turn told sound quiet opened is = by (is-of service log tables link sound quiet opened) where
-  by : IsOf tables link → (lent : Lent) × (tables.lends.links link.0 ≡ Some lent)
-  by (OfServer lent at) = (lent, at)
-  by (OfClient client seat number at same) = absurd (none-some (turn_of service link log) (seat-unowned service log tables client.0 seat link told sound at same) is)
+server-row service log tables link turn told sound quiet opened is = grind (arith, common_steps, is-of, none-some, seat-unowned)
 
 -- A link to a server: its owner, how it stands, and what was written there.
 
 pub owner-is : (service : Service) (log : Log) (lends : Lends) (link : LinkId) (lent : Lent) (message : Framed) (due : Log) (row : RowStands service log lends link lent) → owner_of service link log ≡ Some (owner_for service row.turn.client message due)
-owner-is service log lends link lent message due row = (let owner : ℕ → Option Owner = λ hostgroup. Some (record { client = row.turn.client; hostgroup = hostgroup }) in
-    ap (λ (o : Option Turn). option_map (λ (turn : Turn). record { client = turn.client; hostgroup = turn.hostgroup }) o) row.is_turn ∙ ap owner row.hostgroup)
+owner-is service log lends link lent message due row = grind (arith, common_steps)
 
 pub row-standing : (service : Service) (log : Log) (lends : Lends) (link : LinkId) (lent : Lent) → RowStands service log lends link lent → standing_on service.forms lent.backend.account link log ≡ standing_said service.forms lent.backend.account (heard_of link log) (pieces_of link log)
 row-standing service log lends link lent row = ap (λ b. cond b Spoilt (standing_said service.forms lent.backend.account (heard_of link log) (pieces_of link log))) row.unlost
@@ -158,8 +146,7 @@ own-live service log tables link n sound owns = live-here service log tables n s
 
 behind-both : (setup : Setup) (before log more : Log) → turns_behind setup before (log ++ more) ≡ turns_behind setup before log ++ turns_behind setup (before ++ log) more
 behind-both setup before [] more = ap (λ (l : Log). turns_behind setup l more) (sym (append-nil before))
-behind-both setup before (x ∷ log) more = ap (λ turns. turn_at (tables_after setup before) x ++ turns) (behind-both setup (before ++ x ∷ []) log more ∙ ap (λ (l : Log). turns_behind setup (before ++ x ∷ []) log ++ turns_behind setup l more) (append_assoc before (x ∷ []) log))
-    ∙ sym (append_assoc (turn_at (tables_after setup before) x) (turns_behind setup (before ++ x ∷ []) log) (turns_behind setup (before ++ x ∷ log) more))
+behind-both setup before (x ∷ log) more = grind (arith, common_steps, turns, (behind-both setup (before ++ x ∷ []) log more))
 
 pub turns-more : (setup : Setup) (log : Log) (e : Entry) → turns setup (log ++ e ∷ []) ≡ turns setup log ++ turn_at (tables_after setup log) e
 turns-more setup log e = behind-both setup [] log (e ∷ []) ∙ ap (λ now. turns setup log ++ now) (append-nil (turn_at (tables_after setup log) e))
@@ -180,30 +167,20 @@ count-more setup log e = ap length (turns-more setup log e) ∙ length-append (t
 -- No open is for more than one command, and nothing else is for any.
 
 turn-few : (client : ClientNo) (ask : Option Ask) → length (turn_asked client ask) ≤ 1
-turn-few client None = omega arith
-turn-few client (Some ask) = omega arith
+turn-few client ask = grind (arith, common_steps)
 
 turns-for : (o : Option ClientNo) (asks : ℕ → Option Ask) → length (turn_for o asks) ≤ 1
-turns-for None asks = omega arith
-turns-for (Some client) asks = turn-few client (asks client.0)
+turns-for o asks = grind (arith, common_steps, turn-few)
 
 turn-at-most : (tables : Tables) (e : Entry) → length (turn_at tables e) ≤ tries_at e
-turn-at-most tables (Opened server address link) = turns-for (oldest tables.lends.waiting) tables.lends.asks
-turn-at-most tables (OpenFailed server address) = turns-for (oldest tables.lends.waiting) tables.lends.asks
-turn-at-most tables _ = omega arith
+turn-at-most tables e = grind (arith, common_steps, turns-for)
 
 cons-length : (o : Option (Option LinkId)) (tries : List (Option LinkId)) → length (cons_option o tries) ≡ length (cons_option o []) + length tries
-cons-length None tries = omega arith
-cons-length (Some try) tries = omega arith
+cons-length o tries = grind (arith, common_steps)
 
 behind-few : (setup : Setup) (before log : Log) → length (turns_behind setup before log) ≤ length (open_tries log)
 behind-few setup before [] = omega arith
-behind-few setup before (e ∷ log) = (let all : length (turn_at (tables_after setup before) e ++ turns_behind setup (before ++ e ∷ []) log) ≡ length (turn_at (tables_after setup before) e) + length (turns_behind setup (before ++ e ∷ []) log) =
-    length-append (turn_at (tables_after setup before) e) (turns_behind setup (before ++ e ∷ []) log) in
-    let tries : length (open_tries (e ∷ log)) ≡ tries_at e + length (open_tries log) = cons-length (open_try e) (open_tries log) in
-    let one : length (turn_at (tables_after setup before) e) ≤ tries_at e = turn-at-most (tables_after setup before) e in
-    let later : length (turns_behind setup (before ++ e ∷ []) log) ≤ length (open_tries log) = behind-few setup (before ++ e ∷ []) log in
-    omega arith)
+behind-few setup before (e ∷ log) = grind (arith, common_steps, length-append, cons-length, turn-at-most, (behind-few setup (before ++ e ∷ []) log))
 
 -- What covers a longer log covers the log.
 opens-so : (service : Service) (log : Log) (e : Entry) (covers : Covers service (log ++ e ∷ [])) → service.opens ≡ turns service.setup log ++ (turn_at (tables_after service.setup log) e ++ covers.rest)
@@ -238,16 +215,13 @@ pub record IsFor (service : Service) (log : Log) (tables : Tables) (e : Entry) :
   pub turn : turn_at tables e ≡ record { client = client.0; ordinal = waiting.ask.ordinal; hostgroup = 0 } ∷ []
 
 awaited : (closes waits : Bool) (setup : Setup) (target : Target) → awaited_if closes waits setup ≡ Some target → (closes ≡ false) × (waits ≡ true)
-awaited false true setup target is = (refl, refl)
-awaited true waits setup target is = absurd (let none : None ≡ Some target = is in cc)
-awaited false false setup target is = absurd (let none : None ≡ Some target = is in cc)
+awaited closes waits setup target is = grind (arith, common_steps)
 
 pub awaits-so : (setup : Setup) (tables : Tables) (target : Target) → awaits setup tables ≡ Some target → (closes tables ≡ false) × (is_waiting tables.lends.waiting ≡ true)
 awaits-so setup tables target is = awaited (closes tables) (is_waiting tables.lends.waiting) setup target is
 
 one-waits : (waiting : List ClientNo) → AtMostOne waiting → is_waiting waiting ≡ true → (client : ClientNo) × (waiting ≡ client ∷ [])
-one-waits waiting Nobody is = absurd (let none : false ≡ true = is in cc)
-one-waits waiting (One client) is = (client, refl)
+one-waits waiting h1 is = grind (arith, common_steps)
 
 pub opens-for : (service : Service) (log : Log) (tables : Tables) (target : Target) (e : Entry) → Sound service log None tables → awaits service.setup tables ≡ Some target → turn_at tables e ≡ turn_for (oldest tables.lends.waiting) tables.lends.asks → IsFor service log tables e
 opens-for service log tables target e sound awaits at = (let one = one-waits tables.lends.waiting sound.lends.one_waits (awaits-so service.setup tables target awaits).1 in
@@ -277,24 +251,19 @@ pub data Writes (tables : Tables) (link : LinkId) (tag : Tag) (bytes : List ℕ)
 
 -- the bytes of a reply
 reply-is : (bytes : List ℕ) (sent : Sent) → reply_sent bytes ≡ Some sent → record { tag = Reply; bytes = bytes } ≡ sent
-reply-is [] sent is = absurd (let none : None ≡ Some sent = is in cc)
-reply-is (byte ∷ bytes) sent is = some-same _ sent is
+reply-is bytes sent is = grind (arith, common_steps, some-same)
 
 pub reply-front : (tag : Tag) (bytes whole : List ℕ) → IsFront (reply_sent whole) tag bytes → (tag ≡ Reply) × (n : ℕ) × (bytes ≡ take n whole)
 reply-front tag bytes whole front = (let the = reply-is whole front.sent front.is in (front.same_tag ∙ ap (λ (s : Sent). s.tag) (sym the), front.n, front.front ∙ ap (λ (s : Sent). take front.n s.bytes) (sym the)))
 
 seat-front : (o : Option Seat) (tag : Tag) (bytes : List ℕ) → IsFront (seat_sends o) tag bytes → (seat : Seat) × (o ≡ Some seat) × (tag ≡ Reply) × (n : ℕ) × (bytes ≡ take n seat.session.client.outgoing)
-seat-front None tag bytes front = absurd (let none : None ≡ Some front.sent = front.is in cc)
-seat-front (Some seat) tag bytes front = (let one = reply-front tag bytes seat.session.client.outgoing front in (seat, refl, one.0, one.1, one.2))
+seat-front o tag bytes front = grind (arith, common_steps, reply-front)
 
 left-front : (o : Option Sent) (tag : Tag) (bytes : List ℕ) → IsFront o tag bytes → (l : Sent) × (o ≡ Some l) × (tag ≡ l.tag) × (n : ℕ) × (bytes ≡ take n l.bytes)
-left-front None tag bytes front = absurd (let none : None ≡ Some front.sent = front.is in cc)
-left-front (Some l) tag bytes front = (let the : record { tag = l.tag; bytes = l.bytes } ≡ front.sent = some-same _ front.sent front.is in
-    (l, refl, front.same_tag ∙ ap (λ (s : Sent). s.tag) (sym the), front.n, front.front ∙ ap (λ (s : Sent). take front.n s.bytes) (sym the)))
+left-front o tag bytes front = grind (arith, common_steps, some-same)
 
 lent-left : (o : Option Lent) (l : Sent) → left_in o ≡ Some l → (lent : Lent) × (o ≡ Some lent) × (left lent.backend ≡ Some l)
-lent-left None l is = absurd (let none : None ≡ Some l = is in cc)
-lent-left (Some lent) l is = (lent, refl, is)
+lent-left o l is = grind (arith, common_steps)
 
 sends-so : (service : Service) (log : Log) (tables : Tables) (link : LinkId) (tag : Tag) (bytes : List ℕ) → Sound service log None tables → IsFront (sends tables link) tag bytes → Writes tables link tag bytes
 sends-so service log tables link tag bytes sound front = by (tables.numbers link.0) refl front where
@@ -340,11 +309,7 @@ left-at backend l is = by backend.own refl is where
 -- A link of the tables can be used.
 unspoilt-by : (command : Option Handed) → standing_by command ≢ Spoilt
 unspoilt-by None is = (let no : Clean ≡ Spoilt = is in cc)
-unspoilt-by (Some command) is = by (nat_eq command.sent 0) (nat_eq command.sent (length command.bytes)) is where
-  by : (none all : Bool) → cond none Clean (cond all Runs Sends) ≢ Spoilt
-  by true all is = (let no : Clean ≡ Spoilt = is in cc)
-  by false true is = (let no : Runs ≡ Spoilt = is in cc)
-  by false false is = (let no : Sends ≡ Spoilt = is in cc)
+unspoilt-by (Some command) is = grind (arith, common_steps)
 
 pub unspoilt : (forms : Forms) (user : Account) (heard : List ℕ) (pieces : List Command) (backend : BackendState) → LinkAt forms user heard pieces backend → standing_said forms user heard pieces ≢ Spoilt
 unspoilt forms user heard pieces backend (Entering at) is = (let no : Enters ≡ Spoilt = sym (standing-entering forms user heard pieces backend at) ∙ is in cc)
@@ -362,8 +327,7 @@ may-say service log tables link lent k sound is some = (let by : RowStands servi
 
 -- A link with a command is logged in.
 pub inside-with : (forms : Forms) (user : Account) (heard : List ℕ) (pieces : List Command) (backend : BackendState) (command : Handed) → LinkAt forms user heard pieces backend → backend.command ≡ Some command → IsInside forms user heard pieces backend
-inside-with forms user heard pieces backend command (Inside at) is = at
-inside-with forms user heard pieces backend command (Entering at) is = absurd (let no : None ≡ Some command = sym at.login.idle ∙ is in cc)
+inside-with forms user heard pieces backend command h6 is = grind (arith, common_steps)
 
 -- Bytes of its command.
 front-of : (bytes : List ℕ) (sent k : ℕ) → (take sent bytes ++ take k (drop sent bytes)) ++ drop k (drop sent bytes) ≡ bytes
@@ -433,13 +397,10 @@ may-write service log tables link lent l k sound is lefts = by (left-at lent.bac
 
 -- It is at the server that queries go to.
 at-target : (o : Option ServerAt) (server : ServerId) (address : Address) → target_of o ≡ Some (record { server = server; address = address }) → o ≡ Some (record { server = server; address = address })
-at-target None server address is = absurd (let none : None ≡ Some _ = is in cc)
-at-target (Some at) server address is = ap (λ (t : Target). Some (record { server = t.server; address = t.address })) (some-same (record { server = at.server; address = at.address }) (record { server = server; address = address }) is)
+at-target o server address is = grind (arith, common_steps, some-same)
 
 awaits-target : (closes waits : Bool) (setup : Setup) (target : Target) → awaited_if closes waits setup ≡ Some target → target_of setup.target ≡ Some target
-awaits-target false true setup target is = is
-awaits-target true waits setup target is = absurd (let none : None ≡ Some target = is in cc)
-awaits-target false false setup target is = absurd (let none : None ≡ Some target = is in cc)
+awaits-target closes waits setup target is = grind (arith, common_steps)
 
 pub may-open : (service : Service) (log : Log) (e : Entry) (server : ServerId) (address : Address) → AllLawful Fits log → Sound service log None (tables_after service.setup log) → Covers service (log ++ e ∷ []) → awaits service.setup (tables_after service.setup log) ≡ Some (record { server = server; address = address })
     → IsFor service log (tables_after service.setup log) e → MayOpen service (record { server = server; address = address }) log
@@ -479,8 +440,7 @@ may-open service log e server address told sound covers awaited for = record {
 -- The link that the router closes may be closed.
 
 some-sent : (bytes : List ℕ) → 0 < length bytes → is_some (reply_sent bytes) ≡ true
-some-sent [] some = absurd (omega arith)
-some-sent (byte ∷ bytes) some = refl
+some-sent bytes some = grind (arith, common_steps)
 
 -- A client's link, where what it is told was offered.
 may-part : (service : Service) (log : Log) (n : ℕ) (came : Arrival) (bytes : List ℕ) → PartAt service log n came bytes → (is_some (reply_sent bytes) ≡ true → was_offered came.link log ≡ true) → came.port ≡ Traffic → MayPart (is_served service.setup came) service n came log

@@ -1,4 +1,5 @@
 -- What an entry of one client's link to a server, or an open for a client, leaves of the links and the commands of others.
+use Rattle.router_world.proofs.Names.{common_steps}
 use Rattle.router_world.proofs.Calm.{or-none, Leaves, leaves-other, sent-unrefused, unsent-still, unrefused-more}
 use Rattle.router_world.proofs.Apart.{apart-links, apart-numbers, rows-one, RowNow, Was, Now, mended, OneRow, Mine, owner-mine, none-mine, apart-one, none-one}
 use Rattle.router_world.proofs.Apart.{Comes, Came, traces-one, set-same, put-other, Stays}
@@ -34,9 +35,7 @@ other-turn n k i turn same differs = ap (λ m. nat_eq k m && nat_eq i turn.ordin
 
 -- what the entry refuses is the command that its link was opened for
 pub link-cause : (service : Service) (log : Log) (e : Entry) (link : LinkId) (turn other : Turn) → link_of e ≡ Some link → turn_of service link log ≡ Some turn → Cause service log other e → turn ≡ other
-link-cause service log _ link turn other names opened (NotOpened server address next) = absurd (let no' : None ≡ Some link = names in cc)
-link-cause service log _ link turn other names opened (NotLoggedIn e breaks) =
-    some-same turn other (sym opened ∙ ap (λ (l : LinkId). turn_of service l log) (some-same link breaks.link (sym names ∙ breaks.names)) ∙ breaks.opened_for)
+link-cause service log e link turn other names opened h8 = grind (arith, common_steps, some-same)
 
 pub open-cause : (service : Service) (log : Log) (server : ServerId) (address : Address) (link : LinkId) (other : Turn) → Cause service log other (Opened server address link) → ⊥
 open-cause service log server address link other (NotLoggedIn _ breaks) = lost-none (was_lost breaks.link log) (goes_on (login_on breaks.user breaks.link log)) breaks.fails
@@ -51,11 +50,8 @@ calm-other service log _ n k (OpensNone server address turn next mine) differs =
 
 -- Links of others are left.
 pub leaves-others : (service : Service) (log : Log) (e : Entry) (n : ℕ) (link : LinkId) (turn : Turn) → Concerns service log n e → Fits log e → IsOpen link log → turn_of service link log ≡ Some turn → nat_eq turn.client n ≡ false → Leaves link log e
-leaves-others service log _ n link turn (OnLink e other theirs names opened mine writes) fits there is differs = leaves-other link log e (ap (is_link link) names ∙ apart-links link other (λ at.
-    (let same : turn ≡ theirs = some-same turn theirs (sym is ∙ ap (λ (l : LinkId). turn_of service l log) at ∙ opened) in
-    let no' : true ≡ false = sym (same_number n) ∙ ap (λ m. nat_eq m n) (sym mine) ∙ ap (λ (t : Turn). nat_eq t.client n) (sym same) ∙ differs in cc)))
-leaves-others service log _ n link turn (Opens server address other) fits there is differs = leaves-other link log (Opened server address other)
-    (apart-links link other (λ at. (let no' : false ≡ true = sym (ap (fold open_step false) fits) ∙ ap (λ (l : LinkId). is_open l log) (sym at) ∙ there in cc)))
+leaves-others service log _ n link turn (OnLink e other theirs names opened mine writes) fits there is differs = grind (arith, common_steps, leaves-other, apart-links, some-same)
+leaves-others service log _ n link turn (Opens server address other) fits there is differs = grind (arith, common_steps, leaves-other, apart-links)
 leaves-others service log _ n link turn (OpensNone server address next is_next mine) fits there is differs = leaves-other link log (OpenFailed server address) refl
 
 pub but-client : (service : Service) (log : Log) (e : Entry) (n : ℕ) (lends : Lends) → AllLawful (IsLawful service) (log ++ e ∷ []) → AllLawful Fits (log ++ e ∷ []) → LendsSound service log lends → Concerns service log n e → LendsBut service (log ++ e ∷ []) n lends
@@ -82,8 +78,7 @@ same-row service log lends one other lent another n fits lawful row mine second 
 
 -- the owner of a row is its turn's client
 pub row-mine : (service : Service) (log : Log) (lends : Lends) (link : LinkId) (lent : Lent) (n : ℕ) → Owned service log lends link n lent → Mine n lent
-row-mine service log lends link lent n (Own owner owns) = owner-mine n lent owner
-row-mine service log lends link lent n (Left none gone begun) = none-mine n lent none
+row-mine service log lends link lent n h6 = grind (arith, common_steps, owner-mine, none-mine)
 
 -- An entry of a link: what is new of its client.
 pub record RowNews (service : Service) (log : Log) (n : ℕ) (link : LinkId) (lends other : Lends) : Type 0 where
@@ -129,30 +124,21 @@ alone : {X : Type 0} (f : Log → X) (link : LinkId) (e : Entry) → link_of e �
 alone f link e names = ap (λ b. f (cond b (e ∷ []) [])) (is-here link e names)
 
 pub heard-on : (link : LinkId) (log : Log) (e : Entry) → link_of e ≡ Some link → was_lost link log ≡ false → is_loss e ≡ false → heard_of link (log ++ e ∷ []) ≡ heard_of link log ++ got_bytes e
-heard-on link log e names unlost stays = heard-more link log (e ∷ []) unlost
-    ∙ ap (λ xs. heard_of link log ++ xs) (alone (λ (l : Log). flat_map got_bytes (until_loss l)) link e names ∙ ap (λ b. flat_map got_bytes (cond b [] (e ∷ []))) stays ∙ append-nil (got_bytes e))
+heard-on link log e names unlost stays = grind (arith, common_steps, heard-more, append-nil)
 
 pub heard-end : (link : LinkId) (log : Log) (e : Entry) → link_of e ≡ Some link → was_lost link log ≡ false → is_loss e ≡ true → heard_of link (log ++ e ∷ []) ≡ heard_of link log
-heard-end link log e names unlost lost = heard-more link log (e ∷ []) unlost
-    ∙ ap (λ xs. heard_of link log ++ xs) (alone (λ (l : Log). flat_map got_bytes (until_loss l)) link e names ∙ ap (λ b. flat_map got_bytes (cond b [] (e ∷ []))) lost) ∙ append-nil (heard_of link log)
+heard-end link log e names unlost lost = grind (arith, common_steps, heard-more, append-nil)
 
 pub pieces-on : (link : LinkId) (log : Log) (e : Entry) → link_of e ≡ Some link → was_lost link log ≡ false → piece e ≡ None → pieces_of link (log ++ e ∷ []) ≡ pieces_of link log
-pieces-on link log e names unlost none = pieces-more link log (e ∷ []) unlost
-    ∙ ap (λ xs. pieces_of link log ++ xs) (alone (λ (l : Log). filter_map piece (until_loss l)) link e names ∙ by (is_loss e)) ∙ append-nil (pieces_of link log) where
-      by : (b : Bool) → filter_map piece (cond b [] (e ∷ [])) ≡ []
-      by true = refl
-      by false = ap (λ o. Rattle.std.specs.List.cons_option o []) none
+pieces-on link log e names unlost none = grind (arith, common_steps, pieces-more, piece, append-nil)
 
 pub piece-on : (link : LinkId) (log : Log) (tag : Tag) (bytes : List ℕ) → was_lost link log ≡ false → pieces_of link (log ++ Wrote link tag bytes ∷ []) ≡ pieces_of link log ++ record { tag = tag; bytes = bytes } ∷ []
-piece-on link log tag bytes unlost = pieces-more link log (Wrote link tag bytes ∷ []) unlost
-    ∙ ap (λ xs. pieces_of link log ++ xs) (alone (λ (l : Log). filter_map piece (until_loss l)) link (Wrote link tag bytes) refl)
+piece-on link log tag bytes unlost = grind (arith, common_steps, pieces-more, piece)
 
 -- What comes of a command on the link is what the link says.
 pub replied-said : (service : Service) (n i : ℕ) (link : LinkId) (user : Account) (log : Log) → RefusedOrSent service log → carrier_of n i log ≡ Some link → user_on service link log ≡ Some user
     → replied service n i log ≡ reply_said service.forms n i user (heard_of link log) (pieces_of link log) (was_lost link log)
-replied-said service n i link user log never carrier is = ap (λ b. cond b (Some (connection_refused ∷ [])) (reply_to service n i log)) (sent-unrefused service n i log link never carrier)
-    ∙ ap (option_and_then (λ l. option_and_then (reply_on service.forms n i l log) (user_on service l log))) carrier
-    ∙ ap (option_and_then (reply_on service.forms n i link log)) is
+replied-said service n i link user log never carrier is = grind (arith, common_steps, sent-unrefused)
 
 pub command-is : (n i : ℕ) (tag : Tag) → tag ≡ For (record { 0 = n }) i → is_command n i tag ≡ true
 command-is n i tag is = ap (is_command n i) is ∙ ap (λ b. b && nat_eq i i) (same_number n) ∙ same_number i
@@ -266,17 +252,10 @@ calm-own service log e lends link lent n names row stays writes = record { write
 
 -- inside no login fails
 pub inside-stays : (user : Account) (link : LinkId) (log : Log) (e : Entry) → goes_on (login_on user link log) ≡ false → login_fails user link log e ≡ false
-inside-stays user link log e inside = ap (λ b. cond (was_lost link log) false (cond b (breaks_off user link log e) false)) inside ∙ by (was_lost link log) where
-  by : (b : Bool) → cond b false false ≡ false
-  by true = refl
-  by false = refl
+inside-stays user link log e inside = grind (arith, common_steps)
 
 pub login-stays : (user : Account) (link : LinkId) (log : Log) (e : Entry) → breaks_off user link log e ≡ false → login_fails user link log e ≡ false
-login-stays user link log e stays = ap (λ c. cond (was_lost link log) false (cond (goes_on (login_on user link log)) c false)) stays ∙ by (was_lost link log) (goes_on (login_on user link log)) where
-  by : (b c : Bool) → cond b false (cond c false false) ≡ false
-  by true c = refl
-  by false true = refl
-  by false false = refl
+login-stays user link log e stays = grind (arith, common_steps)
 
 -- While the login goes on, the client's command waits for it, and the link is its own.
 pub record IsEnteringHere (service : Service) (log : Log) (lends : Lends) (link : LinkId) (n : ℕ) (lent : Lent) : Type 0 where
@@ -286,10 +265,7 @@ pub record IsEnteringHere (service : Service) (log : Log) (lends : Lends) (link 
   pub owns : lends.owned n ≡ Some link
 
 pub entering-here : (service : Service) (log : Log) (lends : Lends) (link : LinkId) (lent : Lent) (row : RowStands service log lends link lent) → lent.backend.stage ≢ In → IsEnteringHere service log lends link row.turn.client lent
-entering-here service log lends link lent row outside = by row.owned where
-  by : Owned service log lends link row.turn.client lent → IsEnteringHere service log lends link row.turn.client lent
-  by (Own owner owns) = (let enters = row.enters outside in record { ask = enters.ask; is = enters.is; owner = owner; owns = owns })
-  by (Left none gone begun) = absurd (let at = entering-at service.forms lent.backend.account _ _ lent.backend row.at outside in let no' : false ≡ true = sym (ap is_begun at.login.idle) ∙ begun in cc)
+entering-here service log lends link lent row outside = grind (arith, common_steps, entering-at)
 
 -- a command that waits stays so
 pub ask-unreplied : (service : Service) (log : Log) (e : Entry) (n : ℕ) (ask : Ask) → AllLawful (IsLawful service) (log ++ e ∷ []) → AskStands service log n ask → Calm service log e n → replied service n ask.ordinal (log ++ e ∷ []) ≡ None
@@ -344,8 +320,7 @@ pub said-got : {X : Type 0} (f : List ℕ → List Command → X) (link : LinkId
 said-got f link log bytes unlost = ap (λ h. f h (pieces_of link (log ++ Got link bytes ∷ []))) (heard-on link log (Got link bytes) refl unlost refl) ∙ ap (f (heard_of link log ++ bytes)) (pieces-on link log (Got link bytes) refl unlost refl)
 
 pub got-at : (forms : Forms) (user : Account) (link : LinkId) (log : Log) (bytes : List ℕ) (backend : BackendState) → was_lost link log ≡ false → LinkAt forms user (heard_of link log ++ bytes) (pieces_of link log) backend → LinkAt forms user (heard_of link (log ++ Got link bytes ∷ [])) (pieces_of link (log ++ Got link bytes ∷ [])) backend
-got-at forms user link log bytes backend unlost at = subst (λ h. LinkAt forms user h (pieces_of link (log ++ Got link bytes ∷ [])) backend) (sym (heard-on link log (Got link bytes) refl unlost refl))
-    (subst (λ pieces. LinkAt forms user (heard_of link log ++ bytes) pieces backend) (sym (pieces-on link log (Got link bytes) refl unlost refl)) at)
+got-at forms user link log bytes backend unlost at = grind (arith, common_steps, heard-on, pieces-on)
 
 pub got-standing : (forms : Forms) (user : Account) (link : LinkId) (log : Log) (bytes : List ℕ) (standing : Standing) → was_lost link log ≡ false → standing_said forms user (heard_of link log ++ bytes) (pieces_of link log) ≡ standing → standing_on forms user link (log ++ Got link bytes ∷ []) ≡ standing
 got-standing forms user link log bytes standing unlost is = standing-unlost forms user link (log ++ Got link bytes ∷ []) (lost-on link log (Got link bytes) refl unlost) ∙ said-got (standing_said forms user) link log bytes unlost ∙ is

@@ -1,4 +1,5 @@
 -- A link to a server fails: its login does, or bytes come that no reply goes on with, or it is lost.
+use Rattle.router_world.proofs.Names.{common_steps}
 use Rattle.router_world.proofs.Names.{◌≡◌, ◌≢◌, ◌⊎◌, ◌<◌, ℕ, zero, suc, true, false, not, is_some, ◌||◌, ◌&&◌, cond, nat_eq, List, [], ◌∷◌, ◌++◌, length}
 use Rattle.router_world.proofs.Names.{Option, Some, None, refl, list_any, option_map, sym, ◌∙◌, ap, subst, append-nil, arith, inr, list_any-append, ClientNo}
 use Rattle.router_world.proofs.Names.{LinkId, Tag, For, Log, link_of, IsOpen, Fits, lawful-last, same_number, Entry, BackendState, is_begun, IsOpening, Handed}
@@ -26,26 +27,16 @@ use Rattle.server_side.specs.declared.stage.Stage.TheVariants as stage
 
 -- What is due on a link.
 pub id-begun : (sent first : ℕ) → 0 < sent → id_begun sent first ≡ Some first
-id-begun zero first some = absurd (omega arith)
-id-begun (suc sent) first some = refl
+id-begun sent first some = grind (arith, common_steps)
 
 pub due-begun : (backend : BackendState) (command : Handed) → backend.stage ≡ stage.In → backend.command ≡ Some command → 0 < command.sent → due_on backend ≡ Reply (nat_eq command.sent (length command.bytes)) command.first
 due-begun backend command inside has some = ap (λ s. due_at s backend.command) inside ∙ ap (due_at stage.In) has ∙ ap (λ id. due_by id (nat_eq command.sent (length command.bytes))) (id-begun command.sent command.first some)
 
 due-unbegun : (backend : BackendState) (o : Option Handed) → backend.stage ≡ stage.In → backend.command ≡ o → is_begun o ≡ false → due_on backend ≡ Nothing
-due-unbegun backend o inside has none = ap (λ s. due_at s backend.command) inside ∙ ap (due_at stage.In) has ∙ by o none where
-  by : (o : Option Handed) → is_begun o ≡ false → due_at stage.In o ≡ Nothing
-  by None none = refl
-  by (Some command) none = ap (λ n. due_by (id_begun n command.first) (nat_eq command.sent (length command.bytes))) (not-begun command.sent none)
+due-unbegun backend o inside has none = grind (arith, common_steps, not-begun)
 
 due-entering : (backend : BackendState) (read said : List ℕ) → IsOpening backend.stage backend read said → due_on backend ≡ Login
-due-entering backend read said at = by backend.stage at where
-  by : (s : Stage) → IsOpening s backend read said → due_at s backend.command ≡ Login
-  by stage.Greeting at = refl
-  by stage.Welcome at = refl
-  by stage.Switched at = refl
-  by stage.In at = absurd at
-  by stage.Lost at = absurd at
+due-entering backend read said at = grind (arith, common_steps)
 
 -- The link goes.
 pub record Shuts (n : ℕ) (link : LinkId) (lends other : Lends) : Type 0 where
@@ -71,10 +62,7 @@ shut-news service log e lends link lent at other shuts opened may ask owns one_w
 
 -- a command that is begun stands on its link
 pub carried : (service : Service) (log : Log) (n : ℕ) (link : LinkId) (command : Handed) → (stands : HandedStands service log n link command) → 0 < command.sent → carrier_of n stands.ordinal log ≡ Some link
-carried service log n link command stands some = by command.sent some stands.carrier where
-  by : (sent : ℕ) → 0 < sent → carrier_of n stands.ordinal log ≡ carried_by link sent → carrier_of n stands.ordinal log ≡ Some link
-  by zero some at = absurd (omega arith)
-  by (suc sent) some at = at
+carried service log n link command stands some = grind (arith, common_steps)
 
 -- a command that is begun has no other beside it
 pub begun-alone : (service : Service) (log : Log) (lends : Lends) (n : ℕ) (link : LinkId) (command : Handed) → LendsSound service log lends → HandedStands service log n link command → 0 < command.sent → lends.asks n ≡ None

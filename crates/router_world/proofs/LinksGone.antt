@@ -1,4 +1,5 @@
 -- What the bytes of a whole command say of the reply to it is what its message asks for.
+use Rattle.router_world.proofs.Names.{common_steps}
 use Rattle.std.proofs.lemmas.Bool.{not-false}
 use Rattle.router_world.proofs.Apart.{rows-one, row-now, set-same, set-other, Apart, Traces, row-among, RowNow, Mended, mended, MayGo, Away, Idle, Went}
 use Rattle.router_world.proofs.Apart.{none-one, one-same, but-one, put-other, begun-inside, kept-row, NoRow, apart-none, traces-none, Stays, Closes, OneRow}
@@ -39,10 +40,7 @@ unfolding spelling
 spelling-size payload = packets-size (length payload / longest) 0 payload (omega arith)
 
 id-spelt : (payload : List ℕ) → id_after (spelling 0 payload) ≡ id_behind 0 payload
-id-spelt payload = (let size = spelling-size payload in
-    let same : length (spelling 0 payload) / (longest + 4) ≡ length payload / longest = omega arith in
-    let none : 0 + length payload / longest ≡ length payload / longest = omega arith in
-    ap (λ n. (n + 1) % 256) (same ∙ sym none))
+id-spelt payload = grind (arith, common_steps, spelling-size)
 
 -- the code of a command is the first byte of its first packet's body
 code-spelt : (full id : ℕ) (payload : List ℕ) → full * longest ≤ length payload → slice_index_or (packets full id payload) 4 0 ≡ slice_index_or payload 0 0
@@ -55,24 +53,10 @@ unfolding spelling
 kind-coded payload = ap (λ code. cond (nat_eq code 4) Fields Results) (code-spelt (length payload / longest) 0 payload (omega arith))
 
 kind-parsed : (payload : List ℕ) → cond (nat_eq (slice_index_or payload 0 0) 4) Fields Results ≡ kind_asked (parsed payload)
-kind-parsed [] = refl
-kind-parsed (b ∷ rest) = by (nat_eq b 4) refl where
-  others : (quit schema query ping : Bool) → Results ≡ kind_asked (Ok (cond quit Quit (cond schema (InitDb rest) (cond query (Query rest) (cond ping Ping (Refused b))))))
-  others true schema query ping = refl
-  others false true query ping = refl
-  others false false true ping = refl
-  others false false false true = refl
-  others false false false false = refl
-
-  by : (code : Bool) → nat_eq b 4 ≡ code → cond code Fields Results ≡ kind_asked (Ok (command_meant b rest))
-  by true is = ap (λ byte. kind_asked (Ok (command_meant byte rest))) (sym (nat_eq-true b 4 is))
-  by false is = others (nat_eq b 1) (nat_eq b 2) (nat_eq b 3) (nat_eq b 14)
-      ∙ ap (λ c. kind_asked (Ok (cond (nat_eq b 1) Quit (cond (nat_eq b 2) (InitDb rest) (cond (nat_eq b 3) (Query rest) (cond c (FieldList rest) (cond (nat_eq b 14) Ping (Refused b)))))))) (sym is)
+kind-parsed payload = grind (arith, common_steps, nat_eq-true)
 
 pub form-spelt : (message : Framed) → message.first ≡ 0 → form_at (spelling 0 message.payload) ≡ form_of message
-form-spelt message begins =
-    ap (λ (kind : ReplyKind). record { kind = kind; first = id_after (spelling 0 message.payload) }) (kind-coded message.payload ∙ kind-parsed message.payload)
-    ∙ ap (λ (id : ℕ). record { kind = kind_asked (parsed message.payload); first = id }) (id-spelt message.payload ∙ ap (λ first. id_behind first message.payload) (sym begins))
+form-spelt message begins = grind (arith, common_steps, kind-coded, kind-parsed, id-spelt)
 
 -- A client has gone: its command is dropped, and its link is to be closed, or left until the reply there is read.
 
@@ -91,11 +75,7 @@ still-waits : (n k : ℕ) (waiting : List ClientNo) → nat_eq k n ≡ false →
 still-waits n k waiting differs is = ap (waiting_but n) is ∙ ap (λ b. cond (not b) (record { 0 = k } ∷ []) []) differs
 
 waited : (n : ℕ) (client : ClientNo) (waiting : List ClientNo) → AtMostOne waiting → waiting_but n waiting ≡ client ∷ [] → (waiting ≡ client ∷ []) × (nat_eq client.0 n ≡ false)
-waited n client _ Nobody is = absurd (none-one [] refl is)
-waited n client _ (One x) is = by (nat_eq x.0 n) refl is where
-  by : (b : Bool) → nat_eq x.0 n ≡ b → cond (not b) (x ∷ []) [] ≡ client ∷ [] → (x ∷ [] ≡ client ∷ []) × (nat_eq client.0 n ≡ false)
-  by true at is = absurd (none-one [] refl is)
-  by false at is = (is, ap (λ (c : ClientNo). nat_eq c.0 n) (sym (one-same x client is)) ∙ at)
+waited n client waiting h3 is = grind (arith, common_steps, none-one, one-same)
 
 -- nothing of the client is left, and the links stand
 went-of : (service : Service) (log : Log) (n : ℕ) (lends other : Lends) → LendsSound service log lends → Apart n lends other → Traces lends other → Gone other n → other.waiting ≡ waiting_but n lends.waiting
@@ -121,8 +101,7 @@ pub not-begun : (sent : ℕ) → not (nat_eq sent 0) ≡ false → sent ≡ 0
 not-begun sent none = nat_eq-true sent 0 (not-false (nat_eq sent 0) none)
 
 pub unbegun : (o : Option Handed) → is_begun o ≡ false → begun o ≡ []
-unbegun None none = refl
-unbegun (Some command) none = ap (λ sent. begun_by sent command) (not-begun command.sent none)
+unbegun o none = grind (arith, common_steps, not-begun)
 
 unbegun-idle : (forms : Forms) (user : Account) (link : LinkId) (log : Log) (lent : Lent) → was_lost link log ≡ false → LinkAt forms user (heard_of link log) (pieces_of link log) lent.backend → is_begun lent.backend.command ≡ false → standing_on forms user link log ≢ Runs
 unbegun-idle forms user link log lent unlost (Entering at) none runs = (let no' : Enters ≡ Runs = sym (standing-unlost forms user link log unlost ∙ standing-entering forms user (heard_of link log) (pieces_of link log) lent.backend at) ∙ runs in cc)
@@ -131,18 +110,14 @@ unbegun-idle forms user link log lent unlost (Inside at) none runs = (let no' : 
 -- the link may be closed
 may-drop : (service : Service) (log : Log) (n : ℕ) (lends : Lends) (link : LinkId) (lent : Lent) (hostgroup : ℕ) → MayGo service log n lends → lends.owned n ≡ Some link → lends.links link.0 ≡ Some lent → was_lost link log ≡ false
     → LinkAt service.forms lent.backend.account (heard_of link log) (pieces_of link log) lent.backend → is_begun lent.backend.command ≡ false → MayDrop service (record { client = n; hostgroup = hostgroup }) lent.backend.account link log
-may-drop service log n lends link lent hostgroup (Away away) owns there unlost at none = HasGone away (unbegun-idle service.forms lent.backend.account link log lent unlost at none)
-may-drop service log n lends link lent hostgroup (Idle free idle) owns there unlost at none = (let is = free.idle link lent owns there in
-    Unneeded (standing-unlost service.forms lent.backend.account link log unlost ∙ standing-clean service.forms lent.backend.account _ _ lent.backend (inside-at service.forms lent.backend.account _ _ lent.backend at is.0) (ap begun is.1)) idle)
+may-drop service log n lends link lent hostgroup h7 owns there unlost at none = grind (arith, common_steps, unbegun-idle, standing-unlost, standing-clean, inside-at)
 
 begun-away : (service : Service) (log : Log) (n : ℕ) (lends : Lends) (link : LinkId) (lent : Lent) → MayGo service log n lends → lends.owned n ≡ Some link → lends.links link.0 ≡ Some lent → is_begun lent.backend.command ≡ true → is_here n log ≡ false
-begun-away service log n lends link lent (Away away) owns there begins = away
-begun-away service log n lends link lent (Idle free idle) owns there begins = absurd (let no' : false ≡ true = sym (ap is_begun (free.idle link lent owns there).1) ∙ begins in cc)
+begun-away service log n lends link lent h6 owns there begins = grind (arith, common_steps)
 
 -- the row of a link whose client has gone
 left-row : (service : Service) (log : Log) (n : ℕ) (lends other : Lends) (link : LinkId) (lent : Lent) (row : RowStands service log lends link lent) → row.turn.client ≡ n → is_here n log ≡ false → is_begun lent.backend.command ≡ true → RowStands service log other link (record lent { owner = None })
-left-row service log n lends other link lent row mine away begins = row-among service log lends other link lent None row (λ outside. absurd (outside (begun-inside service.forms lent.backend.account _ _ lent.backend row.at begins)))
-    (Left refl (ap (λ k. is_here k log) mine ∙ away) begins)
+left-row service log n lends other link lent row mine away begins = grind (arith, common_steps, row-among, begun-inside)
 
 pub gone-sound : (service : Service) (log : Log) (n : ℕ) (lends : Lends) → LendsSound service log lends → (lends.closing ≡ []) ⊎ (lends.owned n ≡ None) → MayGo service log n lends → Went service log n lends (gone (record { 0 = n }) lends)
 gone-sound service log n lends sound closable may = by (lends.owned n) refl where

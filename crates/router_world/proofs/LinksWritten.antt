@@ -1,4 +1,5 @@
 -- Bytes are written on a link to a server.
+use Rattle.router_world.proofs.Names.{common_steps}
 use Rattle.std.proofs.lemmas.Bool.{false_from_ne_true}
 use Rattle.router_world.proofs.Names.{◌≡◌, ◌⊎◌, ◌≤◌, ◌<◌, ℕ, zero, suc, ◌+◌, ◌-◌, Bool, true, false, nat_lt, ◌&&◌, cond, nat_eq, List, [], ◌∷◌, ◌++◌, length}
 use Rattle.router_world.proofs.Names.{take, drop, Option, Some, None, refl, list_any, option_map, sym, ◌∙◌, ap, subst, append-nil, arith, length-take-le}
@@ -39,28 +40,17 @@ left-in backend l is = by backend.own refl is where
   by (byte ∷ bytes) same is = OfLogin (ap (λ (x : Sent). x.tag) (sym (some-same (record { tag = Own; bytes = byte ∷ bytes }) l is))) (λ n. ap (λ own. (taken_by n own backend).command) same)
 
 taken-account : (n : ℕ) (backend : BackendState) → (taken n backend).account ≡ backend.account
-taken-account n backend = by backend.own where
-  by : (own : List ℕ) → (taken_by n own backend).account ≡ backend.account
-  by [] = refl
-  by (byte ∷ bytes) = refl
+taken-account n backend = grind (arith, common_steps)
 
 taken-stage : (n : ℕ) (backend : BackendState) → (taken n backend).stage ≡ backend.stage
-taken-stage n backend = by backend.own where
-  by : (own : List ℕ) → (taken_by n own backend).stage ≡ backend.stage
-  by [] = refl
-  by (byte ∷ bytes) = refl
+taken-stage n backend = grind (arith, common_steps)
 
 more-or-not : (n k : ℕ) → (n ≤ k) ⊎ (k ≤ n)
 more-or-not n k = search arith
 
 -- a front of bytes is as many of them as it has
 pub front-size : (bytes front : List ℕ) (n : ℕ) → front ≡ take n bytes → (length front ≤ length bytes) × (take (length front) bytes ≡ front)
-front-size bytes front n is = by (more-or-not n (length bytes)) where
-  by : (n ≤ length bytes) ⊎ (length bytes ≤ n) → (length front ≤ length bytes) × (take (length front) bytes ≡ front)
-  by (inl small) = (let size : length (take n bytes) ≡ n = length-take-le n bytes small in let same : length front ≡ length (take n bytes) = ap length is in
-      let whole : length front ≤ length bytes = omega arith in let count : length front ≡ n = omega arith in (whole, ap (λ k. take k bytes) count ∙ sym is))
-  by (inr large) = (let all : front ≡ bytes = is ∙ take_all n bytes large in let size : length front ≡ length bytes = ap length all in
-      let whole : length front ≤ length bytes = omega arith in let back : length bytes ≤ length front = omega arith in (whole, take_all (length front) bytes back ∙ sym all))
+front-size bytes front n is = grind (arith, common_steps, more-or-not, length-take-le)
 
 -- What the client of the link has there: a command, or none is asked for.
 pub data Holds (lends : Lends) (n : ℕ) : Type 0 where
@@ -242,10 +232,7 @@ wrote-came service log tag bytes lends link lent wrote = (let size : ℕ = lengt
 
 -- what is lent to the link is what is left there
 pub front-left : (o : Option Sent) (tag : Tag) (bytes : List ℕ) → IsFront o tag bytes → (l : Sent) × (o ≡ Some l) × (tag ≡ l.tag) × (length bytes ≤ length l.bytes) × (take (length bytes) l.bytes ≡ bytes)
-front-left None tag bytes front = absurd (let no' : None ≡ Some front.sent = front.is in cc)
-front-left (Some l) tag bytes front = (let same : record { tag = l.tag; bytes = l.bytes } ≡ front.sent = some-same (record { tag = l.tag; bytes = l.bytes }) front.sent front.is in
-    let size = front-size l.bytes bytes front.n (front.front ∙ ap (λ (s : Sent). take front.n s.bytes) (sym same)) in
-    (l, refl, front.same_tag ∙ ap (λ (s : Sent). s.tag) (sym same), size.0, size.1))
+front-left o tag bytes front = grind (arith, common_steps, some-same, front-size)
 
 pub wrote-at : (service : Service) (log : Log) (link : LinkId) (tag : Tag) (bytes : List ℕ) (lends : Lends) (lent : Lent) (row : RowStands service log lends link lent) → AllLawful (IsLawful service) (log ++ Wrote link tag bytes ∷ []) → AllLawful Fits (log ++ Wrote link tag bytes ∷ []) → LendsSound service log lends
     → lends.waiting ≡ [] → lends.closing ≡ [] → lends.links link.0 ≡ Some lent → IsFront (left_in (Some lent)) tag bytes → Holds lends row.turn.client → WroteAt service log tag bytes lends link lent

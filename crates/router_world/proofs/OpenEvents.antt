@@ -1,4 +1,5 @@
 -- A link to a server is opened for the client that waits, or can't be.
+use Rattle.router_world.proofs.Names.{common_steps}
 use Rattle.router_world.proofs.Hands.{numbered-seat, away-gone}
 use Rattle.std.proofs.lemmas.Bool.{and_right}
 use Rattle.router_world.proofs.Apart.{link-or-other, apart-links, apart-numbers, rows-one, row-now, set-same, set-other, Apart, RowNow, Was, Mended, mended}
@@ -53,15 +54,11 @@ turn_with client ask = record { client = client.0; ordinal = ask.ordinal; hostgr
 
 awaited-next : (service : Service) (log : Log) (e : Entry) (lends : Lends) (client : ClientNo) (awaited : IsAwaited service log lends client) (ask : Ask) → lends.asks client.0 ≡ Some ask → Covers service (log ++ e ∷ [])
     → turn_at (tables_after service.setup log) e ≡ turn_for (oldest (tables_after service.setup log).lends.waiting) (tables_after service.setup log).lends.asks → next_turn service log ≡ Some (turn_with client ask)
-awaited-next service log e lends client awaited ask asks covers at = next-turn service log e (turn_with client ask)
-    (at ∙ ap (λ (l : Lends). turn_for (oldest l.waiting) l.asks) awaited.are ∙ ap (λ w. turn_for (oldest w) lends.asks) awaited.waiting ∙ ap (λ o. Rattle.router_world.specs.World.turn_of client o) asks) covers
+awaited-next service log e lends client awaited ask asks covers at = grind (arith, common_steps, next-turn)
 
 -- no row is of that client
 awaited-others : (service : Service) (at : ServerAt) (log : Log) (lends : Lends) (turn : Turn) (l : LinkId) (x : Lent) → MayOpen service at log → next_turn service log ≡ Some turn → turn.hostgroup ≡ 0 → (row : RowStands service log lends l x) → nat_eq row.turn.client turn.client ≡ false
-awaited-others service at log lends turn l x may next zero_group row = apart-numbers row.turn.client turn.client (λ is. (let same : may.turn ≡ turn = some-same may.turn turn (sym may.is_next ∙ next) in
-    let client : row.turn.client ≡ may.turn.client = is ∙ ap (λ (t : Turn). t.client) (sym same) in
-    let owner : owner_of service l log ≡ Some (record { client = may.turn.client; hostgroup = 0 }) = ap (option_map (λ (t : Turn). record { client = t.client; hostgroup = t.hostgroup })) row.is_turn ∙ ap (λ m. Some (record { client = m; hostgroup = row.turn.hostgroup })) client ∙ ap (λ h. Some (record { client = may.turn.client; hostgroup = h })) row.hostgroup in
-    let no' : true ≡ false = sym row.opened ∙ may.none l owner in cc))
+awaited-others service at log lends turn l x may next zero_group row = grind (arith, common_steps, apart-numbers, some-same, opened)
 
 pub open-failed-sound : (service : Service) (log : Log) (server : ServerId) (address : Address) (lends : Lends) (client : ClientNo) → AllLawful (IsLawful service) (log ++ OpenFailed server address ∷ []) → AllLawful Fits (log ++ OpenFailed server address ∷ []) → IsAwaited service log lends client
     → Covers service (log ++ OpenFailed server address ∷ []) → Came service (log ++ OpenFailed server address ∷ []) client.0 lends (open_failed lends)

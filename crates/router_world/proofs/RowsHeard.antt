@@ -1,4 +1,5 @@
 -- A link to a server as a piece is heard there.
+use Rattle.router_world.proofs.Names.{common_steps}
 use Rattle.router_world.proofs.Names.{◌≡◌, ◌≢◌, ◌⊎◌, ◌≤◌, ◌<◌, ℕ, zero, suc, ◌+◌, ◌-◌, Bool, true, false, not, nat_eq, ◌&&◌, cond, List, [], ◌∷◌, ◌++◌, length}
 use Rattle.router_world.proofs.Names.{take, drop, Option, Some, None, refl, list_all, list_any, sym, ◌∙◌, ap, subst, append-nil, arith, length-append}
 use Rattle.router_world.proofs.Names.{length-drop, take_all, take-append-drop, inl, inr, and_parts, and_from, and_right, nil_from_length, list_all-append}
@@ -164,17 +165,14 @@ hearing : (forms : Forms) (user : Account) (heard piece : List ℕ) (pieces : Li
 hearing forms user heard piece pieces backend command asked = subst (λ (o : Option Handed). HearsPart o asked.at.part backend.reply) asked.is asked.at.partly
 
 formed : (forms : Forms) (user : Account) (heard piece : List ℕ) (pieces : List Command) (backend : BackendState) (command : Handed) → IsAsked forms user heard piece pieces backend command → forms command.tag ≡ form_at command.bytes
-formed forms user heard piece pieces backend command asked = (let message : IsMessage forms command = subst (IsHanded forms) asked.is asked.at.command in
-    message.form)
+formed forms user heard piece pieces backend command asked = grind (arith, common_steps)
 
 last-begun : (forms : Forms) (user : Account) (heard piece : List ℕ) (pieces : List Command) (backend : BackendState) (command : Handed) → IsAsked forms user heard piece pieces backend command → begun backend.command ≡ sent_of command ∷ []
 last-begun forms user heard piece pieces backend command asked = ap begun asked.is ∙ begun-some command asked.sent
 
 begun-stands : (forms : Forms) (user : Account) (heard piece : List ℕ) (pieces : List Command) (backend : BackendState) (command : Handed) (asked : IsAsked forms user heard piece pieces backend command)
     → Stands forms user (heard ++ piece) pieces (sent_of command ∷ []) (asked.at.part ++ piece)
-begun-stands forms user heard piece pieces backend command asked =
-    subst (λ l. Stands forms user (heard ++ piece) pieces l (asked.at.part ++ piece)) (last-begun forms user heard piece pieces backend command asked)
-    (stands-more forms user heard piece pieces (begun backend.command) asked.at.part (stands-at forms user heard pieces backend asked.at))
+begun-stands forms user heard piece pieces backend command asked = grind (arith, common_steps, last-begun, stands-more, stands-at)
 
 -- the reply goes on
 part-at : (forms : Forms) (user : Account) (heard piece : List ℕ) (pieces : List Command) (backend : BackendState) (command : Handed) (state : State) → IsAsked forms user heard piece pieces backend command → run command.tracker.state piece ≡ Going state

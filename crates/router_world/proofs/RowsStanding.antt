@@ -1,4 +1,5 @@
 -- A link to a server as bytes are handed to it and written.
+use Rattle.router_world.proofs.Names.{common_steps}
 use Rattle.promises.proofs.Clean.{with-piece-behind, behind-append, command-reply-grammar, replies-behind}
 use Rattle.router_world.proofs.Names.{◌≡◌, ◌≢◌, ◌⊎◌, ◌≤◌, ◌<◌, ℕ, zero, suc, ◌+◌, ◌-◌, Bool, true, false, nat_lt, ◌||◌, cond, List, [], ◌∷◌, ◌++◌, length, take}
 use Rattle.router_world.proofs.Names.{drop, Option, Some, None, refl, list_any, sym, ◌∙◌, ap, subst, append-nil, append_assoc, arith, length-append}
@@ -48,49 +49,20 @@ inside-after : (forms : Forms) (user : Account) (heard : List ℕ) (pieces now :
     → (bytes_in now ++ own ≡ at.said) ⊎ ((own ≡ []) × IsPrefix at.said (bytes_in now)) → commands_in (behind (length at.said) now) ≡ at.others ++ begun command_now → IsHanded forms command_now
     → ((n i : ℕ) → list_any (is_of n i) (begun command_now) ≡ true → list_any (is_of n i) at.others ≡ false) → (begun command_now ≡ [] → at.part ≡ []) → HearsPart command_now at.part reply
     → IsInside forms user heard now (record backend { own = own; command = command_now; reply = reply })
-inside-after forms user heard pieces now backend own reply command_now at written commands is_message new unasked partly = record {
-  account = at.account;
-  stage = at.stage;
-  said = at.said;
-  past = at.past;
-  part = at.part;
-  is = at.is;
-  written = written;
-  others = at.others;
-  wholes = at.wholes;
-  commands = commands;
-  command = is_message;
-  new = new;
-  whole = at.whole;
-  replies = at.replies;
-  all = at.all;
-  unasked = unasked;
-  partly = partly;
-}
+inside-after forms user heard pieces now backend own reply command_now at written commands is_message new unasked partly = grind (arith, common_steps)
 
 -- The packets of a message are handed to a link that has no command.
 pub packets-handed : (forms : Forms) (user : Account) (heard : List ℕ) (pieces : List Command) (backend : BackendState) (tag : Tag) (packets payload : List ℕ) (first : ℕ) → IsInside forms user heard pieces backend → backend.command ≡ None → packets ≡ spelling 0 payload → length payload ≤ most_command → forms tag ≡ form_at packets
     → IsInside forms user heard pieces (handed tag packets first backend)
-packets-handed forms user heard pieces backend tag packets payload first at none spelt short form = (let unheard : at.part ≡ [] = at.unasked (ap begun none) in
-    inside-after forms user heard pieces pieces backend backend.own [] (Some (command_of tag packets first)) at at.written
-    (at.commands ∙ ap (λ o. at.others ++ begun o) none) (record { payload = payload; spelt = spelt; short = short; sent = omega arith; form = form }) (λ n i is. absurd (let no : false ≡ true = is in cc)) (λ is. unheard)
-    (record {
-      goes = ap (run (started (to_command packets first))) unheard;
-      made = ap (renumbered (started (to_command packets first))) (sym unheard);
-      are = subst AreBytes (sym unheard) no-bytes;
-    }))
+packets-handed forms user heard pieces backend tag packets payload first at none spelt short form = grind (arith, common_steps, inside-after, no-bytes)
 
 -- The last reply is moved out.
 pub reply-moved : (forms : Forms) (user : Account) (heard : List ℕ) (pieces : List Command) (backend : BackendState) (reply : List ℕ) → IsInside forms user heard pieces backend → backend.command ≡ None → IsInside forms user heard pieces (record backend { reply = reply })
-reply-moved forms user heard pieces backend reply at none = inside-after forms user heard pieces pieces backend backend.own reply backend.command at at.written at.commands at.command at.new at.unasked
-    (subst (λ (o : Option Handed). HearsPart o at.part reply) (sym none) (subst (λ (o : Option Handed). HearsPart o at.part backend.reply) none at.partly))
+reply-moved forms user heard pieces backend reply at none = grind (arith, common_steps, inside-after)
 
 -- What was written of the command, once a byte of it was.
 pub begun-some : (command : Handed) → 0 < command.sent → begun (Some command) ≡ record { tag = command.tag; bytes = take command.sent command.bytes } ∷ []
-begun-some command = by command.sent where
-  by : (sent : ℕ) → 0 < sent → begun_by sent command ≡ record { tag = command.tag; bytes = take sent command.bytes } ∷ []
-  by zero some = absurd (omega arith)
-  by (suc sent) some = refl
+begun-some command = grind (arith, common_steps)
 
 -- More of it is written.
 begun-more : (forms : Forms) (command : Handed) (n : ℕ) → IsMessage forms command → 0 < n → n ≤ length (drop command.sent command.bytes)
@@ -112,30 +84,15 @@ same-said : (pieces : List Command) (tag : Tag) (n : ℕ) (own : List ℕ) → b
 same-said pieces tag n own = ap (λ xs. xs ++ drop n own) (bytes-more pieces (record { tag = tag; bytes = take n own })) ∙ append_assoc (bytes_in pieces) (take n own) (drop n own) ∙ ap (λ xs. bytes_in pieces ++ xs) (take-append-drop n own)
 
 left-alone : (backend : BackendState) (own read said : List ℕ) → IsLoggingIn backend read said → IsLoggingIn (record backend { own = own }) read said
-left-alone backend own read said at = record { framer = at.framer; is = by backend.stage at.is; unreplied = at.unreplied; idle = at.idle } where
-  by : (stage : Stage) → IsOpening stage backend read said → IsOpening stage (record backend { own = own }) read said
-  by stages.Greeting is = is
-  by stages.Welcome is = is
-  by stages.Switched is = is
-  by stages.In is = is
-  by stages.Lost is = is
+left-alone backend own read said at = grind (arith, common_steps)
 
 entering-taken : (user : Account) (heard : List ℕ) (pieces : List Command) (backend : BackendState) (n : ℕ) → IsEntering user heard pieces backend
     → IsEntering user heard (pieces ++ record { tag = Own; bytes = take n backend.own } ∷ []) (record backend { own = drop n backend.own })
-entering-taken user heard pieces backend n at = (let same : bytes_in (pieces ++ record { tag = Own; bytes = take n backend.own } ∷ []) ++ drop n backend.own ≡ bytes_in pieces ++ backend.own =
-    same-said pieces Own n backend.own in
-    record {
-      account = at.account;
-      login = subst (IsLoggingIn (record backend { own = drop n backend.own }) heard) (sym same) (left-alone backend (drop n backend.own) heard (bytes_in pieces ++ backend.own) at.login);
-      goes = at.goes ∙ ap Goes (sym same);
-    })
+entering-taken user heard pieces backend n at = grind (arith, common_steps, same-said, left-alone)
 
 -- While bytes of a login are left, all that was written is of it, and no command is begun.
 pub own-left : (forms : Forms) (user : Account) (heard : List ℕ) (pieces : List Command) (backend : BackendState) (at : IsInside forms user heard pieces backend) → 0 < length backend.own → bytes_in pieces ++ backend.own ≡ at.said
-own-left forms user heard pieces backend at some = by at.written where
-  by : (bytes_in pieces ++ backend.own ≡ at.said) ⊎ ((backend.own ≡ []) × IsPrefix at.said (bytes_in pieces)) → bytes_in pieces ++ backend.own ≡ at.said
-  by (inl is) = is
-  by (inr past) = absurd (let none : length backend.own ≡ 0 = ap length past.0 in omega arith)
+own-left forms user heard pieces backend at some = grind (arith, common_steps)
 
 said-longer : (forms : Forms) (user : Account) (heard : List ℕ) (pieces : List Command) (backend : BackendState) (at : IsInside forms user heard pieces backend) → 0 < length backend.own → length at.said ≡ length (bytes_in pieces) + length backend.own
 said-longer forms user heard pieces backend at some = ap length (sym (own-left forms user heard pieces backend at some)) ∙ length-append (bytes_in pieces) backend.own
@@ -156,10 +113,7 @@ own-taken forms user heard pieces backend n at some fits = (let piece : Command 
 
 -- all that the router says in a login was written
 pub said-written : (forms : Forms) (user : Account) (heard : List ℕ) (pieces : List Command) (backend : BackendState) (at : IsInside forms user heard pieces backend) → backend.own ≡ [] → IsPrefix at.said (bytes_in pieces)
-said-written forms user heard pieces backend at none = by at.written where
-  by : (bytes_in pieces ++ backend.own ≡ at.said) ⊎ ((backend.own ≡ []) × IsPrefix at.said (bytes_in pieces)) → IsPrefix at.said (bytes_in pieces)
-  by (inl is) = record { rest = []; is = append-nil at.said ∙ sym is ∙ ap (λ xs. bytes_in pieces ++ xs) none ∙ append-nil (bytes_in pieces) }
-  by (inr past) = past.1
+said-written forms user heard pieces backend at none = grind (arith, common_steps, append-nil)
 
 prefix-fits : (front whole : List ℕ) → IsPrefix front whole → length front ≤ length whole
 prefix-fits front whole at = (let sum : length (front ++ at.rest) ≡ length front + length at.rest = length-append front at.rest in let same : length (front ++ at.rest) ≡ length whole = ap length at.is in omega arith)
@@ -209,33 +163,7 @@ command-taken forms user heard pieces backend command n at none is some fits fre
 -- So many bytes of what is left are written, with its tag.
 pub taken-at : (forms : Forms) (user : Account) (heard : List ℕ) (pieces : List Command) (backend : BackendState) (l : Sent) (n : ℕ) → LinkAt forms user heard pieces backend → left backend ≡ Some l → 0 < n → n ≤ length l.bytes → IsFresh backend.command pieces
     → LinkAt forms user heard (pieces ++ record { tag = l.tag; bytes = take n l.bytes } ∷ []) (taken n backend)
-taken-at forms user heard pieces backend l n (Entering at) is some fits fresh = by backend.own refl is where
-  by : (own : List ℕ) → backend.own ≡ own → left_by own backend.command ≡ Some l → LinkAt forms user heard (pieces ++ record { tag = l.tag; bytes = take n l.bytes } ∷ []) (taken_by n own backend)
-  by [] same left = absurd (let no : None ≡ Some l = sym (ap command_left at.login.idle) ∙ left in cc)
-  by (byte ∷ bytes) same left = subst (λ (o : Sent). LinkAt forms user heard (pieces ++ record { tag = o.tag; bytes = take n o.bytes } ∷ []) (record backend { own = drop n (byte ∷ bytes) })) (some-same (record { tag = Own; bytes = byte ∷ bytes }) l left)
-      (subst (λ own. LinkAt forms user heard (pieces ++ record { tag = Own; bytes = take n own } ∷ []) (record backend { own = drop n own })) same (Entering (entering-taken user heard pieces backend n at)))
-taken-at forms user heard pieces backend l n (Inside at) is some fits fresh = by backend.own refl is where
-  piece : Command
-  piece = record { tag = l.tag; bytes = take n l.bytes }
-
-  of-command : backend.own ≡ [] → (command : Handed) → backend.command ≡ Some command → (there : Bool) → cond there (Some (record { tag = command.tag; bytes = drop command.sent command.bytes })) None ≡ Some l
-      → LinkAt forms user heard (pieces ++ piece ∷ []) (record backend { command = Some (record command { sent = command.sent + n }) })
-  of-command none command same false left = absurd (let no : None ≡ Some l = left in cc)
-  of-command none command same true left = (let the : record { tag = command.tag; bytes = drop command.sent command.bytes } ≡ l =
-      some-same (record { tag = command.tag; bytes = drop command.sent command.bytes }) l left in
-      subst (λ (o : Sent). LinkAt forms user heard (pieces ++ record { tag = o.tag; bytes = take n o.bytes } ∷ []) (record backend { command = Some (record command { sent = command.sent + n }) })) the
-      (Inside (command-taken forms user heard pieces backend command n at none same some (subst (λ (o : Sent). n ≤ length o.bytes) (sym the) fits) fresh)))
-
-  commanded-left : backend.own ≡ [] → (o : Option Handed) → backend.command ≡ o → command_left o ≡ Some l → LinkAt forms user heard (pieces ++ piece ∷ []) (record backend { command = command_taken n o })
-  commanded-left none None same left = absurd (let no : None ≡ Some l = left in cc)
-  commanded-left none (Some command) same left = of-command none command same (nat_lt command.sent (length command.bytes)) left
-
-  by : (own : List ℕ) → backend.own ≡ own → left_by own backend.command ≡ Some l → LinkAt forms user heard (pieces ++ piece ∷ []) (taken_by n own backend)
-  by [] same left = commanded-left same backend.command refl left
-  by (byte ∷ bytes) same left = (let the : record { tag = Own; bytes = byte ∷ bytes } ≡ l = some-same (record { tag = Own; bytes = byte ∷ bytes }) l left in
-      subst (λ (o : Sent). LinkAt forms user heard (pieces ++ record { tag = o.tag; bytes = take n o.bytes } ∷ []) (record backend { own = drop n (byte ∷ bytes) })) the
-      (subst (λ own. LinkAt forms user heard (pieces ++ record { tag = Own; bytes = take n own } ∷ []) (record backend { own = drop n own })) same
-      (Inside (own-taken forms user heard pieces backend n at some (subst (λ own. n ≤ length own) (sym same) (subst (λ (o : Sent). n ≤ length o.bytes) (sym the) fits))))))
+taken-at forms user heard pieces backend l n h7 is some fits fresh = grind (arith, common_steps, some-same, entering-taken, command-taken, own-taken)
 
 -- What was written of a login, with any part of what is left, is the front of what the router says in it.
 part-said : (pieces : List Command) (own said : List ℕ) (k : ℕ) → bytes_in pieces ++ own ≡ said → IsPrefix (bytes_in pieces ++ take k own) said
@@ -263,18 +191,10 @@ ends-as : (command : Handed) (part kept piece : List ℕ) → IsHearing command 
 ends-as command part kept piece hears = run-more (started (to_command command.bytes command.first)) command.tracker.state part piece hears.goes
 
 same-ended : (one two : Ending) (end : ReplyEnd) (rest : List ℕ) → SameEnd one two → one ≡ Ended end rest → two ≡ Ended end rest
-same-ended (Ended e r) (Ended f q) end rest same is = (let one : e ≡ end = cc in let two : r ≡ rest = cc in ap (λ r. Ended f r) (sym same.1 ∙ two) ∙ ap (λ e. Ended e rest) (sym same.0 ∙ one))
-same-ended (Going s) two end rest same is = absurd (let no : Going s ≡ Ended end rest = is in cc)
-same-ended (Failed r) two end rest same is = absurd (let no : Failed r ≡ Ended end rest = is in cc)
-same-ended (Ended e r) (Going s) end rest same is = absurd same
-same-ended (Ended e r) (Failed q) end rest same is = absurd same
+same-ended one two end rest same is = grind (arith, common_steps)
 
 same-failed : (one two : Ending) (behind : List ℕ) → SameEnd one two → one ≡ Failed behind → two ≡ Failed behind
-same-failed (Failed r) (Failed q) behind same is = (let one : r ≡ behind = cc in ap Failed (sym same ∙ one))
-same-failed (Going s) two behind same is = absurd (let no : Going s ≡ Failed behind = is in cc)
-same-failed (Ended e r) two behind same is = absurd (let no : Ended e r ≡ Failed behind = is in cc)
-same-failed (Failed r) (Going s) behind same is = absurd same
-same-failed (Failed r) (Ended e q) behind same is = absurd same
+same-failed one two behind same is = grind (arith, common_steps)
 
 length-kept : (command : Handed) (part kept : List ℕ) → IsHearing command part kept → length kept ≡ length part
 length-kept command part kept hears = ap length hears.made ∙ length-renumbered part (started (to_command command.bytes command.first))
@@ -294,10 +214,7 @@ heard-formed forms command c bytes form same = ap (λ (t : Tag). heard_as (forms
 
 -- no number is in the reply to a command
 renamed-none : (command : List ℕ) (payloads : List (List ℕ)) → renamed (kind_to command) 0 payloads ≡ payloads
-renamed-none command payloads = by (nat_eq (slice_index_or command 4 0) 4) where
-  by : (b : Bool) → renamed (cond b Fields Results) 0 payloads ≡ payloads
-  by true = refl
-  by false = refl
+renamed-none command payloads = grind (arith, common_steps)
 
 -- The reply is whole with the piece: this is its answer, these bytes are behind it, and what is kept with the piece is the answer from the client's id on.
 pub record IsWholeReply (forms : Forms) (command : Handed) (part kept piece : List ℕ) (reply : Answer) (rest : List ℕ) : Type 0 where
@@ -365,36 +282,14 @@ pub record Stands (forms : Forms) (user : Account) (read : List ℕ) (pieces las
   pub all : length whole ≡ length others
 
 pub stands-at : (forms : Forms) (user : Account) (heard : List ℕ) (pieces : List Command) (backend : BackendState) (at : IsInside forms user heard pieces backend) → Stands forms user heard pieces (begun backend.command) at.part
-stands-at forms user heard pieces backend at = record {
-  said = at.said;
-  past = at.past;
-  is = at.is;
-  others = at.others;
-  wholes = at.wholes;
-  commands = at.commands;
-  new = at.new;
-  whole = at.whole;
-  replies = at.replies;
-  all = at.all;
-}
+stands-at forms user heard pieces backend at = grind (arith, common_steps)
 
 -- bytes that come are behind the others
 pub opening-more : (user : Account) (heard piece said past kept : List ℕ) → opening user heard ≡ LogsIn said (past ++ kept) → opening user (heard ++ piece) ≡ LogsIn said (past ++ (kept ++ piece))
 opening-more user heard piece said past kept is = opening-logged_in user heard piece said (past ++ kept) is ∙ ap (LogsIn said) (append_assoc past kept piece)
 
 pub stands-more : (forms : Forms) (user : Account) (heard piece : List ℕ) (pieces last : List Command) (kept : List ℕ) → Stands forms user heard pieces last kept → Stands forms user (heard ++ piece) pieces last (kept ++ piece)
-stands-more forms user heard piece pieces last kept at = record {
-  said = at.said;
-  past = at.past;
-  is = opening-more user heard piece at.said at.past kept at.is;
-  others = at.others;
-  wholes = at.wholes;
-  commands = at.commands;
-  new = at.new;
-  whole = at.whole;
-  replies = at.replies;
-  all = at.all;
-}
+stands-more forms user heard piece pieces last kept at = grind (arith, common_steps, opening-more)
 
 -- The commands, the replies and how the link stands, by what the last command has.
 pub commands-of : (forms : Forms) (user : Account) (read : List ℕ) (pieces last : List Command) (kept : List ℕ) (at : Stands forms user read pieces last kept) → commands_said user read pieces ≡ at.others ++ last
@@ -402,8 +297,7 @@ commands-of forms user read pieces last kept at = ap (λ (o : Opening). commands
 
 pub replies-both : (forms : Forms) (others last : List Command) (past kept : List ℕ) (whole : List Answer) → replies_by (command_reply forms) others past ≡ record { whole = whole; rest = []; bad = None } → length whole ≡ length others
     → replies_by (command_reply forms) (others ++ last) (past ++ kept) ≡ behind_replies whole (replies_by (command_reply forms) last kept)
-replies-both forms others last past kept whole is all = replies-behind (command_reply forms) (command-reply-grammar forms) others last past kept (ap (λ (r : Replies). r.bad) is) (ap (λ (r : Replies). r.rest) is) (ap (λ (r : Replies). length r.whole) is ∙ all)
-    ∙ ap (λ (r : Replies). behind_replies r.whole (replies_by (command_reply forms) last kept)) is
+replies-both forms others last past kept whole is all = grind (arith, common_steps, replies-behind, command-reply-grammar)
 
 pub replies-of : (forms : Forms) (user : Account) (read : List ℕ) (pieces last : List Command) (kept : List ℕ) (at : Stands forms user read pieces last kept)
     → replies_said forms user read pieces ≡ behind_replies at.whole (replies_by (command_reply forms) last kept)
@@ -451,12 +345,10 @@ stands-open others c whole kept all = ap (stands_by None (is_empty kept && list_
 
 -- The stage says which of the two it is.
 pub inside-at : (forms : Forms) (user : Account) (heard : List ℕ) (pieces : List Command) (backend : BackendState) → LinkAt forms user heard pieces backend → backend.stage ≡ In → IsInside forms user heard pieces backend
-inside-at forms user heard pieces backend (Entering at) is = absurd (subst (λ s. IsOpening s backend heard (bytes_in pieces ++ backend.own)) is at.login.is)
-inside-at forms user heard pieces backend (Inside at) is = at
+inside-at forms user heard pieces backend h5 is = grind (arith, common_steps)
 
 pub entering-at : (forms : Forms) (user : Account) (heard : List ℕ) (pieces : List Command) (backend : BackendState) → LinkAt forms user heard pieces backend → backend.stage ≢ In → IsEntering user heard pieces backend
-entering-at forms user heard pieces backend (Entering at) other = at
-entering-at forms user heard pieces backend (Inside at) other = absurd (other at.stage)
+entering-at forms user heard pieces backend h5 other = grind (arith, common_steps)
 
 -- the login goes on
 pub standing-entering : (forms : Forms) (user : Account) (heard : List ℕ) (pieces : List Command) (backend : BackendState) → IsEntering user heard pieces backend → standing_said forms user heard pieces ≡ Enters
@@ -506,12 +398,7 @@ begun-at forms user heard pieces backend command at = subst (λ last. Stands for
 
 -- no command, or nothing of it was written
 pub standing-clean : (forms : Forms) (user : Account) (heard : List ℕ) (pieces : List Command) (backend : BackendState) → IsInside forms user heard pieces backend → begun backend.command ≡ [] → standing_said forms user heard pieces ≡ Clean
-standing-clean forms user heard pieces backend at none = (let by : Stands forms user heard pieces [] at.part → standing_said forms user heard pieces ≡ Clean =
-    λ now. standing-of forms user heard pieces [] at.part now
-    ∙ stands-answered (now.others ++ []) (now.whole ++ []) at.part (let one : length (now.others ++ []) ≡ length now.others + 0 = length-append now.others [] in let two : length (now.whole ++ []) ≡ length now.whole + 0 = length-append now.whole [] in let same : length now.whole ≡ length now.others = now.all in omega arith)
-    ∙ ap (λ kept. cond (is_empty kept && list_all is_whole (now.others ++ [])) Clean Spoilt) (at.unasked none)
-    ∙ ap (λ b. cond b Clean Spoilt) (ap (list_all is_whole) (append-nil now.others) ∙ now.wholes) in
-    by (subst (λ last. Stands forms user heard pieces last at.part) none (stands-at forms user heard pieces backend at)))
+standing-clean forms user heard pieces backend at none = grind (arith, common_steps, standing-of, stands-answered, length-append, append-nil, stands-at)
 
 standing-begun : (forms : Forms) (user : Account) (heard : List ℕ) (pieces : List Command) (backend : BackendState) (command : Handed) → IsBegun forms user heard pieces backend command → standing_said forms user heard pieces ≡ cond (is_whole (written command)) Runs Sends
 standing-begun forms user heard pieces backend command at = (let by : Stands forms user heard pieces (written command ∷ []) at.inside.part → standing_said forms user heard pieces ≡ cond (is_whole (written command)) Runs Sends =

@@ -1,4 +1,5 @@
 -- What each event leaves of how a client's session stands.
+use Rattle.router_world.proofs.Names.{common_steps}
 use Rattle.promises.proofs.Staying.{account-more}
 use Rattle.router_world.proofs.Names.{◌≡◌, ◌≢◌, ◌≤◌, ◌<◌, ℕ, suc, true, false, is_some, List, [], ◌++◌, length, take, drop, Option, Some, None, refl, sym, ◌∙◌}
 use Rattle.router_world.proofs.Names.{ap, subst, append-nil, append_assoc, take-append-drop, arith, ClientNo, Framed, Split, split, with_front, next_id}
@@ -52,31 +53,16 @@ abbrev pub with_outgoing : (outgoing : List ℕ) → ClientState → ClientState
 with_outgoing outgoing client = record client { outgoing = outgoing }
 
 login-outgoing : (talk : Talk) (client : ClientState) (outgoing bytes : List ℕ) → IsLoggingIn client.stage client talk.setup.version talk.read bytes → IsLoggingIn client.stage (with_outgoing outgoing client) talk.setup.version talk.read bytes
-login-outgoing talk client outgoing bytes login = by client.stage login where
-  by : (at : Stage) → IsLoggingIn at client talk.setup.version talk.read bytes → IsLoggingIn at (with_outgoing outgoing client) talk.setup.version talk.read bytes
-  by stage.Response is = is
-  by (stage.Answer response) is = is
-  by (stage.Login response first) is = is
-  by (stage.Refused first fault) is = is
-  by stage.Commands is = is
+login-outgoing talk client outgoing bytes login = grind (arith, common_steps)
 
 abbrev taken-outgoing : (talk : Talk) (client : ClientState) (outgoing : List ℕ) → IsTaken talk client → IsTaken talk (with_outgoing outgoing client)
 taken-outgoing talk client outgoing taken = record { stage = taken.stage; framer = taken.framer; past = taken.past; arrived = taken.arrived; whatever = taken.whatever }
 
 phase-outgoing : (at : Phase) (talk : Talk) (reply : ℕ → Option Answer) (bytes outgoing : List ℕ) (client : ClientState) → PhaseAt at talk reply bytes client → PhaseAt at talk reply bytes (with_outgoing outgoing client)
-phase-outgoing phase.LoggingIn talk reply bytes outgoing client at = record { login = login-outgoing talk client outgoing bytes at.login; switched = at.switched; waits = at.waits; arrived = at.arrived }
-phase-outgoing (phase.Idle user) talk reply bytes outgoing client at = record { taken = taken-outgoing talk client outgoing at.taken; account = at.account; all = at.all; faultless = at.faultless; none = at.none }
-phase-outgoing (phase.Working user) talk reply bytes outgoing client at =
-    record { taken = taken-outgoing talk client outgoing at.taken; account = at.account; message = at.message; work = at.work; query = at.query; begins = at.begins; short = at.short }
-phase-outgoing phase.Ending talk reply bytes outgoing client at = at
+phase-outgoing at talk reply bytes outgoing client h6 = grind (arith, common_steps, login-outgoing)
 
 pub taken-seat : (talk : Talk) (reply : ℕ → Option Answer) (written : List ℕ) (session : Session) (n : ℕ) → SeatAt talk reply written session → SeatAt talk reply (written ++ take n session.client.outgoing) (taken n session)
-taken-seat talk reply written session n seat = record {
-  mine = seat.mine;
-  due = sym (written-on n written session.client.outgoing) ∙ seat.due;
-  at = subst (λ bytes. PhaseAt session.phase talk reply bytes (with_outgoing (drop n session.client.outgoing) session.client)) (written-on n written session.client.outgoing)
-      (phase-outgoing session.phase talk reply (written ++ session.client.outgoing) (drop n session.client.outgoing) session.client seat.at);
-}
+taken-seat talk reply written session n seat = grind (arith, common_steps, written-on, phase-outgoing)
 
 -- Other replies come of its queries, which agree with those before.
 
@@ -86,11 +72,7 @@ pub record Agrees (talk : Talk) (reply other : ℕ → Option Answer) : Type 0 w
   pub none : (work : Work) → work_said reply talk ≡ Some work → is_query work.message.payload ≡ true → other work.ordinal ≡ None
 
 phase-agrees : (at : Phase) (talk : Talk) (reply other : ℕ → Option Answer) (bytes : List ℕ) (client : ClientState) → work_said other talk ≡ work_said reply talk → PhaseAt at talk reply bytes client → PhaseAt at talk other bytes client
-phase-agrees phase.LoggingIn talk reply other bytes client same at = at
-phase-agrees (phase.Idle user) talk reply other bytes client same at = record { taken = at.taken; account = at.account; all = same ∙ at.all; faultless = at.faultless; none = at.none }
-phase-agrees (phase.Working user) talk reply other bytes client same at =
-    record { taken = at.taken; account = at.account; message = at.message; work = same ∙ at.work; query = at.query; begins = at.begins; short = at.short }
-phase-agrees phase.Ending talk reply other bytes client same at = ap (λ w. ends_in (opening_of talk) (account talk) (ends_by w (is_some (messages_of talk).fault))) same ∙ at
+phase-agrees at talk reply other bytes client same h7 = grind (arith, common_steps)
 
 pub agree-work : (talk : Talk) (reply other : ℕ → Option Answer) → Agrees talk reply other → work_said other talk ≡ work_said reply talk
 agree-work talk reply other agrees = (agree talk.setup reply other 1 (messages_of talk).messages (fault_answer talk.setup.limit (messages_of talk).fault) agrees.stays agrees.none).goes
@@ -244,21 +226,7 @@ WaitsFor phase.Ending talk reply arrived = over_said reply talk ≡ true
 WaitsFor _ talk reply arrived = IsFree talk reply
 
 waits-at : (at : Phase) (talk : Talk) (reply : ℕ → Option Answer) (bytes : List ℕ) (client : ClientState) → PhaseAt at talk reply bytes client → WaitsFor at talk reply client.arrived
-waits-at phase.LoggingIn talk reply bytes client at = record {
-  free = work-alone reply talk (Waits at.switched) at.waits refl;
-  goes_on = ap (λ (o : Opening). ends_in o (account talk) (ends_by (work_said reply talk) (is_some (messages_of talk).fault))) at.waits;
-}
-waits-at (phase.Idle user) talk reply bytes client at = record {
-  free = at.all;
-  goes_on = over-in reply talk user at.account ∙ ap (λ w. ends_by w (is_some (messages_of talk).fault)) at.all ∙ ap (λ fault. is_some fault) at.faultless;
-}
-waits-at (phase.Working user) talk reply bytes client at = record {
-  message = at.message;
-  query = at.query;
-  work = at.work;
-  goes_on = over-in reply talk user at.account ∙ ap (λ w. ends_by w (is_some (messages_of talk).fault)) at.work ∙ query-no-quit at.message.payload at.query;
-}
-waits-at phase.Ending talk reply bytes client at = at
+waits-at at talk reply bytes client h5 = grind (arith, common_steps, work-alone, over-in, query-no-quit)
 
 pub work-here : (talk : Talk) (reply : ℕ → Option Answer) (written : List ℕ) (session : Session) → SeatAt talk reply written session → WaitsFor session.phase talk reply session.client.arrived
 work-here talk reply written session seat = waits-at session.phase talk reply (written ++ session.client.outgoing) session.client seat.at

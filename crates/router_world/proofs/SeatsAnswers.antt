@@ -1,4 +1,5 @@
 -- The answers of a client, up to the first that isn't there.
+use Rattle.router_world.proofs.Names.{common_steps}
 use Rattle.promises.proofs.Staying.{by-stays}
 use Rattle.promises.proofs.InWork.{query-answer, some-same}
 use Rattle.router_world.specs.Seats.{IsOf}
@@ -39,24 +40,13 @@ Means asked.Quit has_server reply meaning = (quit_by meaning ≡ true) × (answe
 Means (asked.Refused refusal) has_server reply meaning = answer_by (served has_server reply) meaning ≡ Some (payload_of refusal ∷ [])
 
 means-served : (has_server : Bool) (reply : Option Answer) (meaning : Result Meaning CommandFault) → query_by meaning ≡ true → ((o : Option Answer) → answer_by o meaning ≡ o) → Means (query_if has_server) has_server reply meaning
-means-served true reply meaning query answers = (query, answers reply)
-means-served false reply meaning query answers = answers (served false reply)
+means-served has_server reply meaning query answers = grind (arith, common_steps)
 
 pub means-asked : (has_server : Bool) (reply : Option Answer) (meaning : Result Meaning CommandFault) → Means (asked_by has_server meaning) has_server reply meaning
-means-asked has_server reply (Err fault) = refl
-means-asked has_server reply (Ok (Query text)) = means-served has_server reply (Ok (Query text)) refl (λ o. refl)
-means-asked has_server reply (Ok (InitDb schema)) = means-served has_server reply (Ok (InitDb schema)) refl (λ o. refl)
-means-asked has_server reply (Ok (FieldList rest)) = means-served has_server reply (Ok (FieldList rest)) refl (λ o. refl)
-means-asked has_server reply (Ok Ping) = refl
-means-asked has_server reply (Ok Quit) = (refl, refl)
-means-asked has_server reply (Ok _) = refl
+means-asked has_server reply meaning = grind (arith, common_steps, means-served)
 
 no-quit : (meaning : Result Meaning CommandFault) → query_by meaning ≡ true → quit_by meaning ≡ false
-no-quit (Ok (Query text)) is = refl
-no-quit (Ok (InitDb schema)) is = refl
-no-quit (Ok (FieldList rest)) is = refl
-no-quit (Err fault) is = refl
-no-quit (Ok _) is = absurd (let no : false ≡ true = is in cc)
+no-quit meaning is = grind (arith, common_steps)
 
 pub query-no-quit : (payload : List ℕ) → is_query payload ≡ true → is_quit payload ≡ false
 query-no-quit payload is = no-quit (parsed payload) is
@@ -67,36 +57,26 @@ pub record IsOpen (setup : Setup) (reply : Option Answer) : Type 0 where
   pub none : reply ≡ None
 
 pub query-open : (setup : Setup) (reply : Option Answer) (payload : List ℕ) → is_query payload ≡ true → answer_of setup reply payload ≡ None → IsOpen setup reply
-query-open setup reply payload query none = by (is_some setup.target) refl (sym (query-answer (served (is_some setup.target) reply) (parsed payload) query) ∙ none) where
-  by : (b : Bool) → is_some setup.target ≡ b → served b reply ≡ None → IsOpen setup reply
-  by true at none = record { server = at; none = none }
-  by false at none = absurd (let no : Some (no_server ∷ []) ≡ None = none in cc)
+query-open setup reply payload query none = grind (arith, common_steps, query-answer)
 
 pub query-served : (setup : Setup) (reply : Option Answer) (payload : List ℕ) → is_query payload ≡ true → is_some setup.target ≡ true → answer_of setup reply payload ≡ reply
 query-served setup reply payload query server = query-answer (served (is_some setup.target) reply) (parsed payload) query ∙ ap (λ b. served b reply) server
 
 served-stays : (has_server : Bool) (old new : Option Answer) (answer : Answer) → (old ≡ Some answer → new ≡ Some answer) → served has_server old ≡ Some answer → served has_server new ≡ Some answer
-served-stays true old new answer stays is = stays is
-served-stays false old new answer stays is = is
+served-stays has_server old new answer stays is = grind (arith, common_steps)
 
 answer-stays : (setup : Setup) (old new : Option Answer) (payload : List ℕ) (answer : Answer) → (old ≡ Some answer → new ≡ Some answer) → answer_of setup old payload ≡ Some answer → answer_of setup new payload ≡ Some answer
-answer-stays setup old new payload answer stays is =
-    by-stays (served (is_some setup.target) old) (served (is_some setup.target) new) (parsed payload) answer (served-stays (is_some setup.target) old new answer stays) is
+answer-stays setup old new payload answer stays is = grind (arith, common_steps, by-stays, served-stays)
 
 -- and one that isn't there comes only of a reply to a query
 answer-by-none : (old new : Option Answer) (meaning : Result Meaning CommandFault) → (query_by meaning ≡ true → new ≡ None) → answer_by old meaning ≡ None → answer_by new meaning ≡ None
-answer-by-none old new (Ok (Query text)) stays is = stays refl
-answer-by-none old new (Ok (InitDb schema)) stays is = stays refl
-answer-by-none old new (Ok (FieldList rest)) stays is = stays refl
-answer-by-none old new _ stays is = is
+answer-by-none old new meaning stays is = grind (arith, common_steps)
 
 served-none : (has_server : Bool) (old new : Option Answer) → new ≡ None → served has_server old ≡ None → served has_server new ≡ None
-served-none true old new none is = none
-served-none false old new none is = is
+served-none has_server old new none is = grind (arith, common_steps)
 
 answer-none : (setup : Setup) (old new : Option Answer) (payload : List ℕ) → (is_query payload ≡ true → new ≡ None) → answer_of setup old payload ≡ None → answer_of setup new payload ≡ None
-answer-none setup old new payload stays is = answer-by-none (served (is_some setup.target) old) (served (is_some setup.target) new) (parsed payload)
-    (λ query. served-none (is_some setup.target) old new (stays query) (sym (query-answer (served (is_some setup.target) old) (parsed payload) query) ∙ is)) is
+answer-none setup old new payload stays is = grind (arith, common_steps, answer-by-none, served-none, query-answer)
 
 -- The first message without an answer.
 
@@ -106,10 +86,7 @@ at_place ordinal message = record { ordinal = ordinal; message = message }
 -- its place isn't before that of the first
 pub open-from : (setup : Setup) (reply : ℕ → Option Answer) (i : ℕ) (messages : List Framed) (work : Work) → first_open setup reply i messages ≡ Some work → i ≤ work.ordinal
 open-from setup reply i [] work is = absurd (let no : None ≡ Some work = is in cc)
-open-from setup reply i (m ∷ messages) work is = by (answer_of setup (reply i) m.payload) is (open-from setup reply (suc i) messages work) where
-  by : (o : Option Answer) → cond (is_some o) (first_open setup reply (suc i) messages) (Some (at_place i m)) ≡ Some work → (first_open setup reply (suc i) messages ≡ Some work → suc i ≤ work.ordinal) → i ≤ work.ordinal
-  by None here later = (let same : i ≡ work.ordinal = ap (λ (w : Work). w.ordinal) (some-same (at_place i m) work here) in omega arith)
-  by (Some answer) there later = (let less : suc i ≤ work.ordinal = later there in omega arith)
+open-from setup reply i (m ∷ messages) work is = grind (arith, common_steps, some-same, (open-from setup reply (suc i) messages work))
 
 -- it has no answer
 pub open-none : (setup : Setup) (reply : ℕ → Option Answer) (i : ℕ) (messages : List Framed) (work : Work) → first_open setup reply i messages ≡ Some work → answer_of setup (reply work.ordinal) work.message.payload ≡ None
@@ -123,21 +100,12 @@ open-none setup reply i (m ∷ messages) work is = by (answer_of setup (reply i)
 -- messages behind it change nothing of it, nor of what is due
 pub open-more : (setup : Setup) (reply : ℕ → Option Answer) (i : ℕ) (messages later : List Framed) (work : Work) → first_open setup reply i messages ≡ Some work → first_open setup reply i (messages ++ later) ≡ Some work
 open-more setup reply i [] later work is = absurd (let no : None ≡ Some work = is in cc)
-open-more setup reply i (m ∷ messages) later work is = by (answer_of setup (reply i) m.payload) is (open-more setup reply (suc i) messages later work) where
-  by : (o : Option Answer) → cond (is_some o) (first_open setup reply (suc i) messages) (Some (at_place i m)) ≡ Some work
-      → (first_open setup reply (suc i) messages ≡ Some work → first_open setup reply (suc i) (messages ++ later) ≡ Some work) → cond (is_some o) (first_open setup reply (suc i) (messages ++ later)) (Some (at_place i m)) ≡ Some work
-  by None here others = here
-  by (Some answer) there others = others there
+open-more setup reply i (m ∷ messages) later work is = grind (arith, common_steps, (open-more setup reply (suc i) messages later work))
 
 pub open-due : (setup : Setup) (reply : ℕ → Option Answer) (i : ℕ) (messages later : List Framed) (last now : List ℕ) (work : Work) → first_open setup reply i messages ≡ Some work
     → answers_by setup reply i (messages ++ later) now ≡ answers_by setup reply i messages last
 open-due setup reply i [] later last now work is = absurd (let no : None ≡ Some work = is in cc)
-open-due setup reply i (m ∷ messages) later last now work is = by (answer_of setup (reply i) m.payload) is (open-due setup reply (suc i) messages later last now work) where
-  by : (o : Option Answer) → cond (is_some o) (first_open setup reply (suc i) messages) (Some (at_place i m)) ≡ Some work
-      → (first_open setup reply (suc i) messages ≡ Some work → answers_by setup reply (suc i) (messages ++ later) now ≡ answers_by setup reply (suc i) messages last)
-      → answered (next_id m.last) o (answers_by setup reply (suc i) (messages ++ later) now) ≡ answered (next_id m.last) o (answers_by setup reply (suc i) messages last)
-  by None here others = refl
-  by (Some answer) there others = ap (λ l. spelt (next_id m.last) answer ++ l) (others there)
+open-due setup reply i (m ∷ messages) later last now work is = grind (arith, common_steps, (open-due setup reply (suc i) messages later last now work))
 
 -- Messages that are all answered, and their answers joined: what comes behind them is what comes from there on.
 
@@ -151,62 +119,24 @@ done-none setup reply = record { joins = λ later last. refl; goes = λ later. r
 -- and one more
 pub done-one : (setup : Setup) (reply : ℕ → Option Answer) (past : List Framed) (said : List ℕ) (message : Framed) (answer : Answer) → AreDone setup reply past said → answer_of setup (reply (suc (length past))) message.payload ≡ Some answer
     → AreDone setup reply (past ++ message ∷ []) (said ++ spelt (next_id message.last) answer)
-done-one setup reply past said message answer done is = (let size : length (past ++ message ∷ []) ≡ suc (length past) = omega (arith, length-append past (message ∷ [])) in
-    record {
-      joins = λ later last.
-          ap (λ ms. answers_by setup reply 1 ms last) (append_assoc past (message ∷ []) later)
-          ∙ done.joins (message ∷ later) last
-          ∙ ap (λ o. said ++ answered (next_id message.last) o (answers_by setup reply (suc (suc (length past))) later last)) is
-          ∙ sym (append_assoc said (spelt (next_id message.last) answer) (answers_by setup reply (suc (suc (length past))) later last))
-          ∙ ap (λ k. (said ++ spelt (next_id message.last) answer) ++ answers_by setup reply (suc k) later last) (sym size);
-      goes = λ later.
-          ap (first_open setup reply 1) (append_assoc past (message ∷ []) later)
-          ∙ done.goes (message ∷ later)
-          ∙ ap (λ o. cond (is_some o) (first_open setup reply (suc (suc (length past))) later) (Some (at_place (suc (length past)) message))) is
-          ∙ ap (λ k. first_open setup reply (suc k) later) (sym size);
-    })
+done-one setup reply past said message answer done is = grind (arith, common_steps, length-append)
 
 -- where none is without an answer
 joins-all : (setup : Setup) (reply : ℕ → Option Answer) (i : ℕ) (past later : List Framed) (last : List ℕ) → first_open setup reply i past ≡ None
     → answers_by setup reply i (past ++ later) last ≡ answers_by setup reply i past [] ++ answers_by setup reply (i + length past) later last
 joins-all setup reply i [] later last all = ap (λ k. answers_by setup reply k later last) (let same : i ≡ i + 0 = omega arith in same)
-joins-all setup reply i (m ∷ past) later last all = by (answer_of setup (reply i) m.payload) all (joins-all setup reply (suc i) past later last) where
-  same : suc i + length past ≡ i + suc (length past)
-  same = omega arith
-
-  by : (o : Option Answer) → cond (is_some o) (first_open setup reply (suc i) past) (Some (at_place i m)) ≡ None
-      → (first_open setup reply (suc i) past ≡ None → answers_by setup reply (suc i) (past ++ later) last ≡ answers_by setup reply (suc i) past [] ++ answers_by setup reply (suc i + length past) later last)
-      → answered (next_id m.last) o (answers_by setup reply (suc i) (past ++ later) last) ≡ answered (next_id m.last) o (answers_by setup reply (suc i) past []) ++ answers_by setup reply (i + suc (length past)) later last
-  by None here others = absurd (let no : Some (at_place i m) ≡ None = here in cc)
-  by (Some answer) all others =
-      ap (λ l. spelt (next_id m.last) answer ++ l) (others all ∙ ap (λ k. answers_by setup reply (suc i) past [] ++ answers_by setup reply k later last) same)
-      ∙ sym (append_assoc (spelt (next_id m.last) answer) (answers_by setup reply (suc i) past []) (answers_by setup reply (i + suc (length past)) later last))
+joins-all setup reply i (m ∷ past) later last all = grind (arith, common_steps, (joins-all setup reply (suc i) past later last))
 
 pub goes-all : (setup : Setup) (reply : ℕ → Option Answer) (i : ℕ) (past later : List Framed) → first_open setup reply i past ≡ None → first_open setup reply i (past ++ later) ≡ first_open setup reply (i + length past) later
 goes-all setup reply i [] later all = ap (λ k. first_open setup reply k later) (let same : i ≡ i + 0 = omega arith in same)
-goes-all setup reply i (m ∷ past) later all = by (answer_of setup (reply i) m.payload) all (goes-all setup reply (suc i) past later) where
-  same : suc i + length past ≡ i + suc (length past)
-  same = omega arith
-
-  by : (o : Option Answer) → cond (is_some o) (first_open setup reply (suc i) past) (Some (at_place i m)) ≡ None
-      → (first_open setup reply (suc i) past ≡ None → first_open setup reply (suc i) (past ++ later) ≡ first_open setup reply (suc i + length past) later)
-      → cond (is_some o) (first_open setup reply (suc i) (past ++ later)) (Some (at_place i m)) ≡ first_open setup reply (i + suc (length past)) later
-  by None here others = absurd (let no : Some (at_place i m) ≡ None = here in cc)
-  by (Some answer) all others = others all ∙ ap (λ k. first_open setup reply k later) same
+goes-all setup reply i (m ∷ past) later all = grind (arith, common_steps, (goes-all setup reply (suc i) past later))
 
 pub done-all : (setup : Setup) (reply : ℕ → Option Answer) (past : List Framed) → first_open setup reply 1 past ≡ None → AreDone setup reply past (answers_by setup reply 1 past [])
-done-all setup reply past all = (let same : 1 + length past ≡ suc (length past) = omega arith in
-    record {
-      joins = λ later last. joins-all setup reply 1 past later last all ∙ ap (λ k. answers_by setup reply 1 past [] ++ answers_by setup reply k later last) same;
-      goes = λ later. goes-all setup reply 1 past later all ∙ ap (λ k. first_open setup reply k later) same;
-    })
+done-all setup reply past all = grind (arith, common_steps, joins-all, goes-all)
 
 -- the first one without an answer is among those at whose places it stands
 pub open-within : (setup : Setup) (reply : ℕ → Option Answer) (i : ℕ) (past later : List Framed) (work : Work) → first_open setup reply i (past ++ later) ≡ Some work → work.ordinal < i + length past → first_open setup reply i past ≡ Some work
-open-within setup reply i past later work is below = by (first_open setup reply i past) refl where
-  by : (o : Option Work) → first_open setup reply i past ≡ o → o ≡ Some work
-  by None at = (let from : i + length past ≤ work.ordinal = open-from setup reply (i + length past) later work (sym (goes-all setup reply i past later at) ∙ is) in absurd (omega arith))
-  by (Some other) at = sym (open-more setup reply i past later other at) ∙ is
+open-within setup reply i past later work is below = grind (arith, common_steps, open-from, goes-all, open-more)
 
 -- The last one, which had no answer, has one now.
 
@@ -215,10 +145,7 @@ pub record NowDone (setup : Setup) (reply other : ℕ → Option Answer) (i : �
   pub joins : answers_by setup other i past [] ≡ answers_by setup reply i past [] ++ spelt (next_id message.last) answer
 
 last-done : (setup : Setup) (reply other : ℕ → Option Answer) (i : ℕ) (m : Framed) (answer : Answer) → answer_of setup (reply i) m.payload ≡ None → answer_of setup (other i) m.payload ≡ Some answer → NowDone setup reply other i (m ∷ []) m answer
-last-done setup reply other i m answer was now = record {
-  all = ap (λ o. cond (is_some o) (first_open setup other (suc i) []) (Some (at_place i m))) now;
-  joins = ap (λ o. answered (next_id m.last) o []) now ∙ append-nil (spelt (next_id m.last) answer) ∙ ap (λ o. answered (next_id m.last) o [] ++ spelt (next_id m.last) answer) (sym was);
-}
+last-done setup reply other i m answer was now = grind (arith, common_steps, append-nil)
 
 pub now-done : (setup : Setup) (reply other : ℕ → Option Answer) (i k : ℕ) (past : List Framed) (message : Framed) (answer : Answer) → first_open setup reply i past ≡ Some (at_place k message) → suc k ≡ i + length past
     → ((j : ℕ) → j ≢ k → other j ≡ reply j) → answer_of setup (other k) message.payload ≡ Some answer → NowDone setup reply other i past message answer
@@ -325,11 +252,7 @@ Leads left talk reply written next = LeadsTo next.turn left talk reply written n
 pub ends-so : (talk : Talk) (reply : ℕ → Option Answer) (written : List ℕ) (client : ClientState) → IsOf client.number.0 talk.number client.salt talk.salt client.framer.limit talk.setup.limit
     → ((i : ℕ) → suc client.arrived ≤ i → reply i ≡ None) → over_said reply talk ≡ true → written ++ client.outgoing ≡ due_said reply talk
     → (old : Session) → SeatTurned talk reply written old (still (record { client = client; phase = phase.Ending }))
-ends-so talk reply written client mine later over due old = record {
-  seat = record { mine = mine; due = due; at = over };
-  unanswered = λ i from. later i from;
-  asks = λ user working. absurd (let no : phase.Ending ≡ phase.Working user = working in cc);
-}
+ends-so talk reply written client mine later over due old = grind (arith, common_steps)
 
 -- What a client said, and what it is due by that.
 
@@ -345,17 +268,10 @@ pub no-messages : (limit : ℕ) → client_messages limit [] ≡ record { messag
 no-messages limit = split-nothing limit 0 [] (first_message-empty limit 0)
 
 pub due-alone : (reply : ℕ → Option Answer) (talk : Talk) (begun : Opening) → opening_of talk ≡ begun → commands_in talk begun ≡ [] → due_said reply talk ≡ front_in talk begun
-due-alone reply talk begun at none =
-    ap (due_by reply talk) at
-    ∙ ap (λ bytes. front_in talk begun ++ due_behind reply talk (client_messages talk.setup.limit bytes)) none
-    ∙ ap (λ messages. front_in talk begun ++ due_behind reply talk messages) (no-messages talk.setup.limit)
-    ∙ append-nil (front_in talk begun)
+due-alone reply talk begun at none = grind (arith, common_steps, no-messages, append-nil)
 
 pub work-alone : (reply : ℕ → Option Answer) (talk : Talk) (begun : Opening) → opening_of talk ≡ begun → commands_in talk begun ≡ [] → work_said reply talk ≡ None
-work-alone reply talk begun at none =
-    ap (λ (o : Opening). first_open talk.setup reply 1 (client_messages talk.setup.limit (commands_in talk o)).messages) at
-    ∙ ap (λ bytes. first_open talk.setup reply 1 (client_messages talk.setup.limit bytes).messages) none
-    ∙ ap (λ (messages : Split). first_open talk.setup reply 1 messages.messages) (no-messages talk.setup.limit)
+work-alone reply talk begun at none = grind (arith, common_steps, no-messages)
 
 -- A client that is logged in.
 
@@ -368,11 +284,7 @@ pub record IsIn (talk : Talk) (user : Account) : Type 0 where
   pub known : account_of talk.setup.users talk.salt response ≡ Some user
 
 pub is-in : (talk : Talk) (user : Account) → account talk ≡ Some user → IsIn talk user
-is-in talk user is = by (opening_of talk) refl is where
-  by : (o : Opening) → opening_of talk ≡ o → account_in talk o ≡ Some user → IsIn talk user
-  by (Waits switched) at is = absurd (let no : None ≡ Some user = is in cc)
-  by (Says switched response id rest) at is = record { switched = switched; response = response; id = id; rest = rest; says = at; known = is }
-  by (Fails switched fault id) at is = absurd (let no : None ≡ Some user = is in cc)
+is-in talk user is = grind (arith, common_steps)
 
 says-more : (talk : Talk) (more : List ℕ) (user : Account) (who : IsIn talk user) → opening_of (heard_more talk more) ≡ Says who.switched who.response who.id (who.rest ++ more)
 says-more talk more user who = opening-says-more talk.setup.limit talk.read more who.switched who.response who.id who.rest who.says
@@ -388,14 +300,11 @@ commands-more talk more user is = (let who = is-in talk user is in
     ap (commands_in (heard_more talk more)) (says-more talk more user who) ∙ ap (λ o. if_known o (who.rest ++ more)) who.known ∙ sym (ap (λ bytes. bytes ++ more) (in-commands talk user who)))
 
 pub commands-shorter : (talk : Talk) (user : Account) → account talk ≡ Some user → length (commands talk) ≤ length talk.read
-commands-shorter talk user is = (let who = is-in talk user is in
-    rw (in-commands talk user who) (opening-shorter talk.setup.limit talk.read who.switched who.response who.id who.rest who.says))
+commands-shorter talk user is = grind (arith, common_steps, is-in, in-commands, opening-shorter)
 
 -- whether it is at its end
 pub over-in : (reply : ℕ → Option Answer) (talk : Talk) (user : Account) → account talk ≡ Some user → over_said reply talk ≡ ends_by (work_said reply talk) (is_some (messages_of talk).fault)
-over-in reply talk user is = (let who = is-in talk user is in
-    ap (λ (o : Opening). ends_in o (account talk) (ends_by (work_said reply talk) (is_some (messages_of talk).fault))) who.says
-    ∙ ap (λ o. if_user o (ends_by (work_said reply talk) (is_some (messages_of talk).fault))) is)
+over-in reply talk user is = grind (arith, common_steps, is-in)
 
 -- The messages that were taken of it.
 
@@ -480,10 +389,7 @@ pub record IsAllDue (reply : ℕ → Option Answer) (talk : Talk) (bytes : List 
 -- where all are answered
 pub due-all : (reply : ℕ → Option Answer) (talk : Talk) (past : List Framed) (said rest : List ℕ) (fault : Option FrameFault) → AreDone talk.setup reply past said → messages_of talk ≡ record { messages = past ++ []; rest = rest; fault = fault }
     → IsAllDue reply talk (front talk ++ (said ++ fault_answer talk.setup.limit fault))
-due-all reply talk past said rest fault done at = record {
-  due = ap (λ messages. front talk ++ due_behind reply talk messages) at ∙ ap (λ l. front talk ++ l) (done.joins [] (fault_answer talk.setup.limit fault));
-  none = ap (λ (messages : Split). first_open talk.setup reply 1 messages.messages) at ∙ done.goes [];
-}
+due-all reply talk past said rest fault done at = grind (arith, common_steps)
 
 -- where the next one isn't
 pub record IsDueTo (reply : ℕ → Option Answer) (talk : Talk) (bytes : List ℕ) (work : Work) : Type 0 where
@@ -492,12 +398,4 @@ pub record IsDueTo (reply : ℕ → Option Answer) (talk : Talk) (bytes : List �
 
 pub due-open : (reply : ℕ → Option Answer) (talk : Talk) (past : List Framed) (said : List ℕ) (message : Framed) (others : Split) → AreDone talk.setup reply past said → messages_of talk ≡ with_front past (with_front (message ∷ []) others)
     → answer_of talk.setup (reply (suc (length past))) message.payload ≡ None → IsDueTo reply talk (front talk ++ said) (at_place (suc (length past)) message)
-due-open reply talk past said message others done at none = (let last = fault_answer talk.setup.limit others.fault in record {
-  due = ap (λ messages. front talk ++ due_behind reply talk messages) at
-      ∙ ap (λ l. front talk ++ l) (done.joins (message ∷ others.messages) last
-      ∙ ap (λ o. said ++ answered (next_id message.last) o (answers_by talk.setup reply (suc (suc (length past))) others.messages last)) none
-      ∙ append-nil said);
-  first = ap (λ (messages : Split). first_open talk.setup reply 1 messages.messages) at
-      ∙ done.goes (message ∷ others.messages)
-      ∙ ap (λ o. cond (is_some o) (first_open talk.setup reply (suc (suc (length past))) others.messages) (Some (at_place (suc (length past)) message))) none;
-})
+due-open reply talk past said message others done at none = grind (arith, common_steps, append-nil)

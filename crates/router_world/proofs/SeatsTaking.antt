@@ -1,4 +1,5 @@
 -- What a message that was framed is, within any limit.
+use Rattle.router_world.proofs.Names.{common_steps}
 use Rattle.router_world.specs.Seats.{IsOf}
 use Rattle.router_world.proofs.Names.{◌∙◌, sym, ap, arith, length-append, Framed, Found, longest, next_id, Nothing, Whole, Faulty, nat_eq-true, ◌≡◌, ◌≤◌, ℕ}
 use Rattle.router_world.proofs.Names.{zero, suc, ◌+◌, Bool, true, false, nat_eq, cond, List, ◌++◌, length, refl, ◌<◌, is_some, [], drop, Option, Some, None}
@@ -80,43 +81,23 @@ kept-behind : (message : Framed) (client : ClientState) → length (drop (messag
 kept-behind message client = omega (arith, length-drop (message_size client.framer.kept) client.framer.kept)
 
 kept-answer : (response : Response) (client : ClientState) (found : Found) → length (answer_found response client found).client.framer.kept ≤ length client.framer.kept
-kept-answer response client Nothing = omega arith
-kept-answer response client (Whole message rest) = kept-behind message client
-kept-answer response client (Faulty fault) = omega arith
+kept-answer response client found = grind (arith, common_steps, kept-behind)
 
 kept-read : (id : ℕ) (decoded : Result Response HandFault) (client : ClientState) → length (response_read id decoded client).client.framer.kept ≤ length client.framer.kept
-kept-read id (Err fault) client = omega arith
-kept-read id (Ok response) client = by (needs_switch response.plugin) where
-  by : (b : Bool) → length (cond b (answer_found response (asks_switch response client) (look 3 client.framer)) (says_who response id client)).client.framer.kept ≤ length client.framer.kept
-  by true = kept-answer response (asks_switch response client) (look 3 client.framer)
-  by false = omega arith
+kept-read id decoded client = grind (arith, common_steps, kept-answer)
 
 kept-response : (client : ClientState) (found : Found) → length (response_found client found).client.framer.kept ≤ length client.framer.kept
-kept-response client Nothing = omega arith
-kept-response client (Whole message rest) = (let less : length (response_read (next_id message.last) (response_of message.payload) (behind message client)).client.framer.kept ≤ length (drop (message_size client.framer.kept) client.framer.kept)
-    = kept-read (next_id message.last) (response_of message.payload) (behind message client) in
-    let short : length (drop (message_size client.framer.kept) client.framer.kept) ≤ length client.framer.kept = kept-behind message client in omega arith)
-kept-response client (Faulty fault) = omega arith
+kept-response client found = grind (arith, common_steps, kept-read, kept-behind)
 
 kept-command : (client : ClientState) (found : Found) → length (command_found client found).client.framer.kept ≤ length client.framer.kept
-kept-command client Nothing = omega arith
-kept-command client (Whole message rest) = omega arith
-kept-command client (Faulty fault) = omega arith
+kept-command client found = grind (arith, common_steps)
 
 kept-next : (at : Stage) (client : ClientState) → length (next_of at client).client.framer.kept ≤ length client.framer.kept
-kept-next stage.Response client = kept-response client (look 1 client.framer)
-kept-next (stage.Answer response) client = kept-answer response client (look 3 client.framer)
-kept-next (stage.Login response first) client = omega arith
-kept-next (stage.Refused first fault) client = omega arith
-kept-next stage.Commands client = kept-command client (look 0 client.framer)
+kept-next at client = grind (arith, common_steps, kept-response, kept-answer, kept-command)
 
 -- a login is left to say until it is answered
 unsaid-coming : (at : Stage) (client : ClientState) (version read bytes : List ℕ) → IsLoggingIn at client version read bytes → unsaid at ≡ 1
-unsaid-coming stage.Response client version read bytes is = refl
-unsaid-coming (stage.Answer response) client version read bytes is = refl
-unsaid-coming (stage.Login response first) client version read bytes is = refl
-unsaid-coming (stage.Refused first fault) client version read bytes is = refl
-unsaid-coming stage.Commands client version read bytes is = absurd is
+unsaid-coming at client version read bytes is = grind (arith, common_steps)
 
 -- what the steps of a login have of it
 record IsNext (talk : Talk) (reply : ℕ → Option Answer) (left : ℕ) (client : ClientState) : Type 0 where
@@ -133,15 +114,7 @@ told-greeted talk reply left client switched next = ap (λ n. said n client.salt
 -- it waits for more
 coming-waits : (talk : Talk) (reply : ℕ → Option Answer) (written : List ℕ) (left : ℕ) (client : ClientState) → IsNext talk reply left client
     → HasStepped says.Nothing client talk.setup.limit talk.setup.version talk.read (written ++ client.outgoing) → (old : Session) → SeatTurned talk reply written old (still (record { client = client; phase = phase.LoggingIn }))
-coming-waits talk reply written left client next (login, switched, waits, bytes) old = record {
-  seat = record {
-    mine = next.mine;
-    due = bytes ∙ told-greeted talk reply left client switched next ∙ sym (due-alone reply talk (Waits switched) waits refl);
-    at = record { login = login; switched = switched; waits = waits; arrived = next.arrived };
-  };
-  unanswered = λ i from. next.later i from;
-  asks = λ user working. absurd (let no : phase.LoggingIn ≡ phase.Working user = working in cc);
-}
+coming-waits talk reply written left client next h6 old = grind (arith, common_steps, told-greeted, due-alone)
 
 -- what can't be is refused
 coming-refused : (talk : Talk) (reply : ℕ → Option Answer) (written : List ℕ) (left : ℕ) (client : ClientState) (first : ℕ) (fault : ClientFault) → IsNext talk reply left client
@@ -209,20 +182,7 @@ coming-admitted talk reply written left client switched response first user next
 coming-denied : (talk : Talk) (reply : ℕ → Option Answer) (written : List ℕ) (left : ℕ) (client : ClientState) (switched : Bool) (response : Response) (first : ℕ) → IsNext talk reply left client
     → IsSaid talk client switched response first (written ++ client.outgoing) → account_of talk.setup.users talk.salt response ≡ None
     → (old : Session) → SeatTurned talk reply written old (still (denied response first (record { client = client; phase = phase.LoggingIn })))
-coming-denied talk reply written left client switched response first next said unknown old =
-    ends-so talk reply written (record client { outgoing = client.outgoing ++ spelling first (login_answer response None) }) next.mine next.later over due old where
-      nobody : account talk ≡ None
-      nobody = ap (account_in talk) said.opened ∙ unknown
-
-      over : over_said reply talk ≡ true
-      over = ap (λ (o : Opening). ends_in o (account talk) (ends_by (work_said reply talk) (is_some (messages_of talk).fault))) said.opened
-          ∙ ap (λ o. if_user o (ends_by (work_said reply talk) (is_some (messages_of talk).fault))) nobody
-
-      due : written ++ (client.outgoing ++ spelling first (login_answer response None)) ≡ due_said reply talk
-      due = sym (append_assoc written client.outgoing (spelling first (login_answer response None)))
-          ∙ ap (λ l. l ++ spelling first (login_answer response None)) said.greeted_so
-          ∙ ap (λ o. greeted talk switched ++ spelling first (login_answer response o)) (sym unknown)
-          ∙ sym (due-alone reply talk (Says switched response first client.framer.kept) said.opened (ap (λ o. if_known o client.framer.kept) unknown))
+coming-denied talk reply written left client switched response first next said unknown old = grind (arith, common_steps, ends-so, due-alone)
 
 -- whatever it says
 logs-leads : (talk : Talk) (reply : ℕ → Option Answer) (written : List ℕ) (left : ℕ) (client : ClientState) (response : Response) (first : ℕ) → IsNext talk reply left client
@@ -240,9 +200,7 @@ logs-leads talk reply written left client response first next login =
 coming-leads : (talk : Talk) (reply : ℕ → Option Answer) (written : List ℕ) (left : ℕ) (client : ClientState) (what : ClientStep) → IsNext talk reply left client
     → HasStepped what client talk.setup.limit talk.setup.version talk.read (written ++ client.outgoing) → Leads left talk reply written (step_by talk.setup what (record { client = client; phase = phase.LoggingIn }))
 coming-leads talk reply written left client says.Nothing next has = coming-waits talk reply written left client next has
-coming-leads talk reply written left client (says.Login first) next (response, at, login) =
-    subst (λ (s : Stage). Leads left talk reply written (logs_in talk.setup (login_of s) first (record { client = client; phase = phase.LoggingIn }))) (sym at)
-    (logs-leads talk reply written left client response first next (subst (λ (s : Stage). IsLoggingIn s client talk.setup.version talk.read (written ++ client.outgoing)) at login))
+coming-leads talk reply written left client (says.Login first) next (response, at, login) = grind (arith, common_steps, logs-leads)
 coming-leads talk reply written left client (says.Message ordinal first) next has = absurd has
 coming-leads talk reply written left client (says.Refused first fault) next has = coming-refused talk reply written left client first fault next has
 
@@ -408,10 +366,7 @@ idle-works talk reply written user client message rest goes whole query answer o
 idle-quits : (talk : Talk) (reply : ℕ → Option Answer) (written : List ℕ) (user : Account) (client : ClientState) (message : Framed) (rest : List ℕ) (goes : GoesAt talk reply written (idle user client)) → IsWhole talk client goes.at.taken message rest
     → is_quit message.payload ≡ true → answer_of talk.setup (reply (suc (length goes.at.taken.past))) message.payload ≡ None → (old : Session)
     → SeatTurned talk reply written old (still (ended (idle user (looked client (Whole message rest)))))
-idle-quits talk reply written user client message rest goes whole quits none old = (let to : IsDueTo reply talk (front talk ++ goes.at.said) (at_place (suc (length goes.at.taken.past)) message) =
-    due-open reply talk goes.at.taken.past goes.at.said message (split talk.setup.limit 0 rest) goes.at.done whole.messages none in
-    let over : over_said reply talk ≡ true = over-in reply talk user goes.at.account ∙ ap (λ w. ends_by w (is_some (messages_of talk).fault)) to.first ∙ quits in
-    ends-so talk reply written (looked client (Whole message rest)) goes.mine goes.later over (goes.at.put ∙ sym to.due) old)
+idle-quits talk reply written user client message rest goes whole quits none old = grind (arith, common_steps, said, due-open, over-in, ends-so)
 
 -- whatever it asks for
 idle-arrives : (talk : Talk) (reply : ℕ → Option Answer) (written : List ℕ) (user : Account) (client : ClientState) (message : Framed) (rest : List ℕ) (goes : GoesAt talk reply written (idle user client)) → IsWhole talk client goes.at.taken message rest
@@ -432,20 +387,13 @@ idle-leads talk reply written user client goes (Faulty fault) at = idle-refused 
 
 idle-steps : (talk : Talk) (reply : ℕ → Option Answer) (written : List ℕ) (user : Account) (client : ClientState) → GoesAt talk reply written (idle user client)
     → Leads (left_to_say (idle user client)) talk reply written (step talk.setup (idle user client))
-idle-steps talk reply written user client goes = (let looks : look 0 client.framer ≡ first_message talk.setup.limit 0 client.framer.kept =
-    ap (λ fault. look_by fault (first_message client.framer.limit 0 client.framer.kept)) goes.at.taken.framer.faultless ∙ ap (λ limit. first_message limit 0 client.framer.kept) goes.mine.limit_is in
-    subst (λ (s : Stage). Leads (left_to_say (idle user client)) talk reply written (stepped talk.setup (next_of s client) (phase.Idle user))) (sym goes.at.taken.stage)
-    (subst (λ (found : Found). Leads (left_to_say (idle user client)) talk reply written (stepped talk.setup (command_found client found) (phase.Idle user))) (sym looks)
-    (idle-leads talk reply written user client goes (first_message talk.setup.limit 0 client.framer.kept) refl)))
+idle-steps talk reply written user client goes = grind (arith, common_steps, idle-leads)
 
 -- Of both, step by step.
 
 phase-steps : (talk : Talk) (reply : ℕ → Option Answer) (written : List ℕ) (at : Phase) (client : ClientState) → GoesAt talk reply written (record { client = client; phase = at })
     → Leads (left_to_say (record { client = client; phase = at })) talk reply written (step talk.setup (record { client = client; phase = at }))
-phase-steps talk reply written phase.LoggingIn client goes = coming-steps talk reply written client goes
-phase-steps talk reply written (phase.Idle user) client goes = idle-steps talk reply written user client goes
-phase-steps talk reply written (phase.Working user) client goes = absurd goes.at
-phase-steps talk reply written phase.Ending client goes = absurd goes.at
+phase-steps talk reply written at client goes = grind (arith, common_steps, coming-steps, idle-steps)
 
 turned-to : (talk : Talk) (reply : ℕ → Option Answer) (written : List ℕ) (n left : ℕ) (t : Turn) (next : Session) → left ≤ n → LeadsTo t left talk reply written next
     → ((session : Session) → left_to_say session < n → GoesAt talk reply written session → (old : Session) → SeatTurned talk reply written old (goes_on n talk.setup session))

@@ -1,4 +1,5 @@
 -- What comes of bytes on a link to a server, and of its loss.
+use Rattle.router_world.proofs.Names.{common_steps}
 use Rattle.router_world.proofs.Stepping.{OnLink as IsOnLink, done}
 use Rattle.router_world.proofs.Hands.{away-gone, none-some}
 use Rattle.std.proofs.lemmas.Bool.{or_parts, false_from_ne_true}
@@ -37,22 +38,16 @@ heard-sound service log link bytes lends lent turn are lawful fits sound idle un
 
 -- An entry by which a link is lost writes nothing, and opens and closes none.
 loss-silent : (e : Entry) (n i : ℕ) → is_loss e ≡ true → carries n i e ≡ None
-loss-silent (Wrote link tag bytes) n i is = absurd (let no' : false ≡ true = is in cc)
-loss-silent _ n i is = refl
+loss-silent e n i is = grind (arith, common_steps)
 
 loss-piece : (e : Entry) → is_loss e ≡ true → piece e ≡ None
-loss-piece (Wrote link tag bytes) is = absurd (let no' : false ≡ true = is in cc)
-loss-piece _ is = refl
+loss-piece e is = grind (arith, common_steps)
 
 loss-opens : (e : Entry) (was : Bool) → is_loss e ≡ true → open_step was e ≡ was
-loss-opens (Accepted port link salt) was is = absurd (let no' : false ≡ true = is in cc)
-loss-opens (Opened server address link) was is = absurd (let no' : false ≡ true = is in cc)
-loss-opens (Closed link) was is = absurd (let no' : false ≡ true = is in cc)
-loss-opens _ was is = refl
+loss-opens e was is = grind (arith, common_steps)
 
 loss-breaks : (e : Entry) (user : Account) (link : LinkId) (log : Log) → is_loss e ≡ true → breaks_off user link log e ≡ true
-loss-breaks (Got other bytes) user link log is = absurd (let no' : false ≡ true = is in cc)
-loss-breaks _ user link log is = is
+loss-breaks e user link log is = grind (arith, common_steps)
 
 pub lost-sound : (service : Service) (log : Log) (e : Entry) (link : LinkId) (lends : Lends) (lent : Lent) (turn : Turn) → AllLawful (IsLawful service) (log ++ e ∷ []) → AllLawful Fits (log ++ e ∷ []) → LendsSound service log lends → lends.waiting ≡ [] → lends.closing ≡ []
     → lends.links link.0 ≡ Some lent → turn_of service link log ≡ Some turn → link_of e ≡ Some link → is_loss e ≡ true → Came service (log ++ e ∷ []) turn.client lends (lost link lends)

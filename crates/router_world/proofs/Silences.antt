@@ -1,4 +1,5 @@
 -- Entries that say nothing leave all that came of commands, and why links may close.
+use Rattle.router_world.proofs.Names.{arith, common_steps}
 use Rattle.std.proofs.lemmas.Bool.{and_right}
 use Rattle.router_world.proofs.Connecting.{open-kept, is_among, Counts, counts-all}
 use Rattle.router_world.proofs.Names.{open_step, open_try, Bool, ClientNo, ◌≡◌, ℕ, cond, List, [], ◌∷◌, ◌++◌, Option, Some, None, refl, option_and_then}
@@ -92,26 +93,7 @@ sounds-mute log e mute = record {
 
 -- An entry that breaks off no login refuses nothing.
 pub refuses-none : (service : Service) (log : Log) (e : Entry) → refused_by service log e ≡ option_and_then (refused_on service log e) (link_of e) → ((user : Account) (link : LinkId) → breaks_off user link log e ≡ false) → refused_by service log e ≡ None
-refuses-none service log e by-link calm = by-link ∙ by (link_of e) where
-  fails : (user : Account) (link : LinkId) → login_fails user link log e ≡ false
-  fails user link = at (was_lost link log) (goes_on (login_on user link log)) where
-    at : (a b : Bool) → cond a false (cond b (breaks_off user link log e) false) ≡ false
-    at true b = refl
-    at false true = calm user link
-    at false false = refl
-
-  on : (link : LinkId) (turn : Turn) → refused_for service log e link turn ≡ None
-  on link turn = at (user_of service turn.client log) where
-    at : (o : Option Account) → option_and_then (λ user. if_failed turn (is_unsent turn log && login_fails user link log e)) o ≡ None
-    at None = refl
-    at (Some user) = ap (λ b. if_failed turn (is_unsent turn log && b)) (fails user link) ∙ ap (if_failed turn) (and_right (is_unsent turn log) false refl)
-
-  by : (o : Option LinkId) → option_and_then (refused_on service log e) o ≡ None
-  by None = refl
-  by (Some link) = at (turn_of service link log) where
-    at : (o : Option Turn) → option_and_then (refused_for service log e link) o ≡ None
-    at None = refl
-    at (Some turn) = on link turn
+refuses-none service log e h3 calm = grind (arith, common_steps)
 
 -- An entry on a link that is neither a seat's nor a server's leaves seats and links to servers.
 pub record Bystands (service : Service) (log : Log) (e : Entry) (link : LinkId) (tables : Tables) : Type 0 where
@@ -151,8 +133,7 @@ pub record Silence (log : Log) (e : Entry) : Type 0 where
   pub arrives : (before : Log) → arrival_in before e ≡ None
 
 arrival-same : (n : ℕ) (log : Log) (e : Entry) → ((before : Log) → arrival_in before e ≡ None) → arrival_of n (log ++ e ∷ []) ≡ arrival_of n log
-arrival-same zero log e arrives = refl
-arrival-same (suc n) log e arrives = ap (λ l. slice_get l n) (arrivals-plain log e arrives)
+arrival-same n log e arrives = grind (arith, common_steps, arrivals-plain)
 
 talk-same : (service : Service) (n : ℕ) (came : Arrival) (log : Log) (e : Entry) → Sounds log e → talk_with service n came (log ++ e ∷ []) ≡ talk_with service n came log
 talk-same service n came log e sounds = ap (λ r. record { setup = service.setup; number = n; salt = came.salt; read = r }) (sounds.read came.link)
@@ -167,13 +148,7 @@ replied-still : (service : Service) (n i : ℕ) (log : Log) (e : Entry) → Sile
 replied-still service n i log e silence = replied-same service n i log e silence.silent silence.sounds (λ link. user-on-same service link log e silence)
 
 pub work-same : (service : Service) (n : ℕ) (log : Log) (e : Entry) → Silence log e → work_of service n (log ++ e ∷ []) ≡ work_of service n log
-work-same service n log e silence = by (arrival_of n log) refl where
-  by : (o : Option Arrival) → arrival_of n log ≡ o → work_of service n (log ++ e ∷ []) ≡ work_of service n log
-  by None none = ap (λ (o : Option Arrival). work_in service n (log ++ e ∷ []) (option_map (λ (came : Arrival). talk_with service n came (log ++ e ∷ [])) o)) (arrival-same n log e silence.arrives ∙ none)
-      ∙ sym (ap (λ (o : Option Arrival). work_in service n log (option_map (λ (came : Arrival). talk_with service n came log) o)) none)
-  by (Some came) is = work-is service n came (log ++ e ∷ []) (arrival-stays n log (e ∷ []) came is)
-      ∙ (λ j. work_said (λ i. replied-still service n i log e silence j) (talk-same service n came log e silence.sounds j))
-      ∙ sym (work-is service n came log is)
+work-same service n log e silence = grind (arith, common_steps, arrival-same, work-is, arrival-stays, replied-still, talk-same)
 
 pub due-same : (service : Service) (n : ℕ) (came : Arrival) (log : Log) (e : Entry) → Silence log e → arrival_of n log ≡ Some came → is_served service.setup came ≡ true → due service n (log ++ e ∷ []) ≡ due service n log
 due-same service n came log e silence is served = by (bool_cases (was_lost came.link log)) where

@@ -1,4 +1,5 @@
 -- What the router lends for a link is all that is owed to it.
+use Rattle.router_world.proofs.Names.{common_steps}
 use Rattle.router_world.proofs.Names.{same_number, ◌≡◌, ◌⊎◌, ◌+◌, ◌<◌, ℕ, zero, suc, Bool, true, false, nat_eq, cond, List, [], ◌∷◌, ◌++◌, length, take, drop}
 use Rattle.router_world.proofs.Names.{slice_get, Option, Some, None, refl, sym, ◌∙◌, ap, inl, inr, arith, length-append, drop_all, ClientNo, LinkId, Reply, Log}
 use Rattle.router_world.proofs.Names.{written_of, AllLawful, Fits, Sent, nat_eq-true, Account, BackendState, left, said_of, Arrival, arrivals, arrival_of, Lent}
@@ -31,31 +32,19 @@ use Rattle.router_world.proofs.Promises.{starts, goes-on}
 -- What is lent.
 
 reply-whole : (bytes : List ℕ) (sent : Sent) → reply_sent bytes ≡ Some sent → (sent.bytes ≡ bytes) × (0 < length bytes)
-reply-whole [] sent is = absurd (let none : None ≡ Some sent = is in cc)
-reply-whole (byte ∷ bytes) sent is = (ap (λ (s : Sent). s.bytes) (sym (some-same (record { tag = Reply; bytes = byte ∷ bytes }) sent is)), omega arith)
+reply-whole bytes sent is = grind (arith, common_steps, some-same)
 
 seat-whole : (o : Option Seat) (piece : List ℕ) → IsWhole (seat_sends o) piece → (seat : Seat) × (o ≡ Some seat) × (piece ≡ seat.session.client.outgoing)
-seat-whole None piece whole = absurd (let none : None ≡ Some whole.sent = whole.is in cc)
-seat-whole (Some seat) piece whole = (seat, refl, whole.bytes ∙ (reply-whole seat.session.client.outgoing whole.sent whole.is).0)
+seat-whole o piece whole = grind (arith, common_steps, reply-whole)
 
 left-whole : (o : Option Lent) (piece : List ℕ) → IsWhole (left_in o) piece → (lent : Lent) × (o ≡ Some lent) × (l : Sent) × (left lent.backend ≡ Some l) × (piece ≡ l.bytes)
-left-whole None piece whole = absurd (let none : None ≡ Some whole.sent = whole.is in cc)
-left-whole (Some lent) piece whole = by (left lent.backend) refl whole.is where
-  by : (o : Option Sent) → left lent.backend ≡ o → o ≡ Some whole.sent → (other : Lent) × (Some lent ≡ Some other) × (l : Sent) × (left other.backend ≡ Some l) × (piece ≡ l.bytes)
-  by None at is = absurd (let none : None ≡ Some whole.sent = is in cc)
-  by (Some l) at is = (lent, refl, l, at, whole.bytes ∙ ap (λ (s : Sent). s.bytes) (sym (some-same (record { tag = l.tag; bytes = l.bytes }) whole.sent is)))
+left-whole o piece whole = grind (arith, common_steps, some-same)
 
 -- The client of a link.
 
 first-at : (link : LinkId) (xs : List Arrival) (start k : ℕ) (came : Arrival) → slice_get xs k ≡ Some came → came.link ≡ link → ((j : ℕ) (other : Arrival) → slice_get xs j ≡ Some other → other.link ≡ link → j ≡ k) → client_at link start xs ≡ Some (start + k)
 first-at link [] start k came is on one = absurd (let no : None ≡ Some came = is in cc)
-first-at link (x ∷ xs) start zero came is on one = by (nat_eq x.link.0 link.0) refl where
-  here : x.link ≡ link
-  here = ap (λ (a : Arrival). a.link) (some-same x came is) ∙ on
-
-  by : (b : Bool) → nat_eq x.link.0 link.0 ≡ b → cond b (Some start) (client_at link (suc start) xs) ≡ Some (start + 0)
-  by true at = ap (λ n. Some n) (let same : start ≡ start + 0 = omega arith in same)
-  by false at = absurd (let no : true ≡ false = sym (same_number link.0) ∙ ap (λ (l : LinkId). nat_eq l.0 link.0) (sym here) ∙ at in cc)
+first-at link (x ∷ xs) start zero came is on one = grind (arith, common_steps, some-same)
 first-at link (x ∷ xs) start (suc k) came is on one =
     by (nat_eq x.link.0 link.0) refl (first-at link xs (suc start) k came is on (λ j other has there. let next : suc j ≡ suc k = one (suc j) other has there in omega arith)) where
       by : (b : Bool) → nat_eq x.link.0 link.0 ≡ b → client_at link (suc start) xs ≡ Some (suc start + k) → cond b (Some start) (client_at link (suc start) xs) ≡ Some (start + suc k)
@@ -75,11 +64,7 @@ client-at log (suc k) came link told is on = first-at link (arrivals log) 1 k ca
     ∙ ap (λ n. Some n) (let same : 1 + k ≡ suc k = omega arith in same)
 
 owed-client : (service : Service) (log : Log) (n : ℕ) (came : Arrival) (link : LinkId) (bytes : List ℕ) → AllLawful Fits log → arrival_of n log ≡ Some came → came.link ≡ link → written_of came.link log ++ bytes ≡ due service n log → bytes ≡ owed service link log
-owed-client service log n came link bytes told is on all =
-    sym (drop-append_seam (written_of came.link log) bytes)
-    ∙ ap (λ (l : LinkId). drop (length (written_of l log)) (written_of came.link log ++ bytes)) on
-    ∙ ap (drop (length (written_of link log))) all
-    ∙ ap (owed_by service link log) (sym (client-at log n came link told is on))
+owed-client service log n came link bytes told is on all = grind (arith, common_steps, drop-append_seam, client-at)
 
 owed-seat : (service : Service) (log : Log) (n : ℕ) (seat : Seat) → AllLawful Fits log → SeatStands service log n seat → seat.session.client.outgoing ≡ owed service seat.link log
 owed-seat service log n seat told stands = by stands.state where
@@ -101,11 +86,7 @@ owed-farewell service log tables parting told stands some = owed-client service 
 -- A link to a server.
 
 said-written : (forms : Forms) (user : Account) (heard : List ℕ) (pieces : List Command) (backend : BackendState) → LinkAt forms user heard pieces backend → drop (length (bytes_in pieces)) (said_of (opening user heard)) ≡ backend.own
-said-written forms user heard pieces backend (Entering at) = ap (λ o. drop (length (bytes_in pieces)) (said_of o)) at.goes ∙ drop-append_seam (bytes_in pieces) backend.own
-said-written forms user heard pieces backend (Inside at) = ap (λ o. drop (length (bytes_in pieces)) (said_of o)) at.is ∙ by at.written where
-  by : (bytes_in pieces ++ backend.own ≡ at.said) ⊎ ((backend.own ≡ []) × IsPrefix at.said (bytes_in pieces)) → drop (length (bytes_in pieces)) at.said ≡ backend.own
-  by (inl all) = ap (drop (length (bytes_in pieces))) (sym all) ∙ drop-append_seam (bytes_in pieces) backend.own
-  by (inr (none, front)) = drop_all (length (bytes_in pieces)) at.said (let size : length (at.said ++ front.rest) ≡ length at.said + length front.rest = length-append at.said front.rest in let same : length (at.said ++ front.rest) ≡ length (bytes_in pieces) = ap length front.is in omega arith) ∙ sym none
+said-written forms user heard pieces backend h5 = grind (arith, common_steps, drop-append_seam, length-append)
 
 last-behind : (others : List Command) (c : Command) → last_bytes (others ++ c ∷ []) ≡ c.bytes
 last-behind [] c = refl
@@ -113,8 +94,7 @@ last-behind (x ∷ []) c = refl
 last-behind (x ∷ y ∷ others) c = last-behind (y ∷ others) c
 
 first-some : (own later : List ℕ) → 0 < length own → login_first own later ≡ own
-first-some [] later some = absurd (omega arith)
-first-some (byte ∷ own) later some = refl
+first-some own later some = grind (arith, common_steps)
 
 owed-row : (service : Service) (log : Log) (tables : Tables) (link : LinkId) (lent : Lent) (l : Sent) → AllLawful Fits log → RowStands service log tables.lends link lent → left lent.backend ≡ Some l → l.bytes ≡ owed service link log
 owed-row service log tables link lent l told row is = by (left-at lent.backend l is) where
@@ -199,10 +179,7 @@ sized-entry service recording log _ stands call offer = tt
 sized-behind : (service : Service) (recording : List RecordEntry) (log more : Log) → GoesOn service → service.opens ≡ turns service.setup (log ++ more) → AreFormed service (log ++ more) → StandsFor service log → LawfulAfter MayFollow log more → LawfulAfter (IsOurs service.setup) log more
     → LawfulAfter (IsAnswerOf recording) log more → LawfulAfter (Offers (lends service.setup) (takes recording)) log more → LawfulAfter (IsSized service recording) log more
 sized-behind service recording log [] goes opens formed stands follow ours play offers = tt
-sized-behind service recording log (e ∷ more) goes opens formed stands follow ours play offers = (
-  sized-entry service recording log e stands play.0 offers.0,
-  sized-behind service recording (log ++ e ∷ []) more goes (opens ∙ ap (turns service.setup) (sym (append_assoc log (e ∷ []) more))) (subst (AreFormed service) (sym (append_assoc log (e ∷ []) more)) formed) (one-more service log more e goes opens formed stands follow.0 ours.0) follow.1 ours.1 play.1 offers.1,
-)
+sized-behind service recording log (e ∷ more) goes opens formed stands follow ours play offers = grind (arith, common_steps, sized-entry, turns, one-more, (sized-behind service recording (log ++ e ∷ []) more goes (opens ∙ ap (turns service.setup) (sym (append_assoc log (e ∷ []) more))) (subst (AreFormed service) (sym (append_assoc log (e ∷ []) more)) formed) (one-more service log more e goes opens formed stands follow.0 ours.0) follow.1 ours.1 play.1 offers.1))
 
 pub keeps-sized : (setup : Setup) (recording : List RecordEntry) (log : Log) → setup.limit ≤ most_command → AllLawful MayFollow log → AllLawful (IsOurs setup) log → IsPlay recording log → AllLawful (Offers (lends setup) (takes recording)) log → KeepsSized setup recording log
 keeps-sized setup recording log short follow ours play offers = (let service : Service = service-of setup log in

@@ -1,4 +1,5 @@
 -- An entry that concerns one client leaves all others as they were.
+use Rattle.router_world.proofs.Names.{arith, common_steps}
 use Rattle.router_world.proofs.Hands.{away-gone, traces-self, known-later, none-some, Parted, Next, goes-on, apart-self}
 use Rattle.router_world.specs.Tables.{with_lends}
 use Rattle.router_world.proofs.Apart.{Traces, one-or-other, Apart, serves-apart, gone-apart, set-same, set-other, apart-numbers}
@@ -117,8 +118,7 @@ pub record IsQuiet (tables : Tables) : Type 0 where
   pub unclosed : tables.lends.closing ≡ []
 
 has-none : {X : Type 0} (xs : List X) → has_some xs ≡ false → xs ≡ []
-has-none [] is = refl
-has-none (x ∷ xs) is = absurd (let none : true ≡ false = is in cc)
+has-none xs is = grind (arith, common_steps)
 
 pub quiet-closes : (tables : Tables) → closes tables ≡ false → IsQuiet tables
 quiet-closes tables closing = (let both = or_parts (has_some tables.parting) (has_some tables.lends.closing) closing in record { unparted = has-none tables.parting both.0; unclosed = has-none tables.lends.closing both.1 })
@@ -127,10 +127,7 @@ pub done : (setup : Setup) (tables : Tables) → asks setup tables ≡ false →
 done setup tables is = quiet-closes tables (or_parts (closes tables) (opens setup tables) is).0
 
 pub nobody-waits : (setup : Setup) (tables : Tables) → asks setup tables ≡ false → is_some setup.target ≡ true → tables.lends.waiting ≡ []
-nobody-waits setup tables is has = by tables.lends.waiting ((or_parts (closes tables) (opens setup tables) is).1) where
-  by : (waiting : List ClientNo) → (is_some setup.target && is_waiting waiting) ≡ false → waiting ≡ []
-  by [] none = refl
-  by (client ∷ waiting) none = absurd (let some : true ≡ false = sym (ap (λ b. b && true) has) ∙ none in cc)
+nobody-waits setup tables is has = grind (arith, common_steps, closes, opens)
 
 -- The links to servers and all commands stay, where the entry touches none.
 pub lends-still : (service : Service) (log : Log) (e : Entry) (lends : Lends) → AllLawful (IsLawful service) (log ++ e ∷ []) → Fits log e → LendsSound service log lends → lends.closing ≡ [] → ((k : ℕ) → Calm service log e k)
