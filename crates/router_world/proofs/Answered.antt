@@ -1,16 +1,15 @@
 -- What comes of a client's command, and its session goes on.
-use Rattle.router_world.proofs.Names.{common_steps}
-use Rattle.router_world.proofs.Names.{◌+◌, lawful-more, ◌≡◌, ◌⊎◌, ◌<◌, ℕ, false, nat_eq, [], ◌∷◌, ◌++◌, length, Some, None, refl, sym, ◌∙◌, ap, subst, inl, inr}
-use Rattle.router_world.proofs.Names.{LinkId, Log, IsOpen, Fits, Entry, Account, Handed, Phase, Ask, Lent, Lends, Told, Turn, Service, turn_of, some-same, Seat}
-use Rattle.router_world.proofs.Names.{replied, Tables, with_lends, ◌≢◌, ◌≤◌, Bool, true, cond, List, Option, arith, ClientNo, read_of, written_of, same_number}
-use Rattle.router_world.proofs.Names.{nat_eq-true, nat_eq-false, Framed, Split, split, next_id, Arrival, arrival_of, is_served, Talk, account_in, account}
+use Rattle.router_world.proofs.Names.{common_steps, ◌+◌, lawful-more, ◌≡◌, ◌⊎◌, ◌<◌, ℕ, false, nat_eq, [], ◌∷◌, ◌++◌, length, Some, None, refl, sym, ◌∙◌, ap}
+use Rattle.router_world.proofs.Names.{subst, inl, inr, LinkId, Log, IsOpen, Fits, Entry, Account, Phase, Lent, Lends, Told, Turn, Service, turn_of, some-same}
+use Rattle.router_world.proofs.Names.{Seat, replied, Tables, with_lends, ◌≢◌, ◌≤◌, Bool, true, cond, List, Option, arith, ClientNo, read_of, written_of}
+use Rattle.router_world.proofs.Names.{same_number, nat_eq-true, nat_eq-false, Framed, Split, split, next_id, Arrival, arrival_of, is_served, Talk, account}
 use Rattle.router_world.proofs.Names.{messages_of, Session, Query, Turned, rested, answered_in, Answered, Answer, spelt, talk_with, message_of, work_of}
 use Rattle.router_world.proofs.Names.{in-work, refused-or-sent, arrival-stays, message-stays, first_open, work_said, SeatAt, PhaseAt, IsWorking, Asks}
-use Rattle.router_world.proofs.Names.{Unanswered, unanswered_from, without_seat, on_seat, told}
+use Rattle.router_world.proofs.Names.{Unanswered, without_seat, on_seat, told}
 use Rattle.router_world.proofs.Stepping.{taken-out, IsPlain, Others, Mine, moved, IsQuiet}
 use Rattle.router_world.proofs.Apart.{apart-numbers, Came, Comes, Quiet, Answers, set-same}
 use Rattle.router_world.proofs.Hands.{away-gone, none-some, Next, goes-on, work-is, later-work, next-turned, finished-parted}
-use Rattle.router_world.proofs.Sound.{Happens, AreFormed, Sound, Serves, Unsent, Free, Gone, Busy, Waits, Logs, On, LendsSound, SeatStands, IsHeard, IsEnded}
+use Rattle.router_world.proofs.Sound.{Happens, AreFormed, Sound, Serves, Unsent, Free, Gone, Busy, LendsSound, SeatStands, IsHeard, IsEnded}
 use Rattle.router_world.proofs.Connecting.{counts-all}
 use Rattle.client_talk.specs.Events.{answered}
 use Rattle.router_world.specs.World.{goes_on, answering}
@@ -143,9 +142,7 @@ answered-goes service log n came written session user lends answer packets is se
       unanswered : Unanswered before session
       unanswered i from = by (nat_eq i session.client.arrived) refl where
         by : (b : Bool) → nat_eq i session.client.arrived ≡ b → cond b None (reply i) ≡ None
-        by true at = refl
-        by false at = (let apart : i ≢ session.client.arrived = nat_eq-false i session.client.arrived at in let least : session.client.arrived ≤ i = subst (λ (p : Phase). unanswered_from p session.client.arrived ≤ i) working from in
-            let parts = unsent i (omega arith) in unsent-still service n i log parts.0 parts.1)
+        by b at = grind (arith, common_steps, nat_eq-false, unsent-still)
 
       at : SeatTurned talk reply written old (answered service.setup packets session)
       at = answered-seat talk before reply written session user at-work answer packets working seat unanswered now same (spelled at-work.message at-work.work) few
@@ -203,8 +200,7 @@ answered-step service log e n tables news i answer message sound from busy there
         unlost-ends ended = (let no' : phase.Ending ≡ phase.Working works.0 = sym ended.ends ∙ works.1 in cc)
 
         heard-of : IsHeard service log n was.came seat.session ⊎ IsEnded service log n was.came seat.session → IsHeard service log n was.came seat.session
-        heard-of (inl heard) = heard
-        heard-of (inr ended) = absurd (unlost-ends ended)
+        heard-of h0 = grind (arith, common_steps)
 
         goes : IsHeard service log n was.came seat.session ⊎ IsEnded service log n was.came seat.session → Goes service then n was.came (written_of was.came.link log) news.lends turned
         goes state = by (heard-of state) where

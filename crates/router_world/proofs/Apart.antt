@@ -1,11 +1,10 @@
 -- Tables with one other row.
-use Rattle.router_world.proofs.Names.{common_steps}
-use Rattle.router_world.proofs.Names.{arith, ◌≡◌, ◌≢◌, ℕ, Bool, true, false, nat_eq, cond, Option, Some, refl, ap, same_number, nat_eq-true, set, ◌⊎◌, [], ◌∷◌}
-use Rattle.router_world.proofs.Names.{None, sym, ◌∙◌, ClientNo, LinkId, Log, In, Phase, Lent, Lends, Service, subst, some-same, Ask, Turn, turn_of, List, inl}
-use Rattle.router_world.proofs.Names.{inr, Account, BackendState, is_begun, Command, Forms, LinkAt, Entering, Inside, Framed, next_id, Answered, Told, is_query}
-use Rattle.router_world.proofs.Names.{Answer, spelt, is_here, Work, message_of, work_of, replied}
-use Rattle.router_world.proofs.Sound.{Enters, Owned, Own, Left, RowStands, Free, Gone, Busy, Waits, Logs, On, Serves, AskStands, CloseStands, AtMostOne}
-use Rattle.router_world.proofs.Sound.{Waiting, Owns, LendsBut, LendsSound}
+use Rattle.router_world.proofs.Names.{common_steps, arith, ◌≡◌, ◌≢◌, ℕ, Bool, true, false, nat_eq, cond, Option, Some, refl, ap, same_number, nat_eq-true, set}
+use Rattle.router_world.proofs.Names.{◌⊎◌, [], ◌∷◌, None, sym, ◌∙◌, ClientNo, LinkId, Log, In, Phase, Lent, Lends, Service, subst, some-same, Ask, Turn}
+use Rattle.router_world.proofs.Names.{turn_of, List, inl, inr, Account, BackendState, is_begun, Command, Forms, LinkAt, Framed, next_id, Answered, Told}
+use Rattle.router_world.proofs.Names.{is_query, Answer, spelt, is_here, Work, message_of, work_of, replied}
+use Rattle.router_world.proofs.Sound.{Enters, Owned, RowStands, Free, Gone, Busy, Waits, Logs, On, Serves, AskStands, CloseStands, AtMostOne, Waiting, Owns}
+use Rattle.router_world.proofs.Sound.{LendsBut, LendsSound}
 use Rattle.client_talk.specs.declared.session.Phase.TheVariants as phase
 
 pub set-same : {X : Type 0} (f : ℕ → X) (key : ℕ) (value : X) → set f key value key ≡ value
@@ -146,8 +145,7 @@ kept-row service log n lends other link lent sound is mine = by (sound.rows link
   by : RowStands service log lends link lent → RowNow service log n lends other link lent
   by stands = at (nat_eq stands.turn.client n) refl where
     own : Owned service log lends link stands.turn.client lent → stands.turn.client ≡ n → RowNow service log n lends other link lent
-    own (Own owner owns) same = Now (mine (subst (λ k. lends.owned k ≡ Some link) same owns))
-    own (Left none gone begun) same = Now (row-left service log lends other link lent stands none (begun-inside service.forms lent.backend.account _ _ lent.backend stands.at begun))
+    own h0 same = grind (arith, common_steps, row-left, begun-inside)
 
     at : (b : Bool) → nat_eq stands.turn.client n ≡ b → RowNow service log n lends other link lent
     at false differs = Was is stands.turn stands.is_turn differs
@@ -214,16 +212,14 @@ traces-one n link lends other lent there one = record {
   closes = λ l is. closes l is one.goes;
 } where
   to : RowGoes link lends other → ((now : Lent) × (other.links link.0 ≡ Some now)) ⊎ (other.closing ≡ link ∷ [])
-  to (Stays now is_now same) = inl (now, is_now)
-  to (Closes none out last) = inr last
+  to h0 = grind (arith, common_steps)
 
   closed : (l : LinkId) → other.closing ≡ l ∷ [] → RowGoes link lends other → (lends.closing ≡ l ∷ []) ⊎ ((was : Lent) × (lends.links l.0 ≡ Some was))
   closed l is (Stays now is_now same) = inl (sym same ∙ is)
   closed l is (Closes none out last) = inr (lent, ap (λ (x : LinkId). lends.links x.0) (one-same l link (sym is ∙ last)) ∙ there)
 
   closes : (l : LinkId) → lends.closing ≡ l ∷ [] → RowGoes link lends other → other.closing ≡ l ∷ []
-  closes l is (Stays now is_now same) = same ∙ is
-  closes l is (Closes none out last) = absurd (none-one lends.closing none is)
+  closes l is h2 = grind (arith, common_steps)
 
 -- A link that is to be closed stands so where it has no row.
 pub close-kept : (service : Service) (log : Log) (lends other : Lends) (link : LinkId) → CloseStands service log lends link → other.links link.0 ≡ None → CloseStands service log other link

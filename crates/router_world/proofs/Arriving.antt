@@ -1,20 +1,18 @@
 -- Nothing was sent for a client before it came, nor refused; and how many came.
-use Rattle.router_world.proofs.Names.{common_steps}
+use Rattle.router_world.proofs.Names.{common_steps, lawful-last, ◌≡◌, ◌⊎◌, ◌<◌, ◌≤◌, ℕ, suc, ◌+◌, Bool, true, false, nat_eq, nat_lt, ◌&&◌, List, [], ◌∷◌, ◌++◌}
+use Rattle.router_world.proofs.Names.{length, slice_get, fold, Option, Some, None, refl, sym, ◌∙◌, ap, arith, length-append, LinkId, Traffic, Log, AllLawful}
+use Rattle.router_world.proofs.Names.{lawful-each, Entry, Accepted, nat_eq-true, Account, counted, Arrival, arrivals, arrivals_behind, arrival_of, without}
+use Rattle.router_world.proofs.Names.{connected, connected_step, carries, carrier_of, Turn, Service, user_of, is_turn, is_refused, IsLawful, Cause, NotOpened}
+use Rattle.router_world.proofs.Names.{NotLoggedIn, some-same, refusal-cause, and-true, carrier-more, arrival-stays, list_any, subst, inl, inr, ClientNo, Port}
+use Rattle.router_world.proofs.Names.{of_link, open_step, is_open, got_bytes, wrote_bytes, read_of, written_of, same_number, of_link-same, step-same}
+use Rattle.router_world.proofs.Names.{step-other, lawful-more, IsNew, IsOpen, Fits, is_served, is_traffic, Session, new_session, set, most_command, is_loss}
+use Rattle.router_world.proofs.Names.{is_failure, none-if, arrivals-more, Parting, Seat, replied, SeatAt, Tables, admitted, ◌||◌, flat_map, Admin}
 use Rattle.router_world.proofs.Hands.{numbered-seat, known-as, away-gone, none-some}
 use Rattle.router_world.proofs.Apart.{none-one, one-or-other, link-or-other, apart-links, apart-numbers, set-same, set-other, Row, Here, There, row-of}
 use Rattle.router_world.proofs.Apart.{one-same}
 use Rattle.std.proofs.lemmas.Bool.{and_right, or_right, false_from_ne_true}
 use Rattle.router_world.proofs.Sound.{Sits, Happens, SeatStands, PartAt, PartStands, Sound, OnHand, InHand, Gone, Known, Clients, Parts, AtMostOne, One}
 use Rattle.router_world.proofs.Sound.{Refused, Strange}
-use Rattle.router_world.proofs.Names.{lawful-last, ◌≡◌, ◌⊎◌, ◌<◌, ◌≤◌, ℕ, suc, ◌+◌, Bool, true, false, nat_eq, nat_lt, ◌&&◌, cond, List, [], ◌∷◌, ◌++◌, length}
-use Rattle.router_world.proofs.Names.{slice_get, fold, Option, Some, None, refl, option_map, option_and_then, cons_option, sym, ◌∙◌, ap, arith, length-append}
-use Rattle.router_world.proofs.Names.{LinkId, For, Traffic, Log, AllLawful, lawful-each, Entry, Accepted, Closed, Wrote, nat_eq-true, Account, counted, Arrival}
-use Rattle.router_world.proofs.Names.{arrivals, arrivals_behind, arrival_in, arrival_of, without, connected, connected_step, account, carries, carrier_of}
-use Rattle.router_world.proofs.Names.{first_some, Turn, Service, talk_with, user_of, is_turn, is_refused, IsLawful, Cause, NotOpened, NotLoggedIn, some-same}
-use Rattle.router_world.proofs.Names.{refusal-cause, and-true, carrier-more, arrival-stays, list_any, subst, inl, inr, ClientNo, Port, of_link, open_step}
-use Rattle.router_world.proofs.Names.{is_open, got_bytes, wrote_bytes, read_of, written_of, same_number, of_link-same, step-same, step-other, lawful-more}
-use Rattle.router_world.proofs.Names.{IsNew, IsOpen, Fits, is_served, is_traffic, Session, new_session, set, most_command, is_loss, is_failure, none-if}
-use Rattle.router_world.proofs.Names.{arrivals-more, Parting, Seat, replied, SeatAt, Tables, admitted, ◌||◌, flat_map, Admin}
 use Rattle.router_world.specs.Tables.{to_part}
 use Rattle.router_world.specs.World.{comes, admitted_if}
 use Rattle.router_world.proofs.Calm.{Spares, unrefused-more}
@@ -49,9 +47,7 @@ spares-none service n i log e may none turn is = false_from_ne_true (is_turn n i
 unborn-step : (service : Service) (log : Log) (e : Entry) → IsLawful service log e → Unborn service log → Unborn service (log ++ e ∷ [])
 unborn-step service log e may before n i none = by (arrival_of n log) refl where
   by : (o : Option Arrival) → arrival_of n log ≡ o → (carrier_of n i (log ++ e ∷ []) ≡ None) × (is_refused service n i (log ++ e ∷ []) ≡ false)
-  by (Some came) at = absurd (never-here n log e came none at)
-  by None at = (let was = before n i at in
-      (carrier-more n i log e ∙ ap (λ o. first_some o (carries n i e)) was.0 ∙ writes-none service n i log e may none, unrefused-more service n i log e was.1 (spares-none service n i log e may none)))
+  by o at = grind (arith, common_steps, never-here, carrier-more, writes-none, unrefused-more, spares-none)
 
 pub unborn : (service : Service) (log : Log) → AllLawful (IsLawful service) log → (n i : ℕ) → arrival_of n log ≡ None → (carrier_of n i log ≡ None) × (is_refused service n i log ≡ false)
 unborn service log lawful = lawful-each (IsLawful service) (Unborn service) log (unborn-step service) (λ n i none. (refl, refl)) lawful

@@ -1,15 +1,13 @@
 -- What an entry leaves of what is said of a link, and of a client's command.
-use Rattle.router_world.proofs.Names.{arith, common_steps}
-use Rattle.std.proofs.lemmas.Bool.{or_from, false_from_ne_true}
-use Rattle.router_world.proofs.Names.{◌≡◌, ℕ, Bool, true, false, ◌||◌, cond, List, [], ◌∷◌, ◌++◌, Option, Some, None, refl, option_and_then, cons_option}
-use Rattle.router_world.proofs.Names.{flat_map, filter_map, list_any, sym, ◌∙◌, ap, append-nil, filter_map-append, flat_map-append, list_any-append, LinkId}
-use Rattle.router_world.proofs.Names.{Log, link_of, is_link, got_bytes, wrote_bytes, read_of, written_of, open_step, is_open, reply_said, bytes-other}
-use Rattle.router_world.proofs.Names.{step-other, Entry, Account, is_loss, was_lost, is_failure, was_broken, until_loss, heard_of, piece, pieces_of, carries}
-use Rattle.router_world.proofs.Names.{carrier_of, first_some, Answer, connection_refused, Turn, Service, user_on, refused_by, refused, is_turn, is_refused}
-use Rattle.router_world.proofs.Names.{reply_on, reply_to, RefusedOrSent, refused-more, carrier-stays, carrier-more, replied, suc, is_some, Result, option_map}
-use Rattle.router_world.proofs.Names.{AllLawful, Framed, Meaning, parsed, CommandFault, Setup, Arrival, arrival_of, Talk, messages_of, query_by, no_server}
-use Rattle.router_world.proofs.Names.{talk_with, Work, answer, answer_by, first_without, work_in, work_of, IsLawful, in-work, arrival-stays, messages-grow}
-use Rattle.router_world.proofs.Names.{message-stays}
+use Rattle.router_world.proofs.Names.{arith, common_steps, ◌≡◌, ℕ, Bool, true, false, ◌||◌, cond, List, [], ◌∷◌, ◌++◌, Option, Some, None, refl}
+use Rattle.router_world.proofs.Names.{option_and_then, cons_option, flat_map, filter_map, list_any, sym, ◌∙◌, ap, append-nil, filter_map-append}
+use Rattle.router_world.proofs.Names.{flat_map-append, list_any-append, LinkId, Log, link_of, is_link, got_bytes, read_of, written_of, is_open, reply_said}
+use Rattle.router_world.proofs.Names.{bytes-other, step-other, Entry, Account, is_loss, was_lost, was_broken, until_loss, heard_of, piece, pieces_of, carries}
+use Rattle.router_world.proofs.Names.{carrier_of, Answer, connection_refused, Turn, Service, user_on, refused_by, refused, is_turn, is_refused, reply_on}
+use Rattle.router_world.proofs.Names.{reply_to, RefusedOrSent, refused-more, carrier-stays, carrier-more, replied, suc, is_some, Result, option_map, AllLawful}
+use Rattle.router_world.proofs.Names.{Framed, Meaning, parsed, CommandFault, Setup, Arrival, arrival_of, Talk, messages_of, query_by, no_server, talk_with}
+use Rattle.router_world.proofs.Names.{Work, answer, answer_by, first_without, work_in, work_of, IsLawful, in-work, arrival-stays, messages-grow, message-stays}
+use Rattle.std.proofs.lemmas.Bool.{false_from_ne_true}
 use Rattle.mx_wire.specs.Growth.{of_link-other}
 use Rattle.promises.proofs.InWork.{refused-stays, query-answer, asks-open}
 use Rattle.promises.proofs.Staying.{user-on-stays, reply-stays, talk-more, answer-stays}
@@ -132,8 +130,7 @@ asks-stay service n i message due log more lawful has asks none = (let there : R
 pub asks-server : (service : Service) (n i : ℕ) (message : Framed) (due log : Log) → Asks service n i message due log → is_some service.setup.target ≡ true
 asks-server service n i message due log asks = by (is_some service.setup.target) (asks-open service n i message due log asks) where
   by : (b : Bool) → cond b (replied service n i log) (Some (no_server ∷ [])) ≡ None → b ≡ true
-  by true none = refl
-  by false none = absurd (let no : Some (no_server ∷ []) ≡ None = none in cc)
+  by b none = grind (arith, common_steps)
 
 -- nothing came of it yet
 pub asks-unreplied : (service : Service) (n i : ℕ) (message : Framed) (due log : Log) → Asks service n i message due log → replied service n i log ≡ None

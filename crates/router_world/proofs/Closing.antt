@@ -1,18 +1,17 @@
 -- A link closes, and what is offered to it before.
-use Rattle.router_world.proofs.Names.{arith, common_steps}
+use Rattle.router_world.proofs.Names.{arith, common_steps, ◌≡◌, ◌≢◌, ◌⊎◌, ℕ, ◌-◌, Bool, true, false, nat_eq, ◌&&◌, List, [], ◌∷◌, ◌++◌, length, Some, None}
+use Rattle.router_world.proofs.Names.{refl, option_and_then, list_any, sym, ◌∙◌, ap, subst, inl, inr, list_any-append, LinkId, Traffic, Log, link_of, open_step}
+use Rattle.router_world.proofs.Names.{is_open, written_of, wrote_bytes, lawful-more, IsOpen, Fits, of_link-same, step-same, step-other, bytes-idle, Entry}
+use Rattle.router_world.proofs.Names.{Closed, Arrival, connected, is_served, Lent, Lends, Service, is_write, was_offered, or-inr, clients-unowned}
+use Rattle.router_world.proofs.Names.{arrival-stays, Parting, Tables, with_lends, closed_by, Phase, too_many_connections, carries, refused_by, refused_on}
+use Rattle.router_world.proofs.Names.{turn_of}
 use Rattle.router_world.proofs.Hands.{away-gone, known-as}
 use Rattle.std.proofs.lemmas.Bool.{false_from_ne_true}
 use Rattle.router_world.proofs.Apart.{link-or-other, row-among, one-same}
 use Rattle.router_world.proofs.Connecting.{open-kept, is_among, counts-all, closed-fewer, closed-same, traffic_as, traffic-came}
-use Rattle.router_world.proofs.Sound.{Happens, CloseStands, Owned, Own, Left, RowStands, LendsSound, PartAt, Done, Refused, Offered, Strange, PartStands, Sound}
-use Rattle.router_world.proofs.Sound.{Serves, Waits, Logs, On, Known, Clients, Servers, Parts, Closes, AtMostOne, Nobody, One}
+use Rattle.router_world.proofs.Sound.{Happens, CloseStands, RowStands, LendsSound, PartAt, Refused, Offered, PartStands, Sound, Serves, Waits, Logs, On, Known}
+use Rattle.router_world.proofs.Sound.{Clients, Servers, Parts, Closes, AtMostOne, Nobody, One}
 use Rattle.router_world.proofs.Stepping.{client-spares, arrivals-plain, IsPlain, connected-plain}
-use Rattle.router_world.proofs.Names.{◌≡◌, ◌≢◌, ◌⊎◌, ℕ, ◌-◌, Bool, true, false, nat_eq, ◌||◌, ◌&&◌, List, [], ◌∷◌, ◌++◌, length, Some, None, refl}
-use Rattle.router_world.proofs.Names.{option_and_then, list_any, sym, ◌∙◌, ap, subst, inl, inr, list_any-append, LinkId, Traffic, Log, link_of, is_link}
-use Rattle.router_world.proofs.Names.{of_link, open_step, is_open, written_of, wrote_bytes, lawful-more, IsOpen, Fits, same_number, of_link-same, step-same}
-use Rattle.router_world.proofs.Names.{step-other, bytes-idle, Entry, Closed, Arrival, connected, is_served, Lent, Lends, Service, is_write, was_offered, or-inr}
-use Rattle.router_world.proofs.Names.{clients-unowned, arrival-stays, Parting, Tables, with_lends, closed_by, Phase, too_many_connections, carries, refused_by}
-use Rattle.router_world.proofs.Names.{refused_on, turn_of}
 use Rattle.lend_core.specs.Changes.{without_close}
 use Rattle.promises.proofs.Causes.{not-both, turn-opened}
 use Rattle.router_world.specs.World.{fewer}
@@ -63,8 +62,7 @@ closed-client service log link parting tables sound shut is same = (let stands :
       then = log ++ Closed link ∷ []
 
       here : (b : Bool) → is_among parting.link (connected log) ≡ b → fewer b tables.here ≡ length (connected then)
-      here true counted = ap (λ h. h - 1) sound.here ∙ sym (closed-fewer log link shut.told (ap (λ (l : LinkId). is_among l (connected log)) (sym same) ∙ counted))
-      here false counted = sound.here ∙ sym (closed-same log link (ap (λ (l : LinkId). is_among l (connected log)) (sym same) ∙ counted))
+      here b counted = grind (arith, common_steps, closed-fewer, closed-same)
 
 -- The links to servers without the one that was to be closed.
 serves-closed : (at : Phase) (lends : Lends) (n i : ℕ) → Serves at lends n i → Serves at (without_close lends) n i
@@ -193,8 +191,7 @@ offered-step service log e parting later tables sound offer same client kind = (
       stands = sound.parts parting offer.is
 
       offered : was_offered stands.came.link then ≡ true
-      offered = ap (list_any is_write) (of_link-same stands.came.link log e (ap (is_link stands.came.link) offer.names ∙ ap (λ (l : LinkId). nat_eq l.0 parting.link.0) stands.link ∙ same_number parting.link.0))
-          ∙ list_any-append is_write (of_link stands.came.link log) (e ∷ []) ∙ or-inr (list_any is_write (of_link stands.came.link log)) (is_write e || false) (ap (λ b. b || false) offer.writes)
+      offered = grind (arith, common_steps, of_link-same, list_any-append, or-inr)
 
       at : (later.bytes ≡ []) ⊎ ((later.bytes ≡ parting.bytes) × (wrote_bytes e ≡ [])) → PartAt service then stands.n stands.came later.bytes
       at (inl none) = (let was = refused-part service log stands.n stands.came parting.bytes offer.some stands.at in subst (PartAt service then stands.n stands.came) (sym none) (Offered was.0 was.1 offered))

@@ -1,12 +1,11 @@
 -- Lists of links.
-use Rattle.router_world.proofs.Names.{common_steps}
+use Rattle.router_world.proofs.Names.{common_steps, ◌≡◌, ℕ, ◌+◌, Bool, true, false, nat_eq, not, ◌&&◌, ◌||◌, List, [], ◌∷◌, ◌++◌, length, refl, sym, ◌∙◌, ap}
+use Rattle.router_world.proofs.Names.{inl, inr, arith, LinkId, bool_cases, without, ◌-◌, slice_get, Some, None, list_any, list_any-append, fold-append, Traffic}
+use Rattle.router_world.proofs.Names.{Admin, Log, link_of, open_step, is_open, AllLawful, lawful-each, IsNew, IsOpen, Fits, step-same, step-other, Entry}
+use Rattle.router_world.proofs.Names.{Accepted, Opened, Closed, Arrival, arrivals_behind, arrival_of, is_traffic, connected_step, connected, some-same, came_as}
+use Rattle.router_world.proofs.Names.{came-names, named-none, same-link, or-inl, or-inr}
 use Rattle.router_world.proofs.Calm.{or-none, any-still}
-use Rattle.std.proofs.lemmas.Bool.{and_right, or_parts, or_from, or_right, false_from_ne_true, eqb-true}
-use Rattle.router_world.proofs.Names.{◌≡◌, ◌⊎◌, ℕ, ◌+◌, Bool, true, false, nat_eq, not, ◌&&◌, ◌||◌, List, [], ◌∷◌, ◌++◌, length, refl, sym, ◌∙◌, ap, inl, inr}
-use Rattle.router_world.proofs.Names.{arith, LinkId, bool_cases, without, zero, suc, ◌-◌, slice_get, Some, None, list_any, cons_option, subst, list_any-append}
-use Rattle.router_world.proofs.Names.{fold-append, Port, Traffic, Admin, Log, link_of, is_link, open_step, is_open, AllLawful, lawful-each, IsNew, IsOpen, Fits}
-use Rattle.router_world.proofs.Names.{same_number, step-same, step-other, Entry, Accepted, Opened, Closed, Arrival, arrivals_behind, arrival_in, arrival_of}
-use Rattle.router_world.proofs.Names.{is_traffic, connected_step, connected, some-same, came_as, came-names, named-none, same-link, or-inl, or-inr}
+use Rattle.std.proofs.lemmas.Bool.{or_parts, or_from, false_from_ne_true, eqb-true}
 use Rattle.promises.proofs.Causes.{or-cases}
 use Rattle.mx_wire.specs.Growth.{nat_eq-sym}
 

@@ -1,10 +1,9 @@
 -- What a client is due, by the replies to its queries.
-use Rattle.router_world.proofs.Names.{common_steps}
-use Rattle.router_world.proofs.Names.{and_from, ◌≡◌, ℕ, suc, ◌+◌, Bool, true, false, is_some, ◌&&◌, cond, List, [], ◌∷◌, ◌++◌, slice_get, Option, Some, None}
-use Rattle.router_world.proofs.Names.{refl, option_map, option_and_then, sym, ◌∙◌, ap, subst, append-nil, arith, Log, Framed, next_id, parsed, Arrival}
-use Rattle.router_world.proofs.Names.{arrival_of, Talk, messages_of, Answer, Service, talk_with, answer, answer_by, message_of, due_at, first_without, answers}
-use Rattle.router_world.proofs.Names.{answered, replied, answer_of, answers_by, first_open, ◌||◌, list_any, LinkId, link_of, is_link, of_link, Entry, is_served}
-use Rattle.router_world.proofs.Names.{front, fault_answer, is_loss, was_lost, turned_away, due, arrival-stays, due_said}
+use Rattle.router_world.proofs.Names.{common_steps, and_from, ◌≡◌, ℕ, suc, ◌+◌, true, false, is_some, ◌&&◌, cond, List, [], ◌∷◌, ◌++◌, slice_get, Option, Some}
+use Rattle.router_world.proofs.Names.{None, refl, option_and_then, sym, ◌∙◌, ap, subst, append-nil, arith, Log, Framed, next_id, parsed, Arrival, arrival_of}
+use Rattle.router_world.proofs.Names.{messages_of, Answer, Service, talk_with, answer, answer_by, message_of, due_at, first_without, answers, answered, replied}
+use Rattle.router_world.proofs.Names.{answer_of, answers_by, first_open, ◌||◌, LinkId, Entry, is_served, front, fault_answer, was_lost, turned_away, due}
+use Rattle.router_world.proofs.Names.{arrival-stays, due_said}
 use Rattle.promises.proofs.Moments.{first-some}
 use Rattle.std.proofs.lemmas.Bool.{or_parts}
 use Rattle.promises.specs.Due.{query_answer, answer_when, is_answered, due_then, due_of}

@@ -1,23 +1,20 @@
 -- What an entry leaves of what stands for the log.
-use Rattle.router_world.proofs.Names.{common_steps}
-use Rattle.std.proofs.lemmas.Bool.{and_right}
-use Rattle.router_world.proofs.Names.{◌≡◌, ◌⊎◌, ℕ, zero, suc, Bool, true, false, not, ◌&&◌, cond, List, [], ◌∷◌, ◌++◌, Option, Some, None, refl, sym, ◌∙◌, ap}
-use Rattle.router_world.proofs.Names.{subst, inl, inr, LinkId, Log, is_open, IsNew, Fits, bool_cases, option_map, option_and_then, AllLawful, Entry, Opened}
-use Rattle.router_world.proofs.Names.{Account, Handed, Arrival, arrival_of, connection_refused, account, Ask, Lent, Lends, was_lost, heard_of, pieces_of}
+use Rattle.router_world.proofs.Names.{common_steps, ◌≡◌, ◌⊎◌, ℕ, zero, suc, Bool, true, false, not, ◌&&◌, cond, List, [], ◌∷◌, ◌++◌, Option, Some, None, refl}
+use Rattle.router_world.proofs.Names.{sym, ◌∙◌, ap, subst, inl, inr, LinkId, Log, is_open, IsNew, Fits, bool_cases, option_map, option_and_then, AllLawful}
+use Rattle.router_world.proofs.Names.{Entry, Account, Handed, Arrival, arrival_of, connection_refused, account, Ask, Lent, Lends, was_lost, heard_of, pieces_of}
 use Rattle.router_world.proofs.Names.{carries, carrier_of, Answer, Turn, Service, turn_of, talk_with, user_of, user_on, is_here_as, is_here, is_refused}
 use Rattle.router_world.proofs.Names.{reply_to, IsLawful, RefusedOrSent, asks-unrefused, refused-or-sent, came_as, named-none, came-names, same-link}
-use Rattle.router_world.proofs.Names.{arrival-stays, carrier-stays, turn-stays, user-stays, lost-stays, replied, LinkAt, list_all, ◌≢◌, ◌<◌, ◌≤◌, is_some}
-use Rattle.router_world.proofs.Names.{nat_eq, arith, ClientNo, Tag, For, written_of, nat_eq-true, nat_eq-false, Opening, WaitsToLogIn, Says, FailsToSay, Talk}
-use Rattle.router_world.proofs.Names.{opening_of, account_in, if_known, messages_of, is_query, Phase, Session, Work, ends_by, some-same, Seat, SeatAt}
-use Rattle.router_world.proofs.Names.{work_said, over_said, Unanswered, unanswered_from}
+use Rattle.router_world.proofs.Names.{arrival-stays, carrier-stays, turn-stays, user-stays, lost-stays, replied, LinkAt, list_all, ◌≢◌, ◌<◌, ◌≤◌, nat_eq, arith}
+use Rattle.router_world.proofs.Names.{Tag, For, written_of, nat_eq-true, nat_eq-false, Talk, is_query, Phase, Session, Work, some-same, Seat, SeatAt, work_said}
+use Rattle.router_world.proofs.Names.{over_said, Unanswered, unanswered_from}
+use Rattle.std.proofs.lemmas.Bool.{and_right}
 use Rattle.promises.proofs.Links.{open-was, came-new}
 use Rattle.promises.proofs.Causes.{opened_as, arrival-came}
-use Rattle.client_session.specs.Answers.{commands_in}
 use Rattle.router_world.proofs.RowsPieces.{has_bytes}
 use Rattle.router_world.proofs.Calm.{Leaves, Spares, carrier-same, unrefused-more, unsent-still, sent-unrefused, reply-left, asks-stay, asks-server}
 use Rattle.router_world.proofs.Calm.{asks-unreplied, replied-stays}
-use Rattle.router_world.proofs.Sound.{IsAsked, AskStands, HandedStands, carried_by, Owned, Own, Left, RowStands, LendsSound, Busy, Waits, Logs, On, Unsent}
-use Rattle.router_world.proofs.Sound.{IsHeard, IsEnded, SeatStands}
+use Rattle.router_world.proofs.Sound.{IsAsked, AskStands, HandedStands, carried_by, Owned, RowStands, LendsSound, Busy, Waits, Logs, On, Unsent, IsHeard}
+use Rattle.router_world.proofs.Sound.{IsEnded, SeatStands}
 use Rattle.router_world.proofs.SeatsAnswers.{query-no-quit, work-alone, over-in}
 use Rattle.router_world.proofs.Seats.{Agrees, agree-seat, WaitsFor, work-here}
 use Rattle.router_world.proofs.Dues.{due-lost}
@@ -123,8 +120,7 @@ row-calm service log e lends link lent lawful fits stands calm leaves = record {
   owned = by stands.owned;
 } where
   by : Owned service log lends link stands.turn.client lent → Owned service (log ++ e ∷ []) lends link stands.turn.client lent
-  by (Own is owns) = Own is owns
-  by (Left none gone begun) = Left none (gone-stays service stands.turn.client lent.backend.account log e fits stands.user gone) begun
+  by h0 = grind (arith, common_steps, gone-stays)
 
 -- What an entry leaves of a client's seat.
 

@@ -1,20 +1,19 @@
 -- A client's seat is taken out, and put back or not.
-use Rattle.router_world.proofs.Names.{common_steps}
-use Rattle.promises.proofs.Staying.{account-more, Grown}
-use Rattle.router_world.proofs.Apart.{none-one, one-or-other, link-or-other, apart-links, apart-numbers, set-same, set-other, Row, Here, There, row-of, Apart}
-use Rattle.router_world.proofs.Apart.{Traces, serves-apart, gone-apart, Went, Idle}
-use Rattle.std.proofs.lemmas.Bool.{and_right, or_right, and_parts}
-use Rattle.router_world.proofs.Sound.{Sits, SeatStands, LendsSound, Sound, InHand, OnHand, Known, Clients, Servers, Parts, Closes, Gone, Serves, PartAt}
-use Rattle.router_world.proofs.Sound.{PartStands, AtMostOne, One, AskStands, Free, Busy, AreFormed, IsAsked, IsHeard, IsEnded, Done}
-use Rattle.router_world.proofs.Names.{◌≡◌, ◌⊎◌, ℕ, Bool, true, false, nat_eq, [], ◌∷◌, Option, Some, None, refl, sym, ◌∙◌, ap, subst, inl, inr, ClientNo}
-use Rattle.router_world.proofs.Names.{LinkId, Log, same_number, nat_eq-true, is_finished, Lent, Lends, set, Service, some-same, none-if, Seat, Tables}
-use Rattle.router_world.proofs.Names.{with_lends, ◌++◌, IsOpen, Arrival, arrival_of, is_traffic, connected, Parting, ◌&&◌, Account, Phase, Query, is_ending}
-use Rattle.router_world.proofs.Names.{Turned, Ask, asked, gone, ◌<◌, ◌≤◌, ◌+◌, is_some, List, length, option_map, option_and_then, arith, append-nil, Framed}
-use Rattle.router_world.proofs.Names.{next_id, FrameFault, ClientState, Opening, WaitsToLogIn, Says, FailsToSay, opening-says-more, is_served, Talk, heard_more}
+use Rattle.router_world.proofs.Names.{common_steps, ◌≡◌, ◌⊎◌, ℕ, Bool, true, false, nat_eq, [], ◌∷◌, Option, Some, None, refl, sym, ◌∙◌, ap, subst, inl, inr}
+use Rattle.router_world.proofs.Names.{ClientNo, LinkId, Log, nat_eq-true, is_finished, Lent, Lends, set, Service, some-same, none-if, Seat, Tables, with_lends}
+use Rattle.router_world.proofs.Names.{◌++◌, IsOpen, Arrival, arrival_of, is_traffic, connected, Parting, ◌&&◌, Account, Phase, Query, is_ending, Turned, Ask}
+use Rattle.router_world.proofs.Names.{asked, gone, ◌<◌, ◌≤◌, ◌+◌, is_some, List, length, option_map, option_and_then, arith, append-nil, Framed, next_id}
+use Rattle.router_world.proofs.Names.{FrameFault, ClientState, Opening, WaitsToLogIn, Says, FailsToSay, opening-says-more, is_served, Talk, heard_more}
 use Rattle.router_world.proofs.Names.{opening_of, account, if_known, messages_of, front, front_in, fault_answer, Session, most_command, carrier_of, Answer}
 use Rattle.router_world.proofs.Names.{talk_with, user_of, Work, work_in, work_of, ends_in, ends_by, if_user, messages-grow, replied, first_open, answers_by}
-use Rattle.router_world.proofs.Names.{SeatAt, PhaseAt, IsWorking, due_said, work_said, over_said, in-work, ◌≢◌, is_query, turned, Asks, not, ◌||◌}
-use Rattle.router_world.proofs.Names.{nil_from_length, written_of, is_open, was_lost, is_here_as, is_here, due, has_ended}
+use Rattle.router_world.proofs.Names.{SeatAt, PhaseAt, IsWorking, due_said, work_said, over_said, in-work, ◌≢◌, is_query, turned, Asks, not, nil_from_length}
+use Rattle.router_world.proofs.Names.{written_of, is_open, was_lost, is_here_as, is_here, due, has_ended}
+use Rattle.promises.proofs.Staying.{account-more, Grown}
+use Rattle.router_world.proofs.Apart.{none-one, one-or-other, link-or-other, apart-links, apart-numbers, set-same, set-other, Row, row-of, Apart, Traces}
+use Rattle.router_world.proofs.Apart.{serves-apart, gone-apart, Went, Idle}
+use Rattle.std.proofs.lemmas.Bool.{and_right, and_parts}
+use Rattle.router_world.proofs.Sound.{Sits, SeatStands, LendsSound, Sound, InHand, OnHand, Known, Clients, Servers, Parts, Closes, Gone, Serves, PartAt}
+use Rattle.router_world.proofs.Sound.{PartStands, AtMostOne, One, AskStands, Free, Busy, AreFormed, IsAsked, IsHeard, Done}
 use Rattle.router_world.specs.Tables.{with_seat}
 use Rattle.router_world.specs.World.{parts, asking, leaving, seated_or_parts, goes_on}
 use Rattle.client_talk.specs.Sessions.{account_in}
@@ -80,12 +79,10 @@ relend service log n hand tables other sound out unparted lends apart traces = (
       served = sound.served;
     }) where
       unclosing : (link : LinkId) → (tables.lends.closing ≡ link ∷ []) ⊎ ((lent : Lent) × (tables.lends.links link.0 ≡ Some lent)) → tables.numbers link.0 ≡ None
-      unclosing link (inl was) = sound.unclosing link was
-      unclosing link (inr row) = none-if (tables.numbers link.0) (λ client is. none-some (tables.lends.links link.0) (sound.unlent link client is) row.1)
+      unclosing link h1 = grind (arith, common_steps, none-if)
 
       away : (k : ℕ) → InHand (Some (record { client = n; link = hand })) k ⊎ Gone tables.lends k → nat_eq k n ≡ false → InHand (Some (record { client = n; link = hand })) k ⊎ Gone other k
-      away k (inl hand') at = inl hand'
-      away k (inr gone) at = inr (gone-apart n k tables.lends other apart at gone)
+      away k h1 at = grind (arith, common_steps, gone-apart)
 
 -- The seat is put back.
 pub put-back : (service : Service) (log : Log) (client : ClientNo) (seat : Seat) (tables : Tables) → Sound service log (Some (record { client = client.0; link = seat.link })) tables → tables.seats client.0 ≡ None → tables.numbers seat.link.0 ≡ Some client → SeatStands service log client.0 seat → Serves seat.session.phase tables.lends client.0 seat.session.client.arrived
@@ -112,12 +109,10 @@ put-back service log client seat tables sound out number stands serves unfinishe
       back = set-same tables.seats client.0 (Some seat)
 
       numbers : (link : LinkId) (other : ClientNo) → OnHand (Some (record { client = client.0; link = seat.link })) other.0 link ⊎ ((s : Seat) × (tables.seats other.0 ≡ Some s) × (s.link ≡ link)) → (s : Seat) × (set tables.seats client.0 (Some seat) other.0 ≡ Some s) × (s.link ≡ link)
-      numbers link other (inl hand) = (seat, ap (λ m. set tables.seats client.0 (Some seat) m) hand.0 ∙ back, sym hand.1)
-      numbers link other (inr old) = (old.0, set-other tables.seats client.0 other.0 (Some seat) (apart-numbers other.0 client.0 (λ same. none-some (tables.seats client.0) out (ap tables.seats (sym same) ∙ old.1))) ∙ old.1, old.2)
+      numbers link other h2 = grind (arith, common_steps, set-other, apart-numbers)
 
       away : (k : ℕ) → nat_eq k client.0 ≡ false → InHand (Some (record { client = client.0; link = seat.link })) k ⊎ Gone tables.lends k → Gone tables.lends k
-      away k at (inl hand) = absurd (let no' : true ≡ false = sym (same_number client.0) ∙ ap (λ m. nat_eq m client.0) (sym hand) ∙ at in cc)
-      away k at (inr gone) = gone
+      away k at h2 = grind (arith, common_steps)
 
 -- A client's link is to be closed.
 
@@ -174,19 +169,13 @@ part-with service log client link tables sound out number gone none parted = (le
           none-some (tables.seats client.0) out (ap (λ (c : ClientNo). tables.seats c.0) (some-same client (record { 0 = k }) both) ∙ is)))
 
       numbers : (other : LinkId) (someone : ClientNo) → Row tables.numbers link.0 None other.0 someone → OnHand None someone.0 other ⊎ ((seat : Seat) × (tables.seats someone.0 ≡ Some seat) × (seat.link ≡ other))
-      numbers other someone (Here same is) = absurd (let no' : None ≡ Some someone = is in cc)
-      numbers other someone (There apart is) = by (sound.numbers other someone is) where
-        by : OnHand (Some (record { client = client.0; link = link })) someone.0 other ⊎ ((seat : Seat) × (tables.seats someone.0 ≡ Some seat) × (seat.link ≡ other)) → OnHand None someone.0 other ⊎ ((seat : Seat) × (tables.seats someone.0 ≡ Some seat) × (seat.link ≡ other))
-        by (inl hand) = absurd (let no' : true ≡ false = sym (same_number link.0) ∙ ap (λ (l : LinkId). nat_eq l.0 link.0) (sym hand.1) ∙ apart in cc)
-        by (inr seat) = inr seat
+      numbers other someone h2 = grind (arith, common_steps)
 
       unlent : (other : LinkId) (someone : ClientNo) → Row tables.numbers link.0 None other.0 someone → tables.lends.links other.0 ≡ None
-      unlent other someone (Here same is) = absurd (let no' : None ≡ Some someone = is in cc)
-      unlent other someone (There apart is) = sound.unlent other someone is
+      unlent other someone h2 = grind (arith, common_steps)
 
       away : (k : ℕ) → InHand (Some (record { client = client.0; link = link })) k ⊎ Gone tables.lends k → InHand None k ⊎ Gone tables.lends k
-      away k (inl hand) = inr (subst (Gone tables.lends) (sym hand) gone)
-      away k (inr went) = inr went
+      away k h1 = grind (arith, common_steps)
 
 -- A client's session goes on: its query is asked for, and where it ends nothing more is.
 
@@ -234,10 +223,7 @@ goes-on service log client link turned tables sound out number unparted stands n
   by : Turns service log client.0 turned.session.client.arrived turned.session.phase tables.lends lends → Sound service log None (goes_on client link turned tables)
   by now = at (is_finished turned.session) refl (relend service log client.0 link tables lends sound out unparted now.sound now.apart now.traces) where
     gone-at : (at : Phase) → is_ending at ≡ true → Serves at lends client.0 turned.session.client.arrived → Gone lends client.0
-    gone-at phase.Ending is serves = serves
-    gone-at phase.LoggingIn is serves = serves
-    gone-at (phase.Idle user) is serves = absurd (let none : false ≡ true = is in cc)
-    gone-at (phase.Working user) is serves = absurd (let none : false ≡ true = is in cc)
+    gone-at at is serves = grind (arith, common_steps)
 
     at : (b : Bool) → is_finished turned.session ≡ b → Sound service log (Some (record { client = client.0; link = link })) (with_lends lends tables) → Sound service log None (seated_or_parts b client (record { link = link; session = turned.session }) (with_lends lends tables))
     at false going sound = put-back service log client (record { link = link; session = turned.session }) (with_lends lends tables) sound out number stands now.serves going

@@ -1,12 +1,11 @@
 -- What the entries on an open link make of what stands, by whose it is.
-use Rattle.router_world.proofs.Names.{common_steps}
-use Rattle.router_world.proofs.Sound.{Happens, Sound, AtMostOne, Nobody, One}
-use Rattle.router_world.proofs.Stepping.{OnLink, IsPlain, done, nobody-waits}
-use Rattle.router_world.proofs.Names.{refused_by, refused_on, option_and_then, ◌≡◌, ◌≢◌, ◌<◌, ◌+◌, ℕ, Bool, true, false, is_some, nat_eq, cond, List, [], ◌∷◌}
+use Rattle.router_world.proofs.Names.{common_steps, refused_by, refused_on, option_and_then, ◌≡◌, ◌≢◌, ◌<◌, ◌+◌, ℕ, Bool, true, nat_eq, cond, List, [], ◌∷◌}
 use Rattle.router_world.proofs.Names.{◌++◌, length, take, Some, None, refl, sym, ◌∙◌, ap, subst, arith, length-append, inl, inr, AreBytes, LinkId, Tag, Log}
 use Rattle.router_world.proofs.Names.{link_of, open_step, same_number, Entry, Got, Wrote, is_loss, is_failure, carries, is_command, still, said, taken, ended}
-use Rattle.router_world.proofs.Names.{Lent, left_in, Service, some-same, none-if, Parting, Tables, without_seat, on_seat, heard_on, lost_on, reply_sent}
-use Rattle.router_world.proofs.Names.{seat_sends, sends_by, sends, close_of, farewell_of, IsFront, IsFarewell}
+use Rattle.router_world.proofs.Names.{Lent, left_in, Service, some-same, none-if, Parting, Tables, without_seat, on_seat, heard_on, lost_on, seat_sends}
+use Rattle.router_world.proofs.Names.{sends_by, sends, farewell_of, IsFront, IsFarewell}
+use Rattle.router_world.proofs.Sound.{Happens, Sound, AtMostOne}
+use Rattle.router_world.proofs.Stepping.{OnLink, IsPlain, done, nobody-waits}
 use Rattle.mx_wire.specs.declared.entry.Entry.TheVariants.{Ended, WriteFailed}
 use Rattle.router_world.specs.World.{got_on, ended_on, failed_on, sent_on, wrote_on, offered_to}
 use Rattle.router_world.proofs.Hands.{none-some}

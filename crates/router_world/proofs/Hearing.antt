@@ -1,24 +1,17 @@
 -- A session that goes on never counts fewer messages, and what is read of a link is short.
-use Rattle.router_world.proofs.Names.{common_steps}
+use Rattle.router_world.proofs.Names.{common_steps, ◌≡◌, ◌<◌, ◌≤◌, ◌*◌, ℕ, zero, suc, ◌+◌, true, [], ◌∷◌, ◌++◌, length, Option, Some, None, ap, arith}
+use Rattle.router_world.proofs.Names.{length-append, inl, LinkId, Log, read_of, AllLawful, lawful-each, Fits, bytes-same, bytes-other, Entry, Framed, Response}
+use Rattle.router_world.proofs.Names.{Account, ClientStep, counted, Setup, Asked, Session, logs_in_as, arrives_as, step_by, step, turned, left_to_say, ◌≢◌}
+use Rattle.router_world.proofs.Names.{is_some, List, sym, ◌∙◌, subst, append-nil, Split, split, Arrival, arrival_of, is_served, Talk, heard_more, account_in}
+use Rattle.router_world.proofs.Names.{account, messages_of, Phase, Turned, said_in, Lends, carrier_of, Answer, Service, talk_with, replied, first_open, SeatAt}
+use Rattle.router_world.proofs.Names.{PhaseAt, IsIdle, Unanswered, work_said}
 use Rattle.promises.proofs.Staying.{account-more}
-use Rattle.router_world.proofs.Names.{◌≡◌, ◌⊎◌, ◌<◌, ◌≤◌, ◌*◌, ℕ, zero, suc, ◌+◌, Bool, true, false, nat_lt, cond, [], ◌∷◌, ◌++◌, length, Option, Some, None}
-use Rattle.router_world.proofs.Names.{ap, arith, length-append, inl, inr, LinkId, Log, link_of, is_link, got_bytes, read_of, AllLawful, lawful-each, Fits}
-use Rattle.router_world.proofs.Names.{bool_cases, bytes-same, bytes-other, Entry, Got, Framed, Response, Account, ClientStep, counted, login_of, next_of}
-use Rattle.router_world.proofs.Names.{next_same, Setup, has_server, account_of, Asked, Refused, Session, asked_of, logs_in_as, logs_in, arrives_as, step_by}
-use Rattle.router_world.proofs.Names.{step, turned_by, turned, left_to_say, ◌≢◌, is_some, List, refl, sym, ◌∙◌, subst, append-nil, Split, split, Arrival}
-use Rattle.router_world.proofs.Names.{arrival_of, is_served, Talk, heard_more, account_in, account, messages_of, Phase, Query, Turned, said_in, Lends}
-use Rattle.router_world.proofs.Names.{carrier_of, Answer, Service, talk_with, replied, first_open, SeatAt, PhaseAt, IsIdle, Asks, Unanswered, work_said}
-use Rattle.client_talk.specs.declared.asked.Asked.TheVariants.{Query as AsksQuery, Ping, Quit}
-use Rattle.client_talk.specs.declared.step.Turn.{Turn}
-use Rattle.client_talk.specs.declared.step.Turn.TheVariants.{More, Work, Rests}
-use Rattle.client_talk.specs.Steps.{arrives}
 use Rattle.client_talk.specs.Going.{goes_on}
 use Rattle.client_talk.specs.Events.{kept_with}
 use Rattle.router_world.proofs.SeatsAnswers.{open-from, commands-more, taken-nothing, SeatTurned}
 use Rattle.router_world.proofs.Seats.{said-seat}
 use Rattle.router_world.proofs.Sound.{AreFormed, LendsSound, Free, Gone, Serves}
 use Rattle.router_world.proofs.Hands.{Next, Works, Ends, later-work, ending-more, free-gone, ends-so, next-turned}
-use Rattle.client_side.specs.declared.step.ClientStep.TheVariants as says
 use Rattle.client_talk.specs.declared.session.Phase.TheVariants as phase
 
 counted-more : (n : ℕ) → n ≤ counted n

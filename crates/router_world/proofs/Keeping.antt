@@ -1,27 +1,25 @@
 -- What it says of a link that the router waits drained.
-use Rattle.router_world.proofs.Names.{common_steps}
+use Rattle.router_world.proofs.Names.{common_steps, ◌≡◌, ◌⊎◌, ℕ, Bool, true, false, is_some, nat_eq, nat_lt, ◌&&◌, cond, List, [], ◌∷◌, length, drop, Option}
+use Rattle.router_world.proofs.Names.{Some, None, refl, sym, ◌∙◌, ap, inl, inr, ClientNo, LinkId, Reply, Log, IsOpen, write_dry, IsDrained, BackendState}
+use Rattle.router_world.proofs.Names.{left_by, left, Handed, Phase, is_ending, Lent, Service, none-if, Seat, Tables, reply_sent, seat_sends, sends_by, sends}
+use Rattle.router_world.proofs.Names.{reads, ◌≢◌, ◌<◌, ◌≤◌, ◌++◌, take, subst, append-nil, arith, Tag, For, spelling-some, In, heard_of, pieces_of, Work}
+use Rattle.router_world.proofs.Names.{work_of, owner_for, some-same, begun, IsMessage, IsHanded, IsInside, asks, option_and_then, written_of, AllLawful, Fits}
+use Rattle.router_world.proofs.Names.{Entry, nat_eq-false, Account, is_begun, Arrival, arrival_of, Talk, account, is_query, Answer, Turn, turn_of, talk_with}
+use Rattle.router_world.proofs.Names.{is_here, Owner, owner_of, user_of, user_on, has_ended, RestsAt, clients-unowned, replied, work_said, over_said}
+use Rattle.router_world.proofs.Names.{tables_after, IsOurs, zero, suc, append_assoc, is_link, wrote_bytes, bool_cases, bytes-same, bytes-other, bytes-idle}
+use Rattle.router_world.proofs.Names.{IsNew, Wrote, arrival_in, too_many_connections, IsPrefix, turned_away, due, IsServed, IsLawful, same-link, LawfulAfter}
+use Rattle.router_world.proofs.Names.{lawful-more, MayFollow, Framed, Results, Setup, Form, Forms, open_tries, message_of, form_of, message-stays, Keeps}
+use Rattle.router_world.proofs.Names.{no_tables, turns}
 use Rattle.std.proofs.lemmas.Bool.{not-true}
-use Rattle.router_world.proofs.Names.{◌≡◌, ◌⊎◌, ℕ, Bool, true, false, is_some, nat_eq, nat_lt, ◌&&◌, cond, List, [], ◌∷◌, length, drop, Option, Some, None}
-use Rattle.router_world.proofs.Names.{refl, sym, ◌∙◌, ap, inl, inr, ClientNo, LinkId, Reply, Log, IsOpen, write_dry, IsDrained, BackendState, left_by, left}
-use Rattle.router_world.proofs.Names.{Handed, Phase, is_ending, Lent, left_in, Service, none-if, Seat, Tables, reply_sent, seat_sends, sends_by, sends, reads}
-use Rattle.router_world.proofs.Names.{◌≢◌, ◌<◌, ◌≤◌, ◌++◌, take, subst, append-nil, arith, Tag, For, spelling-some, Goes, In, heard_of, pieces_of, Work}
-use Rattle.router_world.proofs.Names.{work_of, owner_for, some-same, begun, bytes_in, IsMessage, IsHanded, IsInside, IsEntering, asks, ◌||◌, option_and_then}
-use Rattle.router_world.proofs.Names.{written_of, AllLawful, Fits, Entry, nat_eq-false, Account, is_begun, Arrival, arrival_of, Talk, opening_of, account}
-use Rattle.router_world.proofs.Names.{messages_of, is_query, Answer, Turn, turn_of, talk_with, is_here, Owner, owner_of, user_of, user_on, ends_in, ends_by}
-use Rattle.router_world.proofs.Names.{has_ended, RestsAt, clients-unowned, replied, work_said, over_said, tables_after, IsOurs, zero, suc, flat_map}
-use Rattle.router_world.proofs.Names.{append_assoc, is_link, wrote_bytes, bool_cases, bytes-same, bytes-other, bytes-idle, IsNew, Wrote, arrival_in}
-use Rattle.router_world.proofs.Names.{too_many_connections, IsPrefix, turned_away, due, IsServed, IsLawful, same-link, LawfulAfter, lawful-more, MayFollow}
-use Rattle.router_world.proofs.Names.{Framed, Results, Setup, Form, Forms, open_tries, message_of, form_of, message-stays, Keeps, no_tables, turns}
 use Rattle.mx_base.specs.declared.tag.Tag.TheVariants.{Own as OwnTag}
 use Rattle.mx_base.specs.Sent.{Sent as ToSend}
 use Rattle.ready_loop.specs.Drained.{read_dry, MayWait}
 use Rattle.client_talk.specs.Sessions.{is_read}
-use Rattle.promises.specs.Rest.{IsEnding, Stays, Sent, LogsIn, Full, Waits, IsAnswered, IsBusy, Replies, Blocked, IsKept, IsAtRest}
+use Rattle.promises.specs.Rest.{IsEnding, Stays, Sent, Full, Waits, IsAnswered, IsBusy, Replies, Blocked, IsKept, IsAtRest}
 use Rattle.router_world.specs.Acts.{seat_reads, reads_by}
 use Rattle.std.proofs.lemmas.List.{take_all, take-append-drop}
 use Rattle.packet_frame.specs.Packets.{spelling}
 use Rattle.promises.proofs.Links.{owner-turn as owners-turn}
-use Rattle.mx_wire.specs.declared.entry.Entry.TheVariants.{Woke, WaitFailed, Over}
 use Rattle.promises.specs.Closes.{WasToldAll}
 use Rattle.promises.proofs.Growing.{prefix-trans, due-grows}
 use Rattle.promises.specs.Headline.{Serves as IsServing}
@@ -78,10 +76,7 @@ all-read service log tables link drained sound quiet opened = by (is-of service 
   by (OfServer lent is) = inl (drained.read link opened (ap (reads_by tables link) (unnumbered service log tables link lent sound is) ∙ ap is_some is))
   by (OfClient client seat number is on) = at (is_read seat.session.phase) refl where
     ending : (p : Phase) → is_read p ≡ false → p ≡ phase.Ending
-    ending phase.Ending unread = refl
-    ending phase.LoggingIn unread = absurd (let none : true ≡ false = unread in cc)
-    ending (phase.Idle user) unread = absurd (let none : true ≡ false = unread in cc)
-    ending (phase.Working user) unread = absurd (let none : true ≡ false = unread in cc)
+    ending p unread = grind (arith, common_steps)
 
     at : (b : Bool) → is_read seat.session.phase ≡ b → (read_dry link log ≡ true) ⊎ IsEnding service link log
     at true reading = inl (drained.read link opened (ap (reads_by tables link) number ∙ ap seat_reads is ∙ reading))

@@ -1,20 +1,19 @@
 -- No two clients come on one link.
-use Rattle.router_world.proofs.Names.{common_steps}
+use Rattle.router_world.proofs.Names.{common_steps, ◌≡◌, ℕ, zero, suc, List, [], ◌∷◌, ◌++◌, length, slice_get, Option, Some, None, refl, cons_option, sym, ◌∙◌}
+use Rattle.router_world.proofs.Names.{ap, subst, LinkId, Log, AllLawful, lawful-each, Fits, IsNew, Entry, Arrival, arrival_in, arrivals, arrival_of, some-same}
+use Rattle.router_world.proofs.Names.{came_as, came-names, named-none, arrivals-more, ◌≢◌, ◌⊎◌, true, false, not, cond, flat_map, filter_map, inl, inr}
+use Rattle.router_world.proofs.Names.{ClientNo, of_link, written_of, is_open, IsOpen, Framed, Phase, Lent, Lends, was_lost, heard_of, piece, pieces_of, Spoilt}
+use Rattle.router_world.proofs.Names.{standing_on, Turn, Service, turn_of, is_here, Owner, owner_of, owner_for, clients-unowned, Seat, piece_bytes, bytes_in}
+use Rattle.router_world.proofs.Names.{standing_said, Tables, ◌≤◌, ◌+◌, Bool, append_assoc, append-nil, arith, length-append, Opened, OpenFailed, Target, Setup}
+use Rattle.router_world.proofs.Names.{Ask, oldest, is_waiting, open_try, open_tries, next_turn, tries-more, tables_after, turn_for, turn_at, turns_behind}
+use Rattle.router_world.proofs.Names.{turns, closes, awaited_if, awaits, IsOurs, take, Tag, Reply, Wrote, Sent, left, left_in, Parting, reply_sent, seat_sends}
+use Rattle.router_world.proofs.Names.{sends_by, sends, close_of, farewell_of, IsFront, IsFarewell, ◌<◌, nat_eq, nat_lt, drop, For, Account, BackendState}
+use Rattle.router_world.proofs.Names.{left_by, command_left, is_begun, said_of, Handed, IsPrefix, Command, commands_on, Forms, Enters, Clean, GoesOn, IsLawful}
+use Rattle.router_world.proofs.Names.{begun, begun_by, IsInside, LinkAt, Entering, Inside, is_some, ServerId, Address, ServerAt, MayOpen, owner-turn}
+use Rattle.router_world.proofs.Names.{option_and_then, Traffic, Admin, spelling-some, is_served, too_many_connections, user_of, user_on, was_offered, MayDrop}
+use Rattle.router_world.proofs.Names.{first_closing, IsClosing, Closed}
 use Rattle.router_world.proofs.Hands.{away-gone, numbered-seat, none-some}
 use Rattle.router_world.proofs.Stepping.{IsQuiet, quiet-closes}
-use Rattle.router_world.proofs.Names.{◌≡◌, ℕ, zero, suc, List, [], ◌∷◌, ◌++◌, length, slice_get, Option, Some, None, refl, cons_option, sym, ◌∙◌, ap, subst}
-use Rattle.router_world.proofs.Names.{LinkId, Log, AllLawful, lawful-each, Fits, IsNew, Entry, Accepted, Arrival, arrival_in, arrivals, arrival_of, some-same}
-use Rattle.router_world.proofs.Names.{came_as, came-names, named-none, arrivals-more, ◌≢◌, ◌⊎◌, true, false, not, ◌&&◌, cond, flat_map, filter_map, option_map}
-use Rattle.router_world.proofs.Names.{inl, inr, ClientNo, of_link, written_of, is_open, IsOpen, Framed, Phase, Lent, Lends, was_lost, heard_of, piece}
-use Rattle.router_world.proofs.Names.{pieces_of, Spoilt, standing_on, Turn, Service, turn_of, is_here_as, is_here, Owner, owner_of, owner_for, clients-unowned}
-use Rattle.router_world.proofs.Names.{Seat, piece_bytes, bytes_in, standing_said, Tables, ◌≤◌, ◌+◌, Bool, append_assoc, append-nil, arith, length-append}
-use Rattle.router_world.proofs.Names.{Opened, OpenFailed, Target, Setup, Ask, oldest, is_waiting, open_try, open_tries, next_turn, tries-more, tables_after}
-use Rattle.router_world.proofs.Names.{turn_for, turn_at, turns_behind, turns, closes, awaited_if, awaits, IsOurs, take, Tag, Reply, Wrote, Sent, left, left_in}
-use Rattle.router_world.proofs.Names.{Parting, reply_sent, seat_sends, sends_by, sends, close_of, farewell_of, IsFront, IsFarewell, ◌<◌, nat_eq, nat_lt, drop}
-use Rattle.router_world.proofs.Names.{For, Account, BackendState, left_by, command_left, is_begun, said_of, Handed, IsPrefix, Command, commands_on, Forms}
-use Rattle.router_world.proofs.Names.{Enters, Clean, Sends, Runs, GoesOn, IsLawful, begun, begun_by, IsInside, LinkAt, Entering, Inside, is_some, ServerId}
-use Rattle.router_world.proofs.Names.{Address, ServerAt, MayOpen, owner-turn, option_and_then, Traffic, Admin, spelling-some, is_served, too_many_connections}
-use Rattle.router_world.proofs.Names.{user_of, user_on, was_offered, MayDrop, first_closing, IsClosing, Closed}
 use Rattle.promises.proofs.Causes.{arrival-as}
 use Rattle.promises.proofs.Clean.{before-loss, pieces-bytes}
 use Rattle.router_world.specs.World.{turn_of as turn_asked}
@@ -25,9 +24,9 @@ use Rattle.server_side.specs.Login.{opening}
 use Rattle.promises.specs.Sends.{Continues, Begins, MaySend, MaySay}
 use Rattle.router_world.specs.Acts.{target_of}
 use Rattle.promises.specs.Closes.{MayPart, MayClose}
-use Rattle.router_world.proofs.Sound.{SeatStands, IsHeard, IsEnded, RowStands, Gone, Serves, Sound, Known, Clients, Servers, Parts, Closes, AtMostOne, Nobody}
-use Rattle.router_world.proofs.Sound.{One, Waiting, Covers, HandedStands, carried_by, Owned, Own as IsOwn, Left as IsLeft, AskStands, Own, Left, PartAt, Done}
-use Rattle.router_world.proofs.Sound.{Refused, Offered, Strange, PartStands, CloseStands}
+use Rattle.router_world.proofs.Sound.{SeatStands, RowStands, Gone, Serves, Sound, Known, Clients, Servers, Parts, Closes, AtMostOne, Nobody, One, Waiting}
+use Rattle.router_world.proofs.Sound.{Covers, HandedStands, carried_by, Owned, Own as IsOwn, Left as IsLeft, AskStands, Own, Left, PartAt, Done, Refused}
+use Rattle.router_world.proofs.Sound.{Offered, Strange, PartStands, CloseStands}
 use Rattle.router_world.proofs.Frames.{user-there}
 use Rattle.router_world.proofs.RowsStanding.{standing-entering, commands-inside, standing-clean, standing-sends, standing_by, standing-inside, begun-some}
 use Rattle.router_world.proofs.RowsStanding.{said-written, said-at}
@@ -60,10 +59,7 @@ once-step log e fits before k j came other one two same = (let place : (k : ℕ)
     λ k came is. place-of (arrivals log) (arrival_in log e) k came (ap (λ all. slice_get all k) (sym (arrivals-more [] log (e ∷ []))) ∙ is) in
     by (place k came one) (place j other two)) where
       by : Place (arrivals log) (arrival_in log e) k came → Place (arrivals log) (arrival_in log e) j other → k ≡ j
-      by (Before at) (Before there) = before k j came other at there same
-      by (Before at) (Last there new) = absurd (apart log e k came other fits at new same)
-      by (Last at new) (Before there) = absurd (apart log e j other came fits there new (sym same))
-      by (Last at new) (Last there other) = at ∙ sym there
+      by h0 h1 = grind (arith, common_steps, apart)
 
 pub once : (log : Log) → AllLawful Fits log → Once log
 once log told = lawful-each Fits Once log once-step (λ k j came other one two same. absurd (let none : None ≡ Some came = one in cc)) told
@@ -81,8 +77,7 @@ pub comes-of : (log : Log) (e : Entry) (n : ℕ) (came : Arrival) → Fits log e
 comes-of log e zero came fits is = absurd (let none : None ≡ Some came = is in cc)
 comes-of log e (suc n) came fits is = by (place-of (arrivals log) (arrival_in log e) n came (ap (λ all. slice_get all n) (sym (arrivals-more [] log (e ∷ []))) ∙ is)) where
   by : Place (arrivals log) (arrival_in log e) n came → Comes log e (suc n) came
-  by (Before at) = Was at
-  by (Last at new) = Now new (new-link log e came fits new)
+  by h0 = grind (arith, common_steps, new-link)
 
 -- Which clients are connected, and how an open link to a server stands, by the tables.
 
@@ -268,8 +263,7 @@ lent-left o l is = grind (arith, common_steps)
 sends-so : (service : Service) (log : Log) (tables : Tables) (link : LinkId) (tag : Tag) (bytes : List ℕ) → Sound service log None tables → IsFront (sends tables link) tag bytes → Writes tables link tag bytes
 sends-so service log tables link tag bytes sound front = by (tables.numbers link.0) refl front where
   here : (client : ClientNo) (seat : Seat) → tables.seats client.0 ≡ Some seat → ⊥ ⊎ ((seat : Seat) × (tables.seats client.0 ≡ Some seat) × (seat.link ≡ link)) → seat.link ≡ link
-  here client seat is (inl none) = absurd none
-  here client seat is (inr has) = ap (λ (s : Seat). s.link) (some-same seat has.0 (sym is ∙ has.1)) ∙ has.2
+  here client seat is h3 = grind (arith, common_steps, some-same)
 
   by : (o : Option ClientNo) → tables.numbers link.0 ≡ o → IsFront (sends_by tables link o) tag bytes → Writes tables link tag bytes
   by (Some client) at front = (let one = seat-front (tables.seats client.0) tag bytes front in ToClient client one.0 one.1 (here client one.0 one.1 (sound.numbers link client at)) one.2 one.3 one.4)
@@ -383,15 +377,13 @@ may-send service log tables link lent command k sound is none has less = by (sou
             (record { rest = drop k (drop command.sent command.bytes); is = front-of command.bytes command.sent k ∙ whole })
 
         carried : (sent : ℕ) (other : LinkId) → carried_by link sent ≡ Some other → other ≡ link
-        carried zero other at = absurd (let no : None ≡ Some other = at in cc)
-        carried (suc sent) other at = sym (some-same link other at)
+        carried sent other at = grind (arith, common_steps, some-same)
 
 -- What is left to be written there.
 pub may-write : (service : Service) (log : Log) (tables : Tables) (link : LinkId) (lent : Lent) (l : Sent) (k : ℕ) → Sound service log None tables → tables.lends.links link.0 ≡ Some lent → left lent.backend ≡ Some l → IsLawful service log (Wrote link l.tag (take k l.bytes))
 may-write service log tables link lent l k sound is lefts = by (left-at lent.backend l lefts) where
   by : LeftAt lent.backend l → IsLawful service log (Wrote link l.tag (take k l.bytes))
-  by (OfLogin some same) = subst (λ (l : Sent). IsLawful service log (Wrote link l.tag (take k l.bytes))) (sym same) (may-say service log tables link lent k sound is some)
-  by (OfCommand command none has less same) = subst (λ (l : Sent). IsLawful service log (Wrote link l.tag (take k l.bytes))) (sym same) (may-send service log tables link lent command k sound is none has less)
+  by h0 = grind (arith, common_steps, may-say, may-send)
 
 -- The open that the router asks for is lawful.
 

@@ -1,23 +1,22 @@
 -- What an entry of one client's link to a server, or an open for a client, leaves of the links and the commands of others.
-use Rattle.router_world.proofs.Names.{common_steps}
+use Rattle.router_world.proofs.Names.{common_steps, ◌≡◌, ℕ, Bool, true, false, ◌&&◌, nat_eq, [], ◌∷◌, ◌++◌, Some, None, refl, option_map, sym, ◌∙◌, ap, subst}
+use Rattle.router_world.proofs.Names.{ServerId, Address, ClientNo, LinkId, Log, link_of, is_link, is_open, open_step, IsOpen, Fits, AllLawful, lawful-last}
+use Rattle.router_world.proofs.Names.{same_number, Entry, Opened, OpenFailed, Ask, Lent, Lends, was_lost, login_on, carries, Turn, Service, next_turn, turn_of}
+use Rattle.router_world.proofs.Names.{owner_of, is_turn, IsLawful, Cause, NotOpened, NotLoggedIn, some-same, refusal-cause, turn-stays, ◌≢◌, zero, suc, ◌||◌}
+use Rattle.router_world.proofs.Names.{cond, List, list_any, append-nil, arith, list_any-append, Tag, For, of_link, got_bytes, of_link-same, step-same, Wrote}
+use Rattle.router_world.proofs.Names.{Account, BackendState, Handed, In, is_loss, heard_of, piece, pieces_of, is_command, carrier_of, user_on, is_refused}
+use Rattle.router_world.proofs.Names.{RefusedOrSent, replied, reply_said, LinkAt, Entering, Inside, Option, Answered, breaks_off, login_fails, user_of, MayDrop}
+use Rattle.router_world.proofs.Names.{asks-unrefused, refused-or-sent, user-stays, Got, set, with_link, without_link, Command, Forms, Standing, standing_on}
+use Rattle.router_world.proofs.Names.{standing_said}
 use Rattle.router_world.proofs.Calm.{or-none, Leaves, leaves-other, sent-unrefused, unsent-still, unrefused-more}
 use Rattle.router_world.proofs.Apart.{apart-links, apart-numbers, rows-one, RowNow, Was, Now, mended, OneRow, Mine, owner-mine, none-mine, apart-one, none-one}
 use Rattle.router_world.proofs.Apart.{Comes, Came, traces-one, set-same, put-other, Stays}
-use Rattle.router_world.proofs.Names.{◌≡◌, ℕ, Bool, true, false, ◌&&◌, nat_eq, [], ◌∷◌, ◌++◌, fold, Some, None, refl, option_map, sym, ◌∙◌, ap, subst, ServerId}
-use Rattle.router_world.proofs.Names.{Address, ClientNo, LinkId, Log, link_of, is_link, is_open, open_step, IsOpen, Fits, AllLawful, lawful-last, same_number}
-use Rattle.router_world.proofs.Names.{Entry, Opened, OpenFailed, Ask, Lent, Lends, was_lost, login_on, carries, Turn, Service, next_turn, turn_of, owner_of}
-use Rattle.router_world.proofs.Names.{is_turn, IsLawful, Cause, NotOpened, NotLoggedIn, some-same, refusal-cause, turn-stays, ◌≢◌, zero, suc, ◌||◌, cond, List}
-use Rattle.router_world.proofs.Names.{flat_map, filter_map, list_any, option_and_then, append-nil, arith, list_any-append, Tag, For, of_link, got_bytes}
-use Rattle.router_world.proofs.Names.{of_link-same, step-same, Wrote, Account, BackendState, Handed, In, connection_refused, is_loss, until_loss, heard_of}
-use Rattle.router_world.proofs.Names.{piece, pieces_of, is_command, carrier_of, user_on, is_refused, reply_on, reply_to, RefusedOrSent, replied, reply_said}
-use Rattle.router_world.proofs.Names.{LinkAt, Entering, Inside, Option, is_begun, Answered, breaks_off, login_fails, user_of, MayDrop, asks-unrefused}
-use Rattle.router_world.proofs.Names.{refused-or-sent, user-stays, Got, set, with_link, without_link, Command, Forms, Standing, standing_on, standing_said}
 use Rattle.exchange.specs.Logins.{goes_on}
 use Rattle.promises.proofs.Links.{one-each, lost-none}
 use Rattle.promises.proofs.Clean.{heard-more, pieces-more}
 use Rattle.router_world.proofs.Frames.{Calm, row-calm, ask-calm, owner-turn, Unbegun, still-none, user-there}
-use Rattle.router_world.proofs.Sound.{AskStands, Owned, Own, Left, RowStands, CloseStands, AtMostOne, Waiting, Owns, LendsBut, LendsSound, carried_by, Busy}
-use Rattle.router_world.proofs.Sound.{Waits, Logs, On, IsAsked, HandedStands, Enters, Free, Gone}
+use Rattle.router_world.proofs.Sound.{AskStands, Owned, RowStands, CloseStands, AtMostOne, Waiting, Owns, LendsBut, LendsSound, carried_by, Busy, Waits, Logs}
+use Rattle.router_world.proofs.Sound.{On, IsAsked, HandedStands, Enters, Free, Gone}
 use Rattle.router_world.proofs.RowsStanding.{unanswered-at, entering-at, IsPiece}
 use Rattle.router_world.proofs.RowsPieces.{pieces-some}
 use Rattle.router_world.proofs.LinksGone.{standing-unlost}

@@ -1,15 +1,13 @@
 -- A link to a server fails: its login does, or bytes come that no reply goes on with, or it is lost.
-use Rattle.router_world.proofs.Names.{common_steps}
-use Rattle.router_world.proofs.Names.{◌≡◌, ◌≢◌, ◌⊎◌, ◌<◌, ℕ, zero, suc, true, false, not, is_some, ◌||◌, ◌&&◌, cond, nat_eq, List, [], ◌∷◌, ◌++◌, length}
-use Rattle.router_world.proofs.Names.{Option, Some, None, refl, list_any, option_map, sym, ◌∙◌, ap, subst, append-nil, arith, inr, list_any-append, ClientNo}
-use Rattle.router_world.proofs.Names.{LinkId, Tag, For, Log, link_of, IsOpen, Fits, lawful-last, same_number, Entry, BackendState, is_begun, IsOpening, Handed}
-use Rattle.router_world.proofs.Names.{payload_of, connection_refused, Ask, Lent, Due, Lends, without_link, owns_none, to_close, without_ask, refusal_for}
-use Rattle.router_world.proofs.Names.{due_on, queued, login_fails, heard_of, pieces_of, carries, carrier_of, Answer, spelt, Spoilt, standing_on, Turn, Service}
-use Rattle.router_world.proofs.Names.{is_turn, refused, is_refused, Work, reply_to, MayDrop, IsSpoilt, IsLawful, some-same, in-work, or-inr, refused-or-sent}
-use Rattle.router_world.proofs.Names.{message-stays, user-stays, replied, LinkAt, Entering, Inside, IsInside, IsEntering}
+use Rattle.router_world.proofs.Names.{common_steps, ◌≡◌, ◌≢◌, ◌⊎◌, ◌<◌, ℕ, zero, suc, true, false, not, is_some, ◌||◌, ◌&&◌, cond, nat_eq, List, [], ◌∷◌, ◌++◌}
+use Rattle.router_world.proofs.Names.{length, Option, Some, None, refl, list_any, option_map, sym, ◌∙◌, ap, subst, append-nil, arith, inr, list_any-append}
+use Rattle.router_world.proofs.Names.{ClientNo, LinkId, Tag, For, Log, link_of, IsOpen, Fits, lawful-last, same_number, Entry, BackendState, is_begun}
+use Rattle.router_world.proofs.Names.{IsOpening, Handed, payload_of, connection_refused, Ask, Lent, Due, Lends, without_link, owns_none, to_close, without_ask}
+use Rattle.router_world.proofs.Names.{refusal_for, due_on, queued, login_fails, heard_of, pieces_of, carries, carrier_of, Answer, spelt, Spoilt, standing_on}
+use Rattle.router_world.proofs.Names.{Turn, Service, is_turn, refused, is_refused, Work, reply_to, MayDrop, IsSpoilt, IsLawful, some-same, in-work, or-inr}
+use Rattle.router_world.proofs.Names.{refused-or-sent, message-stays, user-stays, replied, LinkAt, Entering, Inside, IsInside, IsEntering}
 use Rattle.packet_frame.specs.Packets.{spelling}
 use Rattle.server_side.specs.Handing.{id_begun, unsent_in, unsent_by}
-use Rattle.server_side.specs.declared.stage.Stage.{Stage}
 use Rattle.client_session.specs.declared.refusal.Refusal.{Refusal}
 use Rattle.lend_core.specs.declared.lent.Due.TheVariants.{Login, Reply, Nothing}
 use Rattle.lend_core.specs.Decisions.{due_at, due_by, closed, again, again_for, failed_by, failed}

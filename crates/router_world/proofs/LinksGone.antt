@@ -1,27 +1,23 @@
 -- What the bytes of a whole command say of the reply to it is what its message asks for.
-use Rattle.router_world.proofs.Names.{common_steps}
+use Rattle.router_world.proofs.Names.{common_steps, ◌∙◌, sym, ap, arith, length-append, length-drop, length-take-le, Framed, longest, next_id, nat_eq-true}
+use Rattle.router_world.proofs.Names.{Results, Fields, kind_to, id_after, parsed, form_of, form_at, ◌≡◌, ◌≤◌, ℕ, zero, suc, ◌+◌, ◌-◌, ◌*◌, ◌/◌, Bool, true}
+use Rattle.router_world.proofs.Names.{false, nat_eq, cond, List, [], ◌∷◌, length, take, drop, slice_index_or, refl, ◌≢◌, ◌⊎◌, not, ◌++◌, Option, Some, None}
+use Rattle.router_world.proofs.Names.{subst, ClientNo, LinkId, Log, same_number, Account, is_begun, Handed, Lent, Lends, set, with_link, without_link}
+use Rattle.router_world.proofs.Names.{owns_none, without_ask, to_close, gone, was_lost, heard_of, pieces_of, Forms, Enters, Clean, Runs, Spoilt, standing_on}
+use Rattle.router_world.proofs.Names.{Service, is_here, MayDrop, some-same, standing_said, begun, LinkAt, Entering, Inside, is_some, For, command_of, Ask}
+use Rattle.router_world.proofs.Names.{takes_at, takes_command, commanded, queued, offered_at, asked, asked_by}
 use Rattle.std.proofs.lemmas.Bool.{not-false}
-use Rattle.router_world.proofs.Apart.{rows-one, row-now, set-same, set-other, Apart, Traces, row-among, RowNow, Mended, mended, MayGo, Away, Idle, Went}
-use Rattle.router_world.proofs.Apart.{none-one, one-same, but-one, put-other, begun-inside, kept-row, NoRow, apart-none, traces-none, Stays, Closes, OneRow}
-use Rattle.router_world.proofs.Apart.{owner-mine, apart-one, traces-one, close-kept, close-other, Asked}
-use Rattle.router_world.proofs.Names.{◌∙◌, sym, ap, arith, length-append, length-drop, length-take-le, Framed, longest, next_id, nat_eq-true, ReplyKind}
-use Rattle.router_world.proofs.Names.{Results, Fields, kind_to, id_after, parsed, Quit, InitDb, FieldList, Ping, form_of, form_at, ◌≡◌, ◌≤◌, ℕ, zero, suc, ◌+◌}
-use Rattle.router_world.proofs.Names.{◌-◌, ◌*◌, ◌/◌, ◌%◌, Bool, true, false, nat_eq, cond, List, [], ◌∷◌, length, take, drop, slice_index_or, Ok, refl, ◌≢◌}
-use Rattle.router_world.proofs.Names.{◌⊎◌, not, ◌++◌, Option, Some, None, subst, inl, inr, ClientNo, LinkId, Log, same_number, Account, is_begun, Handed, Lent}
-use Rattle.router_world.proofs.Names.{Lends, set, with_link, without_link, owns_none, without_ask, to_close, gone, was_lost, heard_of, pieces_of, Forms, Enters}
-use Rattle.router_world.proofs.Names.{Clean, Runs, Spoilt, standing_on, Service, is_here, MayDrop, HasGone, Unneeded, some-same, standing_said, begun_by, begun}
-use Rattle.router_world.proofs.Names.{LinkAt, Entering, Inside, is_some, For, command_of, Ask, takes_at, takes_command, commanded, queued, offered_at, asked}
-use Rattle.router_world.proofs.Names.{asked_by}
+use Rattle.router_world.proofs.Apart.{rows-one, row-now, set-same, set-other, Apart, Traces, row-among, RowNow, Mended, mended, MayGo, Went, none-one, one-same}
+use Rattle.router_world.proofs.Apart.{but-one, put-other, begun-inside, kept-row, NoRow, apart-none, traces-none, Stays, Closes, OneRow, owner-mine, apart-one}
+use Rattle.router_world.proofs.Apart.{traces-one, close-kept, close-other, Asked}
 use Rattle.packet_frame.specs.Packets.{packet, packets, spelling, id_behind}
-use Rattle.command_parse.specs.Meaning.{command_of as command_meant}
-use Rattle.command_parse.specs.Meaning.Meaning.{Query, Refused}
 use Rattle.promises.specs.Sends.{kind_asked}
 use Rattle.std.specs.Prelude.{filter}
 use Rattle.lend_core.specs.Changes.{waits_no_more}
 use Rattle.lend_core.specs.Events.{left_at, left_on, left_by, asked_on}
 use Rattle.router_world.proofs.RowsStanding.{inside-at, standing-entering, standing-clean, packets-handed}
 use Rattle.router_world.proofs.Frames.{owner-turn}
-use Rattle.router_world.proofs.Sound.{Left, RowStands, CloseStands, AtMostOne, Nobody, One, LendsSound, Gone, AskStands, HandedStands, Own, Waiting, Owns, Free}
+use Rattle.router_world.proofs.Sound.{RowStands, CloseStands, AtMostOne, Nobody, One, LendsSound, Gone, AskStands, HandedStands, Own, Waiting, Owns, Free}
 use Rattle.router_world.proofs.Sound.{Waits, On}
 use Rattle.server_side.specs.declared.stage.Stage.TheVariants as stage
 
@@ -122,10 +118,7 @@ left-row service log n lends other link lent row mine away begins = grind (arith
 pub gone-sound : (service : Service) (log : Log) (n : ℕ) (lends : Lends) → LendsSound service log lends → (lends.closing ≡ []) ⊎ (lends.owned n ≡ None) → MayGo service log n lends → Went service log n lends (gone (record { 0 = n }) lends)
 gone-sound service log n lends sound closable may = by (lends.owned n) refl where
   none-closes : (link : LinkId) → lends.owned n ≡ Some link → lends.closing ≡ []
-  none-closes link owns = at closable where
-    at : (lends.closing ≡ []) ⊎ (lends.owned n ≡ None) → lends.closing ≡ []
-    at (inl none) = none
-    at (inr unowned) = absurd (let no' : None ≡ Some link = sym unowned ∙ owns in cc)
+  none-closes link owns = grind (arith, common_steps)
 
   client : ClientNo
   client = record { 0 = n }
@@ -138,13 +131,7 @@ gone-sound service log n lends sound closable may = by (lends.owned n) refl wher
       (λ link lent is. kept-row service log n lends base link lent sound is (λ owns. absurd (let no' : None ≡ Some link = sym unowned ∙ owns in cc)))
       sound.one_closes (λ link is. (let closing = sound.closes link is in close-kept service log lends base link closing closing.unlent)) where
         same : NoRow n lends base
-        same = record {
-          links = λ k. refl;
-          asks = λ k differs. set-other lends.asks n k None differs;
-          owned = λ k differs. set-other lends.owned n k None differs;
-          waiting = λ k differs is. still-waits n k lends.waiting differs is;
-          closing = refl;
-        }
+        same = grind (arith, common_steps, set-other, still-waits)
 
   on : (link : LinkId) (lent : Lent) → lends.owned n ≡ Some link → lends.links link.0 ≡ Some lent → Went service log n lends (left_at (is_begun lent.backend.command) link lent (without_link link base))
   on link lent owns there = begins (is_begun lent.backend.command) refl where

@@ -1,12 +1,11 @@
 -- Bytes are written on a link to a server.
-use Rattle.router_world.proofs.Names.{common_steps}
-use Rattle.std.proofs.lemmas.Bool.{false_from_ne_true}
-use Rattle.router_world.proofs.Names.{◌≡◌, ◌⊎◌, ◌≤◌, ◌<◌, ℕ, zero, suc, ◌+◌, ◌-◌, Bool, true, false, nat_lt, ◌&&◌, cond, nat_eq, List, [], ◌∷◌, ◌++◌, length}
-use Rattle.router_world.proofs.Names.{take, drop, Option, Some, None, refl, list_any, option_map, sym, ◌∙◌, ap, subst, append-nil, arith, length-take-le}
-use Rattle.router_world.proofs.Names.{take_all, inl, inr, ClientNo, LinkId, Tag, For, Own, Log, Fits, AllLawful, lawful-last, same_number, Entry, Wrote}
+use Rattle.router_world.proofs.Names.{common_steps, ◌≡◌, ◌⊎◌, ◌≤◌, ◌<◌, ℕ, zero, suc, ◌+◌, ◌-◌, Bool, true, false, nat_lt, ◌&&◌, cond, nat_eq, List, [], ◌∷◌}
+use Rattle.router_world.proofs.Names.{◌++◌, length, take, drop, Option, Some, None, refl, list_any, option_map, sym, ◌∙◌, ap, subst, append-nil, arith}
+use Rattle.router_world.proofs.Names.{length-take-le, ClientNo, LinkId, Tag, For, Own, Log, Fits, AllLawful, lawful-last, same_number, Entry, Wrote}
 use Rattle.router_world.proofs.Names.{nat_eq-true, Sent, Account, BackendState, is_begun, command_left, left_by, left, command_taken, taken_by, Handed, Ask}
 use Rattle.router_world.proofs.Names.{Lent, Lends, taken_on, left_in, was_lost, heard_of, pieces_of, is_command, carries, carrier_of, first_some, Service}
 use Rattle.router_world.proofs.Names.{IsLawful, some-same, and-true, refused-or-sent, carrier-more, IsFront, replied, is_of, LinkAt, Entering, Inside}
+use Rattle.std.proofs.lemmas.Bool.{false_from_ne_true}
 use Rattle.server_side.specs.Backend.{taken}
 use Rattle.lend_core.specs.Changes.{took}
 use Rattle.promises.proofs.Beginning.{uncarried}

@@ -1,21 +1,19 @@
 -- A link to a server is opened for the client that waits, or can't be.
-use Rattle.router_world.proofs.Names.{common_steps}
+use Rattle.router_world.proofs.Names.{common_steps, ◌≡◌, ◌⊎◌, ℕ, ◌+◌, Bool, true, false, ◌||◌, ◌&&◌, cond, nat_eq, List, [], ◌∷◌, ◌++◌, length, fold, slice_get}
+use Rattle.router_world.proofs.Names.{Option, Some, None, refl, flat_map, filter_map, list_any, cons_option, option_map, sym, ◌∙◌, ap, subst, arith, inl, inr}
+use Rattle.router_world.proofs.Names.{list_any-append, ServerId, Address, ClientNo, LinkId, Log, is_link, of_link, got_bytes, open_step, is_open, IsNew, Fits}
+use Rattle.router_world.proofs.Names.{AllLawful, lawful-last, same_number, of_link-same, step-same, Entry, Opened, OpenFailed, nat_eq-true, new_backend, In}
+use Rattle.router_world.proofs.Names.{connection_refused, ServerAt, Ask, Lent, Lends, Told, oldest, with_link, without_ask, refusal_for, opened, open_failed}
+use Rattle.router_world.proofs.Names.{is_loss, until_loss, piece, pieces_of, Turn, Service, open_tries, next_turn, turn_by, is_turn, refused, reply_to, MayOpen}
+use Rattle.router_world.proofs.Names.{IsLawful, some-same, refused-more, refusal-cause, or-inr, tries-more, turn-stays, user-stays, turn_for, turn_at, turns}
+use Rattle.router_world.proofs.Names.{tables_after, replied, LinkAt, ◌<◌, lawful-more, IsOpen, step-other, Phase, refused_by, none-if, Seat, Tables, with_lends}
+use Rattle.router_world.proofs.Names.{told}
 use Rattle.router_world.proofs.Hands.{numbered-seat, away-gone}
-use Rattle.std.proofs.lemmas.Bool.{and_right}
 use Rattle.router_world.proofs.Apart.{link-or-other, apart-links, apart-numbers, rows-one, row-now, set-same, set-other, Apart, RowNow, Was, Mended, mended}
 use Rattle.router_world.proofs.Apart.{Comes, Quiet, Came, none-one, one-same, NoRow, apart-none, traces-none}
 use Rattle.router_world.proofs.Connecting.{open-kept, counts-all}
 use Rattle.router_world.proofs.Sound.{Happens, AskStands, Own, RowStands, AtMostOne, Nobody, Waiting, Owns, LendsSound, Busy, Waits, Logs, On, Covers, Sound}
 use Rattle.router_world.proofs.Sound.{Serves, Unsent, Known, Servers}
-use Rattle.router_world.proofs.Names.{◌≡◌, ◌⊎◌, ℕ, ◌+◌, Bool, true, false, ◌||◌, ◌&&◌, cond, nat_eq, List, [], ◌∷◌, ◌++◌, length, fold, slice_get, Option, Some}
-use Rattle.router_world.proofs.Names.{None, refl, flat_map, filter_map, list_any, cons_option, option_map, sym, ◌∙◌, ap, subst, arith, inl, inr}
-use Rattle.router_world.proofs.Names.{list_any-append, ServerId, Address, ClientNo, LinkId, Log, is_link, of_link, got_bytes, open_step, is_open, IsNew, Fits}
-use Rattle.router_world.proofs.Names.{AllLawful, lawful-last, same_number, of_link-same, step-same, Entry, Opened, OpenFailed, nat_eq-true, new_backend, In}
-use Rattle.router_world.proofs.Names.{connection_refused, ServerAt, Ask, Lent, Lends, Told, oldest, with_link, without_ask, refusal_for, opened, open_failed}
-use Rattle.router_world.proofs.Names.{is_loss, until_loss, piece, pieces_of, Turn, Service, open_tries, next_turn, turn_by, owner_of, is_turn, refused}
-use Rattle.router_world.proofs.Names.{reply_to, MayOpen, IsLawful, some-same, refused-more, refusal-cause, or-inr, tries-more, turn-stays, user-stays, turn_for}
-use Rattle.router_world.proofs.Names.{turn_at, turns, tables_after, replied, LinkAt, ◌<◌, lawful-more, IsOpen, step-other, Phase, refused_by, none-if, Seat}
-use Rattle.router_world.proofs.Names.{Tables, with_lends, told}
 use Rattle.packet_frame.specs.Packets.{spelling}
 use Rattle.server_side.specs.declared.stage.Stage.TheVariants.{Greeting}
 use Rattle.lend_core.specs.Lends.{others}
@@ -39,8 +37,7 @@ turn-there link [] (first ∷ turns) turn new at = ap (λ b. cond b (Some first)
 turn-there link (t ∷ tries) [] turn new at = absurd (let no' : None ≡ Some turn = at in cc)
 turn-there link (t ∷ tries) (first ∷ turns) turn new at = by (is_link link t) new (λ none. turn-there link tries turns turn none at) where
   by : (b : Bool) → (b || list_any (is_link link) tries) ≡ false → (list_any (is_link link) tries ≡ false → turn_by link (tries ++ Some link ∷ []) turns ≡ Some turn) → cond b (Some first) (turn_by link (tries ++ Some link ∷ []) turns) ≡ Some turn
-  by true none later = absurd (let no' : true ≡ false = none in cc)
-  by false none later = later none
+  by b none later = grind (arith, common_steps)
 
 -- An open is for the client that waits.
 pub record IsAwaited (service : Service) (log : Log) (lends : Lends) (client : ClientNo) : Type 0 where
@@ -235,8 +232,7 @@ open-spares service log e n i arrived turn next same later server address is oth
   first = ap (λ (t : Turn). t.ordinal) (some-same other turn (sym refuses ∙ ap (refused_by service log) is ∙ next)) ∙ same
 
   by : (b : Bool) → nat_eq i other.ordinal ≡ b → is_turn n i other ≡ false
-  by false at = ap (λ b. nat_eq n other.client && b) at ∙ and_right (nat_eq n other.client) false refl
-  by true at = (let here : i ≡ other.ordinal = Rattle.packet_frame.specs.PacketLaws.nat_eq-true i other.ordinal at in absurd (let a : other.ordinal ≡ arrived = first in omega arith))
+  by b at = grind (arith, common_steps, nat_eq-true)
 
 -- A link can't be opened.
 pub open-failed-step : (service : Service) (log : Log) (server : ServerId) (address : Address) (tables : Tables) → Sound service log None tables → OnOpen service log (OpenFailed server address) tables → Sound service (log ++ OpenFailed server address ∷ []) None (told service.setup (open_failed tables.lends) tables)

@@ -1,10 +1,9 @@
 -- A link to a server as a piece is heard there.
-use Rattle.router_world.proofs.Names.{common_steps}
-use Rattle.router_world.proofs.Names.{◌≡◌, ◌≢◌, ◌⊎◌, ◌≤◌, ◌<◌, ℕ, zero, suc, ◌+◌, ◌-◌, Bool, true, false, not, nat_eq, ◌&&◌, cond, List, [], ◌∷◌, ◌++◌, length}
-use Rattle.router_world.proofs.Names.{take, drop, Option, Some, None, refl, list_all, list_any, sym, ◌∙◌, ap, subst, append-nil, arith, length-append}
-use Rattle.router_world.proofs.Names.{length-drop, take_all, take-append-drop, inl, inr, and_parts, and_from, and_right, nil_from_length, list_all-append}
-use Rattle.router_world.proofs.Names.{AreBytes, nat_eq-true, nat_eq-false, State, Ending, Going, Ended, Failed, run, renumbered, Account, Goes, LogsIn, Fails}
-use Rattle.router_world.proofs.Names.{said_of, opening-got, BackendState, Hears, GotFault, got_of, TellsOf, Handed, BackendFault, LoggedIn, Part}
+use Rattle.router_world.proofs.Names.{common_steps, ◌≡◌, ◌≢◌, ◌⊎◌, ◌≤◌, ◌<◌, ℕ, zero, suc, ◌+◌, ◌-◌, Bool, true, false, not, nat_eq, ◌&&◌, cond, List, [], ◌∷◌}
+use Rattle.router_world.proofs.Names.{◌++◌, length, take, drop, Option, Some, None, refl, list_all, list_any, sym, ◌∙◌, ap, subst, append-nil, arith}
+use Rattle.router_world.proofs.Names.{length-append, length-drop, take_all, take-append-drop, inl, inr, and_parts, and_from, and_right, nil_from_length}
+use Rattle.router_world.proofs.Names.{list_all-append, AreBytes, nat_eq-true, nat_eq-false, State, Ending, Going, Ended, Failed, run, renumbered, Account, Goes}
+use Rattle.router_world.proofs.Names.{LogsIn, Fails, said_of, opening-got, BackendState, Hears, GotFault, got_of, TellsOf, Handed, BackendFault, LoggedIn, Part}
 use Rattle.router_world.proofs.Names.{bad_server_bytes, is_empty, has_failed, Command, most_command, whole_by, is_whole, is_command, commands_in, Forms, Answer}
 use Rattle.router_world.proofs.Names.{spelt, Replies, Never, command_reply, cut, replies_by, Clean, Spoilt, stands, standing_in, reply_at, behind_replies}
 use Rattle.router_world.proofs.Names.{some-same, form_at, bytes_in, commands_said, replies_said, standing_said, reply_said, is_of, begun_by, begun, IsMessage}

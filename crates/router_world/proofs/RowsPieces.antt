@@ -1,18 +1,14 @@
 -- The pieces that were written on a link, and the commands in them.
-use Rattle.router_world.proofs.Names.{common_steps}
-use Rattle.router_world.proofs.Names.{◌≡◌, ◌≤◌, ◌<◌, ℕ, zero, suc, ◌+◌, ◌-◌, ◌/◌, ◌%◌, Bool, true, false, not, ◌||◌, cond, List, [], ◌∷◌, ◌++◌, length, drop}
-use Rattle.router_world.proofs.Names.{fold, Option, Some, None, refl, list_all, list_any, filter_map, cons_option, sym, ◌∙◌, ap, append-nil, arith}
-use Rattle.router_world.proofs.Names.{length-append, and_parts, and_from, or_parts, list_all-append, filter_map-append, flat_map-append, LinkId, Tag, For, Own}
-use Rattle.router_world.proofs.Names.{Reply, Log, link_of, is_link, of_link, Fits, AllLawful, lawful-each, same_number, Entry, Wrote, Framed, Found, longest}
-use Rattle.router_world.proofs.Names.{first_message-whole-more, is_empty, is_loss, until_loss, Command, piece, pieces_of, most_command, whole_by, with_piece}
-use Rattle.router_world.proofs.Names.{commands_in, behind, is_command, place_in, piece_bytes, bytes_in, is_of}
+use Rattle.router_world.proofs.Names.{common_steps, ◌≡◌, ◌≤◌, ◌<◌, ℕ, zero, suc, ◌+◌, ◌-◌, ◌/◌, ◌%◌, Bool, true, false, not, cond, List, [], ◌∷◌, ◌++◌, length}
+use Rattle.router_world.proofs.Names.{drop, fold, Option, Some, None, refl, list_all, list_any, filter_map, cons_option, sym, ◌∙◌, ap, append-nil, arith}
+use Rattle.router_world.proofs.Names.{length-append, and_parts, and_from, or_parts, list_all-append, filter_map-append, flat_map-append, LinkId, Tag, Log, Fits}
+use Rattle.router_world.proofs.Names.{AllLawful, lawful-each, Entry, Framed, Found, longest, first_message-whole-more, is_empty, Command, piece, pieces_of}
+use Rattle.router_world.proofs.Names.{most_command, whole_by, with_piece, commands_in, behind, place_in, piece_bytes, bytes_in, is_of}
 use Rattle.std.specs.Prelude.{nat_le}
 use Rattle.std.proofs.lemmas.Bool.{leb-false, or_from}
-use Rattle.mx_base.specs.declared.tag.Tag.TheVariants.{Sync, Prep, Mirror, End}
 use Rattle.packet_frame.specs.Packets.{Nothing, Whole, Faulty, first_message, spelling}
 use Rattle.packet_frame.specs.RoundTrip.{first_message-again}
-use Rattle.exchange.specs.Logins.{sound_of}
-use Rattle.exchange.specs.Commands.{same_tag, joins}
+use Rattle.exchange.specs.Commands.{same_tag}
 
 -- a piece has a byte
 abbrev pub has_bytes : Command → Bool
@@ -64,8 +60,7 @@ behind-past (suc n) (p ∷ pieces) more less = by (nat_le (length p.bytes) (suc 
 
   by : (b : Bool) → nat_le (length p.bytes) (suc n) ≡ b → behind (suc n - length p.bytes) (pieces ++ more) ≡ behind (suc n - length p.bytes - length (bytes_in pieces)) more
       → cond b (behind (suc n - length p.bytes) (pieces ++ more)) (record p { bytes = drop (suc n) p.bytes } ∷ pieces ++ more) ≡ behind (suc n - length (p.bytes ++ bytes_in pieces)) more
-  by true at later = (let sum = total in let same : suc n - length p.bytes - length (bytes_in pieces) ≡ suc n - length (p.bytes ++ bytes_in pieces) = omega arith in later ∙ ap (λ k. behind k more) same)
-  by false at later = absurd (let sum = total in let long : suc n < length p.bytes = leb-false (length p.bytes) (suc n) at in omega arith)
+  by b at later = grind (arith, common_steps, leb-false)
 
 pub behind-short : (n : ℕ) (pieces : List Command) → length (bytes_in pieces) < n → behind n pieces ≡ []
 behind-short n pieces less = ap (behind n) (sym (append-nil pieces)) ∙ behind-past n pieces [] less
@@ -79,8 +74,7 @@ behind-all (suc n) (p ∷ pieces) some fits = by (nat_le (length p.bytes) (suc n
   total = length-append p.bytes (bytes_in pieces)
 
   by : (b : Bool) → nat_le (length p.bytes) (suc n) ≡ b → behind (suc n - length p.bytes) pieces ≡ [] → cond b (behind (suc n - length p.bytes) pieces) (record p { bytes = drop (suc n) p.bytes } ∷ pieces) ≡ []
-  by true at later = later
-  by false at later = absurd (let sum = total in let long : suc n < length p.bytes = leb-false (length p.bytes) (suc n) at in omega arith)
+  by b at later = grind (arith, common_steps, leb-false)
 
 pub behind-one : (n : ℕ) (piece : Command) → 0 < n → length piece.bytes ≤ n → behind n (piece ∷ []) ≡ []
 behind-one n piece some fits = grind (arith, common_steps, leb-false)

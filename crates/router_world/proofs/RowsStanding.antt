@@ -1,18 +1,16 @@
 -- A link to a server as bytes are handed to it and written.
-use Rattle.router_world.proofs.Names.{common_steps}
-use Rattle.promises.proofs.Clean.{with-piece-behind, behind-append, command-reply-grammar, replies-behind}
-use Rattle.router_world.proofs.Names.{◌≡◌, ◌≢◌, ◌⊎◌, ◌≤◌, ◌<◌, ℕ, zero, suc, ◌+◌, ◌-◌, Bool, true, false, nat_lt, ◌||◌, cond, List, [], ◌∷◌, ◌++◌, length, take}
-use Rattle.router_world.proofs.Names.{drop, Option, Some, None, refl, list_any, sym, ◌∙◌, ap, subst, append-nil, append_assoc, arith, length-append}
+use Rattle.router_world.proofs.Names.{common_steps, ◌≡◌, ◌≢◌, ◌⊎◌, ◌≤◌, ◌<◌, ℕ, zero, suc, ◌+◌, ◌-◌, Bool, true, false, ◌||◌, cond, List, [], ◌∷◌, ◌++◌, length}
+use Rattle.router_world.proofs.Names.{take, drop, Option, Some, None, refl, list_any, sym, ◌∙◌, ap, subst, append-nil, append_assoc, arith, length-append}
 use Rattle.router_world.proofs.Names.{length-drop, take-append-drop, length-take-le, inl, inr, or_parts, list_any-append, fold-append, Sent, Tag, Own, AreBytes}
-use Rattle.router_world.proofs.Names.{first_message-empty, run, renumbered, started, to_command, Account, Goes, said_of, BackendState, new_backend, command_of}
-use Rattle.router_world.proofs.Names.{command_left, left_by, left, command_taken, taken_by, IsOpening, Handed, IsPrefix, Forms, Command, most_command}
-use Rattle.router_world.proofs.Names.{with_piece, is_command, behind, commands_in, some-same, form_at, bytes_in, is_of, begun_by, begun, IsMessage, IsHanded}
-use Rattle.router_world.proofs.Names.{IsEntering, IsHearing, HearsPart, IsInside, LinkAt, Entering, Inside, nat_eq, slice_index_or, State, Ending, Going, Ended}
-use Rattle.router_world.proofs.Names.{Failed, ReplyKind, Results, Fields, kind_to, id_after, SameEnd, same-end, Answer, spelt, Never, Form, heard_by}
+use Rattle.router_world.proofs.Names.{first_message-empty, run, renumbered, started, to_command, Account, said_of, BackendState, new_backend, left, Handed}
+use Rattle.router_world.proofs.Names.{IsPrefix, Forms, Command, most_command, with_piece, is_command, behind, commands_in, some-same, form_at, bytes_in, is_of}
+use Rattle.router_world.proofs.Names.{begun_by, begun, IsMessage, IsHanded, IsEntering, IsHearing, HearsPart, IsInside, LinkAt, Entering, Inside, nat_eq, State}
+use Rattle.router_world.proofs.Names.{Ending, Going, Ended, Failed, ReplyKind, kind_to, id_after, SameEnd, same-end, Answer, spelt, Never, Form, heard_by}
 use Rattle.router_world.proofs.Names.{command_reply, ◌&&◌, slice_get, list_all, option_and_then, drop_all, LogsIn, is_empty, is_whole, place_in}
 use Rattle.router_world.proofs.Names.{commands_behind, Replies, replies_by, Clean, Sends, Runs, Spoilt, stands, standing_in, reply_at, behind_replies}
 use Rattle.router_world.proofs.Names.{commands_said, replies_said, standing_said, reply_said, take_all, nat_eq-true, nat_eq-false, spelling-some, In, whole_by}
 use Rattle.router_world.proofs.Names.{cut, Standing, Enters}
+use Rattle.promises.proofs.Clean.{with-piece-behind, behind-append, command-reply-grammar, replies-behind}
 use Rattle.std.proofs.Common.{take-add, lit<}
 use Rattle.packet_frame.specs.Packets.{spelling, spellings, first_message}
 use Rattle.server_side.specs.Login.{most_payload, greeting_by, opening, Opening}
@@ -20,7 +18,6 @@ use Rattle.server_side.specs.Laws.{opening-new, opening-logged_in}
 use Rattle.server_side.specs.Backend.{taken}
 use Rattle.server_side.specs.Handing.{handed}
 use Rattle.server_side.specs.Reading.{IsLoggingIn}
-use Rattle.server_side.specs.declared.stage.Stage.{Stage}
 use Rattle.std.proofs.Math.Seq.{take-append_seam, take-append-add}
 use Rattle.reply_track.specs.declared.reply.ReplyEnd.{ReplyEnd}
 use Rattle.reply_track.specs.Grammar.{renamed}
@@ -34,7 +31,6 @@ use Rattle.std.proofs.lemmas.List.{drop_at, get_or_push}
 use Rattle.std.specs.Prelude.{if◌then◌else◌}
 use Rattle.client_session.specs.Errors.{connection_lost}
 use Rattle.router_world.proofs.RowsPieces.{bytes-more, behind-past, behind-short, behind-one, part-spelt, with-piece-on, of-commands, place-last, whole-spelt}
-use Rattle.server_side.specs.declared.stage.Stage.TheVariants as stages
 
 -- nothing was heard or written yet
 pub first-at : (forms : Forms) (user : Account) → LinkAt forms user [] [] (new_backend user)
@@ -156,8 +152,7 @@ command-taken forms user heard pieces backend command n at none is some fits fre
         by zero unsent = (let out = of-commands m i (length at.said) pieces (fresh m i command is unsent (sym (or-nothing (is_command m i command.tag)) ∙ here)) in
             (or_parts (list_any (is_of m i) at.others) (list_any (is_of m i) (begun backend.command)) (sym (list_any-append (is_of m i) at.others (begun backend.command)) ∙ sym (ap (list_any (is_of m i)) at.commands) ∙ out)).0) where
               or-nothing : (b : Bool) → (b || false) ≡ b
-              or-nothing true = refl
-              or-nothing false = refl
+              or-nothing b = grind (arith, common_steps)
         by (suc sent) was = at.new m i (ap (λ (o : Option Handed). list_any (is_of m i) (begun o)) is ∙ ap (list_any (is_of m i)) (begun-some command (omega arith)) ∙ here)
 
 -- So many bytes of what is left are written, with its tag.

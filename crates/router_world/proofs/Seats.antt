@@ -1,12 +1,11 @@
 -- What each event leaves of how a client's session stands.
-use Rattle.router_world.proofs.Names.{common_steps}
+use Rattle.router_world.proofs.Names.{common_steps, ◌≡◌, ◌≢◌, ◌≤◌, ◌<◌, ℕ, suc, true, false, List, [], ◌++◌, length, take, drop, Option, Some, None, refl, sym}
+use Rattle.router_world.proofs.Names.{◌∙◌, ap, subst, append-nil, append_assoc, take-append-drop, arith, ClientNo, Framed, Split, split, with_front, next_id}
+use Rattle.router_world.proofs.Names.{first_message-empty, ClientState, fed, Waits, IsLoggingIn, Account, Setup, Talk, heard_more, opening_of, account}
+use Rattle.router_world.proofs.Names.{messages_of, front, fault_answer, is_query, Phase, Session, new_session, said_in, said, rested, answered_in, taken}
+use Rattle.router_world.proofs.Names.{most_command, Answer, spelt, Work, messages-grow, answers_by, first_open, due_said, work_said, over_said, IsTaken, IsIdle}
+use Rattle.router_world.proofs.Names.{IsWorking, PhaseAt, SeatAt, unanswered_from, Unanswered}
 use Rattle.promises.proofs.Staying.{account-more}
-use Rattle.router_world.proofs.Names.{◌≡◌, ◌≢◌, ◌≤◌, ◌<◌, ℕ, suc, true, false, is_some, List, [], ◌++◌, length, take, drop, Option, Some, None, refl, sym, ◌∙◌}
-use Rattle.router_world.proofs.Names.{ap, subst, append-nil, append_assoc, take-append-drop, arith, ClientNo, Framed, Split, split, with_front, next_id}
-use Rattle.router_world.proofs.Names.{first_message-empty, Stage, ClientState, fed, Opening, Waits, IsLoggingIn, Account, Setup, Talk, heard_more, opening_of}
-use Rattle.router_world.proofs.Names.{account, messages_of, front, fault_answer, is_query, Phase, Session, new_session, said_in, said, rested, answered_in}
-use Rattle.router_world.proofs.Names.{taken, most_command, Answer, spelt, Work, ends_in, ends_by, messages-grow, answers_by, first_open, due_said, work_said}
-use Rattle.router_world.proofs.Names.{over_said, IsTaken, IsIdle, IsWorking, PhaseAt, SeatAt, unanswered_from, Unanswered}
 use Rattle.client_side.specs.Login.{greeting_said, by_message, opening}
 use Rattle.client_side.specs.Laws.{logging-new, logging-fed}
 use Rattle.client_talk.specs.Events.{answered}
@@ -14,7 +13,6 @@ use Rattle.router_world.proofs.SeatsAnswers.{at_place, query-no-quit, query-open
 use Rattle.router_world.proofs.SeatsAnswers.{NowDone, now-done, agree, due_behind, due-alone, work-alone, front-more, over-in, taken-messages, taken-nothing}
 use Rattle.router_world.proofs.SeatsAnswers.{taken-fed, IsGoing, MayGo, GoesAt, SeatTurned}
 use Rattle.router_world.proofs.SeatsTaking.{turned-seat}
-use Rattle.client_side.specs.declared.stage.Stage.TheVariants as stage
 use Rattle.client_talk.specs.declared.session.Phase.TheVariants as phase
 
 -- A client comes, and is greeted.

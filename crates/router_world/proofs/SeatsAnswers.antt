@@ -1,17 +1,15 @@
 -- The answers of a client, up to the first that isn't there.
-use Rattle.router_world.proofs.Names.{common_steps}
+use Rattle.router_world.proofs.Names.{common_steps, ◌≡◌, ◌≢◌, ◌≤◌, ◌<◌, ℕ, suc, ◌+◌, Bool, true, false, is_some, cond, List, [], ◌∷◌, ◌++◌, length, Option}
+use Rattle.router_world.proofs.Names.{Some, None, Result, refl, sym, ◌∙◌, ap, append-nil, append_assoc, arith, length-append, Framed, next_id, Meaning, parsed}
+use Rattle.router_world.proofs.Names.{Ping, Quit, CommandFault, Setup, query_by, is_query, is_quit, no_server, own_ok, payload_of, Asked, Answer, spelt}
+use Rattle.router_world.proofs.Names.{answer_by, answered, Work, answer_of, answers_by, first_open, ClientState, IsLoggingIn, Account, Talk, account, front}
+use Rattle.router_world.proofs.Names.{Phase, Session, Turned, still, left_to_say, due_said, over_said, IsTaken, SeatAt, Unanswered, Asks, drop, FrameFault}
+use Rattle.router_world.proofs.Names.{Split, split, with_front, message_size, Nothing, Whole, Faulty, first_message-empty, first_message-whole-more}
+use Rattle.router_world.proofs.Names.{first_message-goes, Response, fed, counted, Opening, Says, opening-says-more, account_of, heard_more, opening_of}
+use Rattle.router_world.proofs.Names.{if_known, commands, messages_of, front_in, fault_answer, ends_by, work_said}
 use Rattle.promises.proofs.Staying.{by-stays}
 use Rattle.promises.proofs.InWork.{query-answer, some-same}
 use Rattle.router_world.specs.Seats.{IsOf}
-use Rattle.router_world.proofs.Names.{◌≡◌, ◌≢◌, ◌≤◌, ◌<◌, ℕ, suc, ◌+◌, Bool, true, false, is_some, cond, List, [], ◌∷◌, ◌++◌, length, Option, Some, None}
-use Rattle.router_world.proofs.Names.{Result, Ok, Err, refl, sym, ◌∙◌, ap, subst, append-nil, append_assoc, arith, length-append, Framed, next_id, Meaning}
-use Rattle.router_world.proofs.Names.{parsed, InitDb, FieldList, Ping, Quit, CommandFault, Setup, query_by, is_query, is_quit, no_server, own_ok, payload_of}
-use Rattle.router_world.proofs.Names.{Asked, Answer, spelt, answer_by, answered, Work, answer_of, answers_by, first_open, ClientState, IsLoggingIn, Account}
-use Rattle.router_world.proofs.Names.{Talk, account, front, Phase, Session, Turned, still, left_to_say, due_said, over_said, IsTaken, SeatAt, Unanswered, Asks}
-use Rattle.router_world.proofs.Names.{drop, FrameFault, Split, split, with_front, message_size, Nothing, Whole, Faulty, first_message-empty}
-use Rattle.router_world.proofs.Names.{first_message-whole-more, first_message-goes, Response, fed, counted, Opening, Waits, Says, opening-says-more, account_of}
-use Rattle.router_world.proofs.Names.{heard_more, opening_of, account_in, if_known, commands, messages_of, front_in, fault_answer, ends_in, ends_by, if_user}
-use Rattle.router_world.proofs.Names.{work_said}
 use Rattle.command_parse.specs.Meaning.Meaning.{Query}
 use Rattle.client_session.specs.Answers.{quit_by, commands_in, client_messages}
 use Rattle.client_talk.specs.Asked.{query_if, asked_by}
@@ -20,7 +18,6 @@ use Rattle.client_talk.specs.Steps.{Step}
 use Rattle.packet_frame.specs.Packets.{first_message}
 use Rattle.packet_frame.specs.Laws.{split-nothing, split-whole, split-faulty, split-count}
 use Rattle.client_side.specs.Client.{past_message}
-use Rattle.client_side.specs.Login.{Fails}
 use Rattle.client_session.specs.Openings.{opening-shorter}
 use Rattle.client_talk.specs.declared.asked.Asked.TheVariants as asked
 use Rattle.client_talk.specs.declared.session.Phase.TheVariants as phase
@@ -94,8 +91,7 @@ open-none setup reply i [] work is = absurd (let no : None ≡ Some work = is in
 open-none setup reply i (m ∷ messages) work is = by (answer_of setup (reply i) m.payload) refl is (open-none setup reply (suc i) messages work) where
   by : (o : Option Answer) → answer_of setup (reply i) m.payload ≡ o → cond (is_some o) (first_open setup reply (suc i) messages) (Some (at_place i m)) ≡ Some work
       → (first_open setup reply (suc i) messages ≡ Some work → answer_of setup (reply work.ordinal) work.message.payload ≡ None) → answer_of setup (reply work.ordinal) work.message.payload ≡ None
-  by None at here later = subst (λ (w : Work). answer_of setup (reply w.ordinal) w.message.payload ≡ None) (some-same (at_place i m) work here) at
-  by (Some answer) at there later = later there
+  by o at here later = grind (arith, common_steps, some-same)
 
 -- messages behind it change nothing of it, nor of what is due
 pub open-more : (setup : Setup) (reply : ℕ → Option Answer) (i : ℕ) (messages later : List Framed) (work : Work) → first_open setup reply i messages ≡ Some work → first_open setup reply i (messages ++ later) ≡ Some work
@@ -156,25 +152,11 @@ now-done setup reply other i k (m ∷ past) message answer is last same now =
       work = at_place k message
 
       alone : (past : List Framed) → i ≡ k → m ≡ message → suc k ≡ i + suc (length past) → answer_of setup (reply i) m.payload ≡ None → NowDone setup reply other i (m ∷ past) message answer
-      alone [] at is last was = subst (λ (n : Framed). NowDone setup reply other i (m ∷ []) n answer) is
-          (last-done setup reply other i m answer was (ap (λ j. answer_of setup (other j) m.payload) at ∙ ap (λ (n : Framed). answer_of setup (other k) n.payload) is ∙ now))
-      alone (n ∷ past) at is last was = absurd (let more : suc k ≡ i + suc (suc (length past)) = last in omega arith)
+      alone past at is last was = grind (arith, common_steps, last-done)
 
       by : (o : Option Answer) → answer_of setup (reply i) m.payload ≡ o → cond (is_some o) (first_open setup reply (suc i) past) (Some (at_place i m)) ≡ Some work
           → (first_open setup reply (suc i) past ≡ Some work → NowDone setup reply other (suc i) past message answer) → NowDone setup reply other i (m ∷ past) message answer
-      by None at here others = (let here-is : at_place i m ≡ work = some-same (at_place i m) work here in
-          alone past (ap (λ (w : Work). w.ordinal) here-is) (ap (λ (w : Work). w.message) here-is) last at)
-      by (Some first) at there others = (
-          let less : suc i ≤ k = open-from setup reply (suc i) past work there in
-          let still : answer_of setup (other i) m.payload ≡ Some first = ap (λ r. answer_of setup r m.payload) (same i (let apart : i ≢ k = omega arith in apart)) ∙ at in
-          let done = others there in
-          record {
-            all = ap (λ o. cond (is_some o) (first_open setup other (suc i) past) (Some (at_place i m))) still ∙ done.all;
-            joins = ap (λ o. answered (next_id m.last) o (answers_by setup other (suc i) past [])) still
-                ∙ ap (λ l. spelt (next_id m.last) first ++ l) done.joins
-                ∙ sym (append_assoc (spelt (next_id m.last) first) (answers_by setup reply (suc i) past []) (spelt (next_id message.last) answer))
-                ∙ ap (λ o. answered (next_id m.last) o (answers_by setup reply (suc i) past []) ++ spelt (next_id message.last) answer) (sym at);
-          })
+      by o at here others = grind (arith, common_steps, some-same, open-from)
 
 -- Replies that stay, where none came to the message in work, change nothing.
 

@@ -1,27 +1,24 @@
 -- What a message that was framed is, within any limit.
-use Rattle.router_world.proofs.Names.{common_steps}
+use Rattle.router_world.proofs.Names.{common_steps, ◌∙◌, sym, ap, arith, length-append, Framed, Found, longest, next_id, Nothing, Whole, Faulty, nat_eq-true}
+use Rattle.router_world.proofs.Names.{◌≡◌, ◌≤◌, ℕ, zero, suc, ◌+◌, Bool, true, nat_eq, cond, List, ◌++◌, length, refl, ◌<◌, is_some, [], drop, Option, Some}
+use Rattle.router_world.proofs.Names.{None, Result, subst, append-nil, append_assoc, length-drop, split, message_size, Response, Stage, ClientStep, ClientState}
+use Rattle.router_world.proofs.Names.{Opening, Says, IsLoggingIn, command_found, next_of, next_same, Account, account_of, Talk, opening_of, account_in, account}
+use Rattle.router_world.proofs.Names.{if_known, commands, messages_of, front_in, front, own_ok, Session, logs_in, logs_in_as, step_by, step, still, left_to_say}
+use Rattle.router_world.proofs.Names.{Answer, ends_by, ends_in, due_said, work_said, over_said, ◌∷◌, FrameFault, Split, with_front, first_message-goes, parsed}
+use Rattle.router_world.proofs.Names.{counted, has_server, fault_answer, is_query, is_quit, payload_of, Asked, Phase, asked_of, arrives_as, ended, turned_by}
+use Rattle.router_world.proofs.Names.{turned, spelt, answer_of, IsTaken, IsWorking}
 use Rattle.router_world.specs.Seats.{IsOf}
-use Rattle.router_world.proofs.Names.{◌∙◌, sym, ap, arith, length-append, Framed, Found, longest, next_id, Nothing, Whole, Faulty, nat_eq-true, ◌≡◌, ◌≤◌, ℕ}
-use Rattle.router_world.proofs.Names.{zero, suc, ◌+◌, Bool, true, false, nat_eq, cond, List, ◌++◌, length, refl, ◌<◌, is_some, [], drop, Option, Some, None}
-use Rattle.router_world.proofs.Names.{Result, Ok, Err, subst, append-nil, append_assoc, length-drop, look, split, message_size, Response, Stage, ClientStep}
-use Rattle.router_world.proofs.Names.{ClientState, login_of, Opening, Waits, Says, IsLoggingIn, command_found, next_of, next_same, Account, account_of, Talk}
-use Rattle.router_world.proofs.Names.{opening_of, account_in, account, if_known, commands, messages_of, front_in, front, own_ok, Session, logs_in, logs_in_as}
-use Rattle.router_world.proofs.Names.{step_by, step, still, left_to_say, Answer, ends_by, ends_in, if_user, due_said, work_said, over_said, ◌∷◌, FrameFault}
-use Rattle.router_world.proofs.Names.{Split, with_front, first_message-goes, parsed, counted, has_server, fault_answer, is_query, is_quit, payload_of, Asked}
-use Rattle.router_world.proofs.Names.{Phase, asked_of, arrives_as, ended, turned_by, turned, spelt, answer_of, IsTaken, IsWorking}
 use Rattle.packet_frame.specs.Packets.{first_packet, begun, and_then, continued, message_within, first_message, spelling}
 use Rattle.packet_frame.specs.PacketLaws.{first_packet-whole, packet_size}
 use Rattle.handshake.specs.declared.fault.HandFault.{HandFault}
-use Rattle.handshake.specs.Response.{response_of}
 use Rattle.client_side.specs.declared.step.ClientFault.{ClientFault}
-use Rattle.client_side.specs.Login.{Fails, needs_switch, opening, fault_id}
+use Rattle.client_side.specs.Login.{Fails, opening, fault_id}
 use Rattle.client_side.specs.Reading.{IsReading, HasStepped, said, said_to}
-use Rattle.client_side.specs.Steps.{behind, asked as asks_switch, logs_in as says_who, answer_found, response_read, response_found, looked}
+use Rattle.client_side.specs.Steps.{behind, answer_found, response_read, response_found, looked}
 use Rattle.client_side.specs.Laws.{logging-next}
 use Rattle.client_session.specs.Answers.{commands_in, greeted, login_answer, fault_error}
 use Rattle.client_talk.specs.Steps.{admitted, denied, refused, answers, started, stepped}
 use Rattle.client_talk.specs.Going.{unsaid, goes_on}
-use Rattle.packet_frame.specs.FramerState.{look_by}
 use Rattle.packet_frame.specs.Laws.{first_message-shorter}
 use Rattle.client_side.specs.declared.step.ClientFault.TheVariants.{Frame}
 use Rattle.client_talk.specs.declared.step.Turn.{Turn}
@@ -66,8 +63,7 @@ within-framed (suc packets) limit announced id bytes message rest is = found (fi
       by first (omega arith) (nat_eq (length packet.payload) longest) refl same) where
         by : packet.first ≡ id → announced + length packet.payload ≤ limit → (long : Bool) → nat_eq (length packet.payload) longest ≡ long → cond long (begun packet (message_within packets limit (announced + longest) (next_id id) r)) (Whole packet r) ≡ Whole message rest
             → IsFramed limit announced id message
-        by first fits true long same = joined packet first (nat_eq-true (length packet.payload) longest long) (message_within packets limit (announced + longest) (next_id id) r) (later r) same
-        by first fits false short same = (let it : packet ≡ message = cc in record { begins = ap (λ (f : Framed). f.first) (sym it) ∙ first; fits = (let size : length message.payload ≡ length packet.payload = ap (λ (f : Framed). length f.payload) (sym it) in omega arith) })
+        by first fits long h3 same = grind (arith, common_steps, nat_eq-true)
 
 pub message-framed : (limit first : ℕ) (bytes : List ℕ) (message : Framed) (rest : List ℕ) → first_message limit first bytes ≡ Whole message rest → IsFramed limit 0 first message
 unfolding first_message

@@ -1,16 +1,15 @@
 -- What comes of bytes on a link to a server, and of its loss.
-use Rattle.router_world.proofs.Names.{common_steps}
-use Rattle.router_world.proofs.Stepping.{OnLink as IsOnLink, done}
-use Rattle.router_world.proofs.Hands.{away-gone, none-some}
-use Rattle.std.proofs.lemmas.Bool.{or_parts, false_from_ne_true}
-use Rattle.router_world.proofs.Connecting.{open-kept}
-use Rattle.router_world.proofs.Names.{◌≡◌, ℕ, Bool, true, false, cond, List, [], ◌∷◌, ◌++◌, Option, Some, None, refl, sym, ◌∙◌, ap, subst, AreBytes, LinkId}
-use Rattle.router_world.proofs.Names.{Log, link_of, open_step, Fits, AllLawful, lawful-last, Entry, Accepted, Opened, Got, Wrote, Closed, Account, Lent, Lends}
+use Rattle.router_world.proofs.Names.{common_steps, ◌≡◌, ℕ, Bool, true, false, cond, List, [], ◌∷◌, ◌++◌, Option, Some, None, refl, sym, ◌∙◌, ap, subst}
+use Rattle.router_world.proofs.Names.{AreBytes, LinkId, Log, link_of, open_step, Fits, AllLawful, lawful-last, Entry, Got, Wrote, Account, Lent, Lends}
 use Rattle.router_world.proofs.Names.{without_link, heard, lost, is_loss, was_lost, heard_of, login_on, breaks_off, piece, pieces_of, carries, Spoilt, Turn}
 use Rattle.router_world.proofs.Names.{Service, turn_of, IsLawful, some-same, refused-or-sent, carrier-stays, standing_said, reply_said, ◌≤◌, ◌<◌, zero, suc}
 use Rattle.router_world.proofs.Names.{not, nat_eq, arith, Tag, nat_eq-true, is_begun, login_fails, is_command, carrier_of, user_of, is_turn, Cause, NotOpened}
 use Rattle.router_world.proofs.Names.{NotLoggedIn, and-true, refusal-cause, LinkAt, Entering, Inside, is_some, ◌&&◌, length, ClientNo, is_link, lawful-more}
 use Rattle.router_world.proofs.Names.{has_server, Phase, Told, taken_on, is_waiting, left_in, Seat, Tables, with_lends, told, IsFront, closes, opens, asks}
+use Rattle.router_world.proofs.Stepping.{OnLink as IsOnLink, done}
+use Rattle.router_world.proofs.Hands.{away-gone, none-some}
+use Rattle.std.proofs.lemmas.Bool.{or_parts, false_from_ne_true}
+use Rattle.router_world.proofs.Connecting.{open-kept}
 use Rattle.client_session.specs.declared.refusal.Refusal.TheVariants.{ConnectionLost}
 use Rattle.lend_core.specs.Events.{heard_on, lost_on}
 use Rattle.exchange.specs.Logins.{goes_on}

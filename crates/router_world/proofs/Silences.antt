@@ -1,22 +1,18 @@
 -- Entries that say nothing leave all that came of commands, and why links may close.
-use Rattle.router_world.proofs.Names.{arith, common_steps}
-use Rattle.std.proofs.lemmas.Bool.{and_right}
+use Rattle.router_world.proofs.Names.{arith, common_steps, open_step, open_try, Bool, ClientNo, ◌≡◌, ℕ, cond, List, [], ◌∷◌, ◌++◌, Option, Some, None}
+use Rattle.router_world.proofs.Names.{option_and_then, cons_option, list_any, sym, ◌∙◌, ap, append-nil, filter_map-append, LinkId, Log, got_bytes, wrote_bytes}
+use Rattle.router_world.proofs.Names.{read_of, written_of, Entry, Account, connection_refused, was_lost, was_broken, heard_of, pieces_of, carries, Turn}
+use Rattle.router_world.proofs.Names.{Service, open_tries, turn_by, turn_of, user_on, refused_by, refused, is_turn, is_refused, reply_on, reply_to}
+use Rattle.router_world.proofs.Names.{refused-more, replied, reply_said, ◌≢◌, ◌⊎◌, true, false, flat_map, filter_map, subst, inl, inr, link_of, is_link}
+use Rattle.router_world.proofs.Names.{of_link, bool_cases, of_link-same, bytes-idle, AllLawful, Fits, Lent, is_loss, is_failure, until_loss, breaks_off, piece}
+use Rattle.router_world.proofs.Names.{user_of, refused_on, IsLawful, Seat, Tables, Phase, is_some, ◌||◌, option_map, Arrival, arrival_in, arrival_of, is_served}
+use Rattle.router_world.proofs.Names.{Talk, opening_of, account, messages_of, Forms, Spoilt, standing_on, talk_with, Owner, work_of, due, ends_in, ends_by}
+use Rattle.router_world.proofs.Names.{has_ended, IsDone, MayDrop, IsSpoilt, HasGone, Unneeded, arrival-stays, standing_said, due_said, length, list_any-append}
+use Rattle.router_world.proofs.Names.{connected, Lends, was_offered, is_write, IsServed, or-inl, turn-stays, lawful-more}
 use Rattle.router_world.proofs.Connecting.{open-kept, is_among, Counts, counts-all}
-use Rattle.router_world.proofs.Names.{open_step, open_try, Bool, ClientNo, ◌≡◌, ℕ, cond, List, [], ◌∷◌, ◌++◌, Option, Some, None, refl, option_and_then}
-use Rattle.router_world.proofs.Names.{cons_option, list_any, sym, ◌∙◌, ap, append-nil, filter_map-append, LinkId, Log, got_bytes, wrote_bytes, read_of}
-use Rattle.router_world.proofs.Names.{written_of, Entry, Account, connection_refused, was_lost, was_broken, heard_of, pieces_of, carries, Turn, Service}
-use Rattle.router_world.proofs.Names.{open_tries, turn_by, turn_of, user_on, refused_by, refused, is_turn, is_refused, reply_on, reply_to, refused-more}
-use Rattle.router_world.proofs.Names.{replied, reply_said, ◌≢◌, ◌⊎◌, true, false, ◌&&◌, flat_map, filter_map, subst, inl, inr, link_of, is_link, of_link}
-use Rattle.router_world.proofs.Names.{bool_cases, of_link-same, bytes-idle, AllLawful, Fits, Lent, is_loss, is_failure, until_loss, login_on, breaks_off}
-use Rattle.router_world.proofs.Names.{login_fails, piece, user_of, refused_for, refused_on, IsLawful, Seat, Tables, Phase, zero, suc, is_some, ◌||◌, slice_get}
-use Rattle.router_world.proofs.Names.{option_map, Arrival, arrival_in, arrival_of, is_served, Talk, opening_of, account, messages_of, Forms, Spoilt}
-use Rattle.router_world.proofs.Names.{standing_on, talk_with, Owner, work_in, work_of, due, ends_in, ends_by, has_ended, IsDone, MayDrop, IsSpoilt, HasGone}
-use Rattle.router_world.proofs.Names.{Unneeded, arrival-stays, standing_said, due_said, work_said, length, list_any-append, connected, Lends, was_offered}
-use Rattle.router_world.proofs.Names.{is_write, IsServed, or-inl, turn-stays, lawful-more}
 use Rattle.router_world.proofs.Sound.{Sits, LendsSound, SeatStands, Sound, Serves, CloseStands, PartAt, Done, Refused, Offered, Strange}
 use Rattle.router_world.proofs.Stepping.{lends-still, arrivals-plain, IsPlain, connected-plain}
-use Rattle.exchange.specs.Logins.{goes_on}
-use Rattle.promises.specs.Owners.{is_unsent, if_failed, talk_of}
+use Rattle.promises.specs.Owners.{talk_of}
 use Rattle.promises.specs.Closes.{is_over}
 use Rattle.promises.proofs.Clean.{of-link-more}
 use Rattle.router_world.proofs.Calm.{carrier-same, Leaves, leaves-other, any-still, sound-still, map-still, pieces-still}
@@ -80,10 +76,7 @@ sounds-mute log e mute = record {
   pieces = λ link. same-sound (filter_map piece) (λ l. pieces-still l e mute.piece) link;
 } where
   same-any : (p : Entry → Bool) → p e ≡ false → (link : LinkId) → list_any p (of_link link (log ++ e ∷ [])) ≡ list_any p (of_link link log)
-  same-any p none link = by (bool_cases (is_link link (link_of e))) where
-    by : (is_link link (link_of e) ≡ true) ⊎ (is_link link (link_of e) ≡ false) → list_any p (of_link link (log ++ e ∷ [])) ≡ list_any p (of_link link log)
-    by (inl here) = ap (list_any p) (of_link-same link log e here) ∙ any-still p (of_link link log) e none
-    by (inr other) = ap (list_any p) (Rattle.mx_wire.specs.Growth.of_link-other link log e other)
+  same-any p none link = grind (arith, common_steps, of_link-same, any-still)
 
   same-sound : {X : Type 0} (f : Log → List X) → ((l : Log) → f (l ++ e ∷ []) ≡ f l) → (link : LinkId) → f (until_loss (of_link link (log ++ e ∷ []))) ≡ f (until_loss (of_link link log))
   same-sound f same link = by (bool_cases (is_link link (link_of e))) where

@@ -1,12 +1,11 @@
 -- What the router lends for a link is all that is owed to it.
-use Rattle.router_world.proofs.Names.{common_steps}
-use Rattle.router_world.proofs.Names.{same_number, ◌≡◌, ◌⊎◌, ◌+◌, ◌<◌, ℕ, zero, suc, Bool, true, false, nat_eq, cond, List, [], ◌∷◌, ◌++◌, length, take, drop}
-use Rattle.router_world.proofs.Names.{slice_get, Option, Some, None, refl, sym, ◌∙◌, ap, inl, inr, arith, length-append, drop_all, ClientNo, LinkId, Reply, Log}
-use Rattle.router_world.proofs.Names.{written_of, AllLawful, Fits, Sent, nat_eq-true, Account, BackendState, left, said_of, Arrival, arrivals, arrival_of, Lent}
-use Rattle.router_world.proofs.Names.{left_in, IsPrefix, heard_of, Command, pieces_of, commands_on, Forms, standing_on, Service, turn_of, user_on, work_of}
-use Rattle.router_world.proofs.Names.{turned_away, due, clients-unowned, some-same, Parting, Seat, reply_sent, seat_sends, sends_by, sends, close_of}
-use Rattle.router_world.proofs.Names.{farewell_of, IsFarewell, lends, begun, begun_by, bytes_in, IsInside, LinkAt, Entering, Inside, Tables, tables_after, ◌≤◌}
-use Rattle.router_world.proofs.Names.{subst, append_assoc, LawfulAfter, MayFollow, Entry, Got, Wrote, Setup, most_command, IsOurs, turns}
+use Rattle.router_world.proofs.Names.{common_steps, ◌≡◌, ◌⊎◌, ◌+◌, ◌<◌, ℕ, zero, suc, Bool, true, false, nat_eq, cond, List, [], ◌∷◌, ◌++◌, length, take, drop}
+use Rattle.router_world.proofs.Names.{slice_get, Option, Some, None, refl, sym, ◌∙◌, ap, inl, inr, arith, length-append, ClientNo, LinkId, Log, written_of}
+use Rattle.router_world.proofs.Names.{AllLawful, Fits, Sent, nat_eq-true, Account, BackendState, left, said_of, Arrival, arrivals, arrival_of, Lent, left_in}
+use Rattle.router_world.proofs.Names.{heard_of, Command, pieces_of, commands_on, Forms, standing_on, Service, turn_of, user_on, work_of, turned_away, due}
+use Rattle.router_world.proofs.Names.{clients-unowned, some-same, Parting, Seat, reply_sent, seat_sends, sends_by, sends, close_of, farewell_of, IsFarewell}
+use Rattle.router_world.proofs.Names.{lends, begun, begun_by, bytes_in, IsInside, LinkAt, Tables, tables_after, ◌≤◌, subst, append_assoc, LawfulAfter}
+use Rattle.router_world.proofs.Names.{MayFollow, Entry, Got, Wrote, Setup, most_command, IsOurs, turns}
 use Rattle.router_world.proofs.Hands.{numbered-seat, none-some}
 use Rattle.std.proofs.Math.Seq.{drop-append_seam}
 use Rattle.std.proofs.lemmas.List.{length-take-le}

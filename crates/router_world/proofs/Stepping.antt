@@ -1,17 +1,16 @@
 -- An entry that concerns one client leaves all others as they were.
-use Rattle.router_world.proofs.Names.{arith, common_steps}
+use Rattle.router_world.proofs.Names.{arith, common_steps, ◌≡◌, ◌⊎◌, ℕ, Bool, true, false, nat_eq, List, [], ◌∷◌, ◌++◌, length, Option, Some, None, refl}
+use Rattle.router_world.proofs.Names.{cons_option, sym, ◌∙◌, ap, subst, append-nil, inl, inr, fold-append, ClientNo, LinkId, Log, AllLawful, IsOpen, Entry}
+use Rattle.router_world.proofs.Names.{Arrival, arrivals, arrival_in, connected, connected_step, Phase, Lent, Lends, Turn, Service, turn_of, IsLawful, IsServed}
+use Rattle.router_world.proofs.Names.{some-same, none-if, arrivals-more, Seat, replied, Tables, ◌≢◌, is_some, option_and_then, link_of, is_link, open_step}
+use Rattle.router_world.proofs.Names.{same_number, lawful-more, Fits, Setup, Turned, is_finished, set, refused_by, refused_on, refused_for, clients-unowned}
+use Rattle.router_world.proofs.Names.{without_seat, closes, opens, asks}
 use Rattle.router_world.proofs.Hands.{away-gone, traces-self, known-later, none-some, Parted, Next, goes-on, apart-self}
 use Rattle.router_world.specs.Tables.{with_lends}
 use Rattle.router_world.proofs.Apart.{Traces, one-or-other, Apart, serves-apart, gone-apart, set-same, set-other, apart-numbers}
 use Rattle.std.proofs.lemmas.Bool.{or_parts}
 use Rattle.router_world.proofs.Sound.{Sits, Happens, LendsSound, Sound, Hand, InHand, OnHand, SeatStands, Serves, Gone, Known, AtMostOne, Nobody}
 use Rattle.router_world.proofs.Connecting.{open-kept, Counts, counts-all}
-use Rattle.router_world.proofs.Names.{◌≡◌, ◌⊎◌, ℕ, Bool, true, false, nat_eq, List, [], ◌∷◌, ◌++◌, length, Option, Some, None, refl, cons_option, sym, ◌∙◌, ap}
-use Rattle.router_world.proofs.Names.{subst, append-nil, inl, inr, fold-append, ClientNo, LinkId, Log, AllLawful, IsOpen, Entry, Arrival, arrivals, arrival_in}
-use Rattle.router_world.proofs.Names.{connected, connected_step, Phase, Lent, Lends, Turn, Service, turn_of, IsLawful, IsServed, some-same, none-if}
-use Rattle.router_world.proofs.Names.{arrivals-more, Seat, replied, Tables, ◌≢◌, is_some, ◌&&◌, option_and_then, link_of, is_link, open_step, same_number}
-use Rattle.router_world.proofs.Names.{lawful-more, Fits, Setup, Turned, is_finished, set, is_waiting, refused_by, refused_on, refused_for, clients-unowned}
-use Rattle.router_world.proofs.Names.{without_seat, closes, opens, asks}
 use Rattle.router_world.specs.World.{goes_on}
 use Rattle.router_world.specs.Acts.{has_some}
 use Rattle.router_world.proofs.Calm.{Leaves, leaves-other, Spares}
@@ -95,16 +94,13 @@ moved service log e n hand tables seats lends sound others mine = (let seat-of :
       numbers link client (inr seat) = one-or-other client.0 n (λ m. tables.seats m ≡ Some seat.0 → OnHand hand m link ⊎ ((s : Seat) × (seats m ≡ Some s) × (s.link ≡ link))) (λ is. by (mine.numbers link seat.0 is seat.2))
           (λ at is. inr (seat.0, mine.others client.0 at ∙ is, seat.2)) seat.1 where
             by : OnHand hand n link ⊎ (seats n ≡ Some seat.0) → OnHand hand n link ⊎ ((s : Seat) × (seats n ≡ Some s) × (s.link ≡ link))
-            by (inl on) = inl on
-            by (inr is) = inr (seat.0, is, seat.2)
+            by h0 = grind (arith, common_steps)
 
       unlent : (link : LinkId) (client : ClientNo) → tables.numbers link.0 ≡ Some client → ((old : Lent) × (tables.lends.links link.0 ≡ Some old)) ⊎ (tables.numbers link.0 ≡ None) → ⊥
-      unlent link client is (inl row) = none-some (tables.lends.links link.0) (sound.unlent link client is) row.1
-      unlent link client is (inr none) = none-some (tables.numbers link.0) none is
+      unlent link client is h3 = grind (arith, common_steps, none-some)
 
       unclosing : (link : LinkId) → (tables.lends.closing ≡ link ∷ []) ⊎ ((lent : Lent) × (tables.lends.links link.0 ≡ Some lent)) → tables.numbers link.0 ≡ None
-      unclosing link (inl was) = sound.unclosing link was
-      unclosing link (inr row) = none-if (tables.numbers link.0) (λ client is. none-some (tables.lends.links link.0) (sound.unlent link client is) row.1)
+      unclosing link h1 = grind (arith, common_steps, none-if, none-some)
 
       known : (link : LinkId) → IsOpen link log ⊎ Known tables.numbers lends tables.parting link → Known tables.numbers lends tables.parting link
       known link (inr is) = is
