@@ -196,9 +196,6 @@ answered-step service log e n tables news i answer message sound from busy there
         came : arrival_of n then ≡ Some was.came
         came = arrival-stays n log (e ∷ []) was.came was.is_came
 
-        unlost-ends : IsEnded service log n was.came seat.session → ⊥
-        unlost-ends ended = (let no' : phase.Ending ≡ phase.Working works.0 = sym ended.ends ∙ works.1 in cc)
-
         heard-of : IsHeard service log n was.came seat.session ⊎ IsEnded service log n was.came seat.session → IsHeard service log n was.came seat.session
         heard-of h0 = grind (arith, common_steps)
 

@@ -3,7 +3,7 @@ use Rattle.router_world.proofs.Names.{arith, common_steps, ◌≡◌, ℕ, Bool,
 use Rattle.router_world.proofs.Names.{option_and_then, cons_option, flat_map, filter_map, list_any, sym, ◌∙◌, ap, append-nil, filter_map-append}
 use Rattle.router_world.proofs.Names.{flat_map-append, list_any-append, LinkId, Log, link_of, is_link, got_bytes, read_of, written_of, is_open, reply_said}
 use Rattle.router_world.proofs.Names.{bytes-other, step-other, Entry, Account, is_loss, was_lost, was_broken, until_loss, heard_of, piece, pieces_of, carries}
-use Rattle.router_world.proofs.Names.{carrier_of, Answer, connection_refused, Turn, Service, user_on, refused_by, refused, is_turn, is_refused, reply_on}
+use Rattle.router_world.proofs.Names.{carrier_of, Answer, connection_refused, Turn, Service, user_on, refused_by, is_turn, is_refused, reply_on}
 use Rattle.router_world.proofs.Names.{reply_to, RefusedOrSent, refused-more, carrier-stays, carrier-more, replied, suc, is_some, Result, option_map, AllLawful}
 use Rattle.router_world.proofs.Names.{Framed, Meaning, parsed, CommandFault, Setup, Arrival, arrival_of, Talk, messages_of, query_by, no_server, talk_with}
 use Rattle.router_world.proofs.Names.{Work, answer, answer_by, first_without, work_in, work_of, IsLawful, in-work, arrival-stays, messages-grow, message-stays}

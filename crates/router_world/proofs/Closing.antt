@@ -1,5 +1,5 @@
 -- A link closes, and what is offered to it before.
-use Rattle.router_world.proofs.Names.{arith, common_steps, ◌≡◌, ◌≢◌, ◌⊎◌, ℕ, ◌-◌, Bool, true, false, nat_eq, ◌&&◌, List, [], ◌∷◌, ◌++◌, length, Some, None}
+use Rattle.router_world.proofs.Names.{arith, common_steps, ◌≡◌, ◌≢◌, ◌⊎◌, ℕ, Bool, true, false, nat_eq, ◌&&◌, List, [], ◌∷◌, ◌++◌, length, Some, None}
 use Rattle.router_world.proofs.Names.{refl, option_and_then, list_any, sym, ◌∙◌, ap, subst, inl, inr, list_any-append, LinkId, Traffic, Log, link_of, open_step}
 use Rattle.router_world.proofs.Names.{is_open, written_of, wrote_bytes, lawful-more, IsOpen, Fits, of_link-same, step-same, step-other, bytes-idle, Entry}
 use Rattle.router_world.proofs.Names.{Closed, Arrival, connected, is_served, Lent, Lends, Service, is_write, was_offered, or-inr, clients-unowned}

@@ -1,5 +1,5 @@
 -- A session that goes on never counts fewer messages, and what is read of a link is short.
-use Rattle.router_world.proofs.Names.{common_steps, ◌≡◌, ◌<◌, ◌≤◌, ◌*◌, ℕ, zero, suc, ◌+◌, true, [], ◌∷◌, ◌++◌, length, Option, Some, None, ap, arith}
+use Rattle.router_world.proofs.Names.{common_steps, ◌≡◌, ◌<◌, ◌≤◌, ◌*◌, ℕ, zero, suc, true, [], ◌∷◌, ◌++◌, length, Option, Some, None, ap, arith}
 use Rattle.router_world.proofs.Names.{length-append, inl, LinkId, Log, read_of, AllLawful, lawful-each, Fits, bytes-same, bytes-other, Entry, Framed, Response}
 use Rattle.router_world.proofs.Names.{Account, ClientStep, counted, Setup, Asked, Session, logs_in_as, arrives_as, step_by, step, turned, left_to_say, ◌≢◌}
 use Rattle.router_world.proofs.Names.{is_some, List, sym, ◌∙◌, subst, append-nil, Split, split, Arrival, arrival_of, is_served, Talk, heard_more, account_in}

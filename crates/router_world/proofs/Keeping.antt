@@ -4,7 +4,7 @@ use Rattle.router_world.proofs.Names.{Some, None, refl, sym, ◌∙◌, ap, inl,
 use Rattle.router_world.proofs.Names.{left_by, left, Handed, Phase, is_ending, Lent, Service, none-if, Seat, Tables, reply_sent, seat_sends, sends_by, sends}
 use Rattle.router_world.proofs.Names.{reads, ◌≢◌, ◌<◌, ◌≤◌, ◌++◌, take, subst, append-nil, arith, Tag, For, spelling-some, In, heard_of, pieces_of, Work}
 use Rattle.router_world.proofs.Names.{work_of, owner_for, some-same, begun, IsMessage, IsHanded, IsInside, asks, option_and_then, written_of, AllLawful, Fits}
-use Rattle.router_world.proofs.Names.{Entry, nat_eq-false, Account, is_begun, Arrival, arrival_of, Talk, account, is_query, Answer, Turn, turn_of, talk_with}
+use Rattle.router_world.proofs.Names.{Entry, nat_eq-false, Account, is_begun, Arrival, arrival_of, Talk, is_query, Answer, Turn, turn_of, talk_with}
 use Rattle.router_world.proofs.Names.{is_here, Owner, owner_of, user_of, user_on, has_ended, RestsAt, clients-unowned, replied, work_said, over_said}
 use Rattle.router_world.proofs.Names.{tables_after, IsOurs, zero, suc, append_assoc, is_link, wrote_bytes, bool_cases, bytes-same, bytes-other, bytes-idle}
 use Rattle.router_world.proofs.Names.{IsNew, Wrote, arrival_in, too_many_connections, IsPrefix, turned_away, due, IsServed, IsLawful, same-link, LawfulAfter}

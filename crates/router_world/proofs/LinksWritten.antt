@@ -1,5 +1,5 @@
 -- Bytes are written on a link to a server.
-use Rattle.router_world.proofs.Names.{common_steps, ◌≡◌, ◌⊎◌, ◌≤◌, ◌<◌, ℕ, zero, suc, ◌+◌, ◌-◌, Bool, true, false, nat_lt, ◌&&◌, cond, nat_eq, List, [], ◌∷◌}
+use Rattle.router_world.proofs.Names.{common_steps, ◌≡◌, ◌⊎◌, ◌≤◌, ◌<◌, ℕ, zero, suc, ◌+◌, Bool, true, false, nat_lt, ◌&&◌, cond, nat_eq, List, [], ◌∷◌}
 use Rattle.router_world.proofs.Names.{◌++◌, length, take, drop, Option, Some, None, refl, list_any, option_map, sym, ◌∙◌, ap, subst, append-nil, arith}
 use Rattle.router_world.proofs.Names.{length-take-le, ClientNo, LinkId, Tag, For, Own, Log, Fits, AllLawful, lawful-last, same_number, Entry, Wrote}
 use Rattle.router_world.proofs.Names.{nat_eq-true, Sent, Account, BackendState, is_begun, command_left, left_by, left, command_taken, taken_by, Handed, Ask}

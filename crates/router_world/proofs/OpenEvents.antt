@@ -1,5 +1,5 @@
 -- A link to a server is opened for the client that waits, or can't be.
-use Rattle.router_world.proofs.Names.{common_steps, ◌≡◌, ◌⊎◌, ℕ, ◌+◌, Bool, true, false, ◌||◌, ◌&&◌, cond, nat_eq, List, [], ◌∷◌, ◌++◌, length, fold, slice_get}
+use Rattle.router_world.proofs.Names.{common_steps, ◌≡◌, ◌⊎◌, ℕ, Bool, true, false, ◌||◌, ◌&&◌, cond, nat_eq, List, [], ◌∷◌, ◌++◌, length, fold, slice_get}
 use Rattle.router_world.proofs.Names.{Option, Some, None, refl, flat_map, filter_map, list_any, cons_option, option_map, sym, ◌∙◌, ap, subst, arith, inl, inr}
 use Rattle.router_world.proofs.Names.{list_any-append, ServerId, Address, ClientNo, LinkId, Log, is_link, of_link, got_bytes, open_step, is_open, IsNew, Fits}
 use Rattle.router_world.proofs.Names.{AllLawful, lawful-last, same_number, of_link-same, step-same, Entry, Opened, OpenFailed, nat_eq-true, new_backend, In}

@@ -1,5 +1,5 @@
 -- What the router does keeps the promises.
-use Rattle.router_world.proofs.Names.{Lends, ◌≡◌, ◌≤◌, ◌+◌, true, false, List, [], ◌∷◌, ◌++◌, Some, None, refl, sym, ◌∙◌, ap, subst, inl, inr, fold-append}
+use Rattle.router_world.proofs.Names.{◌≡◌, ◌≤◌, true, false, List, [], ◌∷◌, ◌++◌, Some, None, refl, sym, ◌∙◌, ap, subst, inl, inr, fold-append}
 use Rattle.router_world.proofs.Names.{LinkId, Log, AllLawful, MayFollow, Entry, Setup, most_command, Service, IsServed, Serves, some-same, Parting, Tables}
 use Rattle.router_world.proofs.Names.{no_tables, closed_by, tables_after, asks, awaits, first_closing, close_of, IsClosing, IsOurs}
 use Rattle.mx_wire.specs.Moments.{moment-last}

@@ -13,7 +13,7 @@ use Rattle.std.proofs.lemmas.List.{length_push}
 use Rattle.packet_frame.specs.Packets.{first_message}
 use Rattle.server_side.specs.Login.{Opening, opening}
 use Rattle.server_side.specs.Laws.{opening-said}
-use Rattle.server_side.specs.Hearing.{Got, bad, reply_by, reply_begun, reply_due, hears}
+use Rattle.server_side.specs.Hearing.{Got, reply_by, reply_begun, reply_due, hears}
 use Rattle.server_side.specs.Reading.{HasFailed}
 use Rattle.server_side.specs.declared.fault.BackendFault.TheVariants.{BadBytes}
 use Rattle.server_side.specs.declared.hear.Heard.TheVariants.{Quiet, Whole as WholeReply}

@@ -1,7 +1,7 @@
 -- What each event leaves of how a client's session stands.
 use Rattle.router_world.proofs.Names.{common_steps, ◌≡◌, ◌≢◌, ◌≤◌, ◌<◌, ℕ, suc, true, false, List, [], ◌++◌, length, take, drop, Option, Some, None, refl, sym}
 use Rattle.router_world.proofs.Names.{◌∙◌, ap, subst, append-nil, append_assoc, take-append-drop, arith, ClientNo, Framed, Split, split, with_front, next_id}
-use Rattle.router_world.proofs.Names.{first_message-empty, ClientState, fed, Waits, IsLoggingIn, Account, Setup, Talk, heard_more, opening_of, account}
+use Rattle.router_world.proofs.Names.{first_message-empty, ClientState, fed, Waits, IsLoggingIn, Account, Setup, Talk, heard_more, opening_of}
 use Rattle.router_world.proofs.Names.{messages_of, front, fault_answer, is_query, Phase, Session, new_session, said_in, said, rested, answered_in, taken}
 use Rattle.router_world.proofs.Names.{most_command, Answer, spelt, Work, messages-grow, answers_by, first_open, due_said, work_said, over_said, IsTaken, IsIdle}
 use Rattle.router_world.proofs.Names.{IsWorking, PhaseAt, SeatAt, unanswered_from, Unanswered}

@@ -1,7 +1,7 @@
 -- The answers of a client, up to the first that isn't there.
 use Rattle.router_world.proofs.Names.{common_steps, ◌≡◌, ◌≢◌, ◌≤◌, ◌<◌, ℕ, suc, ◌+◌, Bool, true, false, is_some, cond, List, [], ◌∷◌, ◌++◌, length, Option}
 use Rattle.router_world.proofs.Names.{Some, None, Result, refl, sym, ◌∙◌, ap, append-nil, append_assoc, arith, length-append, Framed, next_id, Meaning, parsed}
-use Rattle.router_world.proofs.Names.{Ping, Quit, CommandFault, Setup, query_by, is_query, is_quit, no_server, own_ok, payload_of, Asked, Answer, spelt}
+use Rattle.router_world.proofs.Names.{CommandFault, Setup, query_by, is_query, is_quit, no_server, own_ok, payload_of, Asked, Answer, spelt}
 use Rattle.router_world.proofs.Names.{answer_by, answered, Work, answer_of, answers_by, first_open, ClientState, IsLoggingIn, Account, Talk, account, front}
 use Rattle.router_world.proofs.Names.{Phase, Session, Turned, still, left_to_say, due_said, over_said, IsTaken, SeatAt, Unanswered, Asks, drop, FrameFault}
 use Rattle.router_world.proofs.Names.{Split, split, with_front, message_size, Nothing, Whole, Faulty, first_message-empty, first_message-whole-more}
@@ -10,7 +10,6 @@ use Rattle.router_world.proofs.Names.{if_known, commands, messages_of, front_in,
 use Rattle.promises.proofs.Staying.{by-stays}
 use Rattle.promises.proofs.InWork.{query-answer, some-same}
 use Rattle.router_world.specs.Seats.{IsOf}
-use Rattle.command_parse.specs.Meaning.Meaning.{Query}
 use Rattle.client_session.specs.Answers.{quit_by, commands_in, client_messages}
 use Rattle.client_talk.specs.Asked.{query_if, asked_by}
 use Rattle.client_talk.specs.declared.step.Turn.{Turn}

@@ -1,8 +1,8 @@
 -- What a message that was framed is, within any limit.
-use Rattle.router_world.proofs.Names.{common_steps, ◌∙◌, sym, ap, arith, length-append, Framed, Found, longest, next_id, Nothing, Whole, Faulty, nat_eq-true}
-use Rattle.router_world.proofs.Names.{◌≡◌, ◌≤◌, ℕ, zero, suc, ◌+◌, Bool, true, nat_eq, cond, List, ◌++◌, length, refl, ◌<◌, is_some, [], drop, Option, Some}
-use Rattle.router_world.proofs.Names.{None, Result, subst, append-nil, append_assoc, length-drop, split, message_size, Response, Stage, ClientStep, ClientState}
-use Rattle.router_world.proofs.Names.{Opening, Says, IsLoggingIn, command_found, next_of, next_same, Account, account_of, Talk, opening_of, account_in, account}
+use Rattle.router_world.proofs.Names.{common_steps, ◌∙◌, sym, ap, arith, Framed, Found, longest, next_id, Nothing, Whole, Faulty, nat_eq-true, ◌≡◌, ◌≤◌, ℕ}
+use Rattle.router_world.proofs.Names.{zero, suc, ◌+◌, Bool, true, nat_eq, cond, List, ◌++◌, length, refl, ◌<◌, is_some, [], drop, Option, Some, None, Result}
+use Rattle.router_world.proofs.Names.{subst, append-nil, append_assoc, length-drop, split, message_size, Response, Stage, ClientStep, ClientState, Opening}
+use Rattle.router_world.proofs.Names.{Says, IsLoggingIn, command_found, next_of, next_same, Account, account_of, Talk, opening_of, account_in, account}
 use Rattle.router_world.proofs.Names.{if_known, commands, messages_of, front_in, front, own_ok, Session, logs_in, logs_in_as, step_by, step, still, left_to_say}
 use Rattle.router_world.proofs.Names.{Answer, ends_by, ends_in, due_said, work_said, over_said, ◌∷◌, FrameFault, Split, with_front, first_message-goes, parsed}
 use Rattle.router_world.proofs.Names.{counted, has_server, fault_answer, is_query, is_quit, payload_of, Asked, Phase, asked_of, arrives_as, ended, turned_by}
@@ -14,7 +14,7 @@ use Rattle.handshake.specs.declared.fault.HandFault.{HandFault}
 use Rattle.client_side.specs.declared.step.ClientFault.{ClientFault}
 use Rattle.client_side.specs.Login.{Fails, opening, fault_id}
 use Rattle.client_side.specs.Reading.{IsReading, HasStepped, said, said_to}
-use Rattle.client_side.specs.Steps.{behind, answer_found, response_read, response_found, looked}
+use Rattle.client_side.specs.Steps.{answer_found, response_read, response_found, looked}
 use Rattle.client_side.specs.Laws.{logging-next}
 use Rattle.client_session.specs.Answers.{commands_in, greeted, login_answer, fault_error}
 use Rattle.client_talk.specs.Steps.{admitted, denied, refused, answers, started, stepped}
@@ -43,16 +43,6 @@ Later packets limit announced id = (r : List ℕ) (m : Framed) (behind : List �
 within-framed : (packets limit announced id : ℕ) (bytes : List ℕ) (message : Framed) (rest : List ℕ) → message_within packets limit announced id bytes ≡ Whole message rest → IsFramed limit announced id message
 within-framed zero limit announced id bytes message rest is = absurd (let no : Nothing ≡ Whole message rest = is in cc)
 within-framed (suc packets) limit announced id bytes message rest is = found (first_packet limit announced id bytes) refl is (λ r m behind. within-framed packets limit (announced + longest) (next_id id) r m behind) where
-  joined : (packet : Framed) → packet.first ≡ id → length packet.payload ≡ longest → (others : Found) → ((m : Framed) (r : List ℕ) → others ≡ Whole m r → IsFramed limit (announced + longest) (next_id id) m) → begun packet others ≡ Whole message rest
-      → IsFramed limit announced id message
-  joined packet first full Nothing later same = absurd (let no : Nothing ≡ Whole message rest = same in cc)
-  joined packet first full (Faulty fault) later same = absurd (let no : Faulty fault ≡ Whole message rest = same in cc)
-  joined packet first full (Whole m r) later same = (let it : record { first = packet.first; last = m.last; payload = packet.payload ++ m.payload } ≡ message = cc in
-      let fits : announced + longest + length m.payload ≤ limit = (later m r refl).fits in
-      let both : length (packet.payload ++ m.payload) ≡ length packet.payload + length m.payload = length-append packet.payload m.payload in
-      let size : length message.payload ≡ length (packet.payload ++ m.payload) = ap (λ (f : Framed). length f.payload) (sym it) in
-      record { begins = ap (λ (f : Framed). f.first) (sym it) ∙ first; fits = omega arith })
-
   found : (first : Found) → first_packet limit announced id bytes ≡ first → and_then first (λ packet r. continued packet r (message_within packets limit (announced + longest) (next_id id) r)) ≡ Whole message rest → Later packets limit announced id → IsFramed limit announced id message
   found Nothing at same later = absurd (let no : Nothing ≡ Whole message rest = same in cc)
   found (Faulty fault) at same later = absurd (let no : Faulty fault ≡ Whole message rest = same in cc)
