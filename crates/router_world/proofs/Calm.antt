@@ -1,31 +1,19 @@
 -- What an entry leaves of what is said of a link, and of a client's command.
-use Rattle.std.specs.Prelude.{◌≡◌, ◌⊎◌, ℕ, Bool, true, false, ◌||◌, cond, List, [], ◌∷◌, ◌++◌, Option, Some, None, refl}
-use Rattle.std.specs.Option.{option_and_then}
-use Rattle.std.specs.List.{cons_option, flat_map, filter_map, list_any}
-use Rattle.std.proofs.Common.{sym, ◌∙◌, ap, append-nil, inl, inr}
-use Rattle.std.proofs.lemmas.List.Elements.{filter_map-append}
-use Rattle.std.proofs.lemmas.Grind.{flat_map-append}
-use Rattle.std.proofs.lemmas.List.Folds.{list_any-append}
-use Rattle.mx_base.specs.declared.names.LinkId.{LinkId}
-use Rattle.mx_wire.specs.Log.{Log, link_of, is_link, of_link, got_bytes, wrote_bytes, read_of, written_of, open_step, is_open}
-use Rattle.exchange.specs.Commands.{Command}
-use Rattle.router_world.specs.Rows.{reply_said}
-use Rattle.mx_wire.specs.Growth.{bool_cases, of_link-same, of_link-other, bytes-other, bytes-idle, step-same, step-other}
-use Rattle.mx_wire.specs.declared.entry.Entry.{Entry}
-use Rattle.server_side.specs.Account.{Account}
-use Rattle.exchange.specs.Logins.{is_loss, was_lost, is_failure, was_broken, until_loss, heard_of}
-use Rattle.exchange.specs.Commands.{piece, pieces_of, carries, carrier_of, first_some}
-use Rattle.exchange.specs.Replies.{Answer}
-use Rattle.client_session.specs.Errors.{connection_refused}
-use Rattle.promises.specs.Service.{Turn, Service, open_try}
-use Rattle.promises.specs.Owners.{user_on, refused_by, refused, is_turn, is_refused}
-use Rattle.promises.specs.Due.{reply_on, reply_to}
-use Rattle.promises.specs.Follows.{RefusedOrSent}
-use Rattle.promises.proofs.InWork.{refused-more, refused-stays}
-use Rattle.promises.proofs.Staying.{carrier-stays, user-on-stays, reply-stays}
+use Rattle.router_world.proofs.Names.{arith, common_steps, ◌≡◌, ℕ, Bool, true, false, ◌||◌, cond, List, [], ◌∷◌, ◌++◌, Option, Some, None, refl}
+use Rattle.router_world.proofs.Names.{option_and_then, cons_option, flat_map, filter_map, list_any, sym, ◌∙◌, ap, append-nil, filter_map-append}
+use Rattle.router_world.proofs.Names.{flat_map-append, list_any-append, LinkId, Log, link_of, is_link, got_bytes, read_of, written_of, is_open, reply_said}
+use Rattle.router_world.proofs.Names.{bytes-other, step-other, Entry, Account, is_loss, was_lost, was_broken, until_loss, heard_of, piece, pieces_of, carries}
+use Rattle.router_world.proofs.Names.{carrier_of, Answer, connection_refused, Turn, Service, user_on, refused_by, is_turn, is_refused, reply_on}
+use Rattle.router_world.proofs.Names.{reply_to, RefusedOrSent, refused-more, carrier-stays, carrier-more, replied, suc, is_some, Result, option_map, AllLawful}
+use Rattle.router_world.proofs.Names.{Framed, Meaning, parsed, CommandFault, Setup, Arrival, arrival_of, Talk, messages_of, query_by, no_server, talk_with}
+use Rattle.router_world.proofs.Names.{Work, answer, answer_by, first_without, work_in, work_of, IsLawful, in-work, arrival-stays, messages-grow, message-stays}
+use Rattle.std.proofs.lemmas.Bool.{false_from_ne_true}
+use Rattle.mx_wire.specs.Growth.{of_link-other}
+use Rattle.promises.proofs.InWork.{refused-stays, query-answer, asks-open}
+use Rattle.promises.proofs.Staying.{user-on-stays, reply-stays, talk-more, answer-stays}
 use Rattle.promises.proofs.Causes.{then-of}
-use Rattle.promises.proofs.Links.{carrier-more}
-use Rattle.router_world.specs.Replied.{replied}
+use Rattle.promises.specs.Sends.{Asks}
+use Rattle.promises.proofs.Moments.{due-stays}
 
 -- What was read and written on a link is as before.
 pub record Leaves (link : LinkId) (log : Log) (e : Entry) : Type 0 where
@@ -39,48 +27,21 @@ pub record Leaves (link : LinkId) (log : Log) (e : Entry) : Type 0 where
 
 -- So does an entry of another link.
 pub leaves-other : (link : LinkId) (log : Log) (e : Entry) → is_link link (link_of e) ≡ false → Leaves link log e
-leaves-other link log e other = record {
-  read = bytes-other got_bytes link log e other;
-  written = bytes-other wrote_bytes link log e other;
-  lost = ap (list_any is_loss) (of_link-other link log e other);
-  broken = ap (list_any is_failure) (of_link-other link log e other);
-  heard = ap (λ l. flat_map got_bytes (until_loss l)) (of_link-other link log e other);
-  pieces = ap (λ l. filter_map piece (until_loss l)) (of_link-other link log e other);
-  opened = step-other open_step false link log e other;
-}
+leaves-other link log e other = grind (arith, common_steps, bytes-other, of_link-other, piece, step-other)
 
--- And one that neither reads nor writes, loses, opens or closes a link.
-pub record IsStill (e : Entry) : Type 0 where
-  pub got : got_bytes e ≡ []
-  pub wrote : wrote_bytes e ≡ []
-  pub piece : piece e ≡ None
-  pub loss : is_loss e ≡ false
-  pub failure : is_failure e ≡ false
-  pub stays : (was : Bool) → open_step was e ≡ was
-  pub try : open_try e ≡ None
-
+-- And one that neither reads nor writes, and loses no link.
 pub until-still : (log : Log) (e : Entry) → is_loss e ≡ false → until_loss (log ++ e ∷ []) ≡ cond (list_any is_loss log) (until_loss log) (until_loss log ++ e ∷ [])
 until-still [] e calm = ap (λ b. cond b [] (e ∷ [])) calm
-until-still (d ∷ log) e calm = by (is_loss d) (until-still log e calm) where
-  by : (b : Bool) → until_loss (log ++ e ∷ []) ≡ cond (list_any is_loss log) (until_loss log) (until_loss log ++ e ∷ [])
-      → cond b [] (d ∷ until_loss (log ++ e ∷ [])) ≡ cond (b || list_any is_loss log) (cond b [] (d ∷ until_loss log)) (cond b [] (d ∷ until_loss log) ++ e ∷ [])
-  by true later = refl
-  by false later = ap (λ (l : Log). d ∷ l) later ∙ choice (list_any is_loss log) where
-    choice : (c : Bool) → d ∷ cond c (until_loss log) (until_loss log ++ e ∷ []) ≡ cond c (d ∷ until_loss log) (d ∷ until_loss log ++ e ∷ [])
-    choice true = refl
-    choice false = refl
+until-still (d ∷ log) e calm = grind (arith, common_steps, (until-still log e calm))
 
 pub sound-still : {X : Type 0} (f : Log → List X) (log : Log) (e : Entry) → is_loss e ≡ false → ((l : Log) → f (l ++ e ∷ []) ≡ f l) → f (until_loss (log ++ e ∷ [])) ≡ f (until_loss log)
-sound-still f log e calm same = ap f (until-still log e calm) ∙ by (list_any is_loss log) where
-  by : (b : Bool) → f (cond b (until_loss log) (until_loss log ++ e ∷ [])) ≡ f (until_loss log)
-  by true = refl
-  by false = same (until_loss log)
+sound-still f log e calm same = grind (arith, common_steps, until-still)
+
+pub or-none : (b : Bool) → (b || false) ≡ b
+or-none b = grind (arith, common_steps)
 
 pub any-still : (p : Entry → Bool) (log : Log) (e : Entry) → p e ≡ false → list_any p (log ++ e ∷ []) ≡ list_any p log
-any-still p log e none = list_any-append p log (e ∷ []) ∙ ap (λ b. list_any p log || (b || false)) none ∙ or-false (list_any p log) where
-  or-false : (b : Bool) → (b || false) ≡ b
-  or-false true = refl
-  or-false false = refl
+any-still p log e none = list_any-append p log (e ∷ []) ∙ ap (λ b. list_any p log || (b || false)) none ∙ or-none (list_any p log)
 
 pub map-still : (log : Log) (e : Entry) → got_bytes e ≡ [] → flat_map got_bytes (log ++ e ∷ []) ≡ flat_map got_bytes log
 map-still log e none = flat_map-append got_bytes log (e ∷ []) ∙ ap (λ xs. flat_map got_bytes log ++ (xs ++ [])) none ∙ append-nil (flat_map got_bytes log)
@@ -88,42 +49,18 @@ map-still log e none = flat_map-append got_bytes log (e ∷ []) ∙ ap (λ xs. f
 pub pieces-still : (log : Log) (e : Entry) → piece e ≡ None → filter_map piece (log ++ e ∷ []) ≡ filter_map piece log
 pieces-still log e none = filter_map-append piece log (e ∷ []) ∙ ap (λ o. filter_map piece log ++ cons_option o []) none ∙ append-nil (filter_map piece log)
 
-pub leaves-still : (link : LinkId) (log : Log) (e : Entry) → IsStill e → Leaves link log e
-leaves-still link log e still = by (bool_cases (is_link link (link_of e))) where
-  by : (is_link link (link_of e) ≡ true) ⊎ (is_link link (link_of e) ≡ false) → Leaves link log e
-  by (inr other) = leaves-other link log e other
-  by (inl here) = record {
-    read = bytes-idle got_bytes link log e still.got;
-    written = bytes-idle wrote_bytes link log e still.wrote;
-    lost = ap (list_any is_loss) (of_link-same link log e here) ∙ any-still is_loss (of_link link log) e still.loss;
-    broken = ap (list_any is_failure) (of_link-same link log e here) ∙ any-still is_failure (of_link link log) e still.failure;
-    heard = ap (λ l. flat_map got_bytes (until_loss l)) (of_link-same link log e here) ∙ sound-still (flat_map got_bytes) (of_link link log) e still.loss (λ l. map-still l e still.got);
-    pieces = ap (λ l. filter_map piece (until_loss l)) (of_link-same link log e here) ∙ sound-still (filter_map piece) (of_link link log) e still.loss (λ l. pieces-still l e still.piece);
-    opened = step-same open_step false link log e here ∙ still.stays (is_open link log);
-  }
-
 -- A command of which the entry writes nothing is where it was.
 
 pub carrier-same : (n i : ℕ) (log : Log) (e : Entry) → carries n i e ≡ None → carrier_of n i (log ++ e ∷ []) ≡ carrier_of n i log
-carrier-same n i log e none = carrier-more n i log e ∙ ap (first_some (carrier_of n i log)) none ∙ by (carrier_of n i log) where
-  by : (o : Option LinkId) → first_some o None ≡ o
-  by None = refl
-  by (Some link) = refl
+carrier-same n i log e none = grind (arith, common_steps, carrier-more)
 
 -- One that the entry doesn't refuse isn't refused.
 
 abbrev pub Spares : Service → Log → Entry → (n i : ℕ) → Type 0
 Spares service log e n i = (turn : Turn) → refused_by service log e ≡ Some turn → is_turn n i turn ≡ false
 
-or-none : (a b : Bool) → a ≡ false → b ≡ false → (a || b) ≡ false
-or-none a b one two = ap (λ x. x || b) one ∙ two
-
 pub unrefused-more : (service : Service) (n i : ℕ) (log : Log) (e : Entry) → is_refused service n i log ≡ false → Spares service log e n i → is_refused service n i (log ++ e ∷ []) ≡ false
-unrefused-more service n i log e was spares = ap (list_any (is_turn n i)) (refused-more service log (e ∷ [])) ∙ list_any-append (is_turn n i) (refused service log) (cons_option (refused_by service log e) [])
-    ∙ or-none (list_any (is_turn n i) (refused service log)) (list_any (is_turn n i) (cons_option (refused_by service log e) [])) was (by (refused_by service log e) refl) where
-      by : (o : Option Turn) → refused_by service log e ≡ o → list_any (is_turn n i) (cons_option o []) ≡ false
-      by None at = refl
-      by (Some turn) at = or-none (is_turn n i turn) false (spares turn at) refl
+unrefused-more service n i log e was spares = grind (arith, common_steps, refused-more, list_any-append)
 
 -- A command that wasn't sent has no reply.
 pub unsent-unreplied : (service : Service) (n i : ℕ) (log : Log) → carrier_of n i log ≡ None → reply_to service n i log ≡ None
@@ -134,34 +71,67 @@ unsent-still service n i log none unrefused = ap (λ b. cond b (Some (connection
 
 -- One that was sent wasn't refused.
 pub sent-unrefused : (service : Service) (n i : ℕ) (log : Log) (link : LinkId) → RefusedOrSent service log → carrier_of n i log ≡ Some link → is_refused service n i log ≡ false
-sent-unrefused service n i log link never at = by (bool_cases (is_refused service n i log)) where
-  by : (is_refused service n i log ≡ true) ⊎ (is_refused service n i log ≡ false) → is_refused service n i log ≡ false
-  by (inl was) = absurd (let no : Some link ≡ None = sym at ∙ never n i was in cc)
-  by (inr none) = none
+sent-unrefused service n i log link never at = false_from_ne_true (is_refused service n i log) (λ was. (let no : Some link ≡ None = sym at ∙ never n i was in cc))
 
 -- One whose link is left has the reply that it had.
 pub reply-left : (service : Service) (n i : ℕ) (log : Log) (e : Entry) (link : LinkId) (user : Account) → carrier_of n i log ≡ Some link → user_on service link log ≡ Some user → Leaves link log e
     → reply_to service n i (log ++ e ∷ []) ≡ reply_to service n i log
-reply-left service n i log e link user at is leaves = ap (option_and_then (λ l. option_and_then (reply_on service.forms n i l (log ++ e ∷ [])) (user_on service l (log ++ e ∷ [])))) (carrier-stays n i log (e ∷ []) link at)
+reply-left service n i log e link user at is leaves =
+    ap (option_and_then (λ l. option_and_then (reply_on service.forms n i l (log ++ e ∷ [])) (user_on service l (log ++ e ∷ [])))) (carrier-stays n i log (e ∷ []) link at)
     ∙ ap (option_and_then (reply_on service.forms n i link (log ++ e ∷ []))) (user-on-stays service link log (e ∷ []) user is)
-    ∙ same
+    ∙ (λ j. reply_said service.forms n i user (leaves.heard j) (leaves.pieces j) (leaves.lost j))
     ∙ sym (ap (option_and_then (reply_on service.forms n i link log)) is)
-    ∙ sym (ap (option_and_then (λ l. option_and_then (reply_on service.forms n i l log) (user_on service l log))) at) where
-      same : reply_on service.forms n i link (log ++ e ∷ []) user ≡ reply_on service.forms n i link log user
-      same = ap (λ heard. reply_by heard (pieces_of link (log ++ e ∷ [])) (was_lost link (log ++ e ∷ []))) leaves.heard
-          ∙ ap (λ pieces. reply_by (heard_of link log) pieces (was_lost link (log ++ e ∷ []))) leaves.pieces
-          ∙ ap (reply_by (heard_of link log) (pieces_of link log)) leaves.lost where
-            reply_by : List ℕ → List Command → Bool → Option Answer
-            reply_by heard pieces lost = reply_said service.forms n i user heard pieces lost
+    ∙ sym (ap (option_and_then (λ l. option_and_then (reply_on service.forms n i l log) (user_on service l log))) at)
 
 -- What came of a command stays.
 pub replied-stays : (service : Service) (n i : ℕ) (log more : Log) (answer : Answer) → RefusedOrSent service (log ++ more) → replied service n i log ≡ Some answer → replied service n i (log ++ more) ≡ Some answer
-replied-stays service n i log more answer never is = by (is_refused service n i log) refl is where
-  sent : (b : Bool) → is_refused service n i (log ++ more) ≡ b → reply_to service n i log ≡ Some answer → cond b (Some (connection_refused ∷ [])) (reply_to service n i (log ++ more)) ≡ Some answer
-  sent false at is = reply-stays service n i log more answer is
-  sent true at is = (let one = then-of (carrier_of n i log) (λ link. option_and_then (reply_on service.forms n i link log) (user_on service link log)) answer is in
-      absurd (let no : Some one.x ≡ None = sym (carrier-stays n i log more one.x one.from) ∙ never n i at in cc))
+replied-stays service n i log more answer never is = grind (arith, common_steps, reply-stays, then-of, carrier-stays, refused-stays)
 
-  by : (b : Bool) → is_refused service n i log ≡ b → cond b (Some (connection_refused ∷ [])) (reply_to service n i log) ≡ Some answer → replied service n i (log ++ more) ≡ Some answer
-  by true at is = ap (λ b. cond b (Some (connection_refused ∷ [])) (reply_to service n i (log ++ more))) (refused-stays service n i log more at) ∙ is
-  by false at is = sent (is_refused service n i (log ++ more)) refl is
+-- A query that is in work stays so until something comes of it.
+
+-- the first message without an answer stays the first, where the answers stay and it has none yet
+first-still : (old new : ℕ → Option Answer) → ((i : ℕ) (reply : Answer) → old i ≡ Some reply → new i ≡ Some reply) → (i : ℕ) (messages later : List Framed) (work : Work) → first_without old i messages ≡ Some work → new work.ordinal ≡ None
+    → first_without new i (messages ++ later) ≡ Some work
+first-still old new stay i [] later work is none = absurd (let no : None ≡ Some work = is in cc)
+first-still old new stay i (message ∷ messages) later work is none = grind (arith, common_steps, (first-still old new stay (suc i) messages later work))
+
+pub work-stays : (service : Service) (n : ℕ) (log more : Log) (work : Work) → AllLawful (IsLawful service) (log ++ more) → work_of service n log ≡ Some work → answer service n work.ordinal (log ++ more) ≡ None → work_of service n (log ++ more) ≡ Some work
+work-stays service n log more work lawful is none = by (arrival_of n log) refl is where
+  by : (o : Option Arrival) → arrival_of n log ≡ o → work_in service n log (option_map (λ (came : Arrival). talk_with service n came log) o) ≡ Some work → work_of service n (log ++ more) ≡ Some work
+  by None at is = absurd (let no : None ≡ Some work = is in cc)
+  by (Some came) at is = (let grows = messages-grow (talk_with service n came log) (read_of came.link more) in
+      ap (λ (o : Option Arrival). work_in service n (log ++ more) (option_map (λ (came : Arrival). talk_with service n came (log ++ more)) o)) (arrival-stays n log more came at)
+      ∙ ap (λ (t : Talk). first_without (λ i. answer service n i (log ++ more)) 1 (messages_of t).messages) (talk-more service n came log more)
+      ∙ ap (first_without (λ i. answer service n i (log ++ more)) 1) grows.messages
+      ∙ first-still (λ i. answer service n i log) (λ i. answer service n i (log ++ more)) (λ i reply at. answer-stays service n i log more reply lawful at) 1 (messages_of (talk_with service n came log)).messages grows.later work is none)
+
+-- what a query that asks has in place of an answer
+replied-none : (setup : Setup) (reply : Option Answer) (meaning : Result Meaning CommandFault) → is_some setup.target ≡ true → query_by meaning ≡ true → reply ≡ None → answer_by (cond (is_some setup.target) reply (Some (no_server ∷ []))) meaning ≡ None
+replied-none setup reply meaning has query none = query-answer (cond (is_some setup.target) reply (Some (no_server ∷ []))) meaning query ∙ ap (λ b. cond b reply (Some (no_server ∷ []))) has ∙ none
+
+pub asks-stay : (service : Service) (n i : ℕ) (message : Framed) (due log more : Log) → AllLawful (IsLawful service) (log ++ more) → is_some service.setup.target ≡ true → Asks service n i message due log → replied service n i (log ++ more) ≡ None
+    → Asks service n i message due (log ++ more)
+asks-stay service n i message due log more lawful has asks none = (let there : Rattle.promises.specs.Due.message_of service n i (log ++ more) ≡ Some message =
+    message-stays service n i log more message (in-work service n log (record { ordinal = i; message = message }) asks.work).0 in
+    let unanswered : answer service n i (log ++ more) ≡ None =
+    ap (λ d. Rattle.promises.specs.Due.answer_when service n i d (log ++ more)) (due-stays service n i log more due asks.is_due)
+    ∙ ap (option_and_then (λ (m : Framed). answer_by (Rattle.promises.specs.Due.query_answer service n i m due (log ++ more)) (parsed m.payload))) there
+    ∙ replied-none service.setup (replied service n i (log ++ more)) (parsed message.payload) has asks.query none in
+    record {
+      came = asks.came;
+      is_came = arrival-stays n log more asks.came asks.is_came;
+      served = asks.served;
+      work = work-stays service n log more (record { ordinal = i; message = message }) lawful asks.work unanswered;
+      query = asks.query;
+      is_due = due-stays service n i log more due asks.is_due;
+    })
+
+-- a query that asks goes to a server
+pub asks-server : (service : Service) (n i : ℕ) (message : Framed) (due log : Log) → Asks service n i message due log → is_some service.setup.target ≡ true
+asks-server service n i message due log asks = by (is_some service.setup.target) (asks-open service n i message due log asks) where
+  by : (b : Bool) → cond b (replied service n i log) (Some (no_server ∷ [])) ≡ None → b ≡ true
+  by b none = grind (arith, common_steps)
+
+-- nothing came of it yet
+pub asks-unreplied : (service : Service) (n i : ℕ) (message : Framed) (due log : Log) → Asks service n i message due log → replied service n i log ≡ None
+asks-unreplied service n i message due log asks = ap (λ b. cond b (replied service n i log) (Some (no_server ∷ []))) (sym (asks-server service n i message due log asks)) ∙ asks-open service n i message due log asks

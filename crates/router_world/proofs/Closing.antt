@@ -1,126 +1,68 @@
 -- A link closes, and what is offered to it before.
-use Rattle.std.specs.Prelude.{◌≡◌, ◌≢◌, ◌⊎◌, ℕ, ◌-◌, Bool, true, false, nat_eq, ◌||◌, ◌&&◌, List, [], ◌∷◌, ◌++◌, length, Some, None, refl}
-use Rattle.std.specs.Option.{option_and_then}
-use Rattle.std.specs.List.{list_any}
-use Rattle.std.proofs.Common.{sym, ◌∙◌, ap, subst, inl, inr}
-use Rattle.std.proofs.lemmas.List.Folds.{list_any-append}
-use Rattle.mx_base.specs.declared.names.LinkId.{LinkId}
-use Rattle.mx_base.specs.declared.names.Port.TheVariants.{Traffic}
-use Rattle.mx_wire.specs.Log.{Log, link_of, is_link, of_link, open_step, is_open, written_of, wrote_bytes}
-use Rattle.mx_wire.specs.Moments.{AllLawful, lawful-more}
-use Rattle.mx_wire.specs.Tells.{IsOpen, Fits}
-use Rattle.mx_wire.specs.Growth.{bool_cases, same_number, of_link-same, step-same, step-other, bytes-idle}
-use Rattle.mx_wire.specs.declared.entry.Entry.{Entry}
-use Rattle.mx_wire.specs.declared.entry.Entry.TheVariants.{Closed}
-use Rattle.client_session.specs.Arrivals.{Arrival, connected, is_served}
-use Rattle.lend_core.specs.declared.lent.Lent.{Lent}
-use Rattle.lend_core.specs.Lends.{Lends}
+use Rattle.router_world.proofs.Names.{arith, common_steps, ◌≡◌, ◌≢◌, ◌⊎◌, ℕ, Bool, true, false, nat_eq, ◌&&◌, List, [], ◌∷◌, ◌++◌, length, Some, None}
+use Rattle.router_world.proofs.Names.{refl, option_and_then, list_any, sym, ◌∙◌, ap, subst, inl, inr, list_any-append, LinkId, Traffic, Log, link_of, open_step}
+use Rattle.router_world.proofs.Names.{is_open, written_of, wrote_bytes, lawful-more, IsOpen, Fits, of_link-same, step-same, step-other, bytes-idle, Entry}
+use Rattle.router_world.proofs.Names.{Closed, Arrival, connected, is_served, Lent, Lends, Service, is_write, was_offered, or-inr, clients-unowned}
+use Rattle.router_world.proofs.Names.{arrival-stays, Parting, Tables, with_lends, closed_by, Phase, too_many_connections, carries, refused_by, refused_on}
+use Rattle.router_world.proofs.Names.{turn_of}
+use Rattle.router_world.proofs.Hands.{away-gone, known-as}
+use Rattle.std.proofs.lemmas.Bool.{false_from_ne_true}
+use Rattle.router_world.proofs.Apart.{link-or-other, row-among, one-same}
+use Rattle.router_world.proofs.Connecting.{open-kept, is_among, counts-all, closed-fewer, closed-same, traffic_as, traffic-came}
+use Rattle.router_world.proofs.Sound.{Happens, CloseStands, RowStands, LendsSound, PartAt, Refused, Offered, PartStands, Sound, Serves, Waits, Logs, On, Known}
+use Rattle.router_world.proofs.Sound.{Clients, Servers, Parts, Closes, AtMostOne, Nobody, One}
+use Rattle.router_world.proofs.Stepping.{client-spares, arrivals-plain, IsPlain, connected-plain}
 use Rattle.lend_core.specs.Changes.{without_close}
-use Rattle.promises.specs.Service.{Service}
-use Rattle.promises.specs.Closes.{is_write, was_offered}
-use Rattle.promises.specs.Headline.{IsLawful, IsServed}
-use Rattle.promises.proofs.InWork.{some-same}
-use Rattle.promises.proofs.Causes.{or-inr, not-both, turn-opened, clients-unowned}
-use Rattle.promises.proofs.Staying.{arrival-stays}
-use Rattle.router_world.specs.declared.seat.Parting.{Parting}
-use Rattle.router_world.specs.Tables.{Tables, with_lends}
-use Rattle.router_world.specs.World.{fewer, closed_by}
-use Rattle.router_world.proofs.Apart.{row-among}
-use Rattle.router_world.proofs.LinkLists.{is_among}
-use Rattle.router_world.proofs.Connecting.{counts-all, closed-fewer, closed-same, traffic_as, traffic-came}
+use Rattle.promises.proofs.Causes.{not-both, turn-opened}
+use Rattle.router_world.specs.World.{fewer}
+use Rattle.packet_frame.specs.Packets.{spelling}
 use Rattle.router_world.proofs.Calm.{Leaves, leaves-other}
 use Rattle.router_world.proofs.Frames.{ask-calm, row-calm}
-use Rattle.router_world.proofs.Sound.{CloseStands, Owned, Own, Left, RowStands, LendsSound, PartAt, Done, Refused, Offered, Strange, PartStands, Sound, Serves, Gone, InHand, Waits, Logs, On, Known, Clients, Servers, Parts, Closes, AtMostOne, Nobody, One}
-use Rattle.client_talk.specs.declared.session.Phase.{Phase}
+use Rattle.router_world.proofs.Silences.{silent-calm, Silence, Passes, lends-pass, sounds-mute, refuses-none, Bystands, rows-left, seats-left, lends-left}
 use Rattle.client_talk.specs.declared.session.Phase.TheVariants as phase
-use Rattle.client_session.specs.Errors.{too_many_connections}
-use Rattle.packet_frame.specs.Packets.{spelling}
-use Rattle.exchange.specs.Commands.{carries}
-use Rattle.promises.specs.Owners.{refused_by, refused_on}
-use Rattle.promises.specs.Service.{turn_of}
-use Rattle.router_world.proofs.LinksApart.{one-same}
-use Rattle.router_world.proofs.Stepping.{client-spares, open-plain}
-use Rattle.router_world.proofs.Moving.{arrivals-plain, IsPlain, connected-plain}
-use Rattle.router_world.proofs.Still.{silent-calm}
-use Rattle.router_world.proofs.Resting.{Silence}
-use Rattle.router_world.proofs.Silences.{Passes, lends-pass}
-use Rattle.router_world.proofs.Muted.{sounds-mute, refuses-none, Bystands, rows-left, seats-left, lends-left}
 
 silence-closed : (log : Log) (link : LinkId) → Silence log (Closed link)
-silence-closed log link = record {
-  silent = record { got = refl; wrote = refl; try = refl; carries_none = λ n i. refl; refuses_none = λ service before. refuses-none service before (Closed link) refl (λ user other. refl) };
-  sounds = sounds-mute log (Closed link) (record { got = refl; wrote = refl; piece = refl; loss = refl; failure = refl });
-  arrives = λ before. refl;
-}
+silence-closed log link = grind (arith, common_steps, refuses-none, sounds-mute)
 
--- what is known as a link closes
-pub record IsShut (service : Service) (log : Log) (link : LinkId) : Type 0 where
-  pub told : AllLawful Fits log
-  pub fits : Fits log (Closed link)
-  pub lawful : AllLawful (IsLawful service) (log ++ Closed link ∷ [])
-  pub served : IsServed service (log ++ Closed link ∷ [])
+passes-closed : (service : Service) (log : Log) (link : LinkId) (tables : Tables) → Happens service log (Closed link) tables → Passes service log (Closed link)
+passes-closed service log link tables shut = record { silence = silence-closed log link; fits = shut.fits; lawful = shut.lawful }
 
-passes-closed : (service : Service) (log : Log) (link : LinkId) → IsShut service log link → Passes service log (Closed link)
-passes-closed service log link shut = record { silence = silence-closed log link; fits = shut.fits; lawful = shut.lawful }
-
-bystands-closed : (service : Service) (log : Log) (link : LinkId) (tables : Tables) → IsShut service log link → tables.numbers link.0 ≡ None → tables.lends.links link.0 ≡ None → Bystands service log (Closed link) link tables
+bystands-closed : (service : Service) (log : Log) (link : LinkId) (tables : Tables) → Happens service log (Closed link) tables → tables.numbers link.0 ≡ None → tables.lends.links link.0 ≡ None → Bystands service log (Closed link) link tables
 bystands-closed service log link tables shut unnumbered unlent = record { names = refl; unnumbered = unnumbered; unlent = unlent; calm = silent-calm service log (Closed link) (silence-closed log link).silent; fits = shut.fits; lawful = shut.lawful }
 
 -- another link is open behind it
 opened-behind : (log : Log) (link other : LinkId) → IsOpen other (log ++ Closed link ∷ []) → (IsOpen other log) × (other.0 ≢ link.0)
-opened-behind log link other opened = by (nat_eq other.0 link.0) refl where
-  by : (b : Bool) → nat_eq other.0 link.0 ≡ b → (IsOpen other log) × (other.0 ≢ link.0)
-  by true at = absurd (let none : false ≡ true = sym (step-same open_step false other log (Closed link) at) ∙ opened in cc)
-  by false at = (sym (step-other open_step false other log (Closed link) at) ∙ opened, λ same. (let no' : true ≡ false = sym (same_number link.0) ∙ ap (λ k. nat_eq k link.0) (sym same) ∙ at in cc))
+opened-behind log link other opened = grind (arith, common_steps, link-or-other, step-same, step-other)
 
 -- The link of a client closes.
-pub closed-client : (service : Service) (log : Log) (link : LinkId) (parting : Parting) (tables : Tables) → Sound service log None tables → IsShut service log link → tables.parting ≡ parting ∷ [] → parting.link ≡ link → Sound service (log ++ Closed link ∷ []) None (closed_by (parting ∷ []) tables)
-closed-client service log link parting tables sound shut is same = record {
-  came = sound.came ∙ ap length (sym (arrivals-plain log (Closed link) (λ before. refl)));
-  here = here parting.is_client (stands.counted);
-  counts = counts-all then (lawful-more Fits log (Closed link) shut.told shut.fits);
-  seats = seats-left service log (Closed link) link tables sound by-standing;
-  serves = sound.serves;
-  unfinished = sound.unfinished;
-  numbered = sound.numbered;
-  numbers = sound.numbers;
-  unlent = sound.unlent;
-  unclosing = sound.unclosing;
-  away = sound.away;
-  lends = lends-pass service log (Closed link) tables.lends (passes-closed service log link shut) (rows-left service log (Closed link) link tables by-standing) closing sound.lends;
-  one_parts = Nobody;
-  parts = λ other none. absurd (let no' : [] ≡ other ∷ [] = none in cc);
-  known = λ other opened. (let was = opened-behind log link other opened in known other was.1 (sound.known other was.0));
-  served = shut.served;
-} where
-  then : Log
-  then = log ++ Closed link ∷ []
+pub closed-client : (service : Service) (log : Log) (link : LinkId) (parting : Parting) (tables : Tables) → Sound service log None tables → Happens service log (Closed link) tables → tables.parting ≡ parting ∷ [] → parting.link ≡ link → Sound service (log ++ Closed link ∷ []) None (closed_by (parting ∷ []) tables)
+closed-client service log link parting tables sound shut is same = (let stands : PartStands service log tables.numbers tables.lends parting = sound.parts parting is in
+    let unnumbered : tables.numbers link.0 ≡ None = ap (λ (l : LinkId). tables.numbers l.0) (sym same) ∙ stands.unnumbered in
+    let unlent : tables.lends.links link.0 ≡ None = ap (λ (l : LinkId). tables.lends.links l.0) (sym same) ∙ stands.unlent in
+    let by-standing : Bystands service log (Closed link) link tables = bystands-closed service log link tables shut unnumbered unlent in
+    let closing : (other : LinkId) → tables.lends.closing ≡ other ∷ [] → Leaves other log (Closed link) =
+    λ other closes. leaves-other other log (Closed link) (ap (λ (l : LinkId). nat_eq other.0 l.0) (sym same) ∙ stands.unclosing other closes) in
+    record {
+      came = sound.came ∙ ap length (sym (arrivals-plain log (Closed link) (λ before. refl)));
+      here = here parting.is_client (stands.counted);
+      counts = counts-all then (lawful-more Fits log (Closed link) shut.told shut.fits);
+      seats = seats-left service log (Closed link) link tables sound by-standing;
+      numbers = sound.numbers;
+      unlent = sound.unlent;
+      unclosing = sound.unclosing;
+      away = sound.away;
+      lends = lends-pass service log (Closed link) tables.lends (passes-closed service log link tables shut) (rows-left service log (Closed link) link tables by-standing) closing sound.lends;
+      one_parts = Nobody;
+      parts = λ other none. absurd (let no' : [] ≡ other ∷ [] = none in cc);
+      known = λ other opened. (let was = opened-behind log link other opened in known-as tables.numbers tables.numbers tables.lends tables.parting [] other refl
+          (λ p at on. absurd (was.1 (ap (λ (l : LinkId). l.0) (sym on ∙ ap (λ (q : Parting). q.link) (one-same p parting (sym at ∙ is)) ∙ same)))) (sound.known other was.0));
+      served = shut.served;
+    }) where
+      then : Log
+      then = log ++ Closed link ∷ []
 
-  stands : PartStands service log tables parting
-  stands = sound.parts parting is
-
-  unnumbered : tables.numbers link.0 ≡ None
-  unnumbered = ap (λ (l : LinkId). tables.numbers l.0) (sym same) ∙ stands.unnumbered
-
-  unlent : tables.lends.links link.0 ≡ None
-  unlent = ap (λ (l : LinkId). tables.lends.links l.0) (sym same) ∙ stands.unlent
-
-  by-standing : Bystands service log (Closed link) link tables
-  by-standing = bystands-closed service log link tables shut unnumbered unlent
-
-  closing : (other : LinkId) → tables.lends.closing ≡ other ∷ [] → Leaves other log (Closed link)
-  closing other closes = leaves-other other log (Closed link) (ap (λ (l : LinkId). nat_eq other.0 l.0) (sym same) ∙ stands.unclosing other closes)
-
-  here : (b : Bool) → is_among parting.link (connected log) ≡ b → fewer b tables.here ≡ length (connected then)
-  here true counted = ap (λ h. h - 1) sound.here ∙ sym (closed-fewer log link shut.told (ap (λ (l : LinkId). is_among l (connected log)) (sym same) ∙ counted))
-  here false counted = sound.here ∙ sym (closed-same log link (ap (λ (l : LinkId). is_among l (connected log)) (sym same) ∙ counted))
-
-  known : (other : LinkId) → other.0 ≢ link.0 → Known tables other → Known (closed_by (parting ∷ []) tables) other
-  known other apart (Clients client at) = Clients client at
-  known other apart (Servers lent at) = Servers lent at
-  known other apart (Parts p at on) = (let one : Some p ≡ Some parting = (let both : p ∷ [] ≡ parting ∷ [] = sym at ∙ is in cc) in
-      absurd (apart (ap (λ (l : LinkId). l.0) (sym on) ∙ ap (λ (q : Parting). q.link.0) (some-same p parting one) ∙ ap (λ (l : LinkId). l.0) same)))
-  known other apart (Closes at) = Closes at
+      here : (b : Bool) → is_among parting.link (connected log) ≡ b → fewer b tables.here ≡ length (connected then)
+      here b counted = grind (arith, common_steps, closed-fewer, closed-same)
 
 -- The links to servers without the one that was to be closed.
 serves-closed : (at : Phase) (lends : Lends) (n i : ℕ) → Serves at lends n i → Serves at (without_close lends) n i
@@ -132,86 +74,67 @@ serves-closed (phase.Working user) lends n i (On unasked link lent command owns 
 serves-closed phase.Ending lends n i gone = record { unasked = gone.unasked; unowned = gone.unowned }
 
 row-closed : (service : Service) (log : Log) (lends : Lends) (link : LinkId) (lent : Lent) → RowStands service log lends link lent → RowStands service log (without_close lends) link lent
-row-closed service log lends link lent stands = row-among service log lends (without_close lends) link lent lent.owner stands (λ stage. (let enters = stands.enters stage in record { ask = enters.ask; is = enters.is; same = enters.same })) (by stands.owned) where
-  by : Owned service log lends link stands.turn.client lent → Owned service log (without_close lends) link stands.turn.client lent
-  by (Own is owns) = Own is owns
-  by (Left none gone begun) = Left none gone begun
+row-closed service log lends link lent stands = grind (arith, common_steps, row-among)
 
 -- A link to a server closes.
-pub closed-server : (service : Service) (log : Log) (link : LinkId) (tables : Tables) → Sound service log None tables → IsShut service log link → tables.parting ≡ [] → tables.lends.closing ≡ link ∷ [] → Sound service (log ++ Closed link ∷ []) None (with_lends (without_close tables.lends) tables)
-closed-server service log link tables sound shut unparted is = record {
-  came = sound.came ∙ ap length (sym (arrivals-plain log (Closed link) (λ before. refl)));
-  here = sound.here ∙ sym (closed-same log link among);
-  counts = counts-all then (lawful-more Fits log (Closed link) shut.told shut.fits);
-  seats = seats-left service log (Closed link) link tables sound by-standing;
-  serves = λ n seat at. serves-closed seat.session.phase tables.lends n seat.session.client.arrived (sound.serves n seat at);
-  unfinished = sound.unfinished;
-  numbered = sound.numbered;
-  numbers = sound.numbers;
-  unlent = sound.unlent;
-  unclosing = λ other closes. absurd (none-closes other closes);
-  away = λ n none. away n (sound.away n none);
-  lends = lends;
-  one_parts = sound.one_parts;
-  parts = λ parting at. absurd (let no' : [] ≡ parting ∷ [] = sym unparted ∙ at in cc);
-  known = λ other opened. (let was = opened-behind log link other opened in known other was.1 (sound.known other was.0));
-  served = shut.served;
-} where
-  then : Log
-  then = log ++ Closed link ∷ []
+pub closed-server : (service : Service) (log : Log) (link : LinkId) (tables : Tables) → Sound service log None tables → Happens service log (Closed link) tables → tables.parting ≡ [] → tables.lends.closing ≡ link ∷ [] → Sound service (log ++ Closed link ∷ []) None (with_lends (without_close tables.lends) tables)
+closed-server service log link tables sound shut unparted is = (let among : is_among link (connected log) ≡ false =
+    sound.counts.among link ∙ ap (λ b. b && is_open link log) (false_from_ne_true (list_any (traffic_as link) log) (λ came. not-both link log shut.told (traffic-came link log came) (turn-opened service link log stands.turn stands.is_turn))) in
+    let passes : Passes service log (Closed link) = passes-closed service log link tables shut in
+    record {
+      came = sound.came ∙ ap length (sym (arrivals-plain log (Closed link) (λ before. refl)));
+      here = sound.here ∙ sym (closed-same log link among);
+      counts = counts-all then (lawful-more Fits log (Closed link) shut.told shut.fits);
+      seats = λ n seat at. (let sits = seats-left service log (Closed link) link tables sound by-standing n seat at in
+          record { stands = sits.stands; serves = serves-closed seat.session.phase tables.lends n seat.session.client.arrived sits.serves; unfinished = sits.unfinished; numbered = sits.numbered });
+      numbers = sound.numbers;
+      unlent = sound.unlent;
+      unclosing = λ other closes. absurd (none-closes other closes);
+      away = λ n none. (let gone = away-gone tables.lends n (sound.away n none) in inr (record { unasked = gone.unasked; unowned = gone.unowned }));
+      lends = lends;
+      one_parts = sound.one_parts;
+      parts = λ parting at. absurd (let no' : [] ≡ parting ∷ [] = sym unparted ∙ at in cc);
+      known = λ other opened. (let was = opened-behind log link other opened in known other was.1 (sound.known other was.0));
+      served = shut.served;
+    }) where
+      then : Log
+      then = log ++ Closed link ∷ []
 
-  stands : CloseStands service log tables.lends link
-  stands = sound.lends.closes link is
+      stands : CloseStands service log tables.lends link
+      stands = sound.lends.closes link is
 
-  by-standing : Bystands service log (Closed link) link tables
-  by-standing = bystands-closed service log link tables shut (sound.unclosing link is) stands.unlent
+      by-standing : Bystands service log (Closed link) link tables
+      by-standing = bystands-closed service log link tables shut (sound.unclosing link is) stands.unlent
 
-  closing-none : (without_close tables.lends).closing ≡ []
-  closing-none = ap Rattle.lend_core.specs.Lends.others is
+      closing-none : (without_close tables.lends).closing ≡ []
+      closing-none = ap Rattle.lend_core.specs.Lends.others is
 
-  none-closes : (other : LinkId) → (without_close tables.lends).closing ≡ other ∷ [] → ⊥
-  none-closes other closes = (let no' : [] ≡ other ∷ [] = sym closing-none ∙ closes in cc)
+      none-closes : (other : LinkId) → (without_close tables.lends).closing ≡ other ∷ [] → ⊥
+      none-closes other closes = (let no' : [] ≡ other ∷ [] = sym closing-none ∙ closes in cc)
 
-  untrafficked : (list_any (traffic_as link) log ≡ true) ⊎ (list_any (traffic_as link) log ≡ false) → list_any (traffic_as link) log ≡ false
-  untrafficked (inl came) = absurd (not-both link log shut.told (traffic-came link log came) (turn-opened service link log stands.turn stands.is_turn))
-  untrafficked (inr none) = none
+      lends : LendsSound service then (without_close tables.lends)
+      lends = record {
+        rows = λ other lent row. (let at = sound.lends.rows other lent row in
+            row-closed service then tables.lends other lent (row-calm service log (Closed link) tables.lends other lent shut.lawful shut.fits at (by-standing.calm at.turn.client) (rows-left service log (Closed link) link tables by-standing other lent row)));
+        asks = λ k ask at. ask-calm service log (Closed link) k ask shut.lawful (sound.lends.asks k ask at) (by-standing.calm k);
+        owned = λ k other at. (let owns = sound.lends.owned k other at in record { lent = owns.lent; there = owns.there; owner = owns.owner });
+        one_waits = sound.lends.one_waits;
+        waits = λ client at. (let waits = sound.lends.waits client at in record { ask = waits.ask; asks = waits.asks; unowned = waits.unowned });
+        one_closes = subst AtMostOne (sym closing-none) Nobody;
+        closes = λ other closes. absurd (none-closes other closes);
+      }
 
-  among : is_among link (connected log) ≡ false
-  among = sound.counts.among link ∙ ap (λ b. b && is_open link log) (untrafficked (bool_cases (list_any (traffic_as link) log)))
-
-  away : (n : ℕ) → InHand None n ⊎ Gone tables.lends n → InHand None n ⊎ Gone (without_close tables.lends) n
-  away n (inl none) = absurd none
-  away n (inr gone) = inr (record { unasked = gone.unasked; unowned = gone.unowned })
-
-  passes : Passes service log (Closed link)
-  passes = passes-closed service log link shut
-
-  lends : LendsSound service then (without_close tables.lends)
-  lends = record {
-    rows = λ other lent row. (let at = sound.lends.rows other lent row in
-        row-closed service then tables.lends other lent (row-calm service log (Closed link) tables.lends other lent shut.lawful shut.fits at (by-standing.calm at.turn.client) (rows-left service log (Closed link) link tables by-standing other lent row)));
-    asks = λ k ask at. ask-calm service log (Closed link) k ask shut.lawful (sound.lends.asks k ask at) (by-standing.calm k);
-    owned = λ k other at. (let owns = sound.lends.owned k other at in record { lent = owns.lent; there = owns.there; owner = owns.owner });
-    one_waits = sound.lends.one_waits;
-    waits = λ client at. (let waits = sound.lends.waits client at in record { ask = waits.ask; asks = waits.asks; unowned = waits.unowned });
-    one_closes = subst AtMostOne (sym closing-none) Nobody;
-    closes = λ other closes. absurd (none-closes other closes);
-  }
-
-  known : (other : LinkId) → other.0 ≢ link.0 → Known tables other → Known (with_lends (without_close tables.lends) tables) other
-  known other apart (Clients client at) = Clients client at
-  known other apart (Servers lent at) = Servers lent at
-  known other apart (Parts p at on) = absurd (let no' : [] ≡ p ∷ [] = sym unparted ∙ at in cc)
-  known other apart (Closes at) = absurd (apart (ap (λ (l : LinkId). l.0) (one-same other link (sym at ∙ is))))
+      known : (other : LinkId) → other.0 ≢ link.0 → Known tables.numbers tables.lends tables.parting other → Known tables.numbers (without_close tables.lends) tables.parting other
+      known other apart (Clients client at) = Clients client at
+      known other apart (Servers lent at) = Servers lent at
+      known other apart (Parts p at on) = absurd (let no' : [] ≡ p ∷ [] = sym unparted ∙ at in cc)
+      known other apart (Closes at) = absurd (apart (ap (λ (l : LinkId). l.0) (one-same other link (sym at ∙ is))))
 
 -- What is offered to a client's link before it closes.
 
 -- what is known as the offer is answered
 pub record IsOffer (service : Service) (log : Log) (e : Entry) (parting : Parting) (tables : Tables) : Type 0 where
-  pub told : AllLawful Fits log
-  pub fits : Fits log e
-  pub lawful : AllLawful (IsLawful service) (log ++ e ∷ [])
-  pub served : IsServed service (log ++ e ∷ [])
+  pub happens : Happens service log e tables
   pub is : tables.parting ≡ parting ∷ []
   pub names : link_of e ≡ Some parting.link
   pub some : parting.bytes ≢ []
@@ -222,72 +145,54 @@ pub record IsOffer (service : Service) (log : Log) (e : Entry) (parting : Partin
   pub opens : (was : Bool) → open_step was e ≡ was
 
 refused-part : (service : Service) (log : Log) (n : ℕ) (came : Arrival) (bytes : List ℕ) → bytes ≢ [] → PartAt service log n came bytes → (is_served service.setup came ≡ false) × (came.port ≡ Traffic) × (written_of came.link log ≡ []) × (bytes ≡ spelling 0 too_many_connections)
-refused-part service log n came bytes some (Done served done) = absurd (some refl)
-refused-part service log n came bytes some (Refused refused port none) = (refused, port, none, refl)
-refused-part service log n came bytes some (Offered refused port offered) = absurd (some refl)
-refused-part service log n came bytes some (Strange port) = absurd (some refl)
+refused-part service log n came bytes some h6 = grind (arith, common_steps)
 
 pub offered-step : (service : Service) (log : Log) (e : Entry) (parting later : Parting) (tables : Tables) → Sound service log None tables → IsOffer service log e parting tables → later.link ≡ parting.link → later.is_client ≡ parting.is_client → (later.bytes ≡ []) ⊎ ((later.bytes ≡ parting.bytes) × (wrote_bytes e ≡ []))
     → Sound service (log ++ e ∷ []) None (record tables { parting = later ∷ [] })
-offered-step service log e parting later tables sound offer same client kind = record {
-  came = sound.came ∙ ap length (sym (arrivals-plain log e offer.plain.arrives));
-  here = sound.here ∙ ap length (sym (connected-plain log e offer.plain));
-  counts = counts-all then (lawful-more Fits log e offer.told offer.fits);
-  seats = seats-left service log e parting.link tables sound by-standing;
-  serves = sound.serves;
-  unfinished = sound.unfinished;
-  numbered = sound.numbered;
-  numbers = sound.numbers;
-  unlent = sound.unlent;
-  unclosing = sound.unclosing;
-  away = sound.away;
-  lends = lends-left service log e parting.link tables sound by-standing (stands.alone offer.some);
-  one_parts = One later;
-  parts = λ other at. subst (PartStands service then new) (one-same later other at) mine;
-  known = λ link opened. known link (sound.known link (sym (open-plain e offer.opens link log) ∙ opened));
-  served = offer.served;
-} where
-  then : Log
-  then = log ++ e ∷ []
+offered-step service log e parting later tables sound offer same client kind = (let new : Tables = record tables { parting = later ∷ [] } in
+    (let unowned : turn_of service parting.link log ≡ None =
+    ap (λ (l : LinkId). turn_of service l log) (sym stands.link) ∙ clients-unowned service stands.n stands.came log offer.happens.told stands.is_came in
+    let by-standing : Bystands service log e parting.link tables =
+    record { names = offer.names; unnumbered = stands.unnumbered; unlent = stands.unlent; calm = λ k. record { writes = offer.silent k; spares = λ i. client-spares service log e parting.link offer.refuses unowned k i }; fits = offer.happens.fits; lawful = offer.happens.lawful } in
+    let mine : PartStands service then tables.numbers tables.lends later = record {
+      opened = open-kept later.link log e offer.opens ∙ ap (λ (l : LinkId). is_open l log) same ∙ stands.opened;
+      unnumbered = ap (λ (l : LinkId). tables.numbers l.0) same ∙ stands.unnumbered;
+      unlent = ap (λ (l : LinkId). tables.lends.links l.0) same ∙ stands.unlent;
+      unclosing = λ link closes. ap (λ (l : LinkId). nat_eq link.0 l.0) same ∙ stands.unclosing link closes;
+      alone = λ some. stands.alone offer.some;
+      n = stands.n;
+      came = stands.came;
+      is_came = arrival-stays stands.n log (e ∷ []) stands.came stands.is_came;
+      link = stands.link ∙ sym same;
+      counted = ap (λ (l : LinkId). is_among l (connected then)) same ∙ ap (is_among parting.link) (connected-plain log e offer.plain) ∙ stands.counted ∙ sym client;
+      is_client = client ∙ stands.is_client;
+      at = at kind;
+    } in
+    record {
+      came = sound.came ∙ ap length (sym (arrivals-plain log e offer.plain.arrives));
+      here = sound.here ∙ ap length (sym (connected-plain log e offer.plain));
+      counts = counts-all then (lawful-more Fits log e offer.happens.told offer.happens.fits);
+      seats = seats-left service log e parting.link tables sound by-standing;
+      numbers = sound.numbers;
+      unlent = sound.unlent;
+      unclosing = sound.unclosing;
+      away = sound.away;
+      lends = lends-left service log e parting.link tables sound by-standing (stands.alone offer.some);
+      one_parts = One later;
+      parts = λ other at. subst (PartStands service then tables.numbers tables.lends) (one-same later other at) mine;
+      known = λ link opened. known-as tables.numbers tables.numbers tables.lends tables.parting (later ∷ []) link refl (λ p is on. Parts later refl (same ∙ ap (λ (q : Parting). q.link) (one-same parting p (sym offer.is ∙ is)) ∙ on))
+          (sound.known link (sym (open-kept link log e offer.opens) ∙ opened));
+      served = offer.happens.served;
+    })) where
+      then : Log
+      then = log ++ e ∷ []
 
-  new : Tables
-  new = record tables { parting = later ∷ [] }
+      stands : PartStands service log tables.numbers tables.lends parting
+      stands = sound.parts parting offer.is
 
-  stands : PartStands service log tables parting
-  stands = sound.parts parting offer.is
+      offered : was_offered stands.came.link then ≡ true
+      offered = grind (arith, common_steps, of_link-same, list_any-append, or-inr)
 
-  unowned : turn_of service parting.link log ≡ None
-  unowned = ap (λ (l : LinkId). turn_of service l log) (sym stands.link) ∙ clients-unowned service stands.n stands.came log offer.told stands.is_came
-
-  by-standing : Bystands service log e parting.link tables
-  by-standing = record { names = offer.names; unnumbered = stands.unnumbered; unlent = stands.unlent; calm = λ k. record { writes = offer.silent k; spares = λ i. client-spares service log e parting.link offer.refuses unowned k i }; fits = offer.fits; lawful = offer.lawful }
-
-  offered : was_offered stands.came.link then ≡ true
-  offered = ap (list_any is_write) (of_link-same stands.came.link log e (ap (is_link stands.came.link) offer.names ∙ ap (λ (l : LinkId). nat_eq l.0 parting.link.0) stands.link ∙ same_number parting.link.0))
-      ∙ list_any-append is_write (of_link stands.came.link log) (e ∷ []) ∙ or-inr (list_any is_write (of_link stands.came.link log)) (is_write e || false) (ap (λ b. b || false) offer.writes)
-
-  at : (later.bytes ≡ []) ⊎ ((later.bytes ≡ parting.bytes) × (wrote_bytes e ≡ [])) → PartAt service then stands.n stands.came later.bytes
-  at (inl none) = (let was = refused-part service log stands.n stands.came parting.bytes offer.some stands.at in subst (PartAt service then stands.n stands.came) (sym none) (Offered was.0 was.1 offered))
-  at (inr keeps) = (let was = refused-part service log stands.n stands.came parting.bytes offer.some stands.at in subst (PartAt service then stands.n stands.came) (sym (keeps.0 ∙ was.3)) (Refused was.0 was.1 (bytes-idle wrote_bytes stands.came.link log e keeps.1 ∙ was.2)))
-
-  mine : PartStands service then new later
-  mine = record {
-    opened = open-plain e offer.opens later.link log ∙ ap (λ (l : LinkId). is_open l log) same ∙ stands.opened;
-    unnumbered = ap (λ (l : LinkId). tables.numbers l.0) same ∙ stands.unnumbered;
-    unlent = ap (λ (l : LinkId). tables.lends.links l.0) same ∙ stands.unlent;
-    unclosing = λ link closes. ap (λ (l : LinkId). nat_eq link.0 l.0) same ∙ stands.unclosing link closes;
-    alone = λ some. stands.alone offer.some;
-    n = stands.n;
-    came = stands.came;
-    is_came = arrival-stays stands.n log (e ∷ []) stands.came stands.is_came;
-    link = stands.link ∙ sym same;
-    counted = ap (λ (l : LinkId). is_among l (connected then)) same ∙ ap (is_among parting.link) (connected-plain log e offer.plain) ∙ stands.counted ∙ sym client;
-    is_client = client ∙ stands.is_client;
-    at = at kind;
-  }
-
-  known : (link : LinkId) → Known tables link → Known new link
-  known link (Clients someone is) = Clients someone is
-  known link (Servers lent is) = Servers lent is
-  known link (Parts p is on) = Parts later refl (same ∙ ap (λ (q : Parting). q.link) (one-same parting p (sym offer.is ∙ is)) ∙ on)
-  known link (Closes is) = Closes is
+      at : (later.bytes ≡ []) ⊎ ((later.bytes ≡ parting.bytes) × (wrote_bytes e ≡ [])) → PartAt service then stands.n stands.came later.bytes
+      at (inl none) = (let was = refused-part service log stands.n stands.came parting.bytes offer.some stands.at in subst (PartAt service then stands.n stands.came) (sym none) (Offered was.0 was.1 offered))
+      at (inr keeps) = (let was = refused-part service log stands.n stands.came parting.bytes offer.some stands.at in subst (PartAt service then stands.n stands.came) (sym (keeps.0 ∙ was.3)) (Refused was.0 was.1 (bytes-idle wrote_bytes stands.came.link log e keeps.1 ∙ was.2)))

@@ -1,23 +1,71 @@
+-- Lists of links.
+use Rattle.router_world.proofs.Names.{common_steps, ◌≡◌, ℕ, ◌+◌, Bool, true, false, nat_eq, not, ◌&&◌, ◌||◌, List, [], ◌∷◌, ◌++◌, length, refl, sym, ◌∙◌, ap}
+use Rattle.router_world.proofs.Names.{inl, inr, arith, LinkId, bool_cases, without, ◌-◌, slice_get, Some, None, list_any, list_any-append, fold-append, Traffic}
+use Rattle.router_world.proofs.Names.{Admin, Log, link_of, open_step, is_open, AllLawful, lawful-each, IsNew, IsOpen, Fits, step-same, step-other, Entry}
+use Rattle.router_world.proofs.Names.{Accepted, Opened, Closed, Arrival, arrivals_behind, arrival_of, is_traffic, connected_step, connected, some-same, came_as}
+use Rattle.router_world.proofs.Names.{came-names, named-none, same-link, or-inl, or-inr}
+use Rattle.router_world.proofs.Calm.{or-none, any-still}
+use Rattle.std.proofs.lemmas.Bool.{or_parts, or_from, false_from_ne_true, eqb-true}
+use Rattle.promises.proofs.Causes.{or-cases}
+use Rattle.mx_wire.specs.Growth.{nat_eq-sym}
+
+abbrev pub is_among : LinkId → List LinkId → Bool
+is_among link [] = false
+is_among link (other ∷ links) = nat_eq link.0 other.0 || is_among link links
+
+-- no link stands there twice
+abbrev pub AreDistinct : List LinkId → Type 0
+AreDistinct [] = Unit {0}
+AreDistinct (link ∷ links) = (is_among link links ≡ false) × AreDistinct links
+
+-- One link more at the end.
+
+pub among-end : (link new : LinkId) (links : List LinkId) → is_among link (links ++ new ∷ []) ≡ (is_among link links || nat_eq link.0 new.0)
+among-end link new [] = or-none (nat_eq link.0 new.0)
+among-end link new (other ∷ links) = grind (arith, common_steps, (among-end link new links))
+
+pub distinct-end : (links : List LinkId) (new : LinkId) → is_among new links ≡ false → AreDistinct links → AreDistinct (links ++ new ∷ [])
+distinct-end [] new apart distinct = (refl, tt)
+distinct-end (link ∷ links) new apart distinct =
+    let both = or_parts (nat_eq new.0 link.0) (is_among new links) apart in
+    (among-end link new links ∙ or_from (is_among link links) (nat_eq link.0 new.0) distinct.0 (nat_eq-sym new.0 link.0 both.0), distinct-end links new both.1 distinct.1)
+
+-- A link is taken out.
+
+pub without-apart : (link : LinkId) (links : List LinkId) → is_among link links ≡ false → without link links ≡ links
+without-apart link [] apart = refl
+without-apart link (other ∷ links) apart =
+    let both = or_parts (nat_eq link.0 other.0) (is_among link links) apart in
+    rw (nat_eq-sym link.0 other.0 both.0) (ap (λ (rest : List LinkId). other ∷ rest) (without-apart link links both.1))
+
+-- it was there once
+pub length-without : (link : LinkId) (links : List LinkId) → AreDistinct links → is_among link links ≡ true → length (without link links) + 1 ≡ length links
+length-without link [] distinct among = cc
+length-without link (other ∷ links) distinct among = elim (bool_cases (nat_eq other.0 link.0)) [
+  | inl same ↦ (
+      let apart : is_among link links ≡ false = ap (λ (n : ℕ). is_among (record { 0 = n }) links) (sym (eqb-true other.0 link.0 same)) ∙ distinct.0 in
+      rw same (let rest : length (without link links) ≡ length links = ap length (without-apart link links apart) in omega arith))
+  | inr apart ↦ (
+      let later : is_among link links ≡ true = ap (λ b. b || is_among link links) (sym (nat_eq-sym other.0 link.0 apart)) ∙ among in
+      rw apart (let rest : length (without link links) + 1 ≡ length links = length-without link links distinct.1 later in omega arith))
+]
+
+-- the others are left
+same-out : (b c : Bool) → (c && not b) ≡ ((b || c) && not b)
+same-out b c = grind (arith, common_steps)
+
+still-in : (a b c : Bool) → (a ≡ true → b ≡ false) → (a || (c && not b)) ≡ ((a || c) && not b)
+still-in a b c apart = grind (arith, common_steps)
+
+pub among-without : (link gone : LinkId) (links : List LinkId) → is_among link (without gone links) ≡ (is_among link links && not (nat_eq link.0 gone.0))
+among-without link gone [] = refl
+among-without link gone (other ∷ links) = grind (arith, common_steps, same-out, eqb-true, still-in, (among-without link gone links))
+
+pub distinct-without : (gone : LinkId) (links : List LinkId) → AreDistinct links → AreDistinct (without gone links)
+distinct-without gone [] distinct = tt
+distinct-without gone (other ∷ links) distinct = grind (arith, common_steps, among-without, (distinct-without gone links distinct.1))
+
 -- How many clients are connected: the open links that came to the port of clients.
-use Rattle.std.specs.Prelude.{◌≡◌, ◌⊎◌, ℕ, zero, suc, ◌+◌, ◌-◌, ◌<◌, ◌≤◌, Bool, true, false, nat_eq, not, ◌&&◌, ◌||◌, List, [], ◌∷◌, ◌++◌, length, slice_get, Option, Some, None, refl}
-use Rattle.std.specs.List.{list_any, cons_option}
-use Rattle.std.proofs.Common.{sym, ◌∙◌, ap, subst, inl, inr, arith}
-use Rattle.std.proofs.lemmas.List.Folds.{list_any-append}
-use Rattle.std.proofs.lemmas.List.Sums.{fold-append}
-use Rattle.mx_base.specs.declared.names.LinkId.{LinkId}
-use Rattle.mx_base.specs.declared.names.Port.{Port}
-use Rattle.mx_base.specs.declared.names.Port.TheVariants.{Traffic, Admin}
-use Rattle.mx_wire.specs.Log.{Log, link_of, is_link, open_step, is_open}
-use Rattle.mx_wire.specs.Moments.{AllLawful, lawful-each}
-use Rattle.mx_wire.specs.Tells.{IsNew, IsOpen, Fits}
-use Rattle.mx_wire.specs.Growth.{bool_cases, same_number, step-same, step-other}
-use Rattle.mx_wire.specs.declared.entry.Entry.{Entry}
-use Rattle.mx_wire.specs.declared.entry.Entry.TheVariants.{Accepted, Opened, Closed}
-use Rattle.client_session.specs.Arrivals.{Arrival, arrivals_behind, arrival_in, arrival_of, is_traffic, without, connected_step, connected}
-use Rattle.promises.proofs.InWork.{some-same}
-use Rattle.promises.proofs.Causes.{came_as, came-names, named-none, same-link, or-cases, or-inl, or-inr}
-use Rattle.router_world.proofs.Calm.{any-still}
-use Rattle.router_world.proofs.LinkLists.{is_among, AreDistinct, among-end, or-right, distinct-end, without-apart, length-without, among-without, distinct-without}
 
 abbrev pub traffic_as : LinkId → Entry → Bool
 traffic_as link (Accepted Traffic other salt) = nat_eq link.0 other.0
@@ -30,17 +78,8 @@ pub record Counts (log : Log) : Type 0 where
 pub connected-more : (log : Log) (e : Entry) → connected (log ++ e ∷ []) ≡ connected_step (connected log) e
 connected-more log e = fold-append connected_step [] log (e ∷ [])
 
-and-false : (b : Bool) → (b && false) ≡ false
-and-false true = refl
-and-false false = refl
-
-and-true : (b : Bool) → (b && true) ≡ b
-and-true true = refl
-and-true false = refl
-
-or-none : (b : Bool) → (b || false) ≡ b
-or-none true = refl
-or-none false = refl
+pub and-true : (b : Bool) → (b && true) ≡ b
+and-true b = grind (arith, common_steps)
 
 any-last : (p : Entry → Bool) (log : Log) (e : Entry) → list_any p (log ++ e ∷ []) ≡ (list_any p log || p e)
 any-last p log e = list_any-append p log (e ∷ []) ∙ ap (λ b. list_any p log || b) (or-none (p e))
@@ -50,74 +89,26 @@ new-shut link log new = ap (Rattle.std.specs.Prelude.fold open_step false) new
 
 -- an entry that touches no client's coming and going
 counts-plain : (log : Log) (e : Entry) → ((links : List LinkId) → connected_step links e ≡ links) → ((link : LinkId) → traffic_as link e ≡ false) → ((link : LinkId) → (list_any (traffic_as link) log && is_open link (log ++ e ∷ [])) ≡ (list_any (traffic_as link) log && is_open link log)) → Counts log → Counts (log ++ e ∷ [])
-counts-plain log e stays none opens counts = record {
-  distinct = subst AreDistinct (sym (connected-more log e ∙ stays (connected log))) counts.distinct;
-  among = λ link. ap (is_among link) (connected-more log e ∙ stays (connected log)) ∙ counts.among link ∙ sym (opens link) ∙ ap (λ b. b && is_open link (log ++ e ∷ [])) (sym (any-still (traffic_as link) log e (none link)));
-}
+counts-plain log e stays none opens counts = grind (arith, common_steps, connected-more, any-still)
 
-open-kept : (link : LinkId) (log : Log) (e : Entry) → ((was : Bool) → open_step was e ≡ was) → is_open link (log ++ e ∷ []) ≡ is_open link log
-open-kept link log e stays = by (bool_cases (is_link link (link_of e))) where
-  by : (is_link link (link_of e) ≡ true) ⊎ (is_link link (link_of e) ≡ false) → is_open link (log ++ e ∷ []) ≡ is_open link log
-  by (inl here) = step-same open_step false link log e here ∙ stays (is_open link log)
-  by (inr other) = step-other open_step false link log e other
+pub open-kept : (link : LinkId) (log : Log) (e : Entry) → ((was : Bool) → open_step was e ≡ was) → is_open link (log ++ e ∷ []) ≡ is_open link log
+open-kept link log e stays = grind (arith, common_steps, step-same, step-other)
 
 pub traffic-came : (link : LinkId) (log : Log) → list_any (traffic_as link) log ≡ true → list_any (came_as link) log ≡ true
 traffic-came link [] is = is
-traffic-came link (e ∷ log) is = by e (or-cases (traffic_as link e) (list_any (traffic_as link) log) is) (traffic-came link log) where
-  by : (e : Entry) → (traffic_as link e ≡ true) ⊎ (list_any (traffic_as link) log ≡ true) → (list_any (traffic_as link) log ≡ true → list_any (came_as link) log ≡ true) → (came_as link e || list_any (came_as link) log) ≡ true
-  by (Accepted Traffic other salt) (inl here) later = or-inl (nat_eq link.0 other.0) (list_any (came_as link) log) here
-  by (Accepted Admin other salt) (inl here) later = absurd (let none : false ≡ true = here in cc)
-  by (Accepted port other salt) (inr there) later = or-inr (nat_eq link.0 other.0) (list_any (came_as link) log) (later there)
-  by _ (inl here) later = absurd (let none : false ≡ true = here in cc)
-  by _ (inr there) later = later there
+traffic-came link (e ∷ log) is = grind (arith, common_steps, or-cases, or-inl, or-inr, (traffic-came link log))
 
 new-untrafficked : (link : LinkId) (log : Log) → IsNew link log → list_any (traffic_as link) log ≡ false
-new-untrafficked link log new = by (bool_cases (list_any (traffic_as link) log)) where
-  by : (list_any (traffic_as link) log ≡ true) ⊎ (list_any (traffic_as link) log ≡ false) → list_any (traffic_as link) log ≡ false
-  by (inl is) = absurd (named-none link (came_as link) log (came-names link) new (traffic-came link log is))
-  by (inr none) = none
+new-untrafficked link log new = false_from_ne_true (list_any (traffic_as link) log) (λ is. named-none link (came_as link) log (came-names link) new (traffic-came link log is))
 
 counts-opened : (log : Log) (e : Entry) (new : LinkId) → link_of e ≡ Some new → IsNew new log → ((links : List LinkId) → connected_step links e ≡ links) → ((link : LinkId) → traffic_as link e ≡ false) → Counts log → Counts (log ++ e ∷ [])
-counts-opened log e new names fresh stays none counts = counts-plain log e stays none opens counts where
-  opens : (link : LinkId) → (list_any (traffic_as link) log && is_open link (log ++ e ∷ [])) ≡ (list_any (traffic_as link) log && is_open link log)
-  opens link = by (nat_eq link.0 new.0) refl where
-    by : (b : Bool) → nat_eq link.0 new.0 ≡ b → (list_any (traffic_as link) log && is_open link (log ++ e ∷ [])) ≡ (list_any (traffic_as link) log && is_open link log)
-    by true at = (let gone : list_any (traffic_as link) log ≡ false = new-untrafficked link log (subst (λ (l : LinkId). IsNew l log) (sym (same-link link new at)) fresh) in
-        ap (λ b. b && is_open link (log ++ e ∷ [])) gone ∙ sym (ap (λ b. b && is_open link log) gone))
-    by false at = ap (λ b. list_any (traffic_as link) log && b) (step-other open_step false link log e (ap (is_link link) names ∙ at))
+counts-opened log e new names fresh stays none counts = grind (arith, common_steps, counts-plain, new-untrafficked, same-link, step-other)
 
 counts-came : (log : Log) (link : LinkId) (salt : List ℕ) → IsNew link log → Counts log → Counts (log ++ Accepted Traffic link salt ∷ [])
-counts-came log link salt fresh counts = record {
-  distinct = subst AreDistinct (sym (connected-more log e)) (distinct-end (connected log) link unknown counts.distinct);
-  among = λ other. ap (is_among other) (connected-more log e) ∙ among-end other link (connected log) ∙ by other (nat_eq other.0 link.0) refl;
-} where
-  e : Entry
-  e = Accepted Traffic link salt
-
-  unknown : is_among link (connected log) ≡ false
-  unknown = counts.among link ∙ ap (λ b. b && is_open link log) (new-untrafficked link log fresh)
-
-  by : (other : LinkId) (b : Bool) → nat_eq other.0 link.0 ≡ b → (is_among other (connected log) || nat_eq other.0 link.0) ≡ (list_any (traffic_as other) (log ++ e ∷ []) && is_open other (log ++ e ∷ []))
-  by other true same = ap (λ b. is_among other (connected log) || b) same ∙ or-right (is_among other (connected log))
-      ∙ sym (ap (λ b. b && is_open other (log ++ e ∷ [])) (any-last (traffic_as other) log e ∙ ap (λ b. list_any (traffic_as other) log || b) same ∙ or-right (list_any (traffic_as other) log)) ∙ step-same open_step false other log e same)
-  by other false apart = ap (λ b. is_among other (connected log) || b) apart ∙ or-none (is_among other (connected log)) ∙ counts.among other
-      ∙ sym (ap (λ b. b && is_open other (log ++ e ∷ [])) (any-last (traffic_as other) log e ∙ ap (λ b. list_any (traffic_as other) log || b) apart ∙ or-none (list_any (traffic_as other) log))
-      ∙ ap (λ b. list_any (traffic_as other) log && b) (step-other open_step false other log e apart))
+counts-came log link salt fresh counts = grind (arith, common_steps, new-untrafficked, connected-more, distinct-end, among-end, any-last, step-same, or-none, step-other)
 
 counts-closed : (log : Log) (link : LinkId) → Counts log → Counts (log ++ Closed link ∷ [])
-counts-closed log link counts = record {
-  distinct = subst AreDistinct (sym (connected-more log e)) (distinct-without link (connected log) counts.distinct);
-  among = λ other. ap (is_among other) (connected-more log e) ∙ among-without other link (connected log) ∙ ap (λ b. b && not (nat_eq other.0 link.0)) (counts.among other)
-      ∙ by other (nat_eq other.0 link.0) refl ∙ ap (λ b. b && is_open other (log ++ e ∷ [])) (sym (any-still (traffic_as other) log e refl));
-} where
-  e : Entry
-  e = Closed link
-
-  by : (other : LinkId) (b : Bool) → nat_eq other.0 link.0 ≡ b → ((list_any (traffic_as other) log && is_open other log) && not (nat_eq other.0 link.0)) ≡ (list_any (traffic_as other) log && is_open other (log ++ e ∷ []))
-  by other true same = ap (λ b. (list_any (traffic_as other) log && is_open other log) && not b) same ∙ and-false (list_any (traffic_as other) log && is_open other log)
-      ∙ sym (ap (λ b. list_any (traffic_as other) log && b) (step-same open_step false other log e same) ∙ and-false (list_any (traffic_as other) log))
-  by other false apart = ap (λ b. (list_any (traffic_as other) log && is_open other log) && not b) apart ∙ and-true (list_any (traffic_as other) log && is_open other log)
-      ∙ ap (λ b. list_any (traffic_as other) log && b) (sym (step-other open_step false other log e apart))
+counts-closed log link counts = grind (arith, common_steps, connected-more, distinct-without, among-without, any-still, step-same, and-true, step-other)
 
 counts-step : (log : Log) (e : Entry) → Fits log e → Counts log → Counts (log ++ e ∷ [])
 counts-step log (Accepted Traffic link salt) fits counts = counts-came log link salt fits.fresh counts
@@ -131,8 +122,7 @@ counts-all log told = lawful-each Fits Counts log counts-step (record { distinct
 
 -- The client of an open link that came to the port of clients is connected; one of another port isn't.
 pub closed-fewer : (log : Log) (link : LinkId) → AllLawful Fits log → is_among link (connected log) ≡ true → length (connected (log ++ Closed link ∷ [])) ≡ length (connected log) - 1
-closed-fewer log link told is = (let fewer : length (without link (connected log)) + 1 ≡ length (connected log) = length-without link (connected log) (counts-all log told).distinct is in
-    let left : length (connected (log ++ Closed link ∷ [])) ≡ length (without link (connected log)) = ap length (connected-more log (Closed link)) in omega arith)
+closed-fewer log link told is = grind (arith, common_steps, length-without, counts-all, connected-more)
 
 pub closed-same : (log : Log) (link : LinkId) → is_among link (connected log) ≡ false → length (connected (log ++ Closed link ∷ [])) ≡ length (connected log)
 closed-same log link none = ap length (connected-more log (Closed link) ∙ without-apart link (connected log) none)
@@ -140,20 +130,7 @@ closed-same log link none = ap length (connected-more log (Closed link) ∙ with
 -- the link on which a client came to the port of clients
 came-traffic : (before log : Log) (k : ℕ) (came : Arrival) → slice_get (arrivals_behind before log) k ≡ Some came → came.port ≡ Traffic → list_any (traffic_as came.link) log ≡ true
 came-traffic before [] k came is port = absurd (let none : None ≡ Some came = is in cc)
-came-traffic before (e ∷ log) k came is port = by e k (came-traffic (before ++ e ∷ []) log) is where
-  here : (at : Port) (link : LinkId) (salt : List ℕ) → record { port = at; link = link; salt = salt; others = length (connected before) } ≡ came → (traffic_as came.link (Accepted at link salt) || list_any (traffic_as came.link) log) ≡ true
-  here at link salt same = ap (λ (c : Arrival). traffic_as c.link (Accepted at link salt) || list_any (traffic_as c.link) log) (sym same) ∙ ap (λ p. traffic_as link (Accepted p link salt) || list_any (traffic_as link) log) (ap (λ (c : Arrival). c.port) same ∙ port)
-      ∙ ap (λ b. b || list_any (traffic_as link) log) (same_number link.0)
-
-  by : (e : Entry) (k : ℕ) → ((k : ℕ) (came : Arrival) → slice_get (arrivals_behind (before ++ e ∷ []) log) k ≡ Some came → came.port ≡ Traffic → list_any (traffic_as came.link) log ≡ true)
-      → slice_get (cons_option (arrival_in before e) (arrivals_behind (before ++ e ∷ []) log)) k ≡ Some came → list_any (traffic_as came.link) (e ∷ log) ≡ true
-  by (Accepted at link salt) zero later is = here at link salt (some-same (record { port = at; link = link; salt = salt; others = length (connected before) }) came is)
-  by (Accepted at link salt) (suc k) later is = or-inr (traffic_as came.link (Accepted at link salt)) (list_any (traffic_as came.link) log) (later k came is port)
-  by _ k later is = later k came is port
+came-traffic before (e ∷ log) k came is port = grind (arith, common_steps, some-same, or-inr, (came-traffic (before ++ e ∷ []) log))
 
 pub connected-came : (n : ℕ) (came : Arrival) (log : Log) → Counts log → arrival_of n log ≡ Some came → is_traffic came.port ≡ true → IsOpen came.link log → is_among came.link (connected log) ≡ true
-connected-came zero came log counts is traffic opened = absurd (let none : None ≡ Some came = is in cc)
-connected-came (suc n) came log counts is traffic opened = counts.among came.link ∙ ap (λ b. b && is_open came.link log) (came-traffic [] log n came is (port-is came.port traffic)) ∙ opened where
-  port-is : (at : Port) → is_traffic at ≡ true → at ≡ Traffic
-  port-is Traffic is = refl
-  port-is Admin is = absurd (let none : false ≡ true = is in cc)
+connected-came n came log counts is traffic opened = grind (arith, common_steps, came-traffic)

@@ -1,33 +1,56 @@
--- Bytes of a client come, and its session goes on.
-use Rattle.std.specs.Prelude.{◌≡◌, ◌≢◌, ◌<◌, ◌≤◌, ℕ, true, is_some, List, [], ◌++◌, length, Option, Some, None, refl}
-use Rattle.std.proofs.Common.{sym, ◌∙◌, ap, subst, arith, append-nil, inl}
-use Rattle.mx_wire.specs.Log.{Log}
-use Rattle.packet_frame.specs.Packets.{Framed, Split, split}
-use Rattle.server_side.specs.Account.{Account}
-use Rattle.client_session.specs.Arrivals.{Arrival, arrival_of, is_served}
-use Rattle.client_session.specs.Answers.{Talk, heard_more, account_in, account, messages_of}
-use Rattle.client_talk.specs.declared.session.Phase.{Phase}
-use Rattle.client_talk.specs.declared.session.Phase.TheVariants as phase
-use Rattle.client_talk.specs.declared.session.Session.{Session}
-use Rattle.client_talk.specs.Queries.{Query}
-use Rattle.client_talk.specs.Going.{Turned, turned}
-use Rattle.client_talk.specs.Events.{kept_with, said_in}
-use Rattle.lend_core.specs.Lends.{Lends}
-use Rattle.exchange.specs.Commands.{carrier_of}
-use Rattle.exchange.specs.Replies.{Answer}
-use Rattle.promises.specs.Service.{Service}
-use Rattle.promises.specs.Owners.{talk_with}
-use Rattle.router_world.specs.Replied.{replied, first_open}
-use Rattle.router_world.specs.Seats.{SeatAt, PhaseAt, IsIdle, Asks, Unanswered, work_said}
-use Rattle.router_world.proofs.SeatsAnswers.{open-from}
-use Rattle.router_world.proofs.SeatsTalks.{account-more, commands-more, taken-nothing}
-use Rattle.router_world.proofs.SeatsGoing.{SeatTurned}
+-- A session that goes on never counts fewer messages, and what is read of a link is short.
+use Rattle.router_world.proofs.Names.{common_steps, ◌≡◌, ◌<◌, ◌≤◌, ◌*◌, ℕ, zero, suc, true, [], ◌∷◌, ◌++◌, length, Option, Some, None, ap, arith}
+use Rattle.router_world.proofs.Names.{length-append, inl, LinkId, Log, read_of, AllLawful, lawful-each, Fits, bytes-same, bytes-other, Entry, Framed, Response}
+use Rattle.router_world.proofs.Names.{Account, ClientStep, counted, Setup, Asked, Session, logs_in_as, arrives_as, step_by, step, turned, left_to_say, ◌≢◌}
+use Rattle.router_world.proofs.Names.{is_some, List, sym, ◌∙◌, subst, append-nil, Split, split, Arrival, arrival_of, is_served, Talk, heard_more, account_in}
+use Rattle.router_world.proofs.Names.{account, messages_of, Phase, Turned, said_in, Lends, carrier_of, Answer, Service, talk_with, replied, first_open, SeatAt}
+use Rattle.router_world.proofs.Names.{PhaseAt, IsIdle, Unanswered, work_said}
+use Rattle.promises.proofs.Staying.{account-more}
+use Rattle.client_talk.specs.Going.{goes_on}
+use Rattle.client_talk.specs.Events.{kept_with}
+use Rattle.router_world.proofs.SeatsAnswers.{open-from, commands-more, taken-nothing, SeatTurned}
 use Rattle.router_world.proofs.Seats.{said-seat}
 use Rattle.router_world.proofs.Sound.{AreFormed, LendsSound, Free, Gone, Serves}
-use Rattle.router_world.proofs.Turning.{Next, Works, Ends}
-use Rattle.router_world.proofs.Working.{later-work, ending-more}
-use Rattle.router_world.proofs.Counting.{turned-more}
-use Rattle.router_world.proofs.Clients.{free-gone, ends-so, next-turned}
+use Rattle.router_world.proofs.Hands.{Next, Works, Ends, later-work, ending-more, free-gone, ends-so, next-turned}
+use Rattle.client_talk.specs.declared.session.Phase.TheVariants as phase
+
+counted-more : (n : ℕ) → n ≤ counted n
+counted-more n = grind (arith, common_steps)
+
+abbrev count : Session → ℕ
+count session = session.client.arrived
+
+logs-more : (o : Option Account) (response : Response) (first : ℕ) (session : Session) → count session ≤ count (logs_in_as o response first session).session
+logs-more o response first session = grind (arith, common_steps)
+
+arrives-more : (asked : Asked) (message : Framed) (ordinal first : ℕ) (session : Session) → count session ≤ count (arrives_as asked message ordinal first session).session
+arrives-more asked message ordinal first session = grind (arith, common_steps, counted-more)
+
+says-more : (setup : Setup) (says : ClientStep) (session : Session) → count session ≤ count (step_by setup says session).session
+says-more setup says session = grind (arith, common_steps, logs-more, arrives-more)
+
+step-more : (setup : Setup) (session : Session) → count session ≤ count (step setup session).session
+step-more setup session = grind (arith, common_steps, says-more)
+
+pub goes-more : (n : ℕ) (setup : Setup) (session : Session) → count session ≤ count (goes_on n setup session).session
+unfolding goes_on
+goes-more zero setup session = omega arith
+goes-more (suc n) setup session = grind (arith, common_steps, step-more, (goes-more n setup (step setup session).session))
+
+pub turned-more : (setup : Setup) (session : Session) → session.client.arrived ≤ (turned setup session).session.client.arrived
+turned-more setup session = goes-more (suc (left_to_say session)) setup session
+
+-- Each read is of at most 65,536 bytes.
+record IsShort (link : LinkId) (log : Log) : Type 0 where
+  short : length (read_of link log) ≤ 65536 * length log
+
+short-more : (link : LinkId) (log : Log) (e : Entry) → Fits log e → IsShort link log → IsShort link (log ++ e ∷ [])
+short-more link log e fits was = grind (arith, common_steps, length-append, bytes-same, bytes-other)
+
+pub read-short : (link : LinkId) (log : Log) → AllLawful Fits log → length log < 281474976710656 → length (read_of link log) < 18446744073709551616
+read-short link log told few = (let all : IsShort link log = lawful-each Fits (IsShort link) log (short-more link) (record { short = omega arith }) told in let most : length (read_of link log) ≤ 65536 * length log = all.short in omega arith)
+
+-- Bytes of a client come, and its session goes on.
 
 -- A session that says more, seen with what came of its queries by then.
 pub record Says (service : Service) (log : Log) (n : ℕ) (came : Arrival) (written : List ℕ) (session : Session) (lends : Lends) (turned : Turned) : Type 0 where
@@ -49,13 +72,7 @@ pub record Coming (service : Service) (log : Log) (n : ℕ) (came : Arrival) (ta
 says-turned : (service : Service) (log : Log) (n : ℕ) (came : Arrival) (talk : Talk) (bytes written : List ℕ) (session old : Session) (lends : Lends) (next : Turned) → Coming service log n came talk bytes lends → Free lends n → (next.session.phase ≡ phase.LoggingIn → Gone lends n)
     → ((user : Account) → old.phase ≢ phase.Working user) → session.client.arrived ≤ next.session.client.arrived → (next.query ≢ None → session.client.arrived < next.session.client.arrived)
     → ((i : ℕ) → session.client.arrived < i → carrier_of n i log ≡ None) → SeatTurned (heard_more talk bytes) (λ i. replied service n i log) written old next → Says service log n came written session lends next
-says-turned service log n came talk bytes written session old lends next coming free entering unworking grows later unsent at = record {
-  seat = now.seat;
-  grows = grows;
-  next = next-turned service log n came written old next lends coming.sound (inl coming.unclosed) coming.idle coming.is coming.served free entering unworking (λ some. unsent next.session.client.arrived (later some)) coming.formed now;
-} where
-  now : SeatTurned (talk_with service n came log) (λ i. replied service n i log) written old next
-  now = subst (λ (t : Talk). SeatTurned t (λ i. replied service n i log) written old next) (sym coming.now) at
+says-turned service log n came talk bytes written session old lends next coming free entering unworking grows later unsent at = grind (arith, common_steps, next-turned)
 
 -- the query that came up is the message in work
 record InWork (talk : Talk) (reply : ℕ → Option Answer) (ordinal : ℕ) : Type 0 where
@@ -63,10 +80,7 @@ record InWork (talk : Talk) (reply : ℕ → Option Answer) (ordinal : ℕ) : Ty
   work : work_said reply talk ≡ Some (record { ordinal = ordinal; message = message })
 
 work-of-query : (talk : Talk) (reply : ℕ → Option Answer) (written : List ℕ) (old : Session) (next : Turned) → SeatTurned talk reply written old next → next.query ≢ None → InWork talk reply next.session.client.arrived
-work-of-query talk reply written old next at some = by next.query refl at.asks where
-  by : (q : Option Query) → next.query ≡ q → Asks q talk reply old next.session → InWork talk reply next.session.client.arrived
-  by None same asks = absurd (some same)
-  by (Some query) same asks = record { message = asks.1.message; work = asks.1.work }
+work-of-query talk reply written old next at some = grind (arith, common_steps)
 
 first-query : (talk : Talk) (reply : ℕ → Option Answer) (written : List ℕ) (session old : Session) (next : Turned) (now : Talk) (bytes : List ℕ) → session.phase ≡ phase.LoggingIn → SeatAt talk reply bytes session → SeatTurned now reply written old next → next.query ≢ None → session.client.arrived < next.session.client.arrived
 first-query talk reply written session old next now bytes is seat at some = (let work = work-of-query now reply written old next at some in
@@ -88,26 +102,19 @@ never-entering talk reply written more session user known seat is = (let enters 
 pub said-by : (service : Service) (log : Log) (n : ℕ) (came : Arrival) (talk : Talk) (bytes written : List ℕ) (session : Session) (lends : Lends) → Coming service log n came talk bytes lends → SeatAt talk (λ i. replied service n i log) written session
     → Unanswered (λ i. replied service n i log) session → ((i : ℕ) → session.client.arrived < i → carrier_of n i log ≡ None) → (at : Phase) → session.phase ≡ at → Serves at lends n session.client.arrived → talk.setup ≡ service.setup
     → Says service log n came written session lends (said_in at talk.setup bytes session)
-said-by service log n came talk bytes written session lends coming seat unanswered unsent phase.LoggingIn is serves same =
+said-by service log n came talk bytes written session lends coming seat unanswered unsent phase.LoggingIn is serves same = (let reply : ℕ → Option Answer = λ i. replied service n i log in
+    let at : SeatTurned (heard_more talk bytes) reply written session (turned talk.setup (kept_with bytes session)) =
+    subst (λ (p : Phase). SeatTurned (heard_more talk bytes) reply written session (said_in p talk.setup bytes session)) is (said-seat talk reply written bytes session seat unanswered (λ ends. (let no' : phase.LoggingIn ≡ phase.Ending = sym is ∙ ends in cc)) coming.few) in
     says-turned service log n came talk bytes written session session lends (turned talk.setup (kept_with bytes session)) coming (free-gone lends n serves) (λ entering. serves) (λ user working. (let no' : phase.LoggingIn ≡ phase.Working user = sym is ∙ working in cc))
-    (turned-more talk.setup (kept_with bytes session)) (first-query talk reply written session session (turned talk.setup (kept_with bytes session)) (heard_more talk bytes) written is seat at) unsent at where
-      reply : ℕ → Option Answer
-      reply i = replied service n i log
-
-      at : SeatTurned (heard_more talk bytes) reply written session (turned talk.setup (kept_with bytes session))
-      at = subst (λ (p : Phase). SeatTurned (heard_more talk bytes) reply written session (said_in p talk.setup bytes session)) is (said-seat talk reply written bytes session seat unanswered (λ ends. (let no' : phase.LoggingIn ≡ phase.Ending = sym is ∙ ends in cc)) coming.few)
-said-by service log n came talk bytes written session lends coming seat unanswered unsent (phase.Idle user) is serves same =
+    (turned-more talk.setup (kept_with bytes session)) (first-query talk reply written session session (turned talk.setup (kept_with bytes session)) (heard_more talk bytes) written is seat at) unsent at)
+said-by service log n came talk bytes written session lends coming seat unanswered unsent (phase.Idle user) is serves same = (let reply : ℕ → Option Answer = λ i. replied service n i log in
+    let idle : IsIdle talk reply user session.client =
+    subst (λ (p : Phase). PhaseAt p talk reply (written ++ session.client.outgoing) session.client) is seat.at in
+    let at : SeatTurned (heard_more talk bytes) reply written session (turned talk.setup (kept_with bytes session)) =
+    subst (λ (p : Phase). SeatTurned (heard_more talk bytes) reply written session (said_in p talk.setup bytes session)) is (said-seat talk reply written bytes session seat unanswered (λ ends. (let no' : phase.Idle user ≡ phase.Ending = sym is ∙ ends in cc)) coming.few) in
     says-turned service log n came talk bytes written session session lends (turned talk.setup (kept_with bytes session)) coming serves
     (λ entering. absurd (never-entering talk reply written bytes (turned talk.setup (kept_with bytes session)).session user idle.account at.seat entering)) (λ other working. (let no' : phase.Idle user ≡ phase.Working other = sym is ∙ working in cc))
-    (turned-more talk.setup (kept_with bytes session)) (later-query talk reply written bytes session session user (turned talk.setup (kept_with bytes session)) idle at) unsent at where
-      reply : ℕ → Option Answer
-      reply i = replied service n i log
-
-      idle : IsIdle talk reply user session.client
-      idle = subst (λ (p : Phase). PhaseAt p talk reply (written ++ session.client.outgoing) session.client) is seat.at
-
-      at : SeatTurned (heard_more talk bytes) reply written session (turned talk.setup (kept_with bytes session))
-      at = subst (λ (p : Phase). SeatTurned (heard_more talk bytes) reply written session (said_in p talk.setup bytes session)) is (said-seat talk reply written bytes session seat unanswered (λ ends. (let no' : phase.Idle user ≡ phase.Ending = sym is ∙ ends in cc)) coming.few)
+    (turned-more talk.setup (kept_with bytes session)) (later-query talk reply written bytes session session user (turned talk.setup (kept_with bytes session)) idle at) unsent at)
 said-by service log n came talk bytes written session lends coming seat unanswered unsent (phase.Working user) is serves same = record {
   seat = subst (λ (t : Talk). SeatAt t (λ i. replied service n i log) written (kept_with bytes session)) (sym coming.now)
       (subst (λ (p : Phase). SeatTurned (heard_more talk bytes) (λ i. replied service n i log) written session (said_in p talk.setup bytes session)) is (said-seat talk (λ i. replied service n i log) written bytes session seat unanswered (λ ends. (let no' : phase.Working user ≡ phase.Ending = sym is ∙ ends in cc)) coming.few)).seat;

@@ -1,82 +1,40 @@
 -- A link to a server fails: its login does, or bytes come that no reply goes on with, or it is lost.
-use Rattle.std.specs.Prelude.{◌≡◌, ◌≢◌, ◌⊎◌, ◌<◌, ℕ, zero, suc, true, false, not, is_some, ◌||◌, ◌&&◌, cond, nat_eq, List, [], ◌∷◌, ◌++◌, length, Option, Some, None, refl}
-use Rattle.std.specs.List.{list_any}
-use Rattle.std.specs.Option.{option_map}
-use Rattle.std.proofs.Common.{sym, ◌∙◌, ap, subst, append-nil, arith, inr}
-use Rattle.std.proofs.lemmas.List.Folds.{list_any-append}
-use Rattle.mx_base.specs.declared.names.ClientNo.{ClientNo}
-use Rattle.mx_base.specs.declared.names.LinkId.{LinkId}
-use Rattle.mx_base.specs.declared.tag.Tag.{Tag}
-use Rattle.mx_base.specs.declared.tag.Tag.TheVariants.{For}
-use Rattle.mx_wire.specs.Log.{Log, link_of}
-use Rattle.mx_wire.specs.Tells.{IsOpen, Fits}
-use Rattle.mx_wire.specs.Moments.{lawful-last}
-use Rattle.mx_wire.specs.Growth.{same_number}
-use Rattle.mx_wire.specs.declared.entry.Entry.{Entry}
+use Rattle.router_world.proofs.Names.{common_steps, ◌≡◌, ◌≢◌, ◌⊎◌, ◌<◌, ℕ, zero, suc, true, false, not, is_some, ◌||◌, ◌&&◌, cond, nat_eq, List, [], ◌∷◌, ◌++◌}
+use Rattle.router_world.proofs.Names.{length, Option, Some, None, refl, list_any, option_map, sym, ◌∙◌, ap, subst, append-nil, arith, inr, list_any-append}
+use Rattle.router_world.proofs.Names.{ClientNo, LinkId, Tag, For, Log, link_of, IsOpen, Fits, lawful-last, same_number, Entry, BackendState, is_begun}
+use Rattle.router_world.proofs.Names.{IsOpening, Handed, payload_of, connection_refused, Ask, Lent, Due, Lends, without_link, owns_none, to_close, without_ask}
+use Rattle.router_world.proofs.Names.{refusal_for, due_on, queued, login_fails, heard_of, pieces_of, carries, carrier_of, Answer, spelt, Spoilt, standing_on}
+use Rattle.router_world.proofs.Names.{Turn, Service, is_turn, refused, is_refused, Work, reply_to, MayDrop, IsSpoilt, IsLawful, some-same, in-work, or-inr}
+use Rattle.router_world.proofs.Names.{refused-or-sent, message-stays, user-stays, replied, LinkAt, Entering, Inside, IsInside, IsEntering}
 use Rattle.packet_frame.specs.Packets.{spelling}
-use Rattle.server_side.specs.Backend.{BackendState, is_begun}
 use Rattle.server_side.specs.Handing.{id_begun, unsent_in, unsent_by}
-use Rattle.server_side.specs.Reading.{IsOpening}
-use Rattle.server_side.specs.declared.command.Command.{Command as Handed}
-use Rattle.server_side.specs.declared.stage.Stage.{Stage}
-use Rattle.server_side.specs.declared.stage.Stage.TheVariants as stage
-use Rattle.client_session.specs.Refusals.{payload_of}
-use Rattle.client_session.specs.Errors.{connection_refused}
 use Rattle.client_session.specs.declared.refusal.Refusal.{Refusal}
-use Rattle.lend_core.specs.declared.ask.Ask.{Ask}
-use Rattle.lend_core.specs.declared.lent.Lent.{Lent}
-use Rattle.lend_core.specs.declared.lent.Due.{Due}
 use Rattle.lend_core.specs.declared.lent.Due.TheVariants.{Login, Reply, Nothing}
-use Rattle.lend_core.specs.Lends.{Lends}
-use Rattle.lend_core.specs.Changes.{without_link, owns_none, to_close, without_ask}
-use Rattle.lend_core.specs.Decisions.{refusal_for, due_at, due_by, due_on, queued, closed, again, again_for, failed_by, failed}
-use Rattle.exchange.specs.Logins.{goes_on, login_fails, heard_of}
-use Rattle.exchange.specs.Commands.{pieces_of, carries, carrier_of}
-use Rattle.exchange.specs.Replies.{Answer, spelt, Spoilt, standing_on}
-use Rattle.promises.specs.Service.{Turn, Service}
-use Rattle.promises.specs.Owners.{is_turn, refused, is_refused}
-use Rattle.promises.specs.Due.{Work, reply_to}
-use Rattle.promises.specs.Closes.{MayDrop, IsSpoilt}
-use Rattle.promises.specs.Headline.{IsLawful}
-use Rattle.promises.proofs.InWork.{some-same, in-work}
-use Rattle.promises.proofs.Causes.{login-refuses, or-inr}
-use Rattle.promises.proofs.Links.{refused-or-sent}
-use Rattle.promises.proofs.Staying.{message-stays, user-stays}
-use Rattle.router_world.specs.Replied.{replied}
-use Rattle.router_world.specs.Rows.{LinkAt, Entering, Inside, IsInside, IsEntering}
-use Rattle.router_world.proofs.Sets.{set-same, set-other}
+use Rattle.lend_core.specs.Decisions.{due_at, due_by, closed, again, again_for, failed_by, failed}
+use Rattle.exchange.specs.Logins.{goes_on}
+use Rattle.promises.proofs.Causes.{login-refuses}
+use Rattle.router_world.proofs.Apart.{set-same, set-other, Comes, Quiet, Answers, Came, none-one, one-same, Closes}
 use Rattle.router_world.proofs.Calm.{carrier-same}
 use Rattle.router_world.proofs.Frames.{Calm, Unbegun, still-none, asked-calm, ask-calm}
-use Rattle.router_world.proofs.Sound.{IsAsked, AskStands, HandedStands, carried_by, Owned, Own, Left, RowStands, AtMostOne, Nobody, One, Waiting, Owns, LendsSound, Free, Gone, Busy, Waits, Logs, On}
-use Rattle.router_world.proofs.Moves.{Comes, Quiet, Answers, Came}
-use Rattle.router_world.proofs.LinksApart.{none-one, one-same, Closes}
+use Rattle.router_world.proofs.Sound.{IsAsked, AskStands, HandedStands, carried_by, Owned, Own, Left, RowStands, AtMostOne, One, Waiting, Owns, LendsSound}
+use Rattle.router_world.proofs.Sound.{Free, Busy, Waits, Logs, On}
 use Rattle.router_world.proofs.LinksGone.{not-begun}
-use Rattle.router_world.proofs.LinksCalm.{RowNews}
-use Rattle.router_world.proofs.LinksRow.{owned-here, owner-here, BusyHere, LogsHere, OnHere}
-use Rattle.router_world.proofs.LinksAt.{AtRow, at-busy, came-of, close-later, calm-own, inside-stays, entering-here}
+use Rattle.router_world.proofs.LinksAt.{RowNews, owned-here, owner-here, BusyHere, LogsHere, OnHere, AtRow, at-busy, came-of, close-later, calm-own}
+use Rattle.router_world.proofs.LinksAt.{inside-stays, entering-here}
+use Rattle.server_side.specs.declared.stage.Stage.TheVariants as stage
 
 -- What is due on a link.
 pub id-begun : (sent first : ℕ) → 0 < sent → id_begun sent first ≡ Some first
-id-begun zero first some = absurd (omega arith)
-id-begun (suc sent) first some = refl
+id-begun sent first some = grind (arith, common_steps)
 
 pub due-begun : (backend : BackendState) (command : Handed) → backend.stage ≡ stage.In → backend.command ≡ Some command → 0 < command.sent → due_on backend ≡ Reply (nat_eq command.sent (length command.bytes)) command.first
 due-begun backend command inside has some = ap (λ s. due_at s backend.command) inside ∙ ap (due_at stage.In) has ∙ ap (λ id. due_by id (nat_eq command.sent (length command.bytes))) (id-begun command.sent command.first some)
 
 due-unbegun : (backend : BackendState) (o : Option Handed) → backend.stage ≡ stage.In → backend.command ≡ o → is_begun o ≡ false → due_on backend ≡ Nothing
-due-unbegun backend o inside has none = ap (λ s. due_at s backend.command) inside ∙ ap (due_at stage.In) has ∙ by o none where
-  by : (o : Option Handed) → is_begun o ≡ false → due_at stage.In o ≡ Nothing
-  by None none = refl
-  by (Some command) none = ap (λ n. due_by (id_begun n command.first) (nat_eq command.sent (length command.bytes))) (not-begun command.sent none)
+due-unbegun backend o inside has none = grind (arith, common_steps, not-begun)
 
 due-entering : (backend : BackendState) (read said : List ℕ) → IsOpening backend.stage backend read said → due_on backend ≡ Login
-due-entering backend read said at = by backend.stage at where
-  by : (s : Stage) → IsOpening s backend read said → due_at s backend.command ≡ Login
-  by stage.Greeting at = refl
-  by stage.Welcome at = refl
-  by stage.Switched at = refl
-  by stage.In at = absurd at
-  by stage.Lost at = absurd at
+due-entering backend read said at = grind (arith, common_steps)
 
 -- The link goes.
 pub record Shuts (n : ℕ) (link : LinkId) (lends other : Lends) : Type 0 where
@@ -102,10 +60,7 @@ shut-news service log e lends link lent at other shuts opened may ask owns one_w
 
 -- a command that is begun stands on its link
 pub carried : (service : Service) (log : Log) (n : ℕ) (link : LinkId) (command : Handed) → (stands : HandedStands service log n link command) → 0 < command.sent → carrier_of n stands.ordinal log ≡ Some link
-carried service log n link command stands some = by command.sent some stands.carrier where
-  by : (sent : ℕ) → 0 < sent → carrier_of n stands.ordinal log ≡ carried_by link sent → carrier_of n stands.ordinal log ≡ Some link
-  by zero some at = absurd (omega arith)
-  by (suc sent) some at = at
+carried service log n link command stands some = grind (arith, common_steps)
 
 -- a command that is begun has no other beside it
 pub begun-alone : (service : Service) (log : Log) (lends : Lends) (n : ℕ) (link : LinkId) (command : Handed) → LendsSound service log lends → HandedStands service log n link command → 0 < command.sent → lends.asks n ≡ None
@@ -119,23 +74,20 @@ begun-alone service log lends n link command sound stands some = by (lends.asks 
 -- the login that fails refuses the command that the link was opened for
 refused-now : (service : Service) (log : Log) (e : Entry) (lends : Lends) (link : LinkId) (lent : Lent) (ask : Ask) → link_of e ≡ Some link → (row : RowStands service log lends link lent) → ask.ordinal ≡ row.turn.ordinal → carrier_of row.turn.client ask.ordinal log ≡ None
     → login_fails lent.backend.account link log e ≡ true → replied service row.turn.client ask.ordinal (log ++ e ∷ []) ≡ Some (connection_refused ∷ [])
-refused-now service log e lends link lent ask names row same unsent fails = ap (λ b. cond b (Some (connection_refused ∷ [])) (reply_to service row.turn.client ask.ordinal (log ++ e ∷ []))) was where
-  turn : Turn
-  turn = row.turn
-
-  here : is_turn turn.client ask.ordinal turn ≡ true
-  here = ap (λ b. b && nat_eq ask.ordinal turn.ordinal) (same_number turn.client) ∙ ap (λ i. nat_eq i turn.ordinal) same ∙ same_number turn.ordinal
-
-  was : is_refused service turn.client ask.ordinal (log ++ e ∷ []) ≡ true
-  was = ap (list_any (is_turn turn.client ask.ordinal)) (login-refuses service log e turn (record {
-    link = link;
-    names = names;
-    opened_for = row.is_turn;
-    user = lent.backend.account;
-    is_user = row.user;
-    unsent = ap (λ i. not (is_some (carrier_of turn.client i log))) (sym same) ∙ ap (λ (o : Option LinkId). not (is_some o)) unsent;
-    fails = fails;
-  })) ∙ list_any-append (is_turn turn.client ask.ordinal) (refused service log) (turn ∷ []) ∙ or-inr (list_any (is_turn turn.client ask.ordinal) (refused service log)) (is_turn turn.client ask.ordinal turn || false) (ap (λ b. b || false) here)
+refused-now service log e lends link lent ask names row same unsent fails = (let turn : Turn = row.turn in
+    let here : is_turn turn.client ask.ordinal turn ≡ true =
+    ap (λ b. b && nat_eq ask.ordinal turn.ordinal) (same_number turn.client) ∙ ap (λ i. nat_eq i turn.ordinal) same ∙ same_number turn.ordinal in
+    let was : is_refused service turn.client ask.ordinal (log ++ e ∷ []) ≡ true =
+    ap (list_any (is_turn turn.client ask.ordinal)) (login-refuses service log e turn (record {
+      link = link;
+      names = names;
+      opened_for = row.is_turn;
+      user = lent.backend.account;
+      is_user = row.user;
+      unsent = ap (λ i. not (is_some (carrier_of turn.client i log))) (sym same) ∙ ap (λ (o : Option LinkId). not (is_some o)) unsent;
+      fails = fails;
+    })) ∙ list_any-append (is_turn turn.client ask.ordinal) (refused service log) (turn ∷ []) ∙ or-inr (list_any (is_turn turn.client ask.ordinal) (refused service log)) (is_turn turn.client ask.ordinal turn || false) (ap (λ b. b || false) here) in
+    ap (λ b. cond b (Some (connection_refused ∷ [])) (reply_to service row.turn.client ask.ordinal (log ++ e ∷ []))) was)
 
 -- One answer, as packets.
 pub answers-one : (service : Service) (log : Log) (e : Entry) (n i : ℕ) (lends other : Lends) (answer : Answer) (packets bytes : List ℕ) (id : ℕ) → packets ≡ spelt id answer → Busy lends n i → IsAsked service n i bytes id log → replied service n i (log ++ e ∷ []) ≡ Some answer → Free other n → other.waiting ≡ []
@@ -154,49 +106,35 @@ pub answered-shut : (service : Service) (log : Log) (e : Entry) (lends : Lends) 
     → lent.backend.stage ≡ stage.In → lent.backend.command ≡ Some c → 0 < c.sent → lends.owned at.row.turn.client ≡ Some link → packets ≡ spelt c.first answer
     → ((i : ℕ) → c.tag ≡ For (record { 0 = at.row.turn.client }) i → carrier_of at.row.turn.client i log ≡ Some link → replied service at.row.turn.client i (log ++ e ∷ []) ≡ Some answer)
     → Came service (log ++ e ∷ []) at.row.turn.client lends (record { lends = to_close link (owns_none (record { 0 = at.row.turn.client }) (without_link link lends)); answer = Some (record { client = record { 0 = at.row.turn.client }; packets = packets }) })
-answered-shut service log e lends link lent at c answer packets opened may asks_stay inside has some owns is told = came-of service log e lends link lent at base (Some (record { client = client; packets = packets }))
+answered-shut service log e lends link lent at c answer packets opened may asks_stay inside has some owns is told = (let n : ℕ = at.row.turn.client in
+    let client : ClientNo = record { 0 = n } in
+    let base : Lends = to_close link (owns_none client (without_link link lends)) in
+    let unowned : (l : LinkId) → base.owned n ≡ Some l → ⊥ = λ l owned. (let no' : None ≡ Some l = sym (set-same lends.owned n None) ∙ owned in cc) in
+    let stands : HandedStands service log n link c = at.row.command c has in
+    let unasked : lends.asks n ≡ None = begun-alone service log lends n link c at.sound stands some in
+    came-of service log e lends link lent at base (Some (record { client = client; packets = packets }))
     (shut-news service log e lends link lent at base (record { links = λ k differs. set-other lends.links link.0 k None differs; out = set-same lends.links link.0 None; closing = ap (λ l. l ++ link ∷ []) at.unclosed; asks = λ k differs. refl; owned = λ k differs. set-other lends.owned n k None differs })
     opened may asks_stay (λ l owned. absurd (unowned l owned)) at.sound.one_waits (λ someone waits. absurd (none-one lends.waiting at.idle waits)))
     (answers-one service log e n stands.ordinal lends base answer packets c.bytes c.first is (On unasked link lent c owns at.there inside has stands.tag) stands.asked
-    (told stands.ordinal stands.tag (carried service log n link c stands some)) (record { unasked = unasked; idle = λ l x owned here. absurd (unowned l owned) }) at.idle (inr (set-same lends.owned n None))) where
-      n : ℕ
-      n = at.row.turn.client
-
-      client : ClientNo
-      client = record { 0 = n }
-
-      base : Lends
-      base = to_close link (owns_none client (without_link link lends))
-
-      unowned : (l : LinkId) → base.owned n ≡ Some l → ⊥
-      unowned l owned = (let no' : None ≡ Some l = sym (set-same lends.owned n None) ∙ owned in cc)
-
-      stands : HandedStands service log n link c
-      stands = at.row.command c has
-
-      unasked : lends.asks n ≡ None
-      unasked = begun-alone service log lends n link c at.sound stands some
+    (told stands.ordinal stands.tag (carried service log n link c stands some)) (record { unasked = unasked; idle = λ l x owned here. absurd (unowned l owned) }) at.idle (inr (set-same lends.owned n None))))
 
 -- The link is closed, and its client has gone.
 pub forgotten-shut : (service : Service) (log : Log) (e : Entry) (lends : Lends) (link : LinkId) (lent : Lent) (at : AtRow service log e lends link lent) → lent.owner ≡ None → IsOpen link (log ++ e ∷ [])
     → MayDrop service (record { client = at.row.turn.client; hostgroup = at.row.turn.hostgroup }) lent.backend.account link (log ++ e ∷ []) → ((ask : Ask) → lends.asks at.row.turn.client ≡ Some ask → AskStands service (log ++ e ∷ []) at.row.turn.client ask)
     → Came service (log ++ e ∷ []) at.row.turn.client lends (record { lends = to_close link (without_link link lends); answer = None })
-forgotten-shut service log e lends link lent at none opened may asks_stay = came-of service log e lends link lent at other None
+forgotten-shut service log e lends link lent at none opened may asks_stay = (let other : Lends = to_close link (without_link link lends) in
+    let unowned : (l : LinkId) → lends.owned n ≡ Some l → ⊥ =
+    λ l owns. not-here (owns ∙ ap Some (owned-here service log lends link l lent (lawful-last Fits log e at.fits).0 (lawful-last (IsLawful service) log e at.lawful).0 at.sound at.row owns)) in
+    came-of service log e lends link lent at other None
     (shut-news service log e lends link lent at other (record { links = λ k differs. set-other lends.links link.0 k None differs; out = set-same lends.links link.0 None; closing = ap (λ l. l ++ link ∷ []) at.unclosed; asks = λ k differs. refl; owned = λ k differs. refl })
     opened may asks_stay (λ l owns. absurd (unowned l owns)) at.sound.one_waits (λ someone waits. absurd (none-one lends.waiting at.idle waits)))
     (Quiet (λ i busy. absurd (idle i (at-busy service log e lends link lent at i busy))) (λ free. record { unasked = free.unasked; idle = λ l x owns is. absurd (unowned l owns) })
-    (λ gone. record { unasked = gone.unasked; unowned = gone.unowned }) (λ i busy. absurd (idle i (at-busy service log e lends link lent at i busy)))) where
+    (λ gone. record { unasked = gone.unasked; unowned = gone.unowned }) (λ i busy. absurd (idle i (at-busy service log e lends link lent at i busy))))) where
       n : ℕ
       n = at.row.turn.client
 
-      other : Lends
-      other = to_close link (without_link link lends)
-
       not-here : lends.owned n ≡ Some link → ⊥
       not-here owns = (let no' : None ≡ Some _ = sym none ∙ owner-here service log lends link lent n at.sound at.there owns in cc)
-
-      unowned : (l : LinkId) → lends.owned n ≡ Some l → ⊥
-      unowned l owns = not-here (owns ∙ ap Some (owned-here service log lends link l lent (lawful-last Fits log e at.fits).0 (lawful-last (IsLawful service) log e at.lawful).0 at.sound at.row owns))
 
       idle : (i : ℕ) → BusyHere lends n i link lent → ⊥
       idle i (LogsHere owns ask is same outside) = not-here owns
@@ -249,32 +187,24 @@ failed-came service log e lends link lent refusal at why = by at.row.at where
   nobody-waits other same someone is = absurd (none-one lends.waiting at.idle (sym same ∙ is))
 
   entering : IsEntering lent.backend.account (heard_of link log) (pieces_of link log) lent.backend → Came service new n lends (failed link lent refusal (without_link link lends))
-  entering enters = subst (λ (due : Due). Came service new n lends (failed_by due lent.owner lent.backend refusal (closed link lent.owner (without_link link lends)))) (sym (due-entering lent.backend (heard_of link log) _ enters.login.is))
+  entering enters = (let outside : lent.backend.stage ≢ stage.In =
+      λ inside. subst (λ s. IsOpening s lent.backend (heard_of link log) (Rattle.router_world.specs.Rows.bytes_in (pieces_of link log) ++ lent.backend.own)) inside enters.login.is in
+      let mine : Rattle.router_world.proofs.LinksAt.IsEnteringHere service log lends link n lent = entering-here service log lends link lent at.row outside in
+      let same : mine.ask.ordinal ≡ at.row.turn.ordinal =
+      (let it = at.row.enters outside in ap (λ (a : Ask). a.ordinal) (some-same mine.ask it.ask (sym mine.is ∙ it.is)) ∙ it.same) in
+      let other : Lends = without_ask client base in
+      let stands : AskStands service log n mine.ask = at.sound.asks n mine.ask mine.is in
+      let came : Came service new n lends (record { lends = other; answer = Some (refusal_for client mine.ask) }) =
+      came-of service log e lends link lent at other (Some (refusal_for client mine.ask))
+      (shut-news service log e lends link lent at other (shut other (λ k. refl) refl (λ k differs. set-other lends.asks n k None differs) (λ k. refl)) why.opened spoilt
+      (λ ask is. absurd (let no' : None ≡ Some ask = sym (set-same lends.asks n None) ∙ is in cc)) (none-owned other unowned) at.sound.one_waits (nobody-waits other refl))
+      (answers-one service log e n mine.ask.ordinal lends other (connection_refused ∷ []) (spelling mine.ask.first connection_refused) mine.ask.packets mine.ask.first (error-spelt mine.ask.first connection_refused)
+      (Logs mine.ask mine.is refl link lent mine.owns at.there outside) stands.asked
+      (refused-now service log e lends link lent mine.ask at.names at.row same stands.unsent (why.fails enters))
+      (record { unasked = set-same lends.asks n None; idle = λ l x owns is. absurd (let no' : None ≡ Some l = sym unowned ∙ owns in cc) }) at.idle (inr unowned)) in
+      subst (λ (due : Due). Came service new n lends (failed_by due lent.owner lent.backend refusal (closed link lent.owner (without_link link lends)))) (sym (due-entering lent.backend (heard_of link log) _ enters.login.is))
       (subst (λ (o : Option ClientNo). Came service new n lends (failed_by Login o lent.backend refusal (closed link o (without_link link lends)))) (sym mine.owner)
-      (subst (λ (o : Option Ask). Came service new n lends (record { lends = other; answer = option_map (refusal_for client) o })) (sym mine.is) came)) where
-        outside : lent.backend.stage ≢ stage.In
-        outside inside = subst (λ s. IsOpening s lent.backend (heard_of link log) (Rattle.router_world.specs.Rows.bytes_in (pieces_of link log) ++ lent.backend.own)) inside enters.login.is
-
-        mine : Rattle.router_world.proofs.LinksAt.IsEnteringHere service log lends link n lent
-        mine = entering-here service log lends link lent at.row outside
-
-        same : mine.ask.ordinal ≡ at.row.turn.ordinal
-        same = (let it = at.row.enters outside in ap (λ (a : Ask). a.ordinal) (some-same mine.ask it.ask (sym mine.is ∙ it.is)) ∙ it.same)
-
-        other : Lends
-        other = without_ask client base
-
-        stands : AskStands service log n mine.ask
-        stands = at.sound.asks n mine.ask mine.is
-
-        came : Came service new n lends (record { lends = other; answer = Some (refusal_for client mine.ask) })
-        came = came-of service log e lends link lent at other (Some (refusal_for client mine.ask))
-            (shut-news service log e lends link lent at other (shut other (λ k. refl) refl (λ k differs. set-other lends.asks n k None differs) (λ k. refl)) why.opened spoilt
-            (λ ask is. absurd (let no' : None ≡ Some ask = sym (set-same lends.asks n None) ∙ is in cc)) (none-owned other unowned) at.sound.one_waits (nobody-waits other refl))
-            (answers-one service log e n mine.ask.ordinal lends other (connection_refused ∷ []) (spelling mine.ask.first connection_refused) mine.ask.packets mine.ask.first (error-spelt mine.ask.first connection_refused)
-            (Logs mine.ask mine.is refl link lent mine.owns at.there outside) stands.asked
-            (refused-now service log e lends link lent mine.ask at.names at.row same stands.unsent (why.fails enters))
-            (record { unasked = set-same lends.asks n None; idle = λ l x owns is. absurd (let no' : None ≡ Some l = sym unowned ∙ owns in cc) }) at.idle (inr unowned))
+      (subst (λ (o : Option Ask). Came service new n lends (record { lends = other; answer = option_map (refusal_for client) o })) (sym mine.is) came)))
 
   inside : IsInside service.forms lent.backend.account (heard_of link log) (pieces_of link log) lent.backend → Came service new n lends (failed link lent refusal (without_link link lends))
   inside is_in = command lent.backend.command refl at.row.owned where
@@ -303,14 +233,19 @@ failed-came service log e lends link lent refusal at why = by at.row.at where
     -- no byte of it was written: it waits for another link
     waits : (c : Handed) (stands : HandedStands service log n link c) → lent.backend.command ≡ Some c → c.sent ≡ 0 → lends.owned n ≡ Some link
         → Came service new n lends (record { lends = queued client (record { ordinal = stands.ordinal; first = c.first; packets = c.bytes; account = lent.backend.account }) base; answer = None })
-    waits c stands has none owns = came-of service log e lends link lent at other None
+    waits c stands has none owns = (let later : AskStands service new n ask = record {
+      asked = asked-calm service log e n stands.ordinal c.bytes c.first at.lawful stands.asked calm (Unbegun unbegun);
+      account = user-stays service n log (e ∷ []) lent.backend.account at.row.user;
+      unsent = carrier-same n stands.ordinal log e (why.silent stands.ordinal) ∙ unbegun;
+    } in
+        came-of service log e lends link lent at other None
         (shut-news service log e lends link lent at other (shut other (λ k. refl) refl (λ k differs. set-other lends.asks n k (Some ask) differs) (λ k. refl)) why.opened spoilt
         (λ another is. subst (AskStands service new n) (some-same ask another (sym asks ∙ is)) later) (none-owned other unowned) (subst AtMostOne (sym waiting) (One client))
         (λ someone is. subst (Waiting other) (one-same client someone (sym waiting ∙ is)) (record { ask = ask; asks = asks; unowned = unowned })))
         (Quiet (λ i busy. goes i (at-busy service log e lends link lent at i busy))
         (λ free. absurd (let no' : None ≡ Some c = sym (free.idle link lent owns at.there).1 ∙ has in cc))
         (λ gone. absurd (let no' : None ≡ Some link = sym gone.unowned ∙ owns in cc))
-        (λ i busy. silent i (at-busy service log e lends link lent at i busy))) where
+        (λ i busy. silent i (at-busy service log e lends link lent at i busy)))) where
           ask : Ask
           ask = record { ordinal = stands.ordinal; first = c.first; packets = c.bytes; account = lent.backend.account }
 
@@ -325,13 +260,6 @@ failed-came service log e lends link lent refusal at why = by at.row.at where
 
           unbegun : carrier_of n stands.ordinal log ≡ None
           unbegun = stands.carrier ∙ ap (carried_by link) none
-
-          later : AskStands service new n ask
-          later = record {
-            asked = asked-calm service log e n stands.ordinal c.bytes c.first at.lawful stands.asked calm (Unbegun unbegun);
-            account = user-stays service n log (e ∷ []) lent.backend.account at.row.user;
-            unsent = carrier-same n stands.ordinal log e (why.silent stands.ordinal) ∙ unbegun;
-          }
 
           ordinal : (i : ℕ) (d : Handed) → lent.backend.command ≡ Some d → d.tag ≡ For client i → stands.ordinal ≡ i
           ordinal i d holds tag = (let both : For client stands.ordinal ≡ For client i = sym stands.tag ∙ ap (λ (h : Handed). h.tag) (some-same c d (sym has ∙ holds)) ∙ tag in cc)

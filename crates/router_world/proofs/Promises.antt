@@ -1,33 +1,20 @@
 -- What the router does keeps the promises.
-use Rattle.std.specs.Prelude.{◌≡◌, ◌≤◌, ◌<◌, ◌+◌, true, false, List, [], ◌∷◌, ◌++◌, length, Some, None, refl}
-use Rattle.std.proofs.Common.{sym, ◌∙◌, ap, subst, arith, inl, inr}
-use Rattle.std.proofs.lemmas.List.Sums.{fold-append}
-use Rattle.mx_base.specs.declared.names.LinkId.{LinkId}
-use Rattle.mx_wire.specs.Log.{Log}
-use Rattle.mx_wire.specs.Moments.{AllLawful, moment-last}
-use Rattle.mx_wire.specs.Tells.{MayFollow}
-use Rattle.mx_wire.specs.declared.entry.Entry.{Entry}
-use Rattle.mx_wire.specs.declared.entry.Entry.TheVariants as entry
-use Rattle.client_session.specs.Setups.{Setup}
-use Rattle.lend_core.specs.Lends.{nothing_lent}
-use Rattle.exchange.specs.Commands.{most_command}
-use Rattle.promises.specs.Service.{Service}
-use Rattle.promises.specs.Headline.{IsServed, Keeps, Serves}
-use Rattle.promises.proofs.InWork.{some-same}
-use Rattle.router_world.specs.declared.seat.Parting.{Parting}
-use Rattle.router_world.specs.Tables.{Tables, no_tables}
-use Rattle.router_world.specs.World.{closed_by, step, tables_after, turns}
-use Rattle.router_world.specs.Acts.{asks, awaits, first_closing, close_of, IsClosing, IsOurs}
+use Rattle.router_world.proofs.Names.{◌≡◌, ◌≤◌, true, false, List, [], ◌∷◌, ◌++◌, Some, None, refl, sym, ◌∙◌, ap, subst, inl, inr, fold-append}
+use Rattle.router_world.proofs.Names.{LinkId, Log, AllLawful, MayFollow, Entry, Setup, most_command, Service, IsServed, Serves, some-same, Parting, Tables}
+use Rattle.router_world.proofs.Names.{no_tables, closed_by, tables_after, asks, awaits, first_closing, close_of, IsClosing, IsOurs}
+use Rattle.mx_wire.specs.Moments.{moment-last}
+use Rattle.router_world.specs.World.{step}
 use Rattle.router_world.proofs.Connecting.{counts-all}
-use Rattle.router_world.proofs.Sound.{Sound, AtMostOne, Nobody, One, Covers}
+use Rattle.router_world.proofs.Sound.{Sound, AtMostOne, Nobody, One, Covers, Happens}
 use Rattle.router_world.proofs.Stepping.{done, quiet-closes}
-use Rattle.router_world.proofs.Turns.{awaits-so, opens-for}
-use Rattle.router_world.proofs.Closing.{IsShut, closed-client, closed-server}
+use Rattle.router_world.proofs.Lawful.{awaits-so, opens-for}
+use Rattle.router_world.proofs.Closing.{closed-client, closed-server}
 use Rattle.router_world.proofs.OpenEvents.{OnOpen, open-failed-step, opened-step}
-use Rattle.router_world.proofs.Comings.{coming-step}
-use Rattle.router_world.proofs.Nothings.{IsNothing, nothing-step}
-use Rattle.router_world.proofs.Happenings.{Happens, got-step, ended-step, failed-step, written-step, offer-written, offer-failed}
+use Rattle.router_world.proofs.Arriving.{coming-step}
+use Rattle.router_world.proofs.Silences.{IsNothing, nothing-step}
+use Rattle.router_world.proofs.Happenings.{got-step, ended-step, failed-step, written-step, offer-written, offer-failed}
 use Rattle.router_world.proofs.Keeping.{GoesOn, service-of, formed-so, keeps-none, stands-behind, keeps-all}
+use Rattle.mx_wire.specs.declared.entry.Entry.TheVariants as entry
 
 -- A link closes.
 closed-step : (service : Service) (log : Log) (link : LinkId) (tables : Tables) → Happens service log (entry.Closed link) tables → IsClosing tables link log → Sound service (log ++ entry.Closed link ∷ []) None (closed_by tables.parting tables)
@@ -35,29 +22,21 @@ closed-step service log link tables happens closing = by tables.parting refl hap
   then : Log
   then = log ++ entry.Closed link ∷ []
 
-  shut : IsShut service log link
-  shut = record { told = happens.told; fits = happens.fits; lawful = happens.lawful; served = happens.served }
-
   servers : (links : List LinkId) → tables.lends.closing ≡ links → AtMostOne links → first_closing links ≡ Some link → tables.lends.closing ≡ link ∷ []
   servers [] is Nobody next = absurd (let none : None ≡ Some link = next in cc)
   servers (one ∷ two ∷ later) is most next = elim most [ ]
   servers (one ∷ []) is (One other) next = is ∙ ap (λ (l : LinkId). l ∷ []) (some-same one link next)
 
   by : (all : List Parting) → tables.parting ≡ all → AtMostOne all → close_of all tables.lends.closing ≡ Some link → Sound service then None (closed_by tables.parting tables)
-  by [] is Nobody next = subst (λ p. Sound service then None (closed_by p tables)) (sym is) (closed-server service log link tables happens.sound shut is (servers tables.lends.closing refl happens.sound.lends.one_closes next))
+  by [] is Nobody next = subst (λ p. Sound service then None (closed_by p tables)) (sym is) (closed-server service log link tables happens.sound happens is (servers tables.lends.closing refl happens.sound.lends.one_closes next))
   by (p ∷ q ∷ later) is one next = elim one [ ]
-  by (p ∷ []) is (One other) next = subst (λ all. Sound service then None (closed_by all tables)) (sym is) (closed-client service log link p tables happens.sound shut is (some-same p.link link next))
+  by (p ∷ []) is (One other) next = subst (λ all. Sound service then None (closed_by all tables)) (sym is) (closed-client service log link p tables happens.sound happens is (some-same p.link link next))
 
 -- An open is tried.
 on-open : (service : Service) (log : Log) (e : Entry) (tables : Tables) (target : Rattle.ready_loop.specs.Machine.Target) → tables_after service.setup log ≡ tables → Happens service log e tables → Covers service (log ++ e ∷ []) → awaits service.setup tables ≡ Some target
     → Rattle.router_world.specs.World.turn_at tables e ≡ Rattle.router_world.specs.World.turn_for (Rattle.lend_core.specs.Lends.oldest tables.lends.waiting) tables.lends.asks → OnOpen service log e tables
 on-open service log e tables target are happens covers awaited at = record {
-  told = happens.told;
-  fits = happens.fits;
-  few = (let few : length log + 1 < 281474976710656 = happens.few in omega arith);
-  lawful = happens.lawful;
-  served = happens.served;
-  formed = happens.formed;
+  happens = happens;
   covers = covers;
   quiet = quiet-closes tables (awaits-so service.setup tables target awaited).0;
   are = are;
@@ -70,12 +49,7 @@ nothing service log e tables happens none = nothing-step service log e tables ha
 
 entry-step : (service : Service) (log : Log) (e : Entry) (tables : Tables) → service.setup.limit ≤ most_command → tables_after service.setup log ≡ tables → Happens service log e tables → Covers service (log ++ e ∷ []) → IsOurs service.setup log e → Sound service (log ++ e ∷ []) None (step service.setup tables e)
 entry-step service log (entry.Accepted port link salt) tables short are happens covers ours = coming-step service log port link salt tables happens.sound (record {
-  told = happens.told;
-  fits = happens.fits;
-  few = (let few : length log + 1 < 281474976710656 = happens.few in omega arith);
-  lawful-before = (Rattle.mx_wire.specs.Moments.lawful-last (Rattle.promises.specs.Headline.IsLawful service) log (entry.Accepted port link salt) happens.lawful).0;
-  lawful = happens.lawful;
-  served = happens.served;
+  happens = happens;
   quiet = done service.setup tables (subst (λ (t : Tables). asks service.setup t ≡ false) are ours);
 }) short
 entry-step service log (entry.Opened server address link) tables short are happens covers ours = opened-step service log server address link tables happens.sound (on-open service log (entry.Opened server address link) tables _ are happens covers (subst (λ (t : Tables). awaits service.setup t ≡ Some (record { server = server; address = address })) are ours) refl)
@@ -95,32 +69,8 @@ entry-step service log (entry.Wrote link tag bytes) tables short are happens cov
 entry-step service log (entry.Wrote link tag bytes) tables short are happens covers (inr ours) = offer-written service log link tag bytes tables happens (subst (λ (t : Tables). Rattle.router_world.specs.Acts.IsFarewell t link) are ours.0)
     (subst (λ (t : Tables). Rattle.router_world.specs.Acts.IsFront (Rattle.router_world.specs.Acts.farewell_of t.parting) tag bytes) are ours.1)
 entry-step service log (entry.Closed link) tables short are happens covers ours = closed-step service log link tables happens (subst (λ (t : Tables). IsClosing t link log) are ours)
-entry-step service log (entry.Listening port address) tables short are happens covers ours = nothing service log (entry.Listening port address) tables happens
-    (record { still = record { got = refl; wrote = refl; piece = refl; loss = refl; failure = refl; stays = λ was. refl; try = refl }; carries_none = λ n i. refl; refuses = λ s l. refl; breaks = λ u k l. refl; plain = record { arrives = λ before. refl; stays = λ links. refl } })
-entry-step service log (entry.ListenFailed port) tables short are happens covers ours = nothing service log (entry.ListenFailed port) tables happens
-    (record { still = record { got = refl; wrote = refl; piece = refl; loss = refl; failure = refl; stays = λ was. refl; try = refl }; carries_none = λ n i. refl; refuses = λ s l. refl; breaks = λ u k l. refl; plain = record { arrives = λ before. refl; stays = λ links. refl } })
-entry-step service log (entry.Woke until_ms now_ms) tables short are happens covers ours = nothing service log (entry.Woke until_ms now_ms) tables happens
-    (record { still = record { got = refl; wrote = refl; piece = refl; loss = refl; failure = refl; stays = λ was. refl; try = refl }; carries_none = λ n i. refl; refuses = λ s l. refl; breaks = λ u k l. refl; plain = record { arrives = λ before. refl; stays = λ links. refl } })
-entry-step service log entry.WaitFailed tables short are happens covers ours = nothing service log entry.WaitFailed tables happens
-    (record { still = record { got = refl; wrote = refl; piece = refl; loss = refl; failure = refl; stays = λ was. refl; try = refl }; carries_none = λ n i. refl; refuses = λ s l. refl; breaks = λ u k l. refl; plain = record { arrives = λ before. refl; stays = λ links. refl } })
-entry-step service log entry.Over tables short are happens covers ours = nothing service log entry.Over tables happens
-    (record { still = record { got = refl; wrote = refl; piece = refl; loss = refl; failure = refl; stays = λ was. refl; try = refl }; carries_none = λ n i. refl; refuses = λ s l. refl; breaks = λ u k l. refl; plain = record { arrives = λ before. refl; stays = λ links. refl } })
-entry-step service log (entry.Named link) tables short are happens covers ours = nothing service log (entry.Named link) tables happens
-    (record { still = record { got = refl; wrote = refl; piece = refl; loss = refl; failure = refl; stays = λ was. refl; try = refl }; carries_none = λ n i. refl; refuses = λ s l. refl; breaks = λ u k l. refl; plain = record { arrives = λ before. refl; stays = λ links. refl } })
-entry-step service log entry.NoneNamed tables short are happens covers ours = nothing service log entry.NoneNamed tables happens
-    (record { still = record { got = refl; wrote = refl; piece = refl; loss = refl; failure = refl; stays = λ was. refl; try = refl }; carries_none = λ n i. refl; refuses = λ s l. refl; breaks = λ u k l. refl; plain = record { arrives = λ before. refl; stays = λ links. refl } })
-entry-step service log (entry.AcceptNothing port) tables short are happens covers ours = nothing service log (entry.AcceptNothing port) tables happens
-    (record { still = record { got = refl; wrote = refl; piece = refl; loss = refl; failure = refl; stays = λ was. refl; try = refl }; carries_none = λ n i. refl; refuses = λ s l. refl; breaks = λ u k l. refl; plain = record { arrives = λ before. refl; stays = λ links. refl } })
-entry-step service log (entry.AcceptFailed port) tables short are happens covers ours = nothing service log (entry.AcceptFailed port) tables happens
-    (record { still = record { got = refl; wrote = refl; piece = refl; loss = refl; failure = refl; stays = λ was. refl; try = refl }; carries_none = λ n i. refl; refuses = λ s l. refl; breaks = λ u k l. refl; plain = record { arrives = λ before. refl; stays = λ links. refl } })
-entry-step service log (entry.ReadNothing link) tables short are happens covers ours = nothing service log (entry.ReadNothing link) tables happens
-    (record { still = record { got = refl; wrote = refl; piece = refl; loss = refl; failure = refl; stays = λ was. refl; try = refl }; carries_none = λ n i. refl; refuses = λ s l. refl; breaks = λ u k l. refl; plain = record { arrives = λ before. refl; stays = λ links. refl } })
-entry-step service log (entry.WriteNothing link) tables short are happens covers ours = nothing service log (entry.WriteNothing link) tables happens
-    (record { still = record { got = refl; wrote = refl; piece = refl; loss = refl; failure = refl; stays = λ was. refl; try = refl }; carries_none = λ n i. refl; refuses = λ s l. refl; breaks = λ u k l. refl; plain = record { arrives = λ before. refl; stays = λ links. refl } })
-entry-step service log (entry.Exec link) tables short are happens covers ours = nothing service log (entry.Exec link) tables happens
-    (record { still = record { got = refl; wrote = refl; piece = refl; loss = refl; failure = refl; stays = λ was. refl; try = refl }; carries_none = λ n i. refl; refuses = λ s l. refl; breaks = λ u k l. refl; plain = record { arrives = λ before. refl; stays = λ links. refl } })
-entry-step service log (entry.Drop link) tables short are happens covers ours = nothing service log (entry.Drop link) tables happens
-    (record { still = record { got = refl; wrote = refl; piece = refl; loss = refl; failure = refl; stays = λ was. refl; try = refl }; carries_none = λ n i. refl; refuses = λ s l. refl; breaks = λ u k l. refl; plain = record { arrives = λ before. refl; stays = λ links. refl } })
+entry-step service log e tables short are happens covers ours = nothing service log e tables happens
+    (record { mute = record { got = refl; wrote = refl; piece = refl; loss = refl; failure = refl }; stays = λ was. refl; try = refl; carries_none = λ n i. refl; refuses = λ s l. refl; breaks = λ u k l. refl; plain = record { arrives = λ before. refl; stays = λ links. refl } })
 
 -- Before the first entry nothing stands.
 pub starts : (service : Service) → Sound service [] None no_tables
@@ -129,9 +79,6 @@ starts service = record {
   here = refl;
   counts = counts-all [] tt;
   seats = λ n seat is. absurd (let none : None ≡ Some seat = is in cc);
-  serves = λ n seat is. absurd (let none : None ≡ Some seat = is in cc);
-  unfinished = λ n seat is. absurd (let none : None ≡ Some seat = is in cc);
-  numbered = λ n seat is. absurd (let none : None ≡ Some seat = is in cc);
   numbers = λ link client is. absurd (let none : None ≡ Some client = is in cc);
   unlent = λ link client is. absurd (let none : None ≡ Some client = is in cc);
   unclosing = λ link is. absurd (let none : [] ≡ link ∷ [] = is in cc);
@@ -165,9 +112,8 @@ goes-on service short log e stands follows ours covers formed keeps = subst (Sou
 
 -- What the router knows stands for each log of its own.
 pub sound-after : (setup : Setup) (log : Log) → setup.limit ≤ most_command → AllLawful MayFollow log → AllLawful (IsOurs setup) log → (service : Service) × Sound service log None (tables_after setup log)
-sound-after setup log short follow ours = (service, (stands-behind service [] log (goes-on service short) refl (formed-so setup log) (record { told = tt; sound = starts service; counts = refl; keeps = keeps-none service }) follow ours).sound) where
-  service : Service
-  service = service-of setup log
+sound-after setup log short follow ours = (let service : Service = service-of setup log in
+    (service, (stands-behind service [] log (goes-on service short) refl (formed-so setup log) (record { told = tt; sound = starts service; counts = refl; keeps = keeps-none service }) follow ours).sound))
 
 -- A log whose entries are the router's keeps the promises.
 pub keeps : (setup : Setup) (log : Log) → setup.limit ≤ most_command → AllLawful MayFollow log → AllLawful (IsOurs setup) log → Serves setup log

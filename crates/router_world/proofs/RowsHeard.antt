@@ -1,36 +1,25 @@
 -- A link to a server as a piece is heard there.
-use Rattle.std.specs.Prelude.{◌≡◌, ◌≢◌, ◌⊎◌, ◌≤◌, ◌<◌, ℕ, zero, suc, ◌+◌, ◌-◌, Bool, true, false, not, nat_eq, ◌&&◌, cond, List, [], ◌∷◌, ◌++◌, length, take, drop, Option, Some, None, refl}
-use Rattle.std.specs.List.{list_all, list_any}
-use Rattle.std.proofs.Common.{sym, ◌∙◌, ap, subst, append-nil, arith, length-append, length-drop, take_all, take-append-drop, inl, inr}
-use Rattle.std.proofs.lemmas.Bool.{and_parts, and_from, and_left, and_right, and_cases}
-use Rattle.std.proofs.lemmas.List.{length_push, nil_from_length}
-use Rattle.std.proofs.lemmas.List.Folds.{list_all-append}
-use Rattle.mx_base.specs.Fields.{AreBytes}
+use Rattle.router_world.proofs.Names.{common_steps, ◌≡◌, ◌≢◌, ◌⊎◌, ◌≤◌, ◌<◌, ℕ, zero, suc, ◌+◌, ◌-◌, Bool, true, false, not, nat_eq, ◌&&◌, cond, List, [], ◌∷◌}
+use Rattle.router_world.proofs.Names.{◌++◌, length, take, drop, Option, Some, None, refl, list_all, list_any, sym, ◌∙◌, ap, subst, append-nil, arith}
+use Rattle.router_world.proofs.Names.{length-append, length-drop, take_all, take-append-drop, inl, inr, and_parts, and_from, and_right, nil_from_length}
+use Rattle.router_world.proofs.Names.{list_all-append, AreBytes, nat_eq-true, nat_eq-false, State, Ending, Going, Ended, Failed, run, renumbered, Account, Goes}
+use Rattle.router_world.proofs.Names.{LogsIn, Fails, said_of, opening-got, BackendState, Hears, GotFault, got_of, TellsOf, Handed, BackendFault, LoggedIn, Part}
+use Rattle.router_world.proofs.Names.{bad_server_bytes, is_empty, has_failed, Command, most_command, whole_by, is_whole, is_command, commands_in, Forms, Answer}
+use Rattle.router_world.proofs.Names.{spelt, Replies, Never, command_reply, cut, replies_by, Clean, Spoilt, stands, standing_in, reply_at, behind_replies}
+use Rattle.router_world.proofs.Names.{some-same, form_at, bytes_in, commands_said, replies_said, standing_said, reply_said, is_of, begun_by, begun, IsMessage}
+use Rattle.router_world.proofs.Names.{IsHanded, IsEntering, IsHearing, HearsPart, IsInside}
+use Rattle.std.proofs.lemmas.Bool.{and_left, and_cases}
+use Rattle.std.proofs.lemmas.List.{length_push}
 use Rattle.packet_frame.specs.Packets.{first_message}
-use Rattle.packet_frame.specs.PacketLaws.{nat_eq-true, nat_eq-false}
-use Rattle.reply_track.specs.declared.place.State.{State}
-use Rattle.reply_track.specs.Runs.{Ending, Going, Ended, Failed, run, renumbered}
-use Rattle.server_side.specs.Account.{Account}
-use Rattle.server_side.specs.Login.{Opening, Goes, LogsIn, Fails, said_of, opening}
-use Rattle.server_side.specs.Laws.{opening-got, opening-said}
-use Rattle.server_side.specs.Backend.{BackendState}
-use Rattle.server_side.specs.Hearing.{Got, Hears, Fails as GotFault, bad, reply_by, reply_begun, reply_due, hears, got_of}
-use Rattle.server_side.specs.Reading.{HasFailed, TellsOf}
-use Rattle.server_side.specs.declared.command.Command.{Command as Handed}
-use Rattle.server_side.specs.declared.fault.BackendFault.{BackendFault}
+use Rattle.server_side.specs.Login.{Opening, opening}
+use Rattle.server_side.specs.Laws.{opening-said}
+use Rattle.server_side.specs.Hearing.{Got, reply_by, reply_begun, reply_due, hears}
+use Rattle.server_side.specs.Reading.{HasFailed}
 use Rattle.server_side.specs.declared.fault.BackendFault.TheVariants.{BadBytes}
-use Rattle.server_side.specs.declared.hear.Heard.TheVariants.{Quiet, LoggedIn, Part, Whole as WholeReply}
-use Rattle.client_session.specs.Errors.{bad_server_bytes}
-use Rattle.exchange.specs.Logins.{is_empty, has_failed}
-use Rattle.exchange.specs.Commands.{Command, most_command, whole_by, is_whole, is_command, commands_in}
-use Rattle.exchange.specs.Replies.{Forms, Answer, spelt, Replies, Never, command_reply, cut, replies_by, Clean, Spoilt, stands, standing_in, reply_at}
-use Rattle.promises.specs.Follows.{behind_replies}
-use Rattle.promises.proofs.InWork.{some-same}
-use Rattle.router_world.specs.Rows.{form_at, bytes_in, commands_said, replies_said, standing_said, reply_said, is_of, begun_by, begun, IsMessage, IsHanded, IsEntering, IsHearing, HearsPart, IsInside}
+use Rattle.server_side.specs.declared.hear.Heard.TheVariants.{Quiet, Whole as WholeReply}
 use Rattle.router_world.proofs.RowsPieces.{has_bytes, empty-not, behind-all, whole-spelt, part-spelt}
-use Rattle.router_world.proofs.RowsReplies.{IsPiece, IsWholeReply, hearing-more, whole-reply, never-reply}
-use Rattle.router_world.proofs.RowsSaid.{Stands, stands-at, stands-more, opening-more, replies-both, standing-of, reply-of, reply-open, reply-there, stands-answered}
-use Rattle.router_world.proofs.RowsWritten.{begun-some}
+use Rattle.router_world.proofs.RowsStanding.{IsPiece, IsWholeReply, hearing-more, whole-reply, never-reply, Stands, stands-at, stands-more, opening-more}
+use Rattle.router_world.proofs.RowsStanding.{replies-both, standing-of, reply-of, reply-open, reply-there, stands-answered, begun-some}
 
 -- A login goes on, is there, or fails.
 abbrev pub TellsEntering : Forms → Account → (heard : List ℕ) → (pieces : List Command) → Got → Type 0
@@ -83,33 +72,29 @@ heard-entering forms user heard piece pieces backend at some = by (got_of piece 
 
   by : (got : Got) → TellsOf got backend (bytes_in pieces) (heard ++ piece) → TellsEntering forms user (heard ++ piece) pieces got
   by (Hears Quiet left) tells = quiet-at user heard piece pieces backend left at tells
-  by (Hears LoggedIn left) tells = (inside, tells.0.idle) where
-    said : List ℕ
-    said = bytes_in pieces ++ left.own
-
-    is : opening user (heard ++ piece) ≡ LogsIn said []
-    is = ap (λ (u : Account). opening u (heard ++ piece)) (sym (tells.1 ∙ at.account)) ∙ ap (opening left.account) (sym (append-nil (heard ++ piece))) ∙ tells.0.is []
-
-    inside : IsInside forms user (heard ++ piece) pieces left
-    inside = record {
-      account = tells.1 ∙ at.account;
-      stage = tells.0.stage;
-      said = said;
-      past = [];
-      part = [];
-      is = is;
-      written = inl refl;
-      others = [];
-      wholes = refl;
-      commands = ap commands_in (behind-all (length said) pieces some (let sum : length (bytes_in pieces ++ left.own) ≡ length (bytes_in pieces) + length left.own = length-append (bytes_in pieces) left.own in omega arith)) ∙ sym (ap begun tells.0.idle);
-      command = subst (IsHanded forms) (sym tells.0.idle) tt;
-      new = λ n i any. absurd (let no : false ≡ true = sym (ap (λ (o : Option Handed). list_any (is_of n i) (begun o)) tells.0.idle) ∙ any in cc);
-      whole = [];
-      replies = refl;
-      all = refl;
-      unasked = λ none. refl;
-      partly = subst (λ (o : Option Handed). HearsPart o [] left.reply) (sym tells.0.idle) refl;
-    }
+  by (Hears LoggedIn left) tells = (let said : List ℕ = bytes_in pieces ++ left.own in
+      let is : opening user (heard ++ piece) ≡ LogsIn said [] =
+      ap (λ (u : Account). opening u (heard ++ piece)) (sym (tells.1 ∙ at.account)) ∙ ap (opening left.account) (sym (append-nil (heard ++ piece))) ∙ tells.0.is [] in
+      let inside : IsInside forms user (heard ++ piece) pieces left = record {
+        account = tells.1 ∙ at.account;
+        stage = tells.0.stage;
+        said = said;
+        past = [];
+        part = [];
+        is = is;
+        written = inl refl;
+        others = [];
+        wholes = refl;
+        commands = ap commands_in (behind-all (length said) pieces some (let sum : length (bytes_in pieces ++ left.own) ≡ length (bytes_in pieces) + length left.own = length-append (bytes_in pieces) left.own in omega arith)) ∙ sym (ap begun tells.0.idle);
+        command = subst (IsHanded forms) (sym tells.0.idle) tt;
+        new = λ n i any. absurd (let no : false ≡ true = sym (ap (λ (o : Option Handed). list_any (is_of n i) (begun o)) tells.0.idle) ∙ any in cc);
+        whole = [];
+        replies = refl;
+        all = refl;
+        unasked = λ none. refl;
+        partly = subst (λ (o : Option Handed). HearsPart o [] left.reply) (sym tells.0.idle) refl;
+      } in
+      (inside, tells.0.idle))
   by (Hears (Part used) left) tells = tells
   by (Hears (WholeReply used) left) tells = tells
   by (GotFault fault) tells = failed-by forms user (heard ++ piece) pieces fault (opening user (heard ++ piece)) refl (subst (λ (u : Account). HasFailed (opening u (heard ++ piece)) fault) at.account tells) some fits
@@ -179,156 +164,137 @@ hearing : (forms : Forms) (user : Account) (heard piece : List ℕ) (pieces : Li
 hearing forms user heard piece pieces backend command asked = subst (λ (o : Option Handed). HearsPart o asked.at.part backend.reply) asked.is asked.at.partly
 
 formed : (forms : Forms) (user : Account) (heard piece : List ℕ) (pieces : List Command) (backend : BackendState) (command : Handed) → IsAsked forms user heard piece pieces backend command → forms command.tag ≡ form_at command.bytes
-formed forms user heard piece pieces backend command asked = message.form where
-  message : IsMessage forms command
-  message = subst (IsHanded forms) asked.is asked.at.command
+formed forms user heard piece pieces backend command asked = grind (arith, common_steps)
 
 last-begun : (forms : Forms) (user : Account) (heard piece : List ℕ) (pieces : List Command) (backend : BackendState) (command : Handed) → IsAsked forms user heard piece pieces backend command → begun backend.command ≡ sent_of command ∷ []
 last-begun forms user heard piece pieces backend command asked = ap begun asked.is ∙ begun-some command asked.sent
 
 begun-stands : (forms : Forms) (user : Account) (heard piece : List ℕ) (pieces : List Command) (backend : BackendState) (command : Handed) (asked : IsAsked forms user heard piece pieces backend command)
     → Stands forms user (heard ++ piece) pieces (sent_of command ∷ []) (asked.at.part ++ piece)
-begun-stands forms user heard piece pieces backend command asked =
-    subst (λ l. Stands forms user (heard ++ piece) pieces l (asked.at.part ++ piece)) (last-begun forms user heard piece pieces backend command asked)
-    (stands-more forms user heard piece pieces (begun backend.command) asked.at.part (stands-at forms user heard pieces backend asked.at))
+begun-stands forms user heard piece pieces backend command asked = grind (arith, common_steps, last-begun, stands-more, stands-at)
 
 -- the reply goes on
 part-at : (forms : Forms) (user : Account) (heard piece : List ℕ) (pieces : List Command) (backend : BackendState) (command : Handed) (state : State) → IsAsked forms user heard piece pieces backend command → run command.tracker.state piece ≡ Going state
     → IsGoing forms user (heard ++ piece) pieces backend (record backend { command = Some (record command { tracker = record { state = state } }); reply = backend.reply ++ renumbered command.tracker.state piece })
-part-at forms user heard piece pieces backend command state asked goes = record { command = command; was = asked.is; sent = asked.sent; state = state; is = refl; inside = inside } where
-  now : Handed
-  now = record command { tracker = record { state = state } }
-
-  heard_of : IsHearing command asked.at.part backend.reply
-  heard_of = hearing forms user heard piece pieces backend command asked
-
-  handed : IsMessage forms command
-  handed = subst (IsHanded forms) asked.is asked.at.command
-
-  same : begun (Some now) ≡ begun backend.command
-  same = begun-some now asked.sent ∙ sym (last-begun forms user heard piece pieces backend command asked)
-
-  inside : IsInside forms user (heard ++ piece) pieces (record backend { command = Some now; reply = backend.reply ++ renumbered command.tracker.state piece })
-  inside = record {
-    account = asked.at.account;
-    stage = asked.at.stage;
-    said = asked.at.said;
-    past = asked.at.past;
-    part = asked.at.part ++ piece;
-    is = opening-more user heard piece asked.at.said asked.at.past asked.at.part asked.at.is;
-    written = asked.at.written;
-    others = asked.at.others;
-    wholes = asked.at.wholes;
-    commands = asked.at.commands ∙ ap (λ cs. asked.at.others ++ cs) (sym same);
-    command = record { payload = handed.payload; spelt = handed.spelt; short = handed.short; sent = handed.sent; form = handed.form };
-    new = λ n i any. asked.at.new n i (sym (ap (list_any (is_of n i)) same) ∙ any);
-    whole = asked.at.whole;
-    replies = asked.at.replies;
-    all = asked.at.all;
-    unasked = λ none. absurd (let no : sent_of command ∷ [] ≡ [] = sym (begun-some now asked.sent) ∙ none in cc);
-    partly = hearing-more command asked.at.part backend.reply piece state heard_of asked.are goes;
-  }
+part-at forms user heard piece pieces backend command state asked goes = (let now : Handed = record command { tracker = record { state = state } } in
+    let heard_of : IsHearing command asked.at.part backend.reply = hearing forms user heard piece pieces backend command asked in
+    let handed : IsMessage forms command = subst (IsHanded forms) asked.is asked.at.command in
+    let same : begun (Some now) ≡ begun backend.command = begun-some now asked.sent ∙ sym (last-begun forms user heard piece pieces backend command asked) in
+    let inside : IsInside forms user (heard ++ piece) pieces (record backend { command = Some now; reply = backend.reply ++ renumbered command.tracker.state piece }) =
+    record {
+      account = asked.at.account;
+      stage = asked.at.stage;
+      said = asked.at.said;
+      past = asked.at.past;
+      part = asked.at.part ++ piece;
+      is = opening-more user heard piece asked.at.said asked.at.past asked.at.part asked.at.is;
+      written = asked.at.written;
+      others = asked.at.others;
+      wholes = asked.at.wholes;
+      commands = asked.at.commands ∙ ap (λ cs. asked.at.others ++ cs) (sym same);
+      command = record { payload = handed.payload; spelt = handed.spelt; short = handed.short; sent = handed.sent; form = handed.form };
+      new = λ n i any. asked.at.new n i (sym (ap (list_any (is_of n i)) same) ∙ any);
+      whole = asked.at.whole;
+      replies = asked.at.replies;
+      all = asked.at.all;
+      unasked = λ none. absurd (let no : sent_of command ∷ [] ≡ [] = sym (begun-some now asked.sent) ∙ none in cc);
+      partly = hearing-more command asked.at.part backend.reply piece state heard_of asked.are goes;
+    } in
+    record { command = command; was = asked.is; sent = asked.sent; state = state; is = refl; inside = inside })
 
 -- no reply goes on so
 broken-at : (forms : Forms) (user : Account) (heard piece : List ℕ) (pieces : List Command) (backend : BackendState) (command : Handed) (place : ℕ) (asked : IsAsked forms user heard piece pieces backend command)
     → command_reply forms (sent_of command) (asked.at.part ++ piece) ≡ Never place → IsBroken forms user (heard ++ piece) pieces backend (BadBytes place)
-broken-at forms user heard piece pieces backend command place asked never = by (begun-stands forms user heard piece pieces backend command asked) where
-  bytes : List ℕ
-  bytes = asked.at.part ++ piece
-
-  last : replies_by (command_reply forms) (sent_of command ∷ []) bytes ≡ record { whole = []; rest = bytes; bad = Some place }
-  last = ap (λ h. cut h bytes (replies_by (command_reply forms) [])) never
-
-  by : Stands forms user (heard ++ piece) pieces (sent_of command ∷ []) bytes → IsBroken forms user (heard ++ piece) pieces backend (BadBytes place)
-  by now = record {
-    place = place;
-    bad_bytes = refl;
-    told = λ other n i lost same sent here. reply-of forms user (heard ++ piece) pieces (sent_of command) bytes now n i lost (ap (λ (h : Handed). is_command n i h.tag) (some-same command other (sym asked.is ∙ same)) ∙ here)
-        ∙ ap (λ (r : Replies). reply_at (length now.others) (behind_replies now.whole r) lost) last ∙ reply-open now.whole bytes (Some place) (length now.others) lost now.all;
-    spoilt = standing-of forms user (heard ++ piece) pieces (sent_of command ∷ []) bytes now ∙ ap (λ (r : Replies). stands (now.others ++ sent_of command ∷ []) (behind_replies now.whole r)) last;
-  }
+broken-at forms user heard piece pieces backend command place asked never = (let bytes : List ℕ = asked.at.part ++ piece in
+    let last : replies_by (command_reply forms) (sent_of command ∷ []) bytes ≡ record { whole = []; rest = bytes; bad = Some place } =
+    ap (λ h. cut h bytes (replies_by (command_reply forms) [])) never in
+    let by : Stands forms user (heard ++ piece) pieces (sent_of command ∷ []) bytes → IsBroken forms user (heard ++ piece) pieces backend (BadBytes place) =
+    λ now. record {
+      place = place;
+      bad_bytes = refl;
+      told = λ other n i lost same sent here. reply-of forms user (heard ++ piece) pieces (sent_of command) bytes now n i lost (ap (λ (h : Handed). is_command n i h.tag) (some-same command other (sym asked.is ∙ same)) ∙ here)
+          ∙ ap (λ (r : Replies). reply_at (length now.others) (behind_replies now.whole r) lost) last ∙ reply-open now.whole bytes (Some place) (length now.others) lost now.all;
+      spoilt = standing-of forms user (heard ++ piece) pieces (sent_of command ∷ []) bytes now ∙ ap (λ (r : Replies). stands (now.others ++ sent_of command ∷ []) (behind_replies now.whole r)) last;
+    } in
+    by (begun-stands forms user heard piece pieces backend command asked))
 
 -- the reply is whole
 replied-at : (forms : Forms) (user : Account) (heard piece : List ℕ) (pieces : List Command) (backend : BackendState) (command : Handed) (asked : IsAsked forms user heard piece pieces backend command) (reply : Answer) (rest : List ℕ)
     → IsWholeReply forms command asked.at.part backend.reply piece reply rest
     → IsReplied forms user (heard ++ piece) pieces backend (record backend { command = None; reply = backend.reply ++ take (length piece - length rest) (renumbered command.tracker.state piece) }) (nat_eq (length piece - length rest) (length piece))
-replied-at forms user heard piece pieces backend command asked reply rest whole = record {
-  command = command;
-  is = asked.is;
-  sent = asked.sent;
-  answer = reply;
-  reply = whole.handed;
-  idle = refl;
-  told = λ n i lost here. reply-of forms user (heard ++ piece) pieces c bytes now n i lost here ∙ ap (λ (r : Replies). reply_at (length now.others) (behind_replies now.whole r) lost) one ∙ reply-there now.whole reply rest (length now.others) lost now.all;
-  inside = inside;
-  spoilt = spoilt;
-} where
-  at : IsInside forms user heard pieces backend
-  at = asked.at
+replied-at forms user heard piece pieces backend command asked reply rest whole = (let wholly : command.sent ≡ length command.bytes → is_whole c ≡ true =
+    λ all. ap (λ bytes. whole_by (first_message most_command 0 bytes)) (take_all command.sent command.bytes (omega arith) ∙ handed.spelt) ∙ whole-spelt handed.payload handed.short in
+    let inside : (nat_eq command.sent (length command.bytes) && nat_eq used (length piece)) ≡ true → IsInside forms user (heard ++ piece) pieces (record backend { command = None; reply = backend.reply ++ take used (renumbered command.tracker.state piece) }) =
+    λ both. (let parts = and_parts (nat_eq command.sent (length command.bytes)) (nat_eq used (length piece)) both in
+    let ended : used ≡ length piece = nat_eq-true used (length piece) parts.1 in
+    let shorter : length rest < length piece = whole.shorter in
+    let empty : rest ≡ [] = nil_from_length rest (omega arith) in
+    let all : command.sent ≡ length command.bytes = nat_eq-true command.sent (length command.bytes) parts.0 in
+    record {
+      account = at.account;
+      stage = at.stage;
+      said = at.said;
+      past = at.past ++ bytes;
+      part = [];
+      is = opening-more user heard piece at.said at.past at.part at.is ∙ ap (LogsIn at.said) (sym (append-nil (at.past ++ bytes)));
+      written = at.written;
+      others = at.others ++ c ∷ [];
+      wholes = list_all-append is_whole at.others (c ∷ []) ∙ and_from (list_all is_whole at.others) (is_whole c && true) at.wholes (and_from (is_whole c) true (wholly all) refl);
+      commands = at.commands ∙ ap (λ l. at.others ++ l) (last-begun forms user heard piece pieces backend command asked) ∙ sym (append-nil (at.others ++ c ∷ []));
+      command = tt;
+      new = λ n i any. absurd (let no : false ≡ true = any in cc);
+      whole = at.whole ++ reply ∷ [];
+      replies = replies-both forms at.others (c ∷ []) at.past bytes at.whole at.replies at.all ∙ ap (behind_replies at.whole) one
+          ∙ ap (λ r. record { whole = at.whole ++ reply ∷ []; rest = r; bad = None }) empty;
+      all = length_push at.whole reply ∙ ap (λ n. n + 1) at.all ∙ sym (length_push at.others c);
+      unasked = λ none. refl;
+      partly = refl;
+    }) in
+    record {
+      command = command;
+      is = asked.is;
+      sent = asked.sent;
+      answer = reply;
+      reply = whole.handed;
+      idle = refl;
+      told = λ n i lost here. reply-of forms user (heard ++ piece) pieces c bytes now n i lost here ∙ ap (λ (r : Replies). reply_at (length now.others) (behind_replies now.whole r) lost) one ∙ reply-there now.whole reply rest (length now.others) lost now.all;
+      inside = inside;
+      spoilt = spoilt;
+    }) where
+      at : IsInside forms user heard pieces backend
+      at = asked.at
 
-  bytes : List ℕ
-  bytes = at.part ++ piece
+      bytes : List ℕ
+      bytes = at.part ++ piece
 
-  c : Command
-  c = sent_of command
+      c : Command
+      c = sent_of command
 
-  used : ℕ
-  used = length piece - length rest
+      used : ℕ
+      used = length piece - length rest
 
-  handed : IsMessage forms command
-  handed = subst (IsHanded forms) asked.is at.command
+      handed : IsMessage forms command
+      handed = subst (IsHanded forms) asked.is at.command
 
-  now : Stands forms user (heard ++ piece) pieces (c ∷ []) bytes
-  now = begun-stands forms user heard piece pieces backend command asked
+      now : Stands forms user (heard ++ piece) pieces (c ∷ []) bytes
+      now = begun-stands forms user heard piece pieces backend command asked
 
-  one : replies_by (command_reply forms) (c ∷ []) bytes ≡ record { whole = reply ∷ []; rest = rest; bad = None }
-  one = ap (λ h. cut h bytes (replies_by (command_reply forms) [])) (whole.said c refl)
+      one : replies_by (command_reply forms) (c ∷ []) bytes ≡ record { whole = reply ∷ []; rest = rest; bad = None }
+      one = ap (λ h. cut h bytes (replies_by (command_reply forms) [])) (whole.said c refl)
 
-  wholly : command.sent ≡ length command.bytes → is_whole c ≡ true
-  wholly all = ap (λ bytes. whole_by (first_message most_command 0 bytes)) (take_all command.sent command.bytes (omega arith) ∙ handed.spelt) ∙ whole-spelt handed.payload handed.short
-
-  inside : (nat_eq command.sent (length command.bytes) && nat_eq used (length piece)) ≡ true → IsInside forms user (heard ++ piece) pieces (record backend { command = None; reply = backend.reply ++ take used (renumbered command.tracker.state piece) })
-  inside both = (let parts = and_parts (nat_eq command.sent (length command.bytes)) (nat_eq used (length piece)) both in
-      let ended : used ≡ length piece = nat_eq-true used (length piece) parts.1 in
-      let shorter : length rest < length piece = whole.shorter in
-      let empty : rest ≡ [] = nil_from_length rest (omega arith) in
-      let all : command.sent ≡ length command.bytes = nat_eq-true command.sent (length command.bytes) parts.0 in
-      record {
-        account = at.account;
-        stage = at.stage;
-        said = at.said;
-        past = at.past ++ bytes;
-        part = [];
-        is = opening-more user heard piece at.said at.past at.part at.is ∙ ap (LogsIn at.said) (sym (append-nil (at.past ++ bytes)));
-        written = at.written;
-        others = at.others ++ c ∷ [];
-        wholes = list_all-append is_whole at.others (c ∷ []) ∙ and_from (list_all is_whole at.others) (is_whole c && true) at.wholes (and_from (is_whole c) true (wholly all) refl);
-        commands = at.commands ∙ ap (λ l. at.others ++ l) (last-begun forms user heard piece pieces backend command asked) ∙ sym (append-nil (at.others ++ c ∷ []));
-        command = tt;
-        new = λ n i any. absurd (let no : false ≡ true = any in cc);
-        whole = at.whole ++ reply ∷ [];
-        replies = replies-both forms at.others (c ∷ []) at.past bytes at.whole at.replies at.all ∙ ap (behind_replies at.whole) one
-            ∙ ap (λ r. record { whole = at.whole ++ reply ∷ []; rest = r; bad = None }) empty;
-        all = length_push at.whole reply ∙ ap (λ n. n + 1) at.all ∙ sym (length_push at.others c);
-        unasked = λ none. refl;
-        partly = refl;
-      })
-
-  spoilt : (nat_eq command.sent (length command.bytes) && nat_eq used (length piece)) ≡ false → standing_said forms user (heard ++ piece) pieces ≡ Spoilt
-  spoilt either = standing-of forms user (heard ++ piece) pieces (c ∷ []) bytes now ∙ ap (λ (r : Replies). stands (now.others ++ c ∷ []) (behind_replies now.whole r)) one
-      ∙ stands-answered (now.others ++ c ∷ []) (now.whole ++ reply ∷ []) rest (let a = length_push now.others c in let b = length_push now.whole reply in let same = now.all in omega arith)
-      ∙ ap (λ b. cond b Clean Spoilt) (unclean (and_cases (nat_eq command.sent (length command.bytes)) (nat_eq used (length piece)) either)) where
-        unclean : (nat_eq command.sent (length command.bytes) ≡ false) ⊎ (nat_eq used (length piece) ≡ false) → (is_empty rest && list_all is_whole (now.others ++ c ∷ [])) ≡ false
-        unclean (inr more) = and_left (is_empty rest) (list_all is_whole (now.others ++ c ∷ [])) (empty-not rest (let other : used ≢ length piece = nat_eq-false used (length piece) more in omega arith))
-        unclean (inl unsent) = and_right (is_empty rest) (list_all is_whole (now.others ++ c ∷ []))
-            (list_all-append is_whole now.others (c ∷ []) ∙ and_right (list_all is_whole now.others) (is_whole c && true) (and_left (is_whole c) true part)) where
-              less : command.sent ≢ length command.bytes
-              less = nat_eq-false command.sent (length command.bytes) unsent
-
-              part : is_whole c ≡ false
-              part = part-spelt handed.payload (take command.sent command.bytes) (drop command.sent command.bytes) (take-append-drop command.sent command.bytes ∙ handed.spelt)
-                  (let size : length (drop command.sent command.bytes) ≡ length command.bytes - command.sent = length-drop command.sent command.bytes in let most : command.sent ≤ length command.bytes = handed.sent in
-                  let other : command.sent ≢ length command.bytes = less in omega arith) handed.short
+      spoilt : (nat_eq command.sent (length command.bytes) && nat_eq used (length piece)) ≡ false → standing_said forms user (heard ++ piece) pieces ≡ Spoilt
+      spoilt either = standing-of forms user (heard ++ piece) pieces (c ∷ []) bytes now ∙ ap (λ (r : Replies). stands (now.others ++ c ∷ []) (behind_replies now.whole r)) one
+          ∙ stands-answered (now.others ++ c ∷ []) (now.whole ++ reply ∷ []) rest (let a = length_push now.others c in let b = length_push now.whole reply in let same = now.all in omega arith)
+          ∙ ap (λ b. cond b Clean Spoilt) (unclean (and_cases (nat_eq command.sent (length command.bytes)) (nat_eq used (length piece)) either)) where
+            unclean : (nat_eq command.sent (length command.bytes) ≡ false) ⊎ (nat_eq used (length piece) ≡ false) → (is_empty rest && list_all is_whole (now.others ++ c ∷ [])) ≡ false
+            unclean (inr more) = and_left (is_empty rest) (list_all is_whole (now.others ++ c ∷ [])) (empty-not rest (let other : used ≢ length piece = nat_eq-false used (length piece) more in omega arith))
+            unclean (inl unsent) = (let less : command.sent ≢ length command.bytes = nat_eq-false command.sent (length command.bytes) unsent in
+                let part : is_whole c ≡ false =
+                part-spelt handed.payload (take command.sent command.bytes) (drop command.sent command.bytes) (take-append-drop command.sent command.bytes ∙ handed.spelt)
+                (let size : length (drop command.sent command.bytes) ≡ length command.bytes - command.sent = length-drop command.sent command.bytes in let most : command.sent ≤ length command.bytes = handed.sent in
+                let other : command.sent ≢ length command.bytes = less in omega arith) handed.short in
+                and_right (is_empty rest) (list_all is_whole (now.others ++ c ∷ []))
+                (list_all-append is_whole now.others (c ∷ []) ∙ and_right (list_all is_whole now.others) (is_whole c && true) (and_left (is_whole c) true part)))
 
 -- A piece comes, which isn't empty.
 pub heard-inside : (forms : Forms) (user : Account) (heard piece : List ℕ) (pieces : List Command) (backend : BackendState) → IsInside forms user heard pieces backend → IsPiece piece → TellsInside forms user (heard ++ piece) pieces backend (length piece) (got_of piece backend)
@@ -348,48 +314,3 @@ heard-inside forms user heard piece pieces backend at some = subst (TellsInside 
   asked : (o : Option Handed) → backend.command ≡ o → TellsInside forms user (heard ++ piece) pieces backend (length piece) (reply_due o piece backend)
   asked None is = unasked-at forms user heard piece pieces backend at some.some (ap begun is)
   asked (Some command) is = by-sent command is command.sent refl
-
--- By what a piece tells, of a login:
-pub heard-quiet : (user : Account) (heard piece : List ℕ) (pieces : List Command) (backend left : BackendState) → IsEntering user heard pieces backend → got_of piece backend ≡ Hears Quiet left → IsEntering user (heard ++ piece) pieces left
-heard-quiet user heard piece pieces backend left at is =
-    quiet-at user heard piece pieces backend left at (subst (λ (got : Got). TellsOf got backend (bytes_in pieces) (heard ++ piece)) is (opening-got backend piece heard (bytes_in pieces) at.login))
-
-pub heard-logged-in : (forms : Forms) (user : Account) (heard piece : List ℕ) (pieces : List Command) (backend left : BackendState) → IsEntering user heard pieces backend → list_all has_bytes pieces ≡ true → got_of piece backend ≡ Hears LoggedIn left
-    → IsInside forms user (heard ++ piece) pieces left × (left.command ≡ None)
-heard-logged-in forms user heard piece pieces backend left at some is = subst (TellsEntering forms user (heard ++ piece) pieces) is (heard-entering forms user heard piece pieces backend at some)
-
-pub heard-failure : (forms : Forms) (user : Account) (heard piece : List ℕ) (pieces : List Command) (backend : BackendState) (fault : BackendFault) → IsEntering user heard pieces backend → list_all has_bytes pieces ≡ true → got_of piece backend ≡ GotFault fault
-    → (has_failed (opening user (heard ++ piece)) ≡ true) × (standing_said forms user (heard ++ piece) pieces ≡ Spoilt)
-heard-failure forms user heard piece pieces backend fault at some is = subst (TellsEntering forms user (heard ++ piece) pieces) is (heard-entering forms user heard piece pieces backend at some)
-
--- and inside.
-pub heard-part : (forms : Forms) (user : Account) (heard piece : List ℕ) (pieces : List Command) (backend left : BackendState) (used : ℕ) → IsInside forms user heard pieces backend → IsPiece piece → got_of piece backend ≡ Hears (Part used) left
-    → IsGoing forms user (heard ++ piece) pieces backend left
-heard-part forms user heard piece pieces backend left used at some is = subst (TellsInside forms user (heard ++ piece) pieces backend (length piece)) is (heard-inside forms user heard piece pieces backend at some)
-
-pub heard-whole : (forms : Forms) (user : Account) (heard piece : List ℕ) (pieces : List Command) (backend left : BackendState) (used : ℕ) → IsInside forms user heard pieces backend → IsPiece piece → got_of piece backend ≡ Hears (WholeReply used) left
-    → IsReplied forms user (heard ++ piece) pieces backend left (nat_eq used (length piece))
-heard-whole forms user heard piece pieces backend left used at some is = subst (TellsInside forms user (heard ++ piece) pieces backend (length piece)) is (heard-inside forms user heard piece pieces backend at some)
-
-pub heard-bad : (forms : Forms) (user : Account) (heard piece : List ℕ) (pieces : List Command) (backend : BackendState) (fault : BackendFault) → IsInside forms user heard pieces backend → IsPiece piece → got_of piece backend ≡ GotFault fault
-    → IsBroken forms user (heard ++ piece) pieces backend fault
-heard-bad forms user heard piece pieces backend fault at some is = subst (TellsInside forms user (heard ++ piece) pieces backend (length piece)) is (heard-inside forms user heard piece pieces backend at some)
-
--- the error in the reply's place
-pub heard-told : (forms : Forms) (user : Account) (heard piece : List ℕ) (pieces : List Command) (backend : BackendState) (place : ℕ) (command : Handed) (n i : ℕ) (lost : Bool) → IsInside forms user heard pieces backend → IsPiece piece → got_of piece backend ≡ GotFault (BadBytes place)
-    → backend.command ≡ Some command → 0 < command.sent → is_command n i command.tag ≡ true → reply_said forms n i user (heard ++ piece) pieces lost ≡ Some (bad_server_bytes place ∷ [])
-heard-told forms user heard piece pieces backend place command n i lost at some is same sent here = (let broken = heard-bad forms user heard piece pieces backend (BadBytes place) at some is in
-    let first : broken.place ≡ place = (let fault : BadBytes place ≡ BadBytes broken.place = broken.bad_bytes in cc) in
-    broken.told command n i lost same sent here ∙ ap (λ p. Some (bad_server_bytes p ∷ [])) first)
-
--- Where nothing is begun any piece is bad.
-pub unasked-bad : (forms : Forms) (user : Account) (heard piece : List ℕ) (pieces : List Command) (backend : BackendState) → IsInside forms user heard pieces backend → IsPiece piece → begun backend.command ≡ []
-    → (got_of piece backend ≡ GotFault (BadBytes 0)) × (standing_said forms user (heard ++ piece) pieces ≡ Spoilt)
-unasked-bad forms user heard piece pieces backend at some none = (got-inside forms user heard piece pieces backend at ∙ by backend.command none, (unasked-at forms user heard piece pieces backend at some.some none).spoilt) where
-  by-sent : (command : Handed) (sent : ℕ) → begun_by sent command ≡ [] → reply_begun sent piece command backend ≡ bad
-  by-sent command zero none = refl
-  by-sent command (suc sent) none = absurd (let no : record { tag = command.tag; bytes = take (suc sent) command.bytes } ∷ [] ≡ [] = none in cc)
-
-  by : (o : Option Handed) → begun o ≡ [] → reply_due o piece backend ≡ bad
-  by None none = refl
-  by (Some command) none = by-sent command command.sent none

@@ -1,76 +1,47 @@
 -- The pieces that were written on a link, and the commands in them.
-use Rattle.std.specs.Prelude.{◌≡◌, ◌≢◌, ◌≤◌, ◌<◌, ℕ, zero, suc, ◌+◌, ◌-◌, ◌/◌, ◌%◌, Bool, true, false, not, nat_le, ◌||◌, cond, List, [], ◌∷◌, ◌++◌, length, drop, fold, Option, Some, None, refl}
-use Rattle.std.specs.List.{list_all, list_any, filter_map, cons_option}
-use Rattle.std.proofs.Common.{sym, ◌∙◌, ap, append-nil, arith, length-append}
-use Rattle.std.proofs.lemmas.Bool.{leb-false, and_parts, and_from, and_right, or_parts, or_from}
-use Rattle.std.proofs.lemmas.List.Folds.{list_all-append}
-use Rattle.std.proofs.lemmas.List.Elements.{filter_map-append}
-use Rattle.std.proofs.lemmas.Grind.{flat_map-append}
-use Rattle.mx_base.specs.declared.names.LinkId.{LinkId}
-use Rattle.mx_base.specs.declared.tag.Tag.{Tag}
-use Rattle.mx_base.specs.declared.tag.Tag.TheVariants.{For, Sync, Prep, Mirror, End, Own, Reply}
-use Rattle.mx_wire.specs.Log.{Log, link_of, is_link, of_link}
-use Rattle.mx_wire.specs.Tells.{Fits}
-use Rattle.mx_wire.specs.Moments.{AllLawful, lawful-each}
-use Rattle.mx_wire.specs.Growth.{same_number}
-use Rattle.mx_wire.specs.declared.entry.Entry.{Entry}
-use Rattle.mx_wire.specs.declared.entry.Entry.TheVariants.{Wrote}
-use Rattle.packet_frame.specs.Packets.{Framed, Found, Nothing, Whole, Faulty, first_message, spelling, longest}
-use Rattle.packet_frame.specs.Laws.{first_message-whole-more}
+use Rattle.router_world.proofs.Names.{common_steps, ◌≡◌, ◌≤◌, ◌<◌, ℕ, zero, suc, ◌+◌, ◌-◌, ◌/◌, ◌%◌, Bool, true, false, not, cond, List, [], ◌∷◌, ◌++◌, length}
+use Rattle.router_world.proofs.Names.{drop, fold, Option, Some, None, refl, list_all, list_any, filter_map, cons_option, sym, ◌∙◌, ap, append-nil, arith}
+use Rattle.router_world.proofs.Names.{length-append, and_parts, and_from, or_parts, list_all-append, filter_map-append, flat_map-append, LinkId, Tag, Log, Fits}
+use Rattle.router_world.proofs.Names.{AllLawful, lawful-each, Entry, Framed, Found, longest, first_message-whole-more, is_empty, Command, piece, pieces_of}
+use Rattle.router_world.proofs.Names.{most_command, whole_by, with_piece, commands_in, behind, place_in, piece_bytes, bytes_in, is_of}
+use Rattle.std.specs.Prelude.{nat_le}
+use Rattle.std.proofs.lemmas.Bool.{leb-false, or_from}
+use Rattle.packet_frame.specs.Packets.{Nothing, Whole, Faulty, first_message, spelling}
 use Rattle.packet_frame.specs.RoundTrip.{first_message-again}
-use Rattle.exchange.specs.Logins.{is_empty, is_loss, until_loss, sound_of}
-use Rattle.exchange.specs.Commands.{Command, piece, pieces_of, most_command, same_tag, whole_by, is_whole, joins, with_piece, commands_in, behind, is_command, place_in}
-use Rattle.router_world.specs.Rows.{piece_bytes, bytes_in, is_of}
+use Rattle.exchange.specs.Commands.{same_tag}
 
 -- a piece has a byte
 abbrev pub has_bytes : Command → Bool
 has_bytes piece = not (is_empty piece.bytes)
 
 some-bytes : (bytes : List ℕ) → not (is_empty bytes) ≡ true → 0 < length bytes
-some-bytes [] is = absurd (let no : false ≡ true = is in cc)
-some-bytes (b ∷ bytes) is = omega arith
+some-bytes bytes is = grind (arith, common_steps)
 
 bytes-some : (bytes : List ℕ) → 0 < length bytes → not (is_empty bytes) ≡ true
-bytes-some [] some = absurd (omega arith)
-bytes-some (b ∷ bytes) some = refl
+bytes-some bytes some = grind (arith, common_steps)
 
 pub empty-not : (bytes : List ℕ) → 0 < length bytes → is_empty bytes ≡ false
-empty-not [] some = absurd (omega arith)
-empty-not (b ∷ bytes) some = refl
-
-pub not-empty : (bytes : List ℕ) → bytes ≢ [] → 0 < length bytes
-not-empty [] some = absurd (some refl)
-not-empty (b ∷ bytes) some = omega arith
+empty-not bytes some = grind (arith, common_steps)
 
 -- No piece is empty, since no write of none is told.
 piece-some : (log : Log) (e : Entry) → Fits log e → list_all has_bytes (filter_map piece (e ∷ [])) ≡ true
-piece-some log (Wrote link tag bytes) fits = and_from (not (is_empty bytes)) true (bytes-some bytes fits.some) refl
-piece-some log _ fits = refl
+piece-some log e fits = grind (arith, common_steps, bytes-some)
 
 told-some : (log : Log) → AllLawful Fits log → list_all has_bytes (filter_map piece log) ≡ true
-told-some log told = lawful-each Fits (λ l. list_all has_bytes (filter_map piece l) ≡ true) log more refl told where
-  more : (l : Log) (e : Entry) → Fits l e → list_all has_bytes (filter_map piece l) ≡ true → list_all has_bytes (filter_map piece (l ++ e ∷ [])) ≡ true
-  more l e fits was = ap (list_all has_bytes) (filter_map-append piece l (e ∷ [])) ∙ list_all-append has_bytes (filter_map piece l) (filter_map piece (e ∷ []))
-      ∙ and_from (list_all has_bytes (filter_map piece l)) (list_all has_bytes (filter_map piece (e ∷ []))) was (piece-some l e fits)
+told-some log told = (let more : (l : Log) (e : Entry) → Fits l e → list_all has_bytes (filter_map piece l) ≡ true → list_all has_bytes (filter_map piece (l ++ e ∷ [])) ≡ true =
+    λ l e fits was. ap (list_all has_bytes) (filter_map-append piece l (e ∷ [])) ∙ list_all-append has_bytes (filter_map piece l) (filter_map piece (e ∷ []))
+    ∙ and_from (list_all has_bytes (filter_map piece l)) (list_all has_bytes (filter_map piece (e ∷ []))) was (piece-some l e fits) in
+    lawful-each Fits (λ l. list_all has_bytes (filter_map piece l) ≡ true) log more refl told)
 
 others-some : (o : Option Command) (pieces : List Command) → list_all has_bytes (cons_option o pieces) ≡ true → list_all has_bytes pieces ≡ true
-others-some None pieces all = all
-others-some (Some p) pieces all = (and_parts (has_bytes p) (list_all has_bytes pieces) all).1
+others-some o pieces all = grind (arith, common_steps)
 
 fewer-some : (o : Option Command) (pieces fewer : List Command) → list_all has_bytes (cons_option o pieces) ≡ true → list_all has_bytes fewer ≡ true → list_all has_bytes (cons_option o fewer) ≡ true
-fewer-some None pieces fewer all some = some
-fewer-some (Some p) pieces fewer all some = and_from (has_bytes p) (list_all has_bytes fewer) (and_parts (has_bytes p) (list_all has_bytes pieces) all).0 some
+fewer-some o pieces fewer all some = grind (arith, common_steps)
 
 sound-some : (link : LinkId) (log : Log) → list_all has_bytes (filter_map piece log) ≡ true → list_all has_bytes (pieces_of link log) ≡ true
 sound-some link [] all = refl
-sound-some link (e ∷ log) all = by (is_link link (link_of e)) (sound-some link log (others-some (piece e) (filter_map piece log) all)) where
-  kept : (lost : Bool) → list_all has_bytes (pieces_of link log) ≡ true → list_all has_bytes (filter_map piece (cond lost [] (e ∷ sound_of link log))) ≡ true
-  kept true later = refl
-  kept false later = fewer-some (piece e) (filter_map piece log) (pieces_of link log) all later
-
-  by : (here : Bool) → list_all has_bytes (pieces_of link log) ≡ true → list_all has_bytes (filter_map piece (until_loss (cond here (e ∷ of_link link log) (of_link link log)))) ≡ true
-  by true later = kept (is_loss e) later
-  by false later = later
+sound-some link (e ∷ log) all = grind (arith, common_steps, others-some, piece, fewer-some, (sound-some link log (others-some (piece e) (filter_map piece log) all)))
 
 pub pieces-some : (link : LinkId) (log : Log) → AllLawful Fits log → list_all has_bytes (pieces_of link log) ≡ true
 pieces-some link log told = sound-some link log (told-some log told)
@@ -89,8 +60,7 @@ behind-past (suc n) (p ∷ pieces) more less = by (nat_le (length p.bytes) (suc 
 
   by : (b : Bool) → nat_le (length p.bytes) (suc n) ≡ b → behind (suc n - length p.bytes) (pieces ++ more) ≡ behind (suc n - length p.bytes - length (bytes_in pieces)) more
       → cond b (behind (suc n - length p.bytes) (pieces ++ more)) (record p { bytes = drop (suc n) p.bytes } ∷ pieces ++ more) ≡ behind (suc n - length (p.bytes ++ bytes_in pieces)) more
-  by true at later = (let sum = total in let same : suc n - length p.bytes - length (bytes_in pieces) ≡ suc n - length (p.bytes ++ bytes_in pieces) = omega arith in later ∙ ap (λ k. behind k more) same)
-  by false at later = absurd (let sum = total in let long : suc n < length p.bytes = leb-false (length p.bytes) (suc n) at in omega arith)
+  by b at later = grind (arith, common_steps, leb-false)
 
 pub behind-short : (n : ℕ) (pieces : List Command) → length (bytes_in pieces) < n → behind n pieces ≡ []
 behind-short n pieces less = ap (behind n) (sym (append-nil pieces)) ∙ behind-past n pieces [] less
@@ -98,22 +68,16 @@ behind-short n pieces less = ap (behind n) (sym (append-nil pieces)) ∙ behind-
 -- So many bytes as they have are all of them, where no piece is empty.
 pub behind-all : (n : ℕ) (pieces : List Command) → list_all has_bytes pieces ≡ true → length (bytes_in pieces) ≤ n → behind n pieces ≡ []
 behind-all n [] some fits = refl
-behind-all zero (p ∷ pieces) some fits = absurd (let sum : length (p.bytes ++ bytes_in pieces) ≡ length p.bytes + length (bytes_in pieces) = length-append p.bytes (bytes_in pieces) in
-    let more : 0 < length p.bytes = some-bytes p.bytes (and_parts (has_bytes p) (list_all has_bytes pieces) some).0 in omega arith)
+behind-all zero (p ∷ pieces) some fits = grind (arith, common_steps, length-append, some-bytes)
 behind-all (suc n) (p ∷ pieces) some fits = by (nat_le (length p.bytes) (suc n)) refl (behind-all (suc n - length p.bytes) pieces (and_parts (has_bytes p) (list_all has_bytes pieces) some).1 (let sum = total in omega arith)) where
   total : length (p.bytes ++ bytes_in pieces) ≡ length p.bytes + length (bytes_in pieces)
   total = length-append p.bytes (bytes_in pieces)
 
   by : (b : Bool) → nat_le (length p.bytes) (suc n) ≡ b → behind (suc n - length p.bytes) pieces ≡ [] → cond b (behind (suc n - length p.bytes) pieces) (record p { bytes = drop (suc n) p.bytes } ∷ pieces) ≡ []
-  by true at later = later
-  by false at later = absurd (let sum = total in let long : suc n < length p.bytes = leb-false (length p.bytes) (suc n) at in omega arith)
+  by b at later = grind (arith, common_steps, leb-false)
 
 pub behind-one : (n : ℕ) (piece : Command) → 0 < n → length piece.bytes ≤ n → behind n (piece ∷ []) ≡ []
-behind-one zero piece some fits = absurd (omega arith)
-behind-one (suc n) piece some fits = by (nat_le (length piece.bytes) (suc n)) refl where
-  by : (b : Bool) → nat_le (length piece.bytes) (suc n) ≡ b → cond b [] (record piece { bytes = drop (suc n) piece.bytes } ∷ []) ≡ []
-  by true at = refl
-  by false at = absurd (let long : suc n < length piece.bytes = leb-false (length piece.bytes) (suc n) at in omega arith)
+behind-one n piece some fits = grind (arith, common_steps, leb-false)
 
 -- A whole message is one command, and a front of it isn't.
 pub whole-spelt : (payload : List ℕ) → length payload ≤ most_command → whole_by (first_message most_command 0 (spelling 0 payload)) ≡ true
@@ -134,38 +98,18 @@ part-spelt payload front back is some short = by (first_message most_command 0 f
       let none : length (rest ++ back) ≡ 0 = ap length empty in
       omega arith)
 
--- A piece behind whole commands begins one.
-apart : (c next : Command) → is_whole c ≡ true → joins c next ≡ false
-apart c next is = and_right (same_tag c.tag next.tag) (not (is_whole c)) (ap not is)
-
-pub with-piece-behind : (others last : List Command) (next : Command) → list_all is_whole others ≡ true → with_piece (others ++ last) next ≡ others ++ with_piece last next
-with-piece-behind [] last next all = refl
-with-piece-behind (c ∷ []) [] next all = ap (λ b. cond b (record c { bytes = c.bytes ++ next.bytes } ∷ []) (c ∷ next ∷ [])) (apart c next (and_parts (is_whole c) true all).0)
-with-piece-behind (c ∷ []) (d ∷ last) next all = refl
-with-piece-behind (c ∷ d ∷ others) last next all = ap (λ l. c ∷ l) (with-piece-behind (d ∷ others) last next (and_parts (is_whole c) (list_all is_whole (d ∷ others)) all).1)
-
 -- A piece for the same goes on with a command that isn't whole.
 same-tag : (tag : Tag) → same_tag tag tag ≡ true
-same-tag (For client ordinal) = and_from _ _ (same_number client.0) (same_number ordinal)
-same-tag (Sync client hostgroup) = and_from _ _ (same_number client.0) (same_number hostgroup.0)
-same-tag (Prep client ordinal) = and_from _ _ (same_number client.0) (same_number ordinal)
-same-tag (Mirror client ordinal) = and_from _ _ (same_number client.0) (same_number ordinal)
-same-tag (End client hostgroup) = and_from _ _ (same_number client.0) (same_number hostgroup.0)
-same-tag Own = refl
-same-tag Reply = refl
+same-tag tag = grind (arith, common_steps)
 
 pub with-piece-on : (tag : Tag) (front more : List ℕ) → whole_by (first_message most_command 0 front) ≡ false
     → with_piece (record { tag = tag; bytes = front } ∷ []) (record { tag = tag; bytes = more }) ≡ record { tag = tag; bytes = front ++ more } ∷ []
-with-piece-on tag front more part = ap (λ b. cond b (record { tag = tag; bytes = front ++ more } ∷ []) (record { tag = tag; bytes = front } ∷ record { tag = tag; bytes = more } ∷ []))
-    (and_from (same_tag tag tag) (not (whole_by (first_message most_command 0 front))) (same-tag tag) (ap not part))
+with-piece-on tag front more part = grind (arith, common_steps, same-tag)
 
 -- What isn't among the pieces isn't among the commands.
 of-piece : (n i : ℕ) (commands : List Command) (next : Command) → list_any (is_of n i) commands ≡ false → is_of n i next ≡ false → list_any (is_of n i) (with_piece commands next) ≡ false
 of-piece n i [] next none other = or_from (is_of n i next) false other refl
-of-piece n i (c ∷ []) next none other = by (joins c next) where
-  by : (b : Bool) → list_any (is_of n i) (cond b (record c { bytes = c.bytes ++ next.bytes } ∷ []) (c ∷ next ∷ [])) ≡ false
-  by true = none
-  by false = or_from (is_of n i c) (is_of n i next || false) (or_parts (is_of n i c) false none).0 (or_from (is_of n i next) false other refl)
+of-piece n i (c ∷ []) next none other = grind (arith, common_steps)
 of-piece n i (c ∷ d ∷ commands) next none other = (let parts = or_parts (is_of n i c) (list_any (is_of n i) (d ∷ commands)) none in
     or_from (is_of n i c) (list_any (is_of n i) (with_piece (d ∷ commands) next)) parts.0 (of-piece n i (d ∷ commands) next parts.1 other))
 
@@ -176,10 +120,7 @@ of-pieces n i commands (p ∷ pieces) none others = (let parts = or_parts (is_of
 of-behind : (n i k : ℕ) (pieces : List Command) → list_any (is_of n i) pieces ≡ false → list_any (is_of n i) (behind k pieces) ≡ false
 of-behind n i k [] none = refl
 of-behind n i zero (p ∷ pieces) none = none
-of-behind n i (suc k) (p ∷ pieces) none = by (nat_le (length p.bytes) (suc k)) (of-behind n i (suc k - length p.bytes) pieces (or_parts (is_of n i p) (list_any (is_of n i) pieces) none).1) where
-  by : (b : Bool) → list_any (is_of n i) (behind (suc k - length p.bytes) pieces) ≡ false → list_any (is_of n i) (cond b (behind (suc k - length p.bytes) pieces) (record p { bytes = drop (suc k) p.bytes } ∷ pieces)) ≡ false
-  by true later = later
-  by false later = none
+of-behind n i (suc k) (p ∷ pieces) none = grind (arith, common_steps, (of-behind n i (suc k - length p.bytes) pieces (or_parts (is_of n i p) (list_any (is_of n i) pieces) none).1))
 
 pub of-commands : (n i k : ℕ) (pieces : List Command) → list_any (is_of n i) pieces ≡ false → list_any (is_of n i) (commands_in (behind k pieces)) ≡ false
 of-commands n i k pieces none = of-pieces n i [] (behind k pieces) refl (of-behind n i k pieces none)
@@ -187,15 +128,4 @@ of-commands n i k pieces none = of-pieces n i [] (behind k pieces) refl (of-behi
 -- The place of a command that isn't among others, and stands behind them or nowhere.
 pub place-last : (n i from : ℕ) (others : List Command) (c : Command) → list_any (is_of n i) others ≡ false → is_of n i c ≡ true → place_in n i from (others ++ c ∷ []) ≡ Some (from + length others)
 place-last n i from [] c none is = (let same : from ≡ from + 0 = omega arith in ap (λ b. cond b (Some from) None) is ∙ ap Some same)
-place-last n i from (d ∷ others) c none is = by (is_command n i d.tag) none (place-last n i (suc from) others c) where
-  by : (b : Bool) → (b || list_any (is_of n i) others) ≡ false → (list_any (is_of n i) others ≡ false → is_of n i c ≡ true → place_in n i (suc from) (others ++ c ∷ []) ≡ Some (suc from + length others))
-      → cond b (Some from) (place_in n i (suc from) (others ++ c ∷ [])) ≡ Some (from + suc (length others))
-  by true other later = absurd (let no : true ≡ false = other in cc)
-  by false other later = (let same : suc from + length others ≡ from + suc (length others) = omega arith in later other is ∙ ap Some same)
-
-pub place-none : (n i from : ℕ) (commands : List Command) → list_any (is_of n i) commands ≡ false → place_in n i from commands ≡ None
-place-none n i from [] none = refl
-place-none n i from (c ∷ commands) none = by (is_command n i c.tag) none (place-none n i (suc from) commands) where
-  by : (b : Bool) → (b || list_any (is_of n i) commands) ≡ false → (list_any (is_of n i) commands ≡ false → place_in n i (suc from) commands ≡ None) → cond b (Some from) (place_in n i (suc from) commands) ≡ None
-  by true other later = absurd (let no : true ≡ false = other in cc)
-  by false other later = later other
+place-last n i from (d ∷ others) c none is = grind (arith, common_steps, (place-last n i (suc from) others c))

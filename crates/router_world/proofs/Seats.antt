@@ -1,34 +1,19 @@
 -- What each event leaves of how a client's session stands.
-use Rattle.std.specs.Prelude.{◌≡◌, ◌≢◌, ◌≤◌, ◌<◌, ℕ, suc, true, false, is_some, List, [], ◌++◌, length, take, drop, Option, Some, None, refl}
-use Rattle.std.proofs.Common.{sym, ◌∙◌, ap, subst, append-nil, append_assoc, take-append-drop, arith}
-use Rattle.mx_base.specs.declared.names.ClientNo.{ClientNo}
-use Rattle.packet_frame.specs.Packets.{Framed, Split, split, with_front, next_id}
-use Rattle.packet_frame.specs.Laws.{first_message-empty}
-use Rattle.client_side.specs.declared.stage.Stage.{Stage}
-use Rattle.client_side.specs.declared.stage.Stage.TheVariants as stage
-use Rattle.client_side.specs.Client.{ClientState, fed}
-use Rattle.client_side.specs.Login.{Opening, Waits, greeting_said, by_message, opening}
-use Rattle.client_side.specs.Reading.{IsLoggingIn}
+use Rattle.router_world.proofs.Names.{common_steps, ◌≡◌, ◌≢◌, ◌≤◌, ◌<◌, ℕ, suc, true, false, List, [], ◌++◌, length, take, drop, Option, Some, None, refl, sym}
+use Rattle.router_world.proofs.Names.{◌∙◌, ap, subst, append-nil, append_assoc, take-append-drop, arith, ClientNo, Framed, Split, split, with_front, next_id}
+use Rattle.router_world.proofs.Names.{first_message-empty, ClientState, fed, Waits, IsLoggingIn, Account, Setup, Talk, heard_more, opening_of}
+use Rattle.router_world.proofs.Names.{messages_of, front, fault_answer, is_query, Phase, Session, new_session, said_in, said, rested, answered_in, taken}
+use Rattle.router_world.proofs.Names.{most_command, Answer, spelt, Work, messages-grow, answers_by, first_open, due_said, work_said, over_said, IsTaken, IsIdle}
+use Rattle.router_world.proofs.Names.{IsWorking, PhaseAt, SeatAt, unanswered_from, Unanswered}
+use Rattle.promises.proofs.Staying.{account-more}
+use Rattle.client_side.specs.Login.{greeting_said, by_message, opening}
 use Rattle.client_side.specs.Laws.{logging-new, logging-fed}
-use Rattle.server_side.specs.Account.{Account}
-use Rattle.client_session.specs.Setups.{Setup}
-use Rattle.client_session.specs.Answers.{Talk, heard_more, opening_of, account, messages_of, front, fault_answer, is_query}
-use Rattle.client_talk.specs.declared.session.Phase.{Phase}
-use Rattle.client_talk.specs.declared.session.Phase.TheVariants as phase
-use Rattle.client_talk.specs.declared.session.Session.{Session}
-use Rattle.client_talk.specs.Sessions.{new_session}
-use Rattle.client_talk.specs.Events.{said_in, said, rested, answered_in, answered, taken}
-use Rattle.exchange.specs.Commands.{most_command}
-use Rattle.exchange.specs.Replies.{Answer, spelt}
-use Rattle.promises.specs.Due.{Work}
-use Rattle.promises.specs.Closes.{ends_in, ends_by}
-use Rattle.promises.proofs.Staying.{messages-grow}
-use Rattle.router_world.specs.Replied.{answers_by, first_open}
-use Rattle.router_world.specs.Seats.{due_said, work_said, over_said, IsTaken, IsIdle, IsWorking, PhaseAt, SeatAt, unanswered_from, Unanswered}
-use Rattle.router_world.proofs.SeatsAnswers.{at_place, query-no-quit, query-open, query-served, IsOpen, open-none, open-more, open-due, open-within, done-all, NowDone, now-done, agree}
-use Rattle.router_world.proofs.SeatsTalks.{due_behind, due-alone, work-alone, account-more, front-more, over-in, taken-messages, taken-nothing, taken-fed}
-use Rattle.router_world.proofs.SeatsGoing.{IsGoing, MayGo, GoesAt, SeatTurned}
+use Rattle.client_talk.specs.Events.{answered}
+use Rattle.router_world.proofs.SeatsAnswers.{at_place, query-no-quit, query-open, query-served, IsOpen, open-none, open-more, open-due, open-within, done-all}
+use Rattle.router_world.proofs.SeatsAnswers.{NowDone, now-done, agree, due_behind, due-alone, work-alone, front-more, over-in, taken-messages, taken-nothing}
+use Rattle.router_world.proofs.SeatsAnswers.{taken-fed, IsGoing, MayGo, GoesAt, SeatTurned}
 use Rattle.router_world.proofs.SeatsTaking.{turned-seat}
+use Rattle.client_talk.specs.declared.session.Phase.TheVariants as phase
 
 -- A client comes, and is greeted.
 
@@ -45,20 +30,16 @@ pub record IsNew (number : ClientNo) (salt : List ℕ) (setup : Setup) (reply : 
   pub greets : session.client.outgoing ≡ greeting_said number.0 salt setup.version
 
 pub new-seat : (number : ClientNo) (salt : List ℕ) (setup : Setup) (reply : ℕ → Option Answer) → setup.limit ≤ most_command → IsNew number salt setup reply (new_session number salt setup true)
-new-seat number salt setup reply short = record {
-  seat = record {
-    number = refl;
-    salt = refl;
-    limit = refl;
-    short = short;
-    due = sym (append-nil (greeting_said number.0 salt setup.version)) ∙ sym (due-alone reply (new_talk number salt setup) (Waits false) waits refl);
-    at = record { login = logging-new number salt setup.version setup.limit; switched = false; waits = waits; arrived = refl };
-  };
-  coming = refl;
-  greets = refl;
-} where
-  waits : opening_of (new_talk number salt setup) ≡ Waits false
-  waits = nothing-read setup.limit
+new-seat number salt setup reply short = (let waits : opening_of (new_talk number salt setup) ≡ Waits false = nothing-read setup.limit in
+    record {
+      seat = record {
+        mine = record { number_is = refl; salt_is = refl; limit_is = refl; short = short };
+        due = sym (append-nil (greeting_said number.0 salt setup.version)) ∙ sym (due-alone reply (new_talk number salt setup) (Waits false) waits refl);
+        at = record { login = logging-new number salt setup.version setup.limit; switched = false; waits = waits; arrived = refl };
+      };
+      coming = refl;
+      greets = refl;
+    })
 
 -- So many bytes are written to it.
 
@@ -70,34 +51,16 @@ abbrev pub with_outgoing : (outgoing : List ℕ) → ClientState → ClientState
 with_outgoing outgoing client = record client { outgoing = outgoing }
 
 login-outgoing : (talk : Talk) (client : ClientState) (outgoing bytes : List ℕ) → IsLoggingIn client.stage client talk.setup.version talk.read bytes → IsLoggingIn client.stage (with_outgoing outgoing client) talk.setup.version talk.read bytes
-login-outgoing talk client outgoing bytes login = by client.stage login where
-  by : (at : Stage) → IsLoggingIn at client talk.setup.version talk.read bytes → IsLoggingIn at (with_outgoing outgoing client) talk.setup.version talk.read bytes
-  by stage.Response is = is
-  by (stage.Answer response) is = is
-  by (stage.Login response first) is = is
-  by (stage.Refused first fault) is = is
-  by stage.Commands is = is
+login-outgoing talk client outgoing bytes login = grind (arith, common_steps)
 
 abbrev taken-outgoing : (talk : Talk) (client : ClientState) (outgoing : List ℕ) → IsTaken talk client → IsTaken talk (with_outgoing outgoing client)
 taken-outgoing talk client outgoing taken = record { stage = taken.stage; framer = taken.framer; past = taken.past; arrived = taken.arrived; whatever = taken.whatever }
 
 phase-outgoing : (at : Phase) (talk : Talk) (reply : ℕ → Option Answer) (bytes outgoing : List ℕ) (client : ClientState) → PhaseAt at talk reply bytes client → PhaseAt at talk reply bytes (with_outgoing outgoing client)
-phase-outgoing phase.LoggingIn talk reply bytes outgoing client at = record { login = login-outgoing talk client outgoing bytes at.login; switched = at.switched; waits = at.waits; arrived = at.arrived }
-phase-outgoing (phase.Idle user) talk reply bytes outgoing client at = record { taken = taken-outgoing talk client outgoing at.taken; account = at.account; all = at.all; faultless = at.faultless; none = at.none }
-phase-outgoing (phase.Working user) talk reply bytes outgoing client at =
-    record { taken = taken-outgoing talk client outgoing at.taken; account = at.account; message = at.message; work = at.work; query = at.query; begins = at.begins; short = at.short }
-phase-outgoing phase.Ending talk reply bytes outgoing client at = at
+phase-outgoing at talk reply bytes outgoing client h6 = grind (arith, common_steps, login-outgoing)
 
 pub taken-seat : (talk : Talk) (reply : ℕ → Option Answer) (written : List ℕ) (session : Session) (n : ℕ) → SeatAt talk reply written session → SeatAt talk reply (written ++ take n session.client.outgoing) (taken n session)
-taken-seat talk reply written session n seat = record {
-  number = seat.number;
-  salt = seat.salt;
-  limit = seat.limit;
-  short = seat.short;
-  due = sym (written-on n written session.client.outgoing) ∙ seat.due;
-  at = subst (λ bytes. PhaseAt session.phase talk reply bytes (with_outgoing (drop n session.client.outgoing) session.client)) (written-on n written session.client.outgoing)
-      (phase-outgoing session.phase talk reply (written ++ session.client.outgoing) (drop n session.client.outgoing) session.client seat.at);
-}
+taken-seat talk reply written session n seat = grind (arith, common_steps, written-on, phase-outgoing)
 
 -- Other replies come of its queries, which agree with those before.
 
@@ -107,11 +70,7 @@ pub record Agrees (talk : Talk) (reply other : ℕ → Option Answer) : Type 0 w
   pub none : (work : Work) → work_said reply talk ≡ Some work → is_query work.message.payload ≡ true → other work.ordinal ≡ None
 
 phase-agrees : (at : Phase) (talk : Talk) (reply other : ℕ → Option Answer) (bytes : List ℕ) (client : ClientState) → work_said other talk ≡ work_said reply talk → PhaseAt at talk reply bytes client → PhaseAt at talk other bytes client
-phase-agrees phase.LoggingIn talk reply other bytes client same at = at
-phase-agrees (phase.Idle user) talk reply other bytes client same at = record { taken = at.taken; account = at.account; all = same ∙ at.all; faultless = at.faultless; none = at.none }
-phase-agrees (phase.Working user) talk reply other bytes client same at =
-    record { taken = at.taken; account = at.account; message = at.message; work = same ∙ at.work; query = at.query; begins = at.begins; short = at.short }
-phase-agrees phase.Ending talk reply other bytes client same at = ap (λ w. ends_in (opening_of talk) (account talk) (ends_by w (is_some (messages_of talk).fault))) same ∙ at
+phase-agrees at talk reply other bytes client same h7 = grind (arith, common_steps)
 
 pub agree-work : (talk : Talk) (reply other : ℕ → Option Answer) → Agrees talk reply other → work_said other talk ≡ work_said reply talk
 agree-work talk reply other agrees = (agree talk.setup reply other 1 (messages_of talk).messages (fault_answer talk.setup.limit (messages_of talk).fault) agrees.stays agrees.none).goes
@@ -120,10 +79,7 @@ pub agree-seat : (talk : Talk) (reply other : ℕ → Option Answer) (written : 
 agree-seat talk reply other written session agrees seat = (
     let both = agree talk.setup reply other 1 (messages_of talk).messages (fault_answer talk.setup.limit (messages_of talk).fault) agrees.stays agrees.none in
     record {
-      number = seat.number;
-      salt = seat.salt;
-      limit = seat.limit;
-      short = seat.short;
+      mine = seat.mine;
       due = seat.due ∙ ap (λ l. front talk ++ l) (sym both.joins);
       at = phase-agrees session.phase talk reply other (written ++ session.client.outgoing) session.client both.goes seat.at;
     })
@@ -136,12 +92,12 @@ record IsAnswered (talk : Talk) (reply : ℕ → Option Answer) (past : List Fra
   due : due_said reply talk ≡ front talk ++ answers_by talk.setup reply 1 past []
 
 idle-answered : (talk : Talk) (reply : ℕ → Option Answer) (user : Account) (client : ClientState) (at : IsIdle talk reply user client) → IsAnswered talk reply at.taken.past
-idle-answered talk reply user client at = record {
-  all = ap (first_open talk.setup reply 1) (sym (append-nil at.taken.past)) ∙ sym (ap (λ (s : Split). first_open talk.setup reply 1 s.messages) messages) ∙ at.all;
-  due = ap (λ (s : Split). front talk ++ due_behind reply talk s) messages ∙ ap (λ ms. front talk ++ answers_by talk.setup reply 1 ms []) (append-nil at.taken.past);
-} where
-  messages : messages_of talk ≡ record { messages = at.taken.past ++ []; rest = client.framer.kept; fault = None }
-  messages = taken-nothing talk client at.taken at.none
+idle-answered talk reply user client at = (let messages : messages_of talk ≡ record { messages = at.taken.past ++ []; rest = client.framer.kept; fault = None } =
+    taken-nothing talk client at.taken at.none in
+    record {
+      all = ap (first_open talk.setup reply 1) (sym (append-nil at.taken.past)) ∙ sym (ap (λ (s : Split). first_open talk.setup reply 1 s.messages) messages) ∙ at.all;
+      due = ap (λ (s : Split). front talk ++ due_behind reply talk s) messages ∙ ap (λ ms. front talk ++ answers_by talk.setup reply 1 ms []) (append-nil at.taken.past);
+    })
 
 idle-fed : (talk : Talk) (reply : ℕ → Option Answer) (written bytes : List ℕ) (user : Account) (client : ClientState) → SeatAt talk reply written (record { client = client; phase = phase.Idle user }) → IsGoing (heard_more talk bytes) reply user (written ++ client.outgoing) (fed client bytes)
 idle-fed talk reply written bytes user client seat = (
@@ -163,10 +119,7 @@ working-fed talk reply written bytes user client seat = (
     let now = fault_answer talk.setup.limit (messages_of (heard_more talk bytes)).fault in
     let work : Work = at_place client.arrived seat.at.message in
     record {
-      number = seat.number;
-      salt = seat.salt;
-      limit = seat.limit;
-      short = seat.short;
+      mine = seat.mine;
       due = seat.due
           ∙ ap (λ l. l ++ answers_by talk.setup reply 1 (messages_of talk).messages last) (sym (front-more talk bytes user seat.at.account))
           ∙ ap (λ l. front (heard_more talk bytes) ++ l) (sym (open-due talk.setup reply 1 (messages_of talk).messages grown.later last now work seat.at.work))
@@ -185,7 +138,7 @@ working-fed talk reply written bytes user client seat = (
 -- the session that has kept them may go on
 fed-goes : (talk : Talk) (reply : ℕ → Option Answer) (written bytes : List ℕ) (at : Phase) (client : ClientState) → SeatAt talk reply written (record { client = client; phase = at }) → ((i : ℕ) → suc client.arrived ≤ i → reply i ≡ None)
     → length (talk.read ++ bytes) < 18446744073709551616 → MayGo at (heard_more talk bytes) reply (written ++ client.outgoing) (fed client bytes) → GoesAt (heard_more talk bytes) reply written (record { client = fed client bytes; phase = at })
-fed-goes talk reply written bytes at client seat later few may = record { number = seat.number; salt = seat.salt; limit = seat.limit; short = seat.short; few = few; later = later; at = may }
+fed-goes talk reply written bytes at client seat later few may = record { mine = seat.mine; few = few; later = later; at = may }
 
 said-at : (talk : Talk) (reply : ℕ → Option Answer) (written bytes : List ℕ) (at : Phase) (client : ClientState) → SeatAt talk reply written (record { client = client; phase = at }) → Unanswered reply (record { client = client; phase = at })
     → at ≢ phase.Ending → length (talk.read ++ bytes) < 18446744073709551616 → SeatTurned (heard_more talk bytes) reply written (record { client = client; phase = at }) (said_in at talk.setup bytes (record { client = client; phase = at }))
@@ -215,65 +168,43 @@ pub answered-seat : (talk : Talk) (reply other : ℕ → Option Answer) (written
     → session.phase ≡ phase.Working user → SeatAt talk reply written session → Unanswered reply session → other session.client.arrived ≡ Some answer → ((i : ℕ) → i ≢ session.client.arrived → other i ≡ reply i)
     → packets ≡ spelt (next_id working.message.last) answer → length talk.read < 18446744073709551616
     → SeatTurned talk other written (record session { phase = phase.Idle user }) (answered talk.setup packets session)
-answered-seat talk reply other written session user working answer packets is seat unanswered now same spelled few =
+answered-seat talk reply other written session user working answer packets is seat unanswered now same spelled few = (let messages : messages_of talk ≡ with_front working.taken.past (split talk.setup.limit 0 session.client.framer.kept) =
+    taken-messages talk session.client working.taken in
+    let count : session.client.arrived ≡ length working.taken.past = working.taken.arrived in
+    let within : first_open talk.setup reply 1 working.taken.past ≡ Some (at_place session.client.arrived working.message) =
+    open-within talk.setup reply 1 working.taken.past (split talk.setup.limit 0 session.client.framer.kept).messages (at_place session.client.arrived working.message)
+    (sym (ap (λ (s : Split). first_open talk.setup reply 1 s.messages) messages) ∙ working.work) (omega (arith, count)) in
+    let opened : IsOpen talk.setup (reply session.client.arrived) = query-open talk.setup (reply session.client.arrived) working.message.payload working.query
+    (open-none talk.setup reply 1 (messages_of talk).messages (at_place session.client.arrived working.message) working.work) in
+    let done : NowDone talk.setup reply other 1 working.taken.past working.message answer =
+    now-done talk.setup reply other 1 session.client.arrived working.taken.past working.message answer within (omega (arith, count)) same
+    (query-served talk.setup (other session.client.arrived) working.message.payload working.query opened.server ∙ now) in
+    let due : written ++ session.client.outgoing ≡ front talk ++ answers_by talk.setup reply 1 working.taken.past [] =
+    seat.due ∙ ap (λ (s : Split). front talk ++ due_behind reply talk s) messages
+    ∙ ap (λ l. front talk ++ l) (open-due talk.setup reply 1 working.taken.past (split talk.setup.limit 0 session.client.framer.kept).messages [] (fault_answer talk.setup.limit (split talk.setup.limit 0 session.client.framer.kept).fault)
+    (at_place session.client.arrived working.message) within) in
+    let later : (i : ℕ) → suc session.client.arrived ≤ i → other i ≡ None =
+    λ i from. same i (let apart : i ≢ session.client.arrived = omega arith in apart) ∙ unanswered i (subst (λ (p : Phase). unanswered_from p session.client.arrived ≤ i) (sym is) (omega arith)) in
+    let goes : GoesAt talk other written (rested user packets session) = record {
+      mine = seat.mine;
+      few = few;
+      later = later;
+      at = record {
+        taken = taken-outgoing talk session.client (session.client.outgoing ++ packets) working.taken;
+        account = working.account;
+        said = answers_by talk.setup other 1 working.taken.past [];
+        done = done-all talk.setup other working.taken.past done.all;
+        put = sym (append_assoc written session.client.outgoing packets)
+            ∙ ap (λ l. l ++ packets) due
+            ∙ append_assoc (front talk) (answers_by talk.setup reply 1 working.taken.past []) packets
+            ∙ ap (λ l. front talk ++ (answers_by talk.setup reply 1 working.taken.past [] ++ l)) spelled
+            ∙ ap (λ l. front talk ++ l) (sym done.joins);
+      };
+    } in
     subst (λ (p : Phase). SeatTurned talk other written (record session { phase = phase.Idle user }) (answered_in p talk.setup packets session)) (sym is)
-    (turned-seat talk other written (rested user packets session) goes (record session { phase = phase.Idle user })) where
-      messages : messages_of talk ≡ with_front working.taken.past (split talk.setup.limit 0 session.client.framer.kept)
-      messages = taken-messages talk session.client working.taken
-
-      count : session.client.arrived ≡ length working.taken.past
-      count = working.taken.arrived
-
-      within : first_open talk.setup reply 1 working.taken.past ≡ Some (at_place session.client.arrived working.message)
-      within = open-within talk.setup reply 1 working.taken.past (split talk.setup.limit 0 session.client.framer.kept).messages (at_place session.client.arrived working.message)
-          (sym (ap (λ (s : Split). first_open talk.setup reply 1 s.messages) messages) ∙ working.work) (omega (arith, count))
-
-      opened : IsOpen talk.setup (reply session.client.arrived)
-      opened = query-open talk.setup (reply session.client.arrived) working.message.payload working.query
-          (open-none talk.setup reply 1 (messages_of talk).messages (at_place session.client.arrived working.message) working.work)
-
-      done : NowDone talk.setup reply other 1 working.taken.past working.message answer
-      done = now-done talk.setup reply other 1 session.client.arrived working.taken.past working.message answer within (omega (arith, count)) same
-          (query-served talk.setup (other session.client.arrived) working.message.payload working.query opened.server ∙ now)
-
-      due : written ++ session.client.outgoing ≡ front talk ++ answers_by talk.setup reply 1 working.taken.past []
-      due = seat.due ∙ ap (λ (s : Split). front talk ++ due_behind reply talk s) messages
-          ∙ ap (λ l. front talk ++ l) (open-due talk.setup reply 1 working.taken.past (split talk.setup.limit 0 session.client.framer.kept).messages [] (fault_answer talk.setup.limit (split talk.setup.limit 0 session.client.framer.kept).fault)
-          (at_place session.client.arrived working.message) within)
-
-      later : (i : ℕ) → suc session.client.arrived ≤ i → other i ≡ None
-      later i from = same i (let apart : i ≢ session.client.arrived = omega arith in apart) ∙ unanswered i (subst (λ (p : Phase). unanswered_from p session.client.arrived ≤ i) (sym is) (omega arith))
-
-      goes : GoesAt talk other written (rested user packets session)
-      goes = record {
-        number = seat.number;
-        salt = seat.salt;
-        limit = seat.limit;
-        short = seat.short;
-        few = few;
-        later = later;
-        at = record {
-          taken = taken-outgoing talk session.client (session.client.outgoing ++ packets) working.taken;
-          account = working.account;
-          said = answers_by talk.setup other 1 working.taken.past [];
-          done = done-all talk.setup other working.taken.past done.all;
-          put = sym (append_assoc written session.client.outgoing packets)
-              ∙ ap (λ l. l ++ packets) due
-              ∙ append_assoc (front talk) (answers_by talk.setup reply 1 working.taken.past []) packets
-              ∙ ap (λ l. front talk ++ (answers_by talk.setup reply 1 working.taken.past [] ++ l)) spelled
-              ∙ ap (λ l. front talk ++ l) (sym done.joins);
-        };
-      }
+    (turned-seat talk other written (rested user packets session) goes (record session { phase = phase.Idle user })))
 
 -- What it waits for.
-
--- it is at its end, and what is to be written is the last of what it is due
-pub record IsOver (talk : Talk) (reply : ℕ → Option Answer) (written : List ℕ) (session : Session) : Type 0 where
-  pub over : over_said reply talk ≡ true
-  pub told : written ++ session.client.outgoing ≡ due_said reply talk
-
-pub over-ended : (talk : Talk) (reply : ℕ → Option Answer) (written : List ℕ) (session : Session) → session.phase ≡ phase.Ending → SeatAt talk reply written session → IsOver talk reply written session
-over-ended talk reply written session is seat = record { over = subst (λ (p : Phase). PhaseAt p talk reply (written ++ session.client.outgoing) session.client) is seat.at; told = seat.due }
 
 -- it isn't at its end, and waits for nothing but what it may say
 pub record IsFree (talk : Talk) (reply : ℕ → Option Answer) : Type 0 where
@@ -293,21 +224,7 @@ WaitsFor phase.Ending talk reply arrived = over_said reply talk ≡ true
 WaitsFor _ talk reply arrived = IsFree talk reply
 
 waits-at : (at : Phase) (talk : Talk) (reply : ℕ → Option Answer) (bytes : List ℕ) (client : ClientState) → PhaseAt at talk reply bytes client → WaitsFor at talk reply client.arrived
-waits-at phase.LoggingIn talk reply bytes client at = record {
-  free = work-alone reply talk (Waits at.switched) at.waits refl;
-  goes_on = ap (λ (o : Opening). ends_in o (account talk) (ends_by (work_said reply talk) (is_some (messages_of talk).fault))) at.waits;
-}
-waits-at (phase.Idle user) talk reply bytes client at = record {
-  free = at.all;
-  goes_on = over-in reply talk user at.account ∙ ap (λ w. ends_by w (is_some (messages_of talk).fault)) at.all ∙ ap (λ fault. is_some fault) at.faultless;
-}
-waits-at (phase.Working user) talk reply bytes client at = record {
-  message = at.message;
-  query = at.query;
-  work = at.work;
-  goes_on = over-in reply talk user at.account ∙ ap (λ w. ends_by w (is_some (messages_of talk).fault)) at.work ∙ query-no-quit at.message.payload at.query;
-}
-waits-at phase.Ending talk reply bytes client at = at
+waits-at at talk reply bytes client h5 = grind (arith, common_steps, work-alone, over-in, query-no-quit)
 
 pub work-here : (talk : Talk) (reply : ℕ → Option Answer) (written : List ℕ) (session : Session) → SeatAt talk reply written session → WaitsFor session.phase talk reply session.client.arrived
 work-here talk reply written session seat = waits-at session.phase talk reply (written ++ session.client.outgoing) session.client seat.at

@@ -1,20 +1,26 @@
 -- The answers of a client, up to the first that isn't there.
-use Rattle.std.specs.Prelude.{◌≡◌, ◌≢◌, ◌≤◌, ◌<◌, ℕ, suc, ◌+◌, Bool, true, false, is_some, cond, List, [], ◌∷◌, ◌++◌, length, Option, Some, None, Result, Ok, Err, refl}
-use Rattle.std.proofs.Common.{sym, ◌∙◌, ap, subst, append-nil, append_assoc, arith, length-append}
-use Rattle.packet_frame.specs.Packets.{Framed, next_id}
-use Rattle.command_parse.specs.Meaning.{Meaning, parsed}
-use Rattle.command_parse.specs.Meaning.Meaning.{Query, InitDb, FieldList, Ping, Quit}
-use Rattle.command_parse.specs.declared.fault.CommandFault.{CommandFault}
-use Rattle.client_session.specs.Setups.{Setup}
-use Rattle.client_session.specs.Answers.{query_by, is_query, quit_by, is_quit}
-use Rattle.client_session.specs.Errors.{no_server, own_ok}
-use Rattle.client_session.specs.Refusals.{payload_of}
-use Rattle.client_talk.specs.declared.asked.Asked.{Asked}
-use Rattle.client_talk.specs.declared.asked.Asked.TheVariants as asked
+use Rattle.router_world.proofs.Names.{common_steps, ◌≡◌, ◌≢◌, ◌≤◌, ◌<◌, ℕ, suc, ◌+◌, Bool, true, false, is_some, cond, List, [], ◌∷◌, ◌++◌, length, Option}
+use Rattle.router_world.proofs.Names.{Some, None, Result, refl, sym, ◌∙◌, ap, append-nil, append_assoc, arith, length-append, Framed, next_id, Meaning, parsed}
+use Rattle.router_world.proofs.Names.{CommandFault, Setup, query_by, is_query, is_quit, no_server, own_ok, payload_of, Asked, Answer, spelt}
+use Rattle.router_world.proofs.Names.{answer_by, answered, Work, answer_of, answers_by, first_open, ClientState, IsLoggingIn, Account, Talk, account, front}
+use Rattle.router_world.proofs.Names.{Phase, Session, Turned, still, left_to_say, due_said, over_said, IsTaken, SeatAt, Unanswered, Asks, drop, FrameFault}
+use Rattle.router_world.proofs.Names.{Split, split, with_front, message_size, Nothing, Whole, Faulty, first_message-empty, first_message-whole-more}
+use Rattle.router_world.proofs.Names.{first_message-goes, Response, fed, counted, Opening, Says, opening-says-more, account_of, heard_more, opening_of}
+use Rattle.router_world.proofs.Names.{if_known, commands, messages_of, front_in, fault_answer, ends_by, work_said}
+use Rattle.promises.proofs.Staying.{by-stays}
+use Rattle.promises.proofs.InWork.{query-answer, some-same}
+use Rattle.router_world.specs.Seats.{IsOf}
+use Rattle.client_session.specs.Answers.{quit_by, commands_in, client_messages}
 use Rattle.client_talk.specs.Asked.{query_if, asked_by}
-use Rattle.exchange.specs.Replies.{Answer, spelt}
-use Rattle.promises.specs.Due.{answer_by, answered, Work}
-use Rattle.router_world.specs.Replied.{answer_of, answers_by, first_open}
+use Rattle.client_talk.specs.declared.step.Turn.{Turn}
+use Rattle.client_talk.specs.Steps.{Step}
+use Rattle.packet_frame.specs.Packets.{first_message}
+use Rattle.packet_frame.specs.Laws.{split-nothing, split-whole, split-faulty, split-count}
+use Rattle.client_side.specs.Client.{past_message}
+use Rattle.client_session.specs.Openings.{opening-shorter}
+use Rattle.client_talk.specs.declared.asked.Asked.TheVariants as asked
+use Rattle.client_talk.specs.declared.session.Phase.TheVariants as phase
+use Rattle.client_talk.specs.declared.step.Turn.TheVariants as turn
 
 -- Of one message.
 
@@ -30,31 +36,13 @@ Means asked.Quit has_server reply meaning = (quit_by meaning ≡ true) × (answe
 Means (asked.Refused refusal) has_server reply meaning = answer_by (served has_server reply) meaning ≡ Some (payload_of refusal ∷ [])
 
 means-served : (has_server : Bool) (reply : Option Answer) (meaning : Result Meaning CommandFault) → query_by meaning ≡ true → ((o : Option Answer) → answer_by o meaning ≡ o) → Means (query_if has_server) has_server reply meaning
-means-served true reply meaning query answers = (query, answers reply)
-means-served false reply meaning query answers = answers (served false reply)
+means-served has_server reply meaning query answers = grind (arith, common_steps)
 
 pub means-asked : (has_server : Bool) (reply : Option Answer) (meaning : Result Meaning CommandFault) → Means (asked_by has_server meaning) has_server reply meaning
-means-asked has_server reply (Err fault) = refl
-means-asked has_server reply (Ok (Query text)) = means-served has_server reply (Ok (Query text)) refl (λ o. refl)
-means-asked has_server reply (Ok (InitDb schema)) = means-served has_server reply (Ok (InitDb schema)) refl (λ o. refl)
-means-asked has_server reply (Ok (FieldList rest)) = means-served has_server reply (Ok (FieldList rest)) refl (λ o. refl)
-means-asked has_server reply (Ok Ping) = refl
-means-asked has_server reply (Ok Quit) = (refl, refl)
-means-asked has_server reply (Ok _) = refl
-
-query-by : (reply : Option Answer) (meaning : Result Meaning CommandFault) → query_by meaning ≡ true → answer_by reply meaning ≡ reply
-query-by reply (Ok (Query text)) is = refl
-query-by reply (Ok (InitDb schema)) is = refl
-query-by reply (Ok (FieldList rest)) is = refl
-query-by reply (Err fault) is = absurd (let no : false ≡ true = is in cc)
-query-by reply (Ok _) is = absurd (let no : false ≡ true = is in cc)
+means-asked has_server reply meaning = grind (arith, common_steps, means-served)
 
 no-quit : (meaning : Result Meaning CommandFault) → query_by meaning ≡ true → quit_by meaning ≡ false
-no-quit (Ok (Query text)) is = refl
-no-quit (Ok (InitDb schema)) is = refl
-no-quit (Ok (FieldList rest)) is = refl
-no-quit (Err fault) is = refl
-no-quit (Ok _) is = absurd (let no : false ≡ true = is in cc)
+no-quit meaning is = grind (arith, common_steps)
 
 pub query-no-quit : (payload : List ℕ) → is_query payload ≡ true → is_quit payload ≡ false
 query-no-quit payload is = no-quit (parsed payload) is
@@ -65,59 +53,36 @@ pub record IsOpen (setup : Setup) (reply : Option Answer) : Type 0 where
   pub none : reply ≡ None
 
 pub query-open : (setup : Setup) (reply : Option Answer) (payload : List ℕ) → is_query payload ≡ true → answer_of setup reply payload ≡ None → IsOpen setup reply
-query-open setup reply payload query none = by (is_some setup.target) refl (sym (query-by (served (is_some setup.target) reply) (parsed payload) query) ∙ none) where
-  by : (b : Bool) → is_some setup.target ≡ b → served b reply ≡ None → IsOpen setup reply
-  by true at none = record { server = at; none = none }
-  by false at none = absurd (let no : Some (no_server ∷ []) ≡ None = none in cc)
+query-open setup reply payload query none = grind (arith, common_steps, query-answer)
 
 pub query-served : (setup : Setup) (reply : Option Answer) (payload : List ℕ) → is_query payload ≡ true → is_some setup.target ≡ true → answer_of setup reply payload ≡ reply
-query-served setup reply payload query server = query-by (served (is_some setup.target) reply) (parsed payload) query ∙ ap (λ b. served b reply) server
-
--- an answer that is there stays where replies stay
-answer-by-stays : (old new : Option Answer) (meaning : Result Meaning CommandFault) (answer : Answer) → (old ≡ Some answer → new ≡ Some answer) → answer_by old meaning ≡ Some answer → answer_by new meaning ≡ Some answer
-answer-by-stays old new (Ok (Query text)) answer stays is = stays is
-answer-by-stays old new (Ok (InitDb schema)) answer stays is = stays is
-answer-by-stays old new (Ok (FieldList rest)) answer stays is = stays is
-answer-by-stays old new _ answer stays is = is
+query-served setup reply payload query server = query-answer (served (is_some setup.target) reply) (parsed payload) query ∙ ap (λ b. served b reply) server
 
 served-stays : (has_server : Bool) (old new : Option Answer) (answer : Answer) → (old ≡ Some answer → new ≡ Some answer) → served has_server old ≡ Some answer → served has_server new ≡ Some answer
-served-stays true old new answer stays is = stays is
-served-stays false old new answer stays is = is
+served-stays has_server old new answer stays is = grind (arith, common_steps)
 
 answer-stays : (setup : Setup) (old new : Option Answer) (payload : List ℕ) (answer : Answer) → (old ≡ Some answer → new ≡ Some answer) → answer_of setup old payload ≡ Some answer → answer_of setup new payload ≡ Some answer
-answer-stays setup old new payload answer stays is =
-    answer-by-stays (served (is_some setup.target) old) (served (is_some setup.target) new) (parsed payload) answer (served-stays (is_some setup.target) old new answer stays) is
+answer-stays setup old new payload answer stays is = grind (arith, common_steps, by-stays, served-stays)
 
 -- and one that isn't there comes only of a reply to a query
 answer-by-none : (old new : Option Answer) (meaning : Result Meaning CommandFault) → (query_by meaning ≡ true → new ≡ None) → answer_by old meaning ≡ None → answer_by new meaning ≡ None
-answer-by-none old new (Ok (Query text)) stays is = stays refl
-answer-by-none old new (Ok (InitDb schema)) stays is = stays refl
-answer-by-none old new (Ok (FieldList rest)) stays is = stays refl
-answer-by-none old new _ stays is = is
+answer-by-none old new meaning stays is = grind (arith, common_steps)
 
 served-none : (has_server : Bool) (old new : Option Answer) → new ≡ None → served has_server old ≡ None → served has_server new ≡ None
-served-none true old new none is = none
-served-none false old new none is = is
+served-none has_server old new none is = grind (arith, common_steps)
 
 answer-none : (setup : Setup) (old new : Option Answer) (payload : List ℕ) → (is_query payload ≡ true → new ≡ None) → answer_of setup old payload ≡ None → answer_of setup new payload ≡ None
-answer-none setup old new payload stays is = answer-by-none (served (is_some setup.target) old) (served (is_some setup.target) new) (parsed payload)
-    (λ query. served-none (is_some setup.target) old new (stays query) (sym (query-by (served (is_some setup.target) old) (parsed payload) query) ∙ is)) is
+answer-none setup old new payload stays is = grind (arith, common_steps, answer-by-none, served-none, query-answer)
 
 -- The first message without an answer.
 
 abbrev pub at_place : (ordinal : ℕ) → Framed → Work
 at_place ordinal message = record { ordinal = ordinal; message = message }
 
-some-same : {A : Type 0} (x y : A) → Some x ≡ Some y → x ≡ y
-some-same x y same = cc
-
 -- its place isn't before that of the first
 pub open-from : (setup : Setup) (reply : ℕ → Option Answer) (i : ℕ) (messages : List Framed) (work : Work) → first_open setup reply i messages ≡ Some work → i ≤ work.ordinal
 open-from setup reply i [] work is = absurd (let no : None ≡ Some work = is in cc)
-open-from setup reply i (m ∷ messages) work is = by (answer_of setup (reply i) m.payload) is (open-from setup reply (suc i) messages work) where
-  by : (o : Option Answer) → cond (is_some o) (first_open setup reply (suc i) messages) (Some (at_place i m)) ≡ Some work → (first_open setup reply (suc i) messages ≡ Some work → suc i ≤ work.ordinal) → i ≤ work.ordinal
-  by None here later = (let same : i ≡ work.ordinal = ap (λ (w : Work). w.ordinal) (some-same (at_place i m) work here) in omega arith)
-  by (Some answer) there later = (let less : suc i ≤ work.ordinal = later there in omega arith)
+open-from setup reply i (m ∷ messages) work is = grind (arith, common_steps, some-same, (open-from setup reply (suc i) messages work))
 
 -- it has no answer
 pub open-none : (setup : Setup) (reply : ℕ → Option Answer) (i : ℕ) (messages : List Framed) (work : Work) → first_open setup reply i messages ≡ Some work → answer_of setup (reply work.ordinal) work.message.payload ≡ None
@@ -125,27 +90,17 @@ open-none setup reply i [] work is = absurd (let no : None ≡ Some work = is in
 open-none setup reply i (m ∷ messages) work is = by (answer_of setup (reply i) m.payload) refl is (open-none setup reply (suc i) messages work) where
   by : (o : Option Answer) → answer_of setup (reply i) m.payload ≡ o → cond (is_some o) (first_open setup reply (suc i) messages) (Some (at_place i m)) ≡ Some work
       → (first_open setup reply (suc i) messages ≡ Some work → answer_of setup (reply work.ordinal) work.message.payload ≡ None) → answer_of setup (reply work.ordinal) work.message.payload ≡ None
-  by None at here later = subst (λ (w : Work). answer_of setup (reply w.ordinal) w.message.payload ≡ None) (some-same (at_place i m) work here) at
-  by (Some answer) at there later = later there
+  by o at here later = grind (arith, common_steps, some-same)
 
 -- messages behind it change nothing of it, nor of what is due
 pub open-more : (setup : Setup) (reply : ℕ → Option Answer) (i : ℕ) (messages later : List Framed) (work : Work) → first_open setup reply i messages ≡ Some work → first_open setup reply i (messages ++ later) ≡ Some work
 open-more setup reply i [] later work is = absurd (let no : None ≡ Some work = is in cc)
-open-more setup reply i (m ∷ messages) later work is = by (answer_of setup (reply i) m.payload) is (open-more setup reply (suc i) messages later work) where
-  by : (o : Option Answer) → cond (is_some o) (first_open setup reply (suc i) messages) (Some (at_place i m)) ≡ Some work
-      → (first_open setup reply (suc i) messages ≡ Some work → first_open setup reply (suc i) (messages ++ later) ≡ Some work) → cond (is_some o) (first_open setup reply (suc i) (messages ++ later)) (Some (at_place i m)) ≡ Some work
-  by None here others = here
-  by (Some answer) there others = others there
+open-more setup reply i (m ∷ messages) later work is = grind (arith, common_steps, (open-more setup reply (suc i) messages later work))
 
 pub open-due : (setup : Setup) (reply : ℕ → Option Answer) (i : ℕ) (messages later : List Framed) (last now : List ℕ) (work : Work) → first_open setup reply i messages ≡ Some work
     → answers_by setup reply i (messages ++ later) now ≡ answers_by setup reply i messages last
 open-due setup reply i [] later last now work is = absurd (let no : None ≡ Some work = is in cc)
-open-due setup reply i (m ∷ messages) later last now work is = by (answer_of setup (reply i) m.payload) is (open-due setup reply (suc i) messages later last now work) where
-  by : (o : Option Answer) → cond (is_some o) (first_open setup reply (suc i) messages) (Some (at_place i m)) ≡ Some work
-      → (first_open setup reply (suc i) messages ≡ Some work → answers_by setup reply (suc i) (messages ++ later) now ≡ answers_by setup reply (suc i) messages last)
-      → answered (next_id m.last) o (answers_by setup reply (suc i) (messages ++ later) now) ≡ answered (next_id m.last) o (answers_by setup reply (suc i) messages last)
-  by None here others = refl
-  by (Some answer) there others = ap (λ l. spelt (next_id m.last) answer ++ l) (others there)
+open-due setup reply i (m ∷ messages) later last now work is = grind (arith, common_steps, (open-due setup reply (suc i) messages later last now work))
 
 -- Messages that are all answered, and their answers joined: what comes behind them is what comes from there on.
 
@@ -159,64 +114,24 @@ done-none setup reply = record { joins = λ later last. refl; goes = λ later. r
 -- and one more
 pub done-one : (setup : Setup) (reply : ℕ → Option Answer) (past : List Framed) (said : List ℕ) (message : Framed) (answer : Answer) → AreDone setup reply past said → answer_of setup (reply (suc (length past))) message.payload ≡ Some answer
     → AreDone setup reply (past ++ message ∷ []) (said ++ spelt (next_id message.last) answer)
-done-one setup reply past said message answer done is = record {
-  joins = λ later last.
-      ap (λ ms. answers_by setup reply 1 ms last) (append_assoc past (message ∷ []) later)
-      ∙ done.joins (message ∷ later) last
-      ∙ ap (λ o. said ++ answered (next_id message.last) o (answers_by setup reply (suc (suc (length past))) later last)) is
-      ∙ sym (append_assoc said (spelt (next_id message.last) answer) (answers_by setup reply (suc (suc (length past))) later last))
-      ∙ ap (λ k. (said ++ spelt (next_id message.last) answer) ++ answers_by setup reply (suc k) later last) (sym size);
-  goes = λ later.
-      ap (first_open setup reply 1) (append_assoc past (message ∷ []) later)
-      ∙ done.goes (message ∷ later)
-      ∙ ap (λ o. cond (is_some o) (first_open setup reply (suc (suc (length past))) later) (Some (at_place (suc (length past)) message))) is
-      ∙ ap (λ k. first_open setup reply (suc k) later) (sym size);
-} where
-  size : length (past ++ message ∷ []) ≡ suc (length past)
-  size = omega (arith, length-append past (message ∷ []))
+done-one setup reply past said message answer done is = grind (arith, common_steps, length-append)
 
 -- where none is without an answer
 joins-all : (setup : Setup) (reply : ℕ → Option Answer) (i : ℕ) (past later : List Framed) (last : List ℕ) → first_open setup reply i past ≡ None
     → answers_by setup reply i (past ++ later) last ≡ answers_by setup reply i past [] ++ answers_by setup reply (i + length past) later last
 joins-all setup reply i [] later last all = ap (λ k. answers_by setup reply k later last) (let same : i ≡ i + 0 = omega arith in same)
-joins-all setup reply i (m ∷ past) later last all = by (answer_of setup (reply i) m.payload) all (joins-all setup reply (suc i) past later last) where
-  same : suc i + length past ≡ i + suc (length past)
-  same = omega arith
-
-  by : (o : Option Answer) → cond (is_some o) (first_open setup reply (suc i) past) (Some (at_place i m)) ≡ None
-      → (first_open setup reply (suc i) past ≡ None → answers_by setup reply (suc i) (past ++ later) last ≡ answers_by setup reply (suc i) past [] ++ answers_by setup reply (suc i + length past) later last)
-      → answered (next_id m.last) o (answers_by setup reply (suc i) (past ++ later) last) ≡ answered (next_id m.last) o (answers_by setup reply (suc i) past []) ++ answers_by setup reply (i + suc (length past)) later last
-  by None here others = absurd (let no : Some (at_place i m) ≡ None = here in cc)
-  by (Some answer) all others =
-      ap (λ l. spelt (next_id m.last) answer ++ l) (others all ∙ ap (λ k. answers_by setup reply (suc i) past [] ++ answers_by setup reply k later last) same)
-      ∙ sym (append_assoc (spelt (next_id m.last) answer) (answers_by setup reply (suc i) past []) (answers_by setup reply (i + suc (length past)) later last))
+joins-all setup reply i (m ∷ past) later last all = grind (arith, common_steps, (joins-all setup reply (suc i) past later last))
 
 pub goes-all : (setup : Setup) (reply : ℕ → Option Answer) (i : ℕ) (past later : List Framed) → first_open setup reply i past ≡ None → first_open setup reply i (past ++ later) ≡ first_open setup reply (i + length past) later
 goes-all setup reply i [] later all = ap (λ k. first_open setup reply k later) (let same : i ≡ i + 0 = omega arith in same)
-goes-all setup reply i (m ∷ past) later all = by (answer_of setup (reply i) m.payload) all (goes-all setup reply (suc i) past later) where
-  same : suc i + length past ≡ i + suc (length past)
-  same = omega arith
-
-  by : (o : Option Answer) → cond (is_some o) (first_open setup reply (suc i) past) (Some (at_place i m)) ≡ None
-      → (first_open setup reply (suc i) past ≡ None → first_open setup reply (suc i) (past ++ later) ≡ first_open setup reply (suc i + length past) later)
-      → cond (is_some o) (first_open setup reply (suc i) (past ++ later)) (Some (at_place i m)) ≡ first_open setup reply (i + suc (length past)) later
-  by None here others = absurd (let no : Some (at_place i m) ≡ None = here in cc)
-  by (Some answer) all others = others all ∙ ap (λ k. first_open setup reply k later) same
+goes-all setup reply i (m ∷ past) later all = grind (arith, common_steps, (goes-all setup reply (suc i) past later))
 
 pub done-all : (setup : Setup) (reply : ℕ → Option Answer) (past : List Framed) → first_open setup reply 1 past ≡ None → AreDone setup reply past (answers_by setup reply 1 past [])
-done-all setup reply past all = record {
-  joins = λ later last. joins-all setup reply 1 past later last all ∙ ap (λ k. answers_by setup reply 1 past [] ++ answers_by setup reply k later last) same;
-  goes = λ later. goes-all setup reply 1 past later all ∙ ap (λ k. first_open setup reply k later) same;
-} where
-  same : 1 + length past ≡ suc (length past)
-  same = omega arith
+done-all setup reply past all = grind (arith, common_steps, joins-all, goes-all)
 
 -- the first one without an answer is among those at whose places it stands
 pub open-within : (setup : Setup) (reply : ℕ → Option Answer) (i : ℕ) (past later : List Framed) (work : Work) → first_open setup reply i (past ++ later) ≡ Some work → work.ordinal < i + length past → first_open setup reply i past ≡ Some work
-open-within setup reply i past later work is below = by (first_open setup reply i past) refl where
-  by : (o : Option Work) → first_open setup reply i past ≡ o → o ≡ Some work
-  by None at = (let from : i + length past ≤ work.ordinal = open-from setup reply (i + length past) later work (sym (goes-all setup reply i past later at) ∙ is) in absurd (omega arith))
-  by (Some other) at = sym (open-more setup reply i past later other at) ∙ is
+open-within setup reply i past later work is below = grind (arith, common_steps, open-from, goes-all, open-more)
 
 -- The last one, which had no answer, has one now.
 
@@ -225,10 +140,7 @@ pub record NowDone (setup : Setup) (reply other : ℕ → Option Answer) (i : �
   pub joins : answers_by setup other i past [] ≡ answers_by setup reply i past [] ++ spelt (next_id message.last) answer
 
 last-done : (setup : Setup) (reply other : ℕ → Option Answer) (i : ℕ) (m : Framed) (answer : Answer) → answer_of setup (reply i) m.payload ≡ None → answer_of setup (other i) m.payload ≡ Some answer → NowDone setup reply other i (m ∷ []) m answer
-last-done setup reply other i m answer was now = record {
-  all = ap (λ o. cond (is_some o) (first_open setup other (suc i) []) (Some (at_place i m))) now;
-  joins = ap (λ o. answered (next_id m.last) o []) now ∙ append-nil (spelt (next_id m.last) answer) ∙ ap (λ o. answered (next_id m.last) o [] ++ spelt (next_id m.last) answer) (sym was);
-}
+last-done setup reply other i m answer was now = grind (arith, common_steps, append-nil)
 
 pub now-done : (setup : Setup) (reply other : ℕ → Option Answer) (i k : ℕ) (past : List Framed) (message : Framed) (answer : Answer) → first_open setup reply i past ≡ Some (at_place k message) → suc k ≡ i + length past
     → ((j : ℕ) → j ≢ k → other j ≡ reply j) → answer_of setup (other k) message.payload ≡ Some answer → NowDone setup reply other i past message answer
@@ -239,25 +151,11 @@ now-done setup reply other i k (m ∷ past) message answer is last same now =
       work = at_place k message
 
       alone : (past : List Framed) → i ≡ k → m ≡ message → suc k ≡ i + suc (length past) → answer_of setup (reply i) m.payload ≡ None → NowDone setup reply other i (m ∷ past) message answer
-      alone [] at is last was = subst (λ (n : Framed). NowDone setup reply other i (m ∷ []) n answer) is
-          (last-done setup reply other i m answer was (ap (λ j. answer_of setup (other j) m.payload) at ∙ ap (λ (n : Framed). answer_of setup (other k) n.payload) is ∙ now))
-      alone (n ∷ past) at is last was = absurd (let more : suc k ≡ i + suc (suc (length past)) = last in omega arith)
+      alone past at is last was = grind (arith, common_steps, last-done)
 
       by : (o : Option Answer) → answer_of setup (reply i) m.payload ≡ o → cond (is_some o) (first_open setup reply (suc i) past) (Some (at_place i m)) ≡ Some work
           → (first_open setup reply (suc i) past ≡ Some work → NowDone setup reply other (suc i) past message answer) → NowDone setup reply other i (m ∷ past) message answer
-      by None at here others = (let here-is : at_place i m ≡ work = some-same (at_place i m) work here in
-          alone past (ap (λ (w : Work). w.ordinal) here-is) (ap (λ (w : Work). w.message) here-is) last at)
-      by (Some first) at there others = (
-          let less : suc i ≤ k = open-from setup reply (suc i) past work there in
-          let still : answer_of setup (other i) m.payload ≡ Some first = ap (λ r. answer_of setup r m.payload) (same i (let apart : i ≢ k = omega arith in apart)) ∙ at in
-          let done = others there in
-          record {
-            all = ap (λ o. cond (is_some o) (first_open setup other (suc i) past) (Some (at_place i m))) still ∙ done.all;
-            joins = ap (λ o. answered (next_id m.last) o (answers_by setup other (suc i) past [])) still
-                ∙ ap (λ l. spelt (next_id m.last) first ++ l) done.joins
-                ∙ sym (append_assoc (spelt (next_id m.last) first) (answers_by setup reply (suc i) past []) (spelt (next_id message.last) answer))
-                ∙ ap (λ o. answered (next_id m.last) o (answers_by setup reply (suc i) past []) ++ spelt (next_id message.last) answer) (sym at);
-          })
+      by o at here others = grind (arith, common_steps, some-same, open-from)
 
 -- Replies that stay, where none came to the message in work, change nothing.
 
@@ -289,3 +187,196 @@ agree setup reply other i (m ∷ messages) last stays none = by (answer_of setup
         goes = ap (λ o. cond (is_some o) (first_open setup other (suc i) messages) (Some (at_place i m))) now ∙ done.goes
             ∙ ap (λ o. cond (is_some o) (first_open setup reply (suc i) messages) (Some (at_place i m))) (sym at);
       })
+
+-- How a client's session stands between the steps that it takes.
+
+-- it isn't logged in
+pub record IsComing (talk : Talk) (bytes : List ℕ) (client : ClientState) : Type 0 where
+  pub login : IsLoggingIn client.stage client talk.setup.version talk.read bytes
+  pub arrived : client.arrived ≡ 0
+
+-- all that was taken of it is answered
+pub record IsGoing (talk : Talk) (reply : ℕ → Option Answer) (user : Account) (bytes : List ℕ) (client : ClientState) : Type 0 where
+  pub taken : IsTaken talk client
+  pub account : account talk ≡ Some user
+  pub said : List ℕ
+  pub done : AreDone talk.setup reply taken.past said
+  pub put : bytes ≡ front talk ++ said
+
+abbrev pub MayGo : Phase → Talk → (ℕ → Option Answer) → (bytes : List ℕ) → ClientState → Type 0
+MayGo phase.LoggingIn talk reply bytes client = IsComing talk bytes client
+MayGo (phase.Idle user) talk reply bytes client = IsGoing talk reply user bytes client
+MayGo (phase.Working user) talk reply bytes client = ⊥
+MayGo phase.Ending talk reply bytes client = ⊥
+
+pub record GoesAt (talk : Talk) (reply : ℕ → Option Answer) (written : List ℕ) (session : Session) : Type 0 where
+  pub mine : IsOf session.client.number.0 talk.number session.client.salt talk.salt session.client.framer.limit talk.setup.limit
+  pub few : length talk.read < 18446744073709551616
+  pub later : (i : ℕ) → suc session.client.arrived ≤ i → reply i ≡ None
+  pub at : MayGo session.phase talk reply (written ++ session.client.outgoing) session.client
+
+-- How it stands behind the last step: nothing comes yet of a query that came up, and it is the message in work.
+pub record SeatTurned (talk : Talk) (reply : ℕ → Option Answer) (written : List ℕ) (old : Session) (turned : Turned) : Type 0 where
+  pub seat : SeatAt talk reply written turned.session
+  pub unanswered : Unanswered reply turned.session
+  pub asks : Asks turned.query talk reply old turned.session
+
+abbrev pub LeadsTo : Turn → (left : ℕ) → Talk → (ℕ → Option Answer) → (written : List ℕ) → Session → Type 0
+LeadsTo turn.More left talk reply written new = GoesAt talk reply written new × (left_to_say new < left)
+LeadsTo (turn.Work query) left talk reply written new = (old : Session) → SeatTurned talk reply written old (record { session = new; query = Some query })
+LeadsTo turn.Rests left talk reply written new = (old : Session) → SeatTurned talk reply written old (still new)
+
+abbrev pub Leads : (left : ℕ) → Talk → (ℕ → Option Answer) → (written : List ℕ) → Step → Type 0
+Leads left talk reply written next = LeadsTo next.turn left talk reply written next.session
+
+-- A session that ends is asked for nothing.
+pub ends-so : (talk : Talk) (reply : ℕ → Option Answer) (written : List ℕ) (client : ClientState) → IsOf client.number.0 talk.number client.salt talk.salt client.framer.limit talk.setup.limit
+    → ((i : ℕ) → suc client.arrived ≤ i → reply i ≡ None) → over_said reply talk ≡ true → written ++ client.outgoing ≡ due_said reply talk
+    → (old : Session) → SeatTurned talk reply written old (still (record { client = client; phase = phase.Ending }))
+ends-so talk reply written client mine later over due old = grind (arith, common_steps)
+
+-- What a client said, and what it is due by that.
+
+-- Of a client that isn't logged in, or can't be, nothing is due behind the answer to its login.
+
+abbrev pub due_behind : (ℕ → Option Answer) → Talk → (messages : Split) → List ℕ
+due_behind reply talk messages = answers_by talk.setup reply 1 messages.messages (fault_answer talk.setup.limit messages.fault)
+
+abbrev due_by : (ℕ → Option Answer) → Talk → Opening → List ℕ
+due_by reply talk begun = front_in talk begun ++ due_behind reply talk (client_messages talk.setup.limit (commands_in talk begun))
+
+pub no-messages : (limit : ℕ) → client_messages limit [] ≡ record { messages = []; rest = []; fault = None }
+no-messages limit = split-nothing limit 0 [] (first_message-empty limit 0)
+
+pub due-alone : (reply : ℕ → Option Answer) (talk : Talk) (begun : Opening) → opening_of talk ≡ begun → commands_in talk begun ≡ [] → due_said reply talk ≡ front_in talk begun
+due-alone reply talk begun at none = grind (arith, common_steps, no-messages, append-nil)
+
+pub work-alone : (reply : ℕ → Option Answer) (talk : Talk) (begun : Opening) → opening_of talk ≡ begun → commands_in talk begun ≡ [] → work_said reply talk ≡ None
+work-alone reply talk begun at none = grind (arith, common_steps, no-messages)
+
+-- A client that is logged in.
+
+pub record IsIn (talk : Talk) (user : Account) : Type 0 where
+  pub switched : Bool
+  pub response : Response
+  pub id : ℕ
+  pub rest : List ℕ
+  pub says : opening_of talk ≡ Says switched response id rest
+  pub known : account_of talk.setup.users talk.salt response ≡ Some user
+
+pub is-in : (talk : Talk) (user : Account) → account talk ≡ Some user → IsIn talk user
+is-in talk user is = grind (arith, common_steps)
+
+says-more : (talk : Talk) (more : List ℕ) (user : Account) (who : IsIn talk user) → opening_of (heard_more talk more) ≡ Says who.switched who.response who.id (who.rest ++ more)
+says-more talk more user who = opening-says-more talk.setup.limit talk.read more who.switched who.response who.id who.rest who.says
+
+in-commands : (talk : Talk) (user : Account) (who : IsIn talk user) → commands talk ≡ who.rest
+in-commands talk user who = ap (commands_in talk) who.says ∙ ap (λ o. if_known o who.rest) who.known
+
+pub front-more : (talk : Talk) (more : List ℕ) (user : Account) → account talk ≡ Some user → front (heard_more talk more) ≡ front talk
+front-more talk more user is = (let who = is-in talk user is in ap (front_in (heard_more talk more)) (says-more talk more user who) ∙ sym (ap (front_in talk) who.says))
+
+pub commands-more : (talk : Talk) (more : List ℕ) (user : Account) → account talk ≡ Some user → commands (heard_more talk more) ≡ commands talk ++ more
+commands-more talk more user is = (let who = is-in talk user is in
+    ap (commands_in (heard_more talk more)) (says-more talk more user who) ∙ ap (λ o. if_known o (who.rest ++ more)) who.known ∙ sym (ap (λ bytes. bytes ++ more) (in-commands talk user who)))
+
+pub commands-shorter : (talk : Talk) (user : Account) → account talk ≡ Some user → length (commands talk) ≤ length talk.read
+commands-shorter talk user is = grind (arith, common_steps, is-in, in-commands, opening-shorter)
+
+-- whether it is at its end
+pub over-in : (reply : ℕ → Option Answer) (talk : Talk) (user : Account) → account talk ≡ Some user → over_said reply talk ≡ ends_by (work_said reply talk) (is_some (messages_of talk).fault)
+over-in reply talk user is = grind (arith, common_steps, is-in)
+
+-- The messages that were taken of it.
+
+pub taken-messages : (talk : Talk) (client : ClientState) (taken : IsTaken talk client) → messages_of talk ≡ with_front taken.past (split talk.setup.limit 0 client.framer.kept)
+taken-messages talk client taken =
+    ap (split talk.setup.limit 0) (sym (append-nil (commands talk))) ∙ taken.whatever [] ∙ ap (λ bytes. with_front taken.past (split talk.setup.limit 0 bytes)) (append-nil client.framer.kept)
+
+pub taken-nothing : (talk : Talk) (client : ClientState) (taken : IsTaken talk client) → first_message talk.setup.limit 0 client.framer.kept ≡ Nothing
+    → messages_of talk ≡ record { messages = taken.past ++ []; rest = client.framer.kept; fault = None }
+taken-nothing talk client taken at = taken-messages talk client taken ∙ ap (with_front taken.past) (split-nothing talk.setup.limit 0 client.framer.kept at)
+
+pub taken-whole : (talk : Talk) (client : ClientState) (message : Framed) (rest : List ℕ) (taken : IsTaken talk client) → first_message talk.setup.limit 0 client.framer.kept ≡ Whole message rest
+    → messages_of talk ≡ with_front taken.past (with_front (message ∷ []) (split talk.setup.limit 0 rest))
+taken-whole talk client message rest taken at = taken-messages talk client taken ∙ ap (with_front taken.past) (split-whole talk.setup.limit 0 client.framer.kept message rest at)
+
+pub taken-faulty : (talk : Talk) (client : ClientState) (fault : FrameFault) (taken : IsTaken talk client) → first_message talk.setup.limit 0 client.framer.kept ≡ Faulty fault
+    → messages_of talk ≡ record { messages = taken.past ++ []; rest = client.framer.kept; fault = Some fault }
+taken-faulty talk client fault taken at = taken-messages talk client taken ∙ ap (with_front taken.past) (split-faulty talk.setup.limit 0 client.framer.kept fault at)
+
+-- there are no more of them than bytes
+pub taken-few : (talk : Talk) (client : ClientState) (message : Framed) (rest : List ℕ) (user : Account) (taken : IsTaken talk client) → account talk ≡ Some user → first_message talk.setup.limit 0 client.framer.kept ≡ Whole message rest
+    → suc (length taken.past) ≤ length talk.read
+taken-few talk client message rest user taken is at = (
+    let others = (split talk.setup.limit 0 rest).messages in
+    let all : length (messages_of talk).messages ≡ length taken.past + suc (length others) = ap (λ (s : Split). length s.messages) (taken-whole talk client message rest taken at) ∙ length-append taken.past (message ∷ others) in
+    let count : length (messages_of talk).messages ≤ length (commands talk) = split-count talk.setup.limit 0 (commands talk) in
+    let short : length (commands talk) ≤ length talk.read = commands-shorter talk user is in
+    omega arith)
+
+counted-one : (n : ℕ) → n < 18446744073709551615 → counted n ≡ n + 1
+counted-one n small = grind arith
+
+pub counted-suc : (n k : ℕ) → n ≡ k → suc k < 18446744073709551616 → counted n ≡ suc k
+counted-suc n k same few = (let more : counted n ≡ n + 1 = counted-one n (omega arith) in omega arith)
+
+-- more bytes are kept
+abbrev pub taken-fed : (talk : Talk) (client : ClientState) (bytes : List ℕ) (user : Account) → account talk ≡ Some user → IsTaken talk client → IsTaken (heard_more talk bytes) (fed client bytes)
+taken-fed talk client bytes user is taken = record {
+  stage = taken.stage;
+  framer = record { unfound = taken.framer.unfound; faultless = taken.framer.faultless };
+  past = taken.past;
+  arrived = taken.arrived;
+  whatever = λ more.
+      ap (λ said. split talk.setup.limit 0 (said ++ more)) (commands-more talk bytes user is)
+      ∙ ap (split talk.setup.limit 0) (append_assoc (commands talk) bytes more)
+      ∙ taken.whatever (bytes ++ more)
+      ∙ ap (λ kept. with_front taken.past (split talk.setup.limit 0 kept)) (sym (append_assoc client.framer.kept bytes more));
+}
+
+pub past-count : (past : List Framed) (message : Framed) → suc (length past) ≡ length (past ++ message ∷ [])
+past-count past message = omega (arith, length-append past (message ∷ []))
+
+-- one message more is taken
+abbrev pub client_past : Framed → (outgoing : List ℕ) → ClientState → ClientState
+client_past message outgoing client = record client { framer = past_message message client.framer; arrived = counted client.arrived; outgoing = outgoing }
+
+pub past-whatever : (talk : Talk) (client : ClientState) (message : Framed) (rest : List ℕ) → (taken : IsTaken talk client) → first_message talk.setup.limit 0 client.framer.kept ≡ Whole message rest
+    → (more : List ℕ) → split talk.setup.limit 0 (commands talk ++ more) ≡ with_front (taken.past ++ message ∷ []) (split talk.setup.limit 0 (drop (message_size client.framer.kept) client.framer.kept ++ more))
+past-whatever talk client message rest taken at more = (
+    let others = split talk.setup.limit 0 (rest ++ more) in
+    taken.whatever more
+    ∙ ap (with_front taken.past) (split-whole talk.setup.limit 0 (client.framer.kept ++ more) message (rest ++ more) (first_message-whole-more talk.setup.limit 0 client.framer.kept more message rest at))
+    ∙ ap (λ (messages : List Framed). record { messages = messages; rest = others.rest; fault = others.fault }) (sym (append_assoc taken.past (message ∷ []) others.messages))
+    ∙ ap (λ bytes. with_front (taken.past ++ message ∷ []) (split talk.setup.limit 0 (bytes ++ more))) (first_message-goes talk.setup.limit 0 client.framer.kept message rest at))
+
+abbrev pub taken-one : (talk : Talk) (client : ClientState) (message : Framed) (rest outgoing : List ℕ) → (taken : IsTaken talk client) → first_message talk.setup.limit 0 client.framer.kept ≡ Whole message rest
+    → suc (length taken.past) < 18446744073709551616 → IsTaken talk (client_past message outgoing client)
+taken-one talk client message rest outgoing taken at few = record {
+  stage = taken.stage;
+  framer = record { unfound = refl; faultless = taken.framer.faultless };
+  past = taken.past ++ message ∷ [];
+  arrived = counted-suc client.arrived (length taken.past) taken.arrived few ∙ past-count taken.past message;
+  whatever = past-whatever talk client message rest taken at;
+}
+
+-- What is due by them.
+
+pub record IsAllDue (reply : ℕ → Option Answer) (talk : Talk) (bytes : List ℕ) : Type 0 where
+  pub due : due_said reply talk ≡ bytes
+  pub none : work_said reply talk ≡ None
+
+-- where all are answered
+pub due-all : (reply : ℕ → Option Answer) (talk : Talk) (past : List Framed) (said rest : List ℕ) (fault : Option FrameFault) → AreDone talk.setup reply past said → messages_of talk ≡ record { messages = past ++ []; rest = rest; fault = fault }
+    → IsAllDue reply talk (front talk ++ (said ++ fault_answer talk.setup.limit fault))
+due-all reply talk past said rest fault done at = grind (arith, common_steps)
+
+-- where the next one isn't
+pub record IsDueTo (reply : ℕ → Option Answer) (talk : Talk) (bytes : List ℕ) (work : Work) : Type 0 where
+  pub due : due_said reply talk ≡ bytes
+  pub first : work_said reply talk ≡ Some work
+
+pub due-open : (reply : ℕ → Option Answer) (talk : Talk) (past : List Framed) (said : List ℕ) (message : Framed) (others : Split) → AreDone talk.setup reply past said → messages_of talk ≡ with_front past (with_front (message ∷ []) others)
+    → answer_of talk.setup (reply (suc (length past))) message.payload ≡ None → IsDueTo reply talk (front talk ++ said) (at_place (suc (length past)) message)
+due-open reply talk past said message others done at none = grind (arith, common_steps, append-nil)

@@ -1,42 +1,212 @@
--- What a client that is logged in says next, and what is whole of what it said, taken in order.
-use Rattle.std.specs.Prelude.{◌≡◌, ◌≤◌, ◌<◌, ℕ, zero, suc, ◌+◌, true, is_some, List, [], ◌∷◌, ◌++◌, length, drop, Option, Some, None, refl}
-use Rattle.std.proofs.Common.{sym, ◌∙◌, ap, subst, append-nil, append_assoc, arith}
-use Rattle.packet_frame.specs.FramerState.{look, look_by}
-use Rattle.packet_frame.specs.declared.fault.FrameFault.{FrameFault}
-use Rattle.packet_frame.specs.Packets.{Framed, Found, Split, split, with_front, first_message, message_size, next_id, spelling}
-use Rattle.packet_frame.specs.Packets.Found.{Nothing, Whole, Faulty}
+-- What a message that was framed is, within any limit.
+use Rattle.router_world.proofs.Names.{common_steps, ◌∙◌, sym, ap, arith, Framed, Found, longest, next_id, Nothing, Whole, Faulty, nat_eq-true, ◌≡◌, ◌≤◌, ℕ}
+use Rattle.router_world.proofs.Names.{zero, suc, ◌+◌, Bool, true, nat_eq, cond, List, ◌++◌, length, refl, ◌<◌, is_some, [], drop, Option, Some, None, Result}
+use Rattle.router_world.proofs.Names.{subst, append-nil, append_assoc, length-drop, split, message_size, Response, Stage, ClientStep, ClientState, Opening}
+use Rattle.router_world.proofs.Names.{Says, IsLoggingIn, command_found, next_of, next_same, Account, account_of, Talk, opening_of, account_in, account}
+use Rattle.router_world.proofs.Names.{if_known, commands, messages_of, front_in, front, own_ok, Session, logs_in, logs_in_as, step_by, step, still, left_to_say}
+use Rattle.router_world.proofs.Names.{Answer, ends_by, ends_in, due_said, work_said, over_said, ◌∷◌, FrameFault, Split, with_front, first_message-goes, parsed}
+use Rattle.router_world.proofs.Names.{counted, has_server, fault_answer, is_query, is_quit, payload_of, Asked, Phase, asked_of, arrives_as, ended, turned_by}
+use Rattle.router_world.proofs.Names.{turned, spelt, answer_of, IsTaken, IsWorking}
+use Rattle.router_world.specs.Seats.{IsOf}
+use Rattle.packet_frame.specs.Packets.{first_packet, begun, and_then, continued, message_within, first_message, spelling}
+use Rattle.packet_frame.specs.PacketLaws.{first_packet-whole, packet_size}
+use Rattle.handshake.specs.declared.fault.HandFault.{HandFault}
+use Rattle.client_side.specs.declared.step.ClientFault.{ClientFault}
+use Rattle.client_side.specs.Login.{Fails, opening, fault_id}
+use Rattle.client_side.specs.Reading.{IsReading, HasStepped, said, said_to}
+use Rattle.client_side.specs.Steps.{answer_found, response_read, response_found, looked}
+use Rattle.client_side.specs.Laws.{logging-next}
+use Rattle.client_session.specs.Answers.{commands_in, greeted, login_answer, fault_error}
+use Rattle.client_talk.specs.Steps.{admitted, denied, refused, answers, started, stepped}
+use Rattle.client_talk.specs.Going.{unsaid, goes_on}
 use Rattle.packet_frame.specs.Laws.{first_message-shorter}
-use Rattle.packet_frame.specs.MessageLaws.{first_message-goes}
-use Rattle.command_parse.specs.Meaning.{parsed}
-use Rattle.client_side.specs.declared.stage.Stage.{Stage}
 use Rattle.client_side.specs.declared.step.ClientFault.TheVariants.{Frame}
-use Rattle.client_side.specs.Client.{ClientState, counted}
-use Rattle.client_side.specs.Login.{fault_id}
-use Rattle.client_side.specs.Steps.{looked, command_found, next_of}
-use Rattle.server_side.specs.Account.{Account}
-use Rattle.client_session.specs.Setups.{has_server}
-use Rattle.client_session.specs.Answers.{Talk, messages_of, front, fault_answer, is_query, is_quit}
-use Rattle.client_session.specs.Errors.{own_ok}
-use Rattle.client_session.specs.Refusals.{payload_of}
-use Rattle.client_talk.specs.declared.asked.Asked.{Asked}
-use Rattle.client_talk.specs.declared.asked.Asked.TheVariants as asked
-use Rattle.client_talk.specs.declared.session.Phase.{Phase}
-use Rattle.client_talk.specs.declared.session.Phase.TheVariants as phase
-use Rattle.client_talk.specs.declared.session.Session.{Session}
 use Rattle.client_talk.specs.declared.step.Turn.{Turn}
+use Rattle.router_world.proofs.SeatsAnswers.{done-none, due-alone, GoesAt, SeatTurned, Leads, ends-so, at_place, Means, means-asked, done-one, IsAllDue}
+use Rattle.router_world.proofs.SeatsAnswers.{IsDueTo, over-in, taken-nothing, taken-whole, taken-faulty, taken-few, client_past, taken-one, counted-suc}
+use Rattle.router_world.proofs.SeatsAnswers.{due-all, due-open, LeadsTo}
+use Rattle.client_side.specs.declared.stage.Stage.TheVariants as stage
+use Rattle.client_side.specs.declared.step.ClientStep.TheVariants as says
+use Rattle.client_talk.specs.declared.session.Phase.TheVariants as phase
+use Rattle.client_talk.specs.declared.asked.Asked.TheVariants as asked
 use Rattle.client_talk.specs.declared.step.Turn.TheVariants as turn
-use Rattle.client_talk.specs.Asked.{asked_of}
-use Rattle.client_talk.specs.Steps.{answers, started, arrives_as, ended, refused, stepped, step}
-use Rattle.client_talk.specs.Going.{still, left_to_say, turned_by, goes_on, turned}
-use Rattle.exchange.specs.Replies.{Answer, spelt}
-use Rattle.promises.specs.Closes.{ends_by}
-use Rattle.router_world.specs.Replied.{answer_of}
-use Rattle.router_world.specs.Seats.{due_said, over_said, IsTaken, IsWorking}
-use Rattle.router_world.proofs.SeatsAnswers.{at_place, Means, means-asked, done-one}
-use Rattle.router_world.proofs.Framing.{message-framed}
-use Rattle.router_world.proofs.SeatsTalks.{IsAllDue, IsDueTo, over-in, taken-nothing, taken-whole, taken-faulty, taken-few, client_past, taken-one, counted-suc, due-all, due-open}
-use Rattle.router_world.proofs.SeatsGoing.{GoesAt, SeatTurned, LeadsTo, Leads, ends-so}
-use Rattle.router_world.proofs.SeatsComing.{coming-steps}
+
+-- it begins with the id that is due, and isn't longer than the limit leaves
+pub record IsFramed (limit announced id : ℕ) (message : Framed) : Type 0 where
+  pub begins : message.first ≡ id
+  pub fits : announced + length message.payload ≤ limit
+
+-- what is behind a packet with the longest body
+abbrev Later : (packets limit announced id : ℕ) → Type 0
+Later packets limit announced id = (r : List ℕ) (m : Framed) (behind : List ℕ) → message_within packets limit (announced + longest) (next_id id) r ≡ Whole m behind → IsFramed limit (announced + longest) (next_id id) m
+
+within-framed : (packets limit announced id : ℕ) (bytes : List ℕ) (message : Framed) (rest : List ℕ) → message_within packets limit announced id bytes ≡ Whole message rest → IsFramed limit announced id message
+within-framed zero limit announced id bytes message rest is = absurd (let no : Nothing ≡ Whole message rest = is in cc)
+within-framed (suc packets) limit announced id bytes message rest is = found (first_packet limit announced id bytes) refl is (λ r m behind. within-framed packets limit (announced + longest) (next_id id) r m behind) where
+  found : (first : Found) → first_packet limit announced id bytes ≡ first → and_then first (λ packet r. continued packet r (message_within packets limit (announced + longest) (next_id id) r)) ≡ Whole message rest → Later packets limit announced id → IsFramed limit announced id message
+  found Nothing at same later = absurd (let no : Nothing ≡ Whole message rest = same in cc)
+  found (Faulty fault) at same later = absurd (let no : Faulty fault ≡ Whole message rest = same in cc)
+  found (Whole packet r) at same later = (let there = first_packet-whole limit announced id bytes packet r at in
+      let size = packet_size limit announced id bytes packet r there in
+      let first : packet.first ≡ id = ap (λ (f : Framed). f.first) there.is in
+      let allowed = there.allowed in
+      by first (omega arith) (nat_eq (length packet.payload) longest) refl same) where
+        by : packet.first ≡ id → announced + length packet.payload ≤ limit → (long : Bool) → nat_eq (length packet.payload) longest ≡ long → cond long (begun packet (message_within packets limit (announced + longest) (next_id id) r)) (Whole packet r) ≡ Whole message rest
+            → IsFramed limit announced id message
+        by first fits long h3 same = grind (arith, common_steps, nat_eq-true)
+
+pub message-framed : (limit first : ℕ) (bytes : List ℕ) (message : Framed) (rest : List ℕ) → first_message limit first bytes ≡ Whole message rest → IsFramed limit 0 first message
+unfolding first_message
+message-framed limit first bytes message rest is = within-framed (length bytes) limit 0 first bytes message rest is
+
+-- What a client that isn't logged in says next.
+
+-- What the next step keeps of the bytes is no more than before.
+
+kept-behind : (message : Framed) (client : ClientState) → length (drop (message_size client.framer.kept) client.framer.kept) ≤ length client.framer.kept
+kept-behind message client = omega (arith, length-drop (message_size client.framer.kept) client.framer.kept)
+
+kept-answer : (response : Response) (client : ClientState) (found : Found) → length (answer_found response client found).client.framer.kept ≤ length client.framer.kept
+kept-answer response client found = grind (arith, common_steps, kept-behind)
+
+kept-read : (id : ℕ) (decoded : Result Response HandFault) (client : ClientState) → length (response_read id decoded client).client.framer.kept ≤ length client.framer.kept
+kept-read id decoded client = grind (arith, common_steps, kept-answer)
+
+kept-response : (client : ClientState) (found : Found) → length (response_found client found).client.framer.kept ≤ length client.framer.kept
+kept-response client found = grind (arith, common_steps, kept-read, kept-behind)
+
+kept-command : (client : ClientState) (found : Found) → length (command_found client found).client.framer.kept ≤ length client.framer.kept
+kept-command client found = grind (arith, common_steps)
+
+kept-next : (at : Stage) (client : ClientState) → length (next_of at client).client.framer.kept ≤ length client.framer.kept
+kept-next at client = grind (arith, common_steps, kept-response, kept-answer, kept-command)
+
+-- a login is left to say until it is answered
+unsaid-coming : (at : Stage) (client : ClientState) (version read bytes : List ℕ) → IsLoggingIn at client version read bytes → unsaid at ≡ 1
+unsaid-coming at client version read bytes is = grind (arith, common_steps)
+
+-- what the steps of a login have of it
+record IsNext (talk : Talk) (reply : ℕ → Option Answer) (left : ℕ) (client : ClientState) : Type 0 where
+  mine : IsOf client.number.0 talk.number client.salt talk.salt client.framer.limit talk.setup.limit
+  few : length talk.read < 18446744073709551616
+  arrived : client.arrived ≡ 0
+  later : (i : ℕ) → suc client.arrived ≤ i → reply i ≡ None
+  fewer : length client.framer.kept < left
+
+-- it was told no more than the greeting, and to switch
+told-greeted : (talk : Talk) (reply : ℕ → Option Answer) (left : ℕ) (client : ClientState) (switched : Bool) → IsNext talk reply left client → said_to client talk.setup.version switched ≡ greeted talk switched
+told-greeted talk reply left client switched next = ap (λ n. said n client.salt talk.setup.version switched) next.mine.number_is ∙ ap (λ salt. said talk.number salt talk.setup.version switched) next.mine.salt_is
+
+-- it waits for more
+coming-waits : (talk : Talk) (reply : ℕ → Option Answer) (written : List ℕ) (left : ℕ) (client : ClientState) → IsNext talk reply left client
+    → HasStepped says.Nothing client talk.setup.limit talk.setup.version talk.read (written ++ client.outgoing) → (old : Session) → SeatTurned talk reply written old (still (record { client = client; phase = phase.LoggingIn }))
+coming-waits talk reply written left client next h6 old = grind (arith, common_steps, told-greeted, due-alone)
+
+-- what can't be is refused
+coming-refused : (talk : Talk) (reply : ℕ → Option Answer) (written : List ℕ) (left : ℕ) (client : ClientState) (first : ℕ) (fault : ClientFault) → IsNext talk reply left client
+    → HasStepped (says.Refused first fault) client talk.setup.limit talk.setup.version talk.read (written ++ client.outgoing)
+    → (old : Session) → SeatTurned talk reply written old (still (refused talk.setup.limit fault first (record { client = client; phase = phase.LoggingIn })))
+coming-refused talk reply written left client first fault next (switched, fails, bytes) old =
+    ends-so talk reply written (record client { outgoing = client.outgoing ++ spelling first (fault_error talk.setup.limit fault) }) next.mine next.later over due old where
+      at : opening_of talk ≡ Fails switched fault first
+      at = ap (opening talk.setup.limit) (sym (append-nil talk.read)) ∙ fails []
+
+      over : over_said reply talk ≡ true
+      over = ap (λ (o : Opening). ends_in o (account talk) (ends_by (work_said reply talk) (is_some (messages_of talk).fault))) at
+
+      due : written ++ (client.outgoing ++ spelling first (fault_error talk.setup.limit fault)) ≡ due_said reply talk
+      due = sym (append_assoc written client.outgoing (spelling first (fault_error talk.setup.limit fault)))
+          ∙ ap (λ l. l ++ spelling first (fault_error talk.setup.limit fault)) (bytes ∙ told-greeted talk reply left client switched next)
+          ∙ sym (due-alone reply talk (Fails switched fault first) at refl)
+
+-- it says who it is
+record IsSaid (talk : Talk) (client : ClientState) (switched : Bool) (response : Response) (first : ℕ) (bytes : List ℕ) : Type 0 where
+  framer : IsReading client.framer
+  opened : opening_of talk ≡ Says switched response first client.framer.kept
+  greeted_so : bytes ≡ greeted talk switched
+
+said-now : (talk : Talk) (reply : ℕ → Option Answer) (left : ℕ) (client : ClientState) (response : Response) (first : ℕ) (bytes : List ℕ) → IsNext talk reply left client
+    → IsLoggingIn (stage.Login response first) client talk.setup.version talk.read bytes → (switched : Bool) × IsSaid talk client switched response first bytes
+said-now talk reply left client response first bytes next (switched, framer, whatever, is) = (
+  switched,
+  record {
+    framer = framer;
+    opened = ap (opening talk.setup.limit) (sym (append-nil talk.read)) ∙ ap (λ limit. opening limit (talk.read ++ [])) (sym next.mine.limit_is) ∙ whatever.whatever [] ∙ ap (Says switched response first) (append-nil client.framer.kept);
+    greeted_so = is ∙ told-greeted talk reply left client switched next;
+  },
+)
+
+-- it is let in
+coming-admitted : (talk : Talk) (reply : ℕ → Option Answer) (written : List ℕ) (left : ℕ) (client : ClientState) (switched : Bool) (response : Response) (first : ℕ) (user : Account) → IsNext talk reply left client
+    → IsSaid talk client switched response first (written ++ client.outgoing) → account_of talk.setup.users talk.salt response ≡ Some user
+    → GoesAt talk reply written (admitted user first (record { client = client; phase = phase.LoggingIn })) × (left_to_say (admitted user first (record { client = client; phase = phase.LoggingIn })) < left)
+coming-admitted talk reply written left client switched response first user next said known = (let behind : commands talk ≡ client.framer.kept = ap (commands_in talk) said.opened ∙ ap (λ o. if_known o client.framer.kept) known in
+    let told : front talk ≡ greeted talk switched ++ spelling first own_ok =
+    ap (front_in talk) said.opened ∙ ap (λ o. greeted talk switched ++ spelling first (login_answer response o)) known in (
+      record {
+        mine = next.mine;
+        few = next.few;
+        later = next.later;
+        at = record {
+          taken = record {
+            stage = refl;
+            framer = said.framer;
+            past = [];
+            arrived = next.arrived;
+            whatever = λ more. ap (λ bytes. split talk.setup.limit 0 (bytes ++ more)) behind;
+          };
+          account = ap (account_in talk) said.opened ∙ known;
+          said = [];
+          done = done-none talk.setup reply;
+          put = sym (append_assoc written client.outgoing (spelling first own_ok)) ∙ ap (λ l. l ++ spelling first own_ok) said.greeted_so ∙ sym told ∙ sym (append-nil (front talk));
+        };
+      },
+      (let fewer : length client.framer.kept < left = next.fewer in omega arith),
+    ))
+
+-- it isn't known
+coming-denied : (talk : Talk) (reply : ℕ → Option Answer) (written : List ℕ) (left : ℕ) (client : ClientState) (switched : Bool) (response : Response) (first : ℕ) → IsNext talk reply left client
+    → IsSaid talk client switched response first (written ++ client.outgoing) → account_of talk.setup.users talk.salt response ≡ None
+    → (old : Session) → SeatTurned talk reply written old (still (denied response first (record { client = client; phase = phase.LoggingIn })))
+coming-denied talk reply written left client switched response first next said unknown old = grind (arith, common_steps, ends-so, due-alone)
+
+-- whatever it says
+logs-leads : (talk : Talk) (reply : ℕ → Option Answer) (written : List ℕ) (left : ℕ) (client : ClientState) (response : Response) (first : ℕ) → IsNext talk reply left client
+    → IsLoggingIn (stage.Login response first) client talk.setup.version talk.read (written ++ client.outgoing)
+    → Leads left talk reply written (logs_in talk.setup (Some response) first (record { client = client; phase = phase.LoggingIn }))
+logs-leads talk reply written left client response first next login =
+    subst (λ (salt : List ℕ). Leads left talk reply written (logs_in_as (account_of talk.setup.users salt response) response first (record { client = client; phase = phase.LoggingIn }))) (sym next.mine.salt_is) (by (account_of talk.setup.users talk.salt response) refl) where
+      now : (switched : Bool) × IsSaid talk client switched response first (written ++ client.outgoing)
+      now = said-now talk reply left client response first (written ++ client.outgoing) next login
+
+      by : (o : Option Account) → account_of talk.setup.users talk.salt response ≡ o → Leads left talk reply written (logs_in_as o response first (record { client = client; phase = phase.LoggingIn }))
+      by (Some user) known = coming-admitted talk reply written left client now.0 response first user next now.1 known
+      by None unknown = coming-denied talk reply written left client now.0 response first next now.1 unknown
+
+coming-leads : (talk : Talk) (reply : ℕ → Option Answer) (written : List ℕ) (left : ℕ) (client : ClientState) (what : ClientStep) → IsNext talk reply left client
+    → HasStepped what client talk.setup.limit talk.setup.version talk.read (written ++ client.outgoing) → Leads left talk reply written (step_by talk.setup what (record { client = client; phase = phase.LoggingIn }))
+coming-leads talk reply written left client says.Nothing next has = coming-waits talk reply written left client next has
+coming-leads talk reply written left client (says.Login first) next (response, at, login) = grind (arith, common_steps, logs-leads)
+coming-leads talk reply written left client (says.Message ordinal first) next has = absurd has
+coming-leads talk reply written left client (says.Refused first fault) next has = coming-refused talk reply written left client first fault next has
+
+pub coming-steps : (talk : Talk) (reply : ℕ → Option Answer) (written : List ℕ) (client : ClientState) → GoesAt talk reply written (record { client = client; phase = phase.LoggingIn })
+    → Leads (left_to_say (record { client = client; phase = phase.LoggingIn })) talk reply written (step talk.setup (record { client = client; phase = phase.LoggingIn }))
+coming-steps talk reply written client goes = (
+    let next = next_of client.stage client in
+    let same = next_same client.stage client in
+    let has = logging-next client talk.setup.version talk.read written goes.at.login in
+    let one : unsaid client.stage ≡ 1 = unsaid-coming client.stage client talk.setup.version talk.read (written ++ client.outgoing) goes.at.login in
+    let fewer : length next.client.framer.kept ≤ length client.framer.kept = kept-next client.stage client in
+    coming-leads talk reply written (left_to_say (record { client = client; phase = phase.LoggingIn })) next.client next.step (record {
+      mine = record { number_is = ap (λ n. n.0) same.0 ∙ goes.mine.number_is; salt_is = same.1 ∙ goes.mine.salt_is; limit_is = same.2 ∙ goes.mine.limit_is; short = goes.mine.short };
+      few = goes.few;
+      arrived = same.3 ∙ goes.at.arrived;
+      later = λ i from. goes.later i (subst (λ k. suc k ≤ i) same.3 from);
+      fewer = omega arith;
+    }) (subst (λ limit. HasStepped next.step next.client limit talk.setup.version talk.read (written ++ next.client.outgoing)) goes.mine.limit_is has))
+
+-- What a client that is logged in says next, and what is whole of what it said, taken in order.
 
 -- A client that is idle.
 
@@ -47,41 +217,37 @@ idle user client = record { client = client; phase = phase.Idle user }
 -- nothing whole is left
 idle-rests : (talk : Talk) (reply : ℕ → Option Answer) (written : List ℕ) (user : Account) (client : ClientState) → GoesAt talk reply written (idle user client) → first_message talk.setup.limit 0 client.framer.kept ≡ Nothing
     → (old : Session) → SeatTurned talk reply written old (still (idle user (looked client Nothing)))
-idle-rests talk reply written user client goes at old = record {
-  seat = record {
-    number = goes.number;
-    salt = goes.salt;
-    limit = goes.limit;
-    short = goes.short;
-    due = goes.at.put ∙ ap (λ l. front talk ++ l) (sym (append-nil goes.at.said)) ∙ sym all.due;
-    at = record {
-      taken = record {
-        stage = goes.at.taken.stage;
-        framer = record { unfound = refl; faultless = goes.at.taken.framer.faultless };
-        past = goes.at.taken.past;
-        arrived = goes.at.taken.arrived;
-        whatever = goes.at.taken.whatever;
+idle-rests talk reply written user client goes at old = (let messages : messages_of talk ≡ record { messages = goes.at.taken.past ++ []; rest = client.framer.kept; fault = None } =
+    taken-nothing talk client goes.at.taken at in
+    let all : IsAllDue reply talk (front talk ++ (goes.at.said ++ [])) =
+    due-all reply talk goes.at.taken.past goes.at.said client.framer.kept None goes.at.done messages in
+    record {
+      seat = record {
+        mine = goes.mine;
+        due = goes.at.put ∙ ap (λ l. front talk ++ l) (sym (append-nil goes.at.said)) ∙ sym all.due;
+        at = record {
+          taken = record {
+            stage = goes.at.taken.stage;
+            framer = record { unfound = refl; faultless = goes.at.taken.framer.faultless };
+            past = goes.at.taken.past;
+            arrived = goes.at.taken.arrived;
+            whatever = goes.at.taken.whatever;
+          };
+          account = goes.at.account;
+          all = all.none;
+          faultless = ap (λ (s : Split). s.fault) messages;
+          none = at;
+        };
       };
-      account = goes.at.account;
-      all = all.none;
-      faultless = ap (λ (s : Split). s.fault) messages;
-      none = at;
-    };
-  };
-  unanswered = λ i from. goes.later i from;
-  asks = λ other working. absurd (let no : phase.Idle user ≡ phase.Working other = working in cc);
-} where
-  messages : messages_of talk ≡ record { messages = goes.at.taken.past ++ []; rest = client.framer.kept; fault = None }
-  messages = taken-nothing talk client goes.at.taken at
-
-  all : IsAllDue reply talk (front talk ++ (goes.at.said ++ []))
-  all = due-all reply talk goes.at.taken.past goes.at.said client.framer.kept None goes.at.done messages
+      unanswered = λ i from. goes.later i from;
+      asks = λ other working. absurd (let no : phase.Idle user ≡ phase.Working other = working in cc);
+    })
 
 -- what follows can't be
 idle-refused : (talk : Talk) (reply : ℕ → Option Answer) (written : List ℕ) (user : Account) (client : ClientState) (fault : FrameFault) → GoesAt talk reply written (idle user client) → first_message talk.setup.limit 0 client.framer.kept ≡ Faulty fault
     → (old : Session) → SeatTurned talk reply written old (still (refused talk.setup.limit (Frame fault) (fault_id 0 fault) (idle user (looked client (Faulty fault)))))
 idle-refused talk reply written user client fault goes at old =
-    ends-so talk reply written (record (looked client (Faulty fault)) { outgoing = client.outgoing ++ fault_answer talk.setup.limit (Some fault) }) goes.number goes.salt goes.limit goes.short goes.later over due old where
+    ends-so talk reply written (record (looked client (Faulty fault)) { outgoing = client.outgoing ++ fault_answer talk.setup.limit (Some fault) }) goes.mine goes.later over due old where
       messages : messages_of talk ≡ record { messages = goes.at.taken.past ++ []; rest = client.framer.kept; fault = Some fault }
       messages = taken-faulty talk client fault goes.at.taken at
 
@@ -139,10 +305,7 @@ idle-answers : (talk : Talk) (reply : ℕ → Option Answer) (written : List ℕ
     → GoesAt talk reply written (answers message (next_id message.last) payload (idle user (looked client (Whole message rest)))) × (left_to_say (answers message (next_id message.last) payload (idle user (looked client (Whole message rest)))) < left_to_say (idle user client))
 idle-answers talk reply written user client message rest payload goes whole answer = (
   record {
-    number = goes.number;
-    salt = goes.salt;
-    limit = goes.limit;
-    short = goes.short;
+    mine = goes.mine;
     few = goes.few;
     later = λ i from. later-from talk reply written user client goes (counted client.arrived) i whole.counts (omega arith);
     at = record {
@@ -163,44 +326,33 @@ idle-answers talk reply written user client message rest payload goes whole answ
 idle-works : (talk : Talk) (reply : ℕ → Option Answer) (written : List ℕ) (user : Account) (client : ClientState) (message : Framed) (rest : List ℕ) (goes : GoesAt talk reply written (idle user client)) → IsWhole talk client goes.at.taken message rest
     → is_query message.payload ≡ true → answer_of talk.setup (reply (suc (length goes.at.taken.past))) message.payload ≡ reply (suc (length goes.at.taken.past)) → (old : Session)
     → SeatTurned talk reply written old (record { session = started message (idle user (looked client (Whole message rest))); query = Some (record { ordinal = counted client.arrived; first = next_id message.last; packets = spelling 0 message.payload }) })
-idle-works talk reply written user client message rest goes whole query answer old = record {
-  seat = record {
-    number = goes.number;
-    salt = goes.salt;
-    limit = goes.limit;
-    short = goes.short;
-    due = goes.at.put ∙ sym to.due;
-    at = working;
-  };
-  unanswered = λ i from. later-from talk reply written user client goes (counted client.arrived) i whole.counts from;
-  asks = (user, working, refl, refl, refl, refl);
-} where
-  to : IsDueTo reply talk (front talk ++ goes.at.said) (at_place (suc (length goes.at.taken.past)) message)
-  to = due-open reply talk goes.at.taken.past goes.at.said message (split talk.setup.limit 0 rest) goes.at.done whole.messages
-      (answer ∙ later-from talk reply written user client goes (suc (length goes.at.taken.past)) (suc (length goes.at.taken.past)) refl (omega arith))
-
-  working : IsWorking talk reply user (client_past message client.outgoing client)
-  working = record {
-    taken = taken-one talk client message rest client.outgoing goes.at.taken whole.at whole.few;
-    account = goes.at.account;
-    message = message;
-    work = to.first ∙ ap (λ k. Some (at_place k message)) (sym whole.counts);
-    query = query;
-    begins = whole.begins;
-    short = whole.fits;
-  }
+idle-works talk reply written user client message rest goes whole query answer old = (let to : IsDueTo reply talk (front talk ++ goes.at.said) (at_place (suc (length goes.at.taken.past)) message) =
+    due-open reply talk goes.at.taken.past goes.at.said message (split talk.setup.limit 0 rest) goes.at.done whole.messages
+    (answer ∙ later-from talk reply written user client goes (suc (length goes.at.taken.past)) (suc (length goes.at.taken.past)) refl (omega arith)) in
+    let working : IsWorking talk reply user (client_past message client.outgoing client) = record {
+      taken = taken-one talk client message rest client.outgoing goes.at.taken whole.at whole.few;
+      account = goes.at.account;
+      message = message;
+      work = to.first ∙ ap (λ k. Some (at_place k message)) (sym whole.counts);
+      query = query;
+      begins = whole.begins;
+      short = whole.fits;
+    } in
+    record {
+      seat = record {
+        mine = goes.mine;
+        due = goes.at.put ∙ sym to.due;
+        at = working;
+      };
+      unanswered = λ i from. later-from talk reply written user client goes (counted client.arrived) i whole.counts from;
+      asks = (user, working, refl, refl, refl, refl);
+    })
 
 -- it quits
 idle-quits : (talk : Talk) (reply : ℕ → Option Answer) (written : List ℕ) (user : Account) (client : ClientState) (message : Framed) (rest : List ℕ) (goes : GoesAt talk reply written (idle user client)) → IsWhole talk client goes.at.taken message rest
     → is_quit message.payload ≡ true → answer_of talk.setup (reply (suc (length goes.at.taken.past))) message.payload ≡ None → (old : Session)
     → SeatTurned talk reply written old (still (ended (idle user (looked client (Whole message rest)))))
-idle-quits talk reply written user client message rest goes whole quits none old =
-    ends-so talk reply written (looked client (Whole message rest)) goes.number goes.salt goes.limit goes.short goes.later over (goes.at.put ∙ sym to.due) old where
-      to : IsDueTo reply talk (front talk ++ goes.at.said) (at_place (suc (length goes.at.taken.past)) message)
-      to = due-open reply talk goes.at.taken.past goes.at.said message (split talk.setup.limit 0 rest) goes.at.done whole.messages none
-
-      over : over_said reply talk ≡ true
-      over = over-in reply talk user goes.at.account ∙ ap (λ w. ends_by w (is_some (messages_of talk).fault)) to.first ∙ quits
+idle-quits talk reply written user client message rest goes whole quits none old = grind (arith, common_steps, said, due-open, over-in, ends-so)
 
 -- whatever it asks for
 idle-arrives : (talk : Talk) (reply : ℕ → Option Answer) (written : List ℕ) (user : Account) (client : ClientState) (message : Framed) (rest : List ℕ) (goes : GoesAt talk reply written (idle user client)) → IsWhole talk client goes.at.taken message rest
@@ -221,21 +373,13 @@ idle-leads talk reply written user client goes (Faulty fault) at = idle-refused 
 
 idle-steps : (talk : Talk) (reply : ℕ → Option Answer) (written : List ℕ) (user : Account) (client : ClientState) → GoesAt talk reply written (idle user client)
     → Leads (left_to_say (idle user client)) talk reply written (step talk.setup (idle user client))
-idle-steps talk reply written user client goes =
-    subst (λ (s : Stage). Leads (left_to_say (idle user client)) talk reply written (stepped talk.setup (next_of s client) (phase.Idle user))) (sym goes.at.taken.stage)
-    (subst (λ (found : Found). Leads (left_to_say (idle user client)) talk reply written (stepped talk.setup (command_found client found) (phase.Idle user))) (sym looks)
-    (idle-leads talk reply written user client goes (first_message talk.setup.limit 0 client.framer.kept) refl)) where
-      looks : look 0 client.framer ≡ first_message talk.setup.limit 0 client.framer.kept
-      looks = ap (λ fault. look_by fault (first_message client.framer.limit 0 client.framer.kept)) goes.at.taken.framer.faultless ∙ ap (λ limit. first_message limit 0 client.framer.kept) goes.limit
+idle-steps talk reply written user client goes = grind (arith, common_steps, idle-leads)
 
 -- Of both, step by step.
 
 phase-steps : (talk : Talk) (reply : ℕ → Option Answer) (written : List ℕ) (at : Phase) (client : ClientState) → GoesAt talk reply written (record { client = client; phase = at })
     → Leads (left_to_say (record { client = client; phase = at })) talk reply written (step talk.setup (record { client = client; phase = at }))
-phase-steps talk reply written phase.LoggingIn client goes = coming-steps talk reply written client goes
-phase-steps talk reply written (phase.Idle user) client goes = idle-steps talk reply written user client goes
-phase-steps talk reply written (phase.Working user) client goes = absurd goes.at
-phase-steps talk reply written phase.Ending client goes = absurd goes.at
+phase-steps talk reply written at client goes = grind (arith, common_steps, coming-steps, idle-steps)
 
 turned-to : (talk : Talk) (reply : ℕ → Option Answer) (written : List ℕ) (n left : ℕ) (t : Turn) (next : Session) → left ≤ n → LeadsTo t left talk reply written next
     → ((session : Session) → left_to_say session < n → GoesAt talk reply written session → (old : Session) → SeatTurned talk reply written old (goes_on n talk.setup session))

@@ -1,44 +1,15 @@
 -- What the tables say of the log.
-use Rattle.std.specs.Prelude.{◌≡◌, ◌≢◌, ◌⊎◌, ◌<◌, ◌≤◌, ℕ, zero, suc, true, false, nat_eq, List, [], ◌∷◌, ◌++◌, length, Option, Some, None}
-use Rattle.mx_base.specs.declared.names.ClientNo.{ClientNo}
-use Rattle.mx_base.specs.declared.names.LinkId.{LinkId}
-use Rattle.mx_base.specs.declared.tag.Tag.TheVariants.{For}
-use Rattle.mx_base.specs.declared.names.Port.TheVariants.{Traffic, Admin}
-use Rattle.mx_wire.specs.Log.{Log, written_of}
-use Rattle.mx_wire.specs.Tells.{IsOpen}
-use Rattle.packet_frame.specs.Packets.{Framed, next_id, spelling}
-use Rattle.server_side.specs.Account.{Account}
-use Rattle.server_side.specs.Backend.{is_begun}
-use Rattle.server_side.specs.declared.command.Command.{Command as Handed}
-use Rattle.server_side.specs.declared.stage.Stage.TheVariants.{In}
-use Rattle.client_session.specs.Arrivals.{Arrival, arrivals, arrival_of, connected, is_served, is_traffic}
-use Rattle.client_session.specs.Errors.{too_many_connections}
-use Rattle.client_talk.specs.declared.session.Phase.{Phase}
-use Rattle.client_talk.specs.declared.session.Phase.TheVariants as phase
-use Rattle.client_talk.specs.declared.session.Session.{Session}
-use Rattle.client_talk.specs.Sessions.{is_finished}
-use Rattle.lend_core.specs.declared.ask.Ask.{Ask}
-use Rattle.lend_core.specs.declared.lent.Lent.{Lent}
-use Rattle.lend_core.specs.Lends.{Lends}
-use Rattle.exchange.specs.Logins.{was_lost, was_broken, heard_of}
-use Rattle.exchange.specs.Commands.{most_command, pieces_of, carrier_of}
-use Rattle.promises.specs.Service.{Turn, Service, open_tries, turn_of}
-use Rattle.router_world.specs.World.{turns}
-use Rattle.promises.specs.Owners.{talk_with, user_of, is_here, is_refused}
-use Rattle.promises.specs.Due.{due, message_of}
-use Rattle.promises.specs.Sends.{Asks, form_of}
-use Rattle.promises.specs.Closes.{IsDone, MayDrop, was_offered}
-use Rattle.promises.specs.Headline.{IsServed}
-use Rattle.router_world.specs.declared.seat.Parting.{Parting}
-use Rattle.router_world.specs.declared.seat.Seat.{Seat}
-use Rattle.router_world.specs.Replied.{replied}
-use Rattle.router_world.specs.Rows.{LinkAt}
+use Rattle.router_world.proofs.Names.{◌+◌, AllLawful, Fits, IsLawful, Entry, ◌≡◌, ◌≢◌, ◌⊎◌, ◌<◌, ◌≤◌, ℕ, zero, suc, true, false, nat_eq, List, [], ◌∷◌, ◌++◌}
+use Rattle.router_world.proofs.Names.{length, Option, Some, None, ClientNo, LinkId, For, Traffic, Admin, Log, written_of, IsOpen, Framed, next_id, Account}
+use Rattle.router_world.proofs.Names.{is_begun, Handed, In, Arrival, arrivals, arrival_of, connected, is_served, is_traffic, too_many_connections, Phase}
+use Rattle.router_world.proofs.Names.{Session, is_finished, Ask, Lent, Lends, was_lost, was_broken, heard_of, most_command, pieces_of, carrier_of, Turn}
+use Rattle.router_world.proofs.Names.{Service, open_tries, turn_of, turns, talk_with, user_of, is_here, is_refused, due, message_of, form_of, IsDone, MayDrop}
+use Rattle.router_world.proofs.Names.{was_offered, IsServed, Parting, Seat, replied, LinkAt, list_all, SeatAt, Tables}
+use Rattle.packet_frame.specs.Packets.{spelling}
+use Rattle.promises.specs.Sends.{Asks}
 use Rattle.router_world.proofs.RowsPieces.{has_bytes}
-use Rattle.router_world.proofs.LinkLists.{is_among}
-use Rattle.router_world.proofs.Connecting.{Counts}
-use Rattle.std.specs.List.{list_all}
-use Rattle.router_world.specs.Seats.{SeatAt}
-use Rattle.router_world.specs.Tables.{Tables}
+use Rattle.router_world.proofs.Connecting.{is_among, Counts}
+use Rattle.client_talk.specs.declared.session.Phase.TheVariants as phase
 
 -- what the reply to each message of a client is like is what the message asks for
 abbrev pub AreFormed : Service → Log → Type 0
@@ -164,11 +135,11 @@ OnHand None n link = ⊥
 OnHand (Some hand) n link = (n ≡ hand.client) × (link ≡ hand.link)
 
 -- whose an open link is
-pub data Known (tables : Tables) (link : LinkId) : Type 0 where
-  Clients : (client : ClientNo) → tables.numbers link.0 ≡ Some client → Known tables link
-  Servers : (lent : Lent) → tables.lends.links link.0 ≡ Some lent → Known tables link
-  Parts : (parting : Parting) → tables.parting ≡ parting ∷ [] → parting.link ≡ link → Known tables link
-  Closes : tables.lends.closing ≡ link ∷ [] → Known tables link
+pub data Known (numbers : ℕ → Option ClientNo) (lends : Lends) (parting : List Parting) (link : LinkId) : Type 0 where
+  Clients : (client : ClientNo) → numbers link.0 ≡ Some client → Known numbers lends parting link
+  Servers : (lent : Lent) → lends.links link.0 ≡ Some lent → Known numbers lends parting link
+  Parts : (one : Parting) → parting ≡ one ∷ [] → one.link ≡ link → Known numbers lends parting link
+  Closes : lends.closing ≡ link ∷ [] → Known numbers lends parting link
 
 -- A client's link that is to be closed: its client is at its end or broken, or there was no room for it, or it came to the port of administrators.
 pub data PartAt (service : Service) (log : Log) (n : ℕ) (came : Arrival) : (bytes : List ℕ) → Type 0 where
@@ -177,12 +148,12 @@ pub data PartAt (service : Service) (log : Log) (n : ℕ) (came : Arrival) : (by
   Offered : is_served service.setup came ≡ false → came.port ≡ Traffic → was_offered came.link log ≡ true → PartAt service log n came []
   Strange : came.port ≡ Admin → PartAt service log n came []
 
-pub record PartStands (service : Service) (log : Log) (tables : Tables) (parting : Parting) : Type 0 where
+pub record PartStands (service : Service) (log : Log) (numbers : ℕ → Option ClientNo) (lends : Lends) (parting : Parting) : Type 0 where
   pub opened : IsOpen parting.link log
-  pub unnumbered : tables.numbers parting.link.0 ≡ None
-  pub unlent : tables.lends.links parting.link.0 ≡ None
-  pub unclosing : (link : LinkId) → tables.lends.closing ≡ link ∷ [] → nat_eq link.0 parting.link.0 ≡ false
-  pub alone : parting.bytes ≢ [] → tables.lends.closing ≡ []
+  pub unnumbered : numbers parting.link.0 ≡ None
+  pub unlent : lends.links parting.link.0 ≡ None
+  pub unclosing : (link : LinkId) → lends.closing ≡ link ∷ [] → nat_eq link.0 parting.link.0 ≡ false
+  pub alone : parting.bytes ≢ [] → lends.closing ≡ []
   pub n : ℕ
   pub came : Arrival
   pub is_came : arrival_of n log ≡ Some came
@@ -198,6 +169,13 @@ pub record CloseStands (service : Service) (log : Log) (lends : Lends) (link : L
   pub turn : Turn
   pub is_turn : turn_of service link log ≡ Some turn
   pub may : (user : Account) → user_of service turn.client log ≡ Some user → MayDrop service (record { client = turn.client; hostgroup = turn.hostgroup }) user link log
+
+-- A seat that a client has, with its number and its command.
+pub record Sits (service : Service) (log : Log) (numbers : ℕ → Option ClientNo) (lends : Lends) (n : ℕ) (seat : Seat) : Type 0 where
+  pub stands : SeatStands service log n seat
+  pub serves : Serves seat.session.phase lends n seat.session.client.arrived
+  pub unfinished : is_finished seat.session ≡ false
+  pub numbered : numbers seat.link.0 ≡ Some (record { 0 = n })
 
 -- at most one is to be closed, and for one client a link is to be opened
 pub data AtMostOne {X : Type 0} : List X → Type 0 where
@@ -235,18 +213,15 @@ pub record Sound (service : Service) (log : Log) (hand : Option Hand) (tables : 
   pub came : tables.came ≡ length (arrivals log)
   pub here : tables.here ≡ length (connected log)
   pub counts : Counts log
-  pub seats : (n : ℕ) (seat : Seat) → tables.seats n ≡ Some seat → SeatStands service log n seat
-  pub serves : (n : ℕ) (seat : Seat) → tables.seats n ≡ Some seat → Serves seat.session.phase tables.lends n seat.session.client.arrived
-  pub unfinished : (n : ℕ) (seat : Seat) → tables.seats n ≡ Some seat → is_finished seat.session ≡ false
-  pub numbered : (n : ℕ) (seat : Seat) → tables.seats n ≡ Some seat → tables.numbers seat.link.0 ≡ Some (record { 0 = n })
+  pub seats : (n : ℕ) (seat : Seat) → tables.seats n ≡ Some seat → Sits service log tables.numbers tables.lends n seat
   pub numbers : (link : LinkId) (client : ClientNo) → tables.numbers link.0 ≡ Some client → OnHand hand client.0 link ⊎ ((seat : Seat) × (tables.seats client.0 ≡ Some seat) × (seat.link ≡ link))
   pub unlent : (link : LinkId) (client : ClientNo) → tables.numbers link.0 ≡ Some client → tables.lends.links link.0 ≡ None
   pub unclosing : (link : LinkId) → tables.lends.closing ≡ link ∷ [] → tables.numbers link.0 ≡ None
   pub away : (n : ℕ) → tables.seats n ≡ None → InHand hand n ⊎ Gone tables.lends n
   pub lends : LendsSound service log tables.lends
   pub one_parts : AtMostOne tables.parting
-  pub parts : (parting : Parting) → tables.parting ≡ parting ∷ [] → PartStands service log tables parting
-  pub known : (link : LinkId) → IsOpen link log → Known tables link
+  pub parts : (parting : Parting) → tables.parting ≡ parting ∷ [] → PartStands service log tables.numbers tables.lends parting
+  pub known : (link : LinkId) → IsOpen link log → Known tables.numbers tables.lends tables.parting link
   pub served : IsServed service log
 
 -- the service's opens are those of the log, and others behind
@@ -254,3 +229,13 @@ pub record Covers (service : Service) (log : Log) : Type 0 where
   pub rest : List Turn
   pub is : service.opens ≡ turns service.setup log ++ rest
   pub counts : length (turns service.setup log) ≡ length (open_tries log)
+
+-- what is known as an entry comes
+pub record Happens (service : Service) (log : Log) (e : Entry) (tables : Tables) : Type 0 where
+  pub told : AllLawful Fits log
+  pub fits : Fits log e
+  pub few : length log + 1 < 281474976710656
+  pub lawful : AllLawful (IsLawful service) (log ++ e ∷ [])
+  pub served : IsServed service (log ++ e ∷ [])
+  pub formed : AreFormed service (log ++ e ∷ [])
+  pub sound : Sound service log None tables

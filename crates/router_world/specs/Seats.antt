@@ -67,12 +67,16 @@ PhaseAt (phase.Idle user) talk reply bytes client = IsIdle talk reply user clien
 PhaseAt (phase.Working user) talk reply bytes client = IsWorking talk reply user client
 PhaseAt phase.Ending talk reply bytes client = over_said reply talk ≡ true
 
+-- the client's number, salt and limit are these
+pub record IsOf (number mine : ℕ) (salt sent : List ℕ) (limit most : ℕ) : Type 0 where
+  pub number_is : number ≡ mine
+  pub salt_is : salt ≡ sent
+  pub limit_is : limit ≡ most
+  pub short : most ≤ most_command
+
 -- a session of this client, to which these bytes were written
 pub record SeatAt (talk : Talk) (reply : ℕ → Option Answer) (written : List ℕ) (session : Session) : Type 0 where
-  pub number : session.client.number.0 ≡ talk.number
-  pub salt : session.client.salt ≡ talk.salt
-  pub limit : session.client.framer.limit ≡ talk.setup.limit
-  pub short : talk.setup.limit ≤ most_command
+  pub mine : IsOf session.client.number.0 talk.number session.client.salt talk.salt session.client.framer.limit talk.setup.limit
   pub due : written ++ session.client.outgoing ≡ due_said reply talk
   pub at : PhaseAt session.phase talk reply (written ++ session.client.outgoing) session.client
 

@@ -100,7 +100,7 @@ pub tidy-sound : (service : Service) (log : Log) (tables : Tables) → Sound ser
 tidy-sound service log tables sound = record {
   closes = λ link is. next-apart service log tables link sound is;
   seated = λ link client is. link-seated service log tables link client sound is;
-  ended = λ client seat is ends. gone-still service log tables.lends client sound.lends (ending-gone seat.session.phase tables.lends client.0 seat.session.client.arrived ends (sound.serves client.0 seat is));
+  ended = λ client seat is ends. gone-still service log tables.lends client sound.lends (ending-gone seat.session.phase tables.lends client.0 seat.session.client.arrived ends (sound.seats client.0 seat is).serves);
 }
 
 -- each entry of a log that is short enough may follow
