@@ -140,9 +140,9 @@ answered-goes service log n came written session user lends answer packets is se
       same i apart = sym (ap (λ b. cond b None (reply i)) (apart-numbers i session.client.arrived apart))
 
       unanswered : Unanswered before session
-      unanswered i from = by (nat_eq i session.client.arrived) refl where
-        by : (b : Bool) → nat_eq i session.client.arrived ≡ b → cond b None (reply i) ≡ None
-        by b at = grind (arith, common_steps, nat_eq-false, unsent-still)
+      unanswered i from = (let by : (b : Bool) → nat_eq i session.client.arrived ≡ b → cond b None (reply i) ≡ None =
+          λ b at. grind (arith, common_steps, nat_eq-false, unsent-still) in
+          by (nat_eq i session.client.arrived) refl)
 
       at : SeatTurned talk reply written old (answered service.setup packets session)
       at = answered-seat talk before reply written session user at-work answer packets working seat unanswered now same (spelled at-work.message at-work.work) few

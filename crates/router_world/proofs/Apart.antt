@@ -205,21 +205,17 @@ pub apart-one : (n : ℕ) (link : LinkId) (lends other : Lends) (lent : Lent) �
 apart-one n link lends other lent owned there mine one = grind (arith, common_steps, others-link)
 
 pub traces-one : (n : ℕ) (link : LinkId) (lends other : Lends) (lent : Lent) → lends.links link.0 ≡ Some lent → OneRow n link lends other → Traces lends other
-traces-one n link lends other lent there one = record {
-  from = λ l now is. link-or-other l link (λ x. other.links x.0 ≡ Some now → (old : Lent) × (lends.links x.0 ≡ Some old)) (λ at. (lent, there)) (λ at row. (now, sym (one.links l.0 at) ∙ row)) is;
-  to = λ l was is. link-or-other l link (λ x. ((now : Lent) × (other.links x.0 ≡ Some now)) ⊎ (other.closing ≡ x ∷ [])) (to one.goes) (λ at. inl (was, one.links l.0 at ∙ is));
-  closed = λ l is. closed l is one.goes;
-  closes = λ l is. closes l is one.goes;
-} where
-  to : RowGoes link lends other → ((now : Lent) × (other.links link.0 ≡ Some now)) ⊎ (other.closing ≡ link ∷ [])
-  to h0 = grind (arith, common_steps)
-
-  closed : (l : LinkId) → other.closing ≡ l ∷ [] → RowGoes link lends other → (lends.closing ≡ l ∷ []) ⊎ ((was : Lent) × (lends.links l.0 ≡ Some was))
-  closed l is (Stays now is_now same) = inl (sym same ∙ is)
-  closed l is (Closes none out last) = inr (lent, ap (λ (x : LinkId). lends.links x.0) (one-same l link (sym is ∙ last)) ∙ there)
-
-  closes : (l : LinkId) → lends.closing ≡ l ∷ [] → RowGoes link lends other → other.closing ≡ l ∷ []
-  closes l is h2 = grind (arith, common_steps)
+traces-one n link lends other lent there one = (let to : RowGoes link lends other → ((now : Lent) × (other.links link.0 ≡ Some now)) ⊎ (other.closing ≡ link ∷ []) = λ h0. grind (arith, common_steps) in
+    let closes : (l : LinkId) → lends.closing ≡ l ∷ [] → RowGoes link lends other → other.closing ≡ l ∷ [] = λ l is h2. grind (arith, common_steps) in
+    record {
+      from = λ l now is. link-or-other l link (λ x. other.links x.0 ≡ Some now → (old : Lent) × (lends.links x.0 ≡ Some old)) (λ at. (lent, there)) (λ at row. (now, sym (one.links l.0 at) ∙ row)) is;
+      to = λ l was is. link-or-other l link (λ x. ((now : Lent) × (other.links x.0 ≡ Some now)) ⊎ (other.closing ≡ x ∷ [])) (to one.goes) (λ at. inl (was, one.links l.0 at ∙ is));
+      closed = λ l is. closed l is one.goes;
+      closes = λ l is. closes l is one.goes;
+    }) where
+      closed : (l : LinkId) → other.closing ≡ l ∷ [] → RowGoes link lends other → (lends.closing ≡ l ∷ []) ⊎ ((was : Lent) × (lends.links l.0 ≡ Some was))
+      closed l is (Stays now is_now same) = inl (sym same ∙ is)
+      closed l is (Closes none out last) = inr (lent, ap (λ (x : LinkId). lends.links x.0) (one-same l link (sym is ∙ last)) ∙ there)
 
 -- A link that is to be closed stands so where it has no row.
 pub close-kept : (service : Service) (log : Log) (lends other : Lends) (link : LinkId) → CloseStands service log lends link → other.links link.0 ≡ None → CloseStands service log other link

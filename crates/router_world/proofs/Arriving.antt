@@ -45,9 +45,9 @@ spares-none service n i log e may none turn is = false_from_ne_true (is_turn n i
     never-here n log e came.0 none (ap (λ k. arrival_of k log) (turn-client n i turn at) ∙ came.1)))
 
 unborn-step : (service : Service) (log : Log) (e : Entry) → IsLawful service log e → Unborn service log → Unborn service (log ++ e ∷ [])
-unborn-step service log e may before n i none = by (arrival_of n log) refl where
-  by : (o : Option Arrival) → arrival_of n log ≡ o → (carrier_of n i (log ++ e ∷ []) ≡ None) × (is_refused service n i (log ++ e ∷ []) ≡ false)
-  by o at = grind (arith, common_steps, never-here, carrier-more, writes-none, unrefused-more, spares-none)
+unborn-step service log e may before n i none = (let by : (o : Option Arrival) → arrival_of n log ≡ o → (carrier_of n i (log ++ e ∷ []) ≡ None) × (is_refused service n i (log ++ e ∷ []) ≡ false) =
+    λ o at. grind (arith, common_steps, never-here, carrier-more, writes-none, unrefused-more, spares-none) in
+    by (arrival_of n log) refl)
 
 pub unborn : (service : Service) (log : Log) → AllLawful (IsLawful service) log → (n i : ℕ) → arrival_of n log ≡ None → (carrier_of n i log ≡ None) × (is_refused service n i log ≡ false)
 unborn service log lawful = lawful-each (IsLawful service) (Unborn service) log (unborn-step service) (λ n i none. (refl, refl)) lawful

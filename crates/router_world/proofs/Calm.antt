@@ -128,9 +128,8 @@ asks-stay service n i message due log more lawful has asks none = (let there : R
 
 -- a query that asks goes to a server
 pub asks-server : (service : Service) (n i : ℕ) (message : Framed) (due log : Log) → Asks service n i message due log → is_some service.setup.target ≡ true
-asks-server service n i message due log asks = by (is_some service.setup.target) (asks-open service n i message due log asks) where
-  by : (b : Bool) → cond b (replied service n i log) (Some (no_server ∷ [])) ≡ None → b ≡ true
-  by b none = grind (arith, common_steps)
+asks-server service n i message due log asks = (let by : (b : Bool) → cond b (replied service n i log) (Some (no_server ∷ [])) ≡ None → b ≡ true = λ b none. grind (arith, common_steps) in
+    by (is_some service.setup.target) (asks-open service n i message due log asks))
 
 -- nothing came of it yet
 pub asks-unreplied : (service : Service) (n i : ℕ) (message : Framed) (due log : Log) → Asks service n i message due log → replied service n i log ≡ None

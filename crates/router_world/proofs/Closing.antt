@@ -36,7 +36,10 @@ opened-behind log link other opened = grind (arith, common_steps, link-or-other,
 
 -- The link of a client closes.
 pub closed-client : (service : Service) (log : Log) (link : LinkId) (parting : Parting) (tables : Tables) → Sound service log None tables → Happens service log (Closed link) tables → tables.parting ≡ parting ∷ [] → parting.link ≡ link → Sound service (log ++ Closed link ∷ []) None (closed_by (parting ∷ []) tables)
-closed-client service log link parting tables sound shut is same = (let stands : PartStands service log tables.numbers tables.lends parting = sound.parts parting is in
+closed-client service log link parting tables sound shut is same = (let then : Log = log ++ Closed link ∷ [] in
+    let here : (b : Bool) → is_among parting.link (connected log) ≡ b → fewer b tables.here ≡ length (connected then) =
+    λ b counted. grind (arith, common_steps, closed-fewer, closed-same) in
+    (let stands : PartStands service log tables.numbers tables.lends parting = sound.parts parting is in
     let unnumbered : tables.numbers link.0 ≡ None = ap (λ (l : LinkId). tables.numbers l.0) (sym same) ∙ stands.unnumbered in
     let unlent : tables.lends.links link.0 ≡ None = ap (λ (l : LinkId). tables.lends.links l.0) (sym same) ∙ stands.unlent in
     let by-standing : Bystands service log (Closed link) link tables = bystands-closed service log link tables shut unnumbered unlent in
@@ -57,12 +60,7 @@ closed-client service log link parting tables sound shut is same = (let stands :
       known = λ other opened. (let was = opened-behind log link other opened in known-as tables.numbers tables.numbers tables.lends tables.parting [] other refl
           (λ p at on. absurd (was.1 (ap (λ (l : LinkId). l.0) (sym on ∙ ap (λ (q : Parting). q.link) (one-same p parting (sym at ∙ is)) ∙ same)))) (sound.known other was.0));
       served = shut.served;
-    }) where
-      then : Log
-      then = log ++ Closed link ∷ []
-
-      here : (b : Bool) → is_among parting.link (connected log) ≡ b → fewer b tables.here ≡ length (connected then)
-      here b counted = grind (arith, common_steps, closed-fewer, closed-same)
+    }))
 
 -- The links to servers without the one that was to be closed.
 serves-closed : (at : Phase) (lends : Lends) (n i : ℕ) → Serves at lends n i → Serves at (without_close lends) n i

@@ -105,22 +105,22 @@ user-there service link turn user log is known = ap (option_and_then (λ (t : Tu
 
 pub row-calm : (service : Service) (log : Log) (e : Entry) (lends : Lends) (link : LinkId) (lent : Lent) → AllLawful (IsLawful service) (log ++ e ∷ []) → Fits log e → (stands : RowStands service log lends link lent) → Calm service log e stands.turn.client → Leaves link log e
     → RowStands service (log ++ e ∷ []) lends link lent
-row-calm service log e lends link lent lawful fits stands calm leaves = record {
-  opened = leaves.opened ∙ stands.opened;
-  unlost = leaves.lost ∙ stands.unlost;
-  turn = stands.turn;
-  is_turn = turn-stays service link log (e ∷ []) stands.turn stands.is_turn;
-  hostgroup = stands.hostgroup;
-  user = user-stays service stands.turn.client log (e ∷ []) lent.backend.account stands.user;
-  some = ap (list_all has_bytes) leaves.pieces ∙ stands.some;
-  at = subst (λ heard. LinkAt service.forms lent.backend.account heard (pieces_of link (log ++ e ∷ [])) lent.backend) (sym leaves.heard)
-      (subst (λ pieces. LinkAt service.forms lent.backend.account (heard_of link log) pieces lent.backend) (sym leaves.pieces) stands.at);
-  command = λ command is. handed-calm service log e stands.turn.client link lent.backend.account command lawful (user-there service link stands.turn lent.backend.account log stands.is_turn stands.user) (stands.command command is) calm leaves;
-  enters = stands.enters;
-  owned = by stands.owned;
-} where
-  by : Owned service log lends link stands.turn.client lent → Owned service (log ++ e ∷ []) lends link stands.turn.client lent
-  by h0 = grind (arith, common_steps, gone-stays)
+row-calm service log e lends link lent lawful fits stands calm leaves = (let by : Owned service log lends link stands.turn.client lent → Owned service (log ++ e ∷ []) lends link stands.turn.client lent =
+    λ h0. grind (arith, common_steps, gone-stays) in
+    record {
+      opened = leaves.opened ∙ stands.opened;
+      unlost = leaves.lost ∙ stands.unlost;
+      turn = stands.turn;
+      is_turn = turn-stays service link log (e ∷ []) stands.turn stands.is_turn;
+      hostgroup = stands.hostgroup;
+      user = user-stays service stands.turn.client log (e ∷ []) lent.backend.account stands.user;
+      some = ap (list_all has_bytes) leaves.pieces ∙ stands.some;
+      at = subst (λ heard. LinkAt service.forms lent.backend.account heard (pieces_of link (log ++ e ∷ [])) lent.backend) (sym leaves.heard)
+          (subst (λ pieces. LinkAt service.forms lent.backend.account (heard_of link log) pieces lent.backend) (sym leaves.pieces) stands.at);
+      command = λ command is. handed-calm service log e stands.turn.client link lent.backend.account command lawful (user-there service link stands.turn lent.backend.account log stands.is_turn stands.user) (stands.command command is) calm leaves;
+      enters = stands.enters;
+      owned = by stands.owned;
+    })
 
 -- What an entry leaves of a client's seat.
 

@@ -60,7 +60,11 @@ known-later numbers lends other parting link to closes (Servers lent is) = by (t
 -- The links to servers change for the client in hand.
 pub relend : (service : Service) (log : Log) (n : ℕ) (link : LinkId) (tables : Tables) (other : Lends) → Sound service log (Some (record { client = n; link = link })) tables → tables.seats n ≡ None → tables.parting ≡ [] → LendsSound service log other → Apart n tables.lends other → Traces tables.lends other
     → Sound service log (Some (record { client = n; link = link })) (with_lends other tables)
-relend service log n hand tables other sound out unparted lends apart traces = (let sits : (k : ℕ) (seat : Seat) → nat_eq k n ≡ false → tables.seats k ≡ Some seat → Sits service log tables.numbers other k seat =
+relend service log n hand tables other sound out unparted lends apart traces = (let unclosing : (link : LinkId) → (tables.lends.closing ≡ link ∷ []) ⊎ ((lent : Lent) × (tables.lends.links link.0 ≡ Some lent)) → tables.numbers link.0 ≡ None =
+    λ link h1. grind (arith, common_steps, none-if) in
+    let away : (k : ℕ) → InHand (Some (record { client = n; link = hand })) k ⊎ Gone tables.lends k → nat_eq k n ≡ false → InHand (Some (record { client = n; link = hand })) k ⊎ Gone other k =
+    λ k h1 at. grind (arith, common_steps, gone-apart) in
+    (let sits : (k : ℕ) (seat : Seat) → nat_eq k n ≡ false → tables.seats k ≡ Some seat → Sits service log tables.numbers other k seat =
     λ k seat at is. (let was = sound.seats k seat is in
     record { stands = was.stands; serves = serves-apart seat.session.phase n k seat.session.client.arrived tables.lends other apart at was.serves; unfinished = was.unfinished; numbered = was.numbered }) in
     record {
@@ -77,17 +81,17 @@ relend service log n hand tables other sound out unparted lends apart traces = (
       parts = λ parting is. absurd (let none : [] ≡ parting ∷ [] = sym unparted ∙ is in cc);
       known = λ link opened. known-later tables.numbers tables.lends other tables.parting link (traces.to link) (traces.closes link) (sound.known link opened);
       served = sound.served;
-    }) where
-      unclosing : (link : LinkId) → (tables.lends.closing ≡ link ∷ []) ⊎ ((lent : Lent) × (tables.lends.links link.0 ≡ Some lent)) → tables.numbers link.0 ≡ None
-      unclosing link h1 = grind (arith, common_steps, none-if)
-
-      away : (k : ℕ) → InHand (Some (record { client = n; link = hand })) k ⊎ Gone tables.lends k → nat_eq k n ≡ false → InHand (Some (record { client = n; link = hand })) k ⊎ Gone other k
-      away k h1 at = grind (arith, common_steps, gone-apart)
+    }))
 
 -- The seat is put back.
 pub put-back : (service : Service) (log : Log) (client : ClientNo) (seat : Seat) (tables : Tables) → Sound service log (Some (record { client = client.0; link = seat.link })) tables → tables.seats client.0 ≡ None → tables.numbers seat.link.0 ≡ Some client → SeatStands service log client.0 seat → Serves seat.session.phase tables.lends client.0 seat.session.client.arrived
     → is_finished seat.session ≡ false → Sound service log None (with_seat client seat tables)
-put-back service log client seat tables sound out number stands serves unfinished = (let mine : (other : Seat) → set tables.seats client.0 (Some seat) client.0 ≡ Some other → Sits service log tables.numbers tables.lends client.0 other =
+put-back service log client seat tables sound out number stands serves unfinished = (let back : set tables.seats client.0 (Some seat) client.0 ≡ Some seat = set-same tables.seats client.0 (Some seat) in
+    let numbers : (link : LinkId) (other : ClientNo) → OnHand (Some (record { client = client.0; link = seat.link })) other.0 link ⊎ ((s : Seat) × (tables.seats other.0 ≡ Some s) × (s.link ≡ link)) → (s : Seat) × (set tables.seats client.0 (Some seat) other.0 ≡ Some s) × (s.link ≡ link) =
+    λ link other h2. grind (arith, common_steps, set-other, apart-numbers) in
+    let away : (k : ℕ) → nat_eq k client.0 ≡ false → InHand (Some (record { client = client.0; link = seat.link })) k ⊎ Gone tables.lends k → Gone tables.lends k =
+    λ k at h2. grind (arith, common_steps) in
+    (let mine : (other : Seat) → set tables.seats client.0 (Some seat) client.0 ≡ Some other → Sits service log tables.numbers tables.lends client.0 other =
     λ other is. subst (Sits service log tables.numbers tables.lends client.0) (some-same seat other (sym back ∙ is)) (record { stands = stands; serves = serves; unfinished = unfinished; numbered = number }) in
     record {
       came = sound.came;
@@ -104,15 +108,7 @@ put-back service log client seat tables sound out number stands serves unfinishe
       parts = sound.parts;
       known = sound.known;
       served = sound.served;
-    }) where
-      back : set tables.seats client.0 (Some seat) client.0 ≡ Some seat
-      back = set-same tables.seats client.0 (Some seat)
-
-      numbers : (link : LinkId) (other : ClientNo) → OnHand (Some (record { client = client.0; link = seat.link })) other.0 link ⊎ ((s : Seat) × (tables.seats other.0 ≡ Some s) × (s.link ≡ link)) → (s : Seat) × (set tables.seats client.0 (Some seat) other.0 ≡ Some s) × (s.link ≡ link)
-      numbers link other h2 = grind (arith, common_steps, set-other, apart-numbers)
-
-      away : (k : ℕ) → nat_eq k client.0 ≡ false → InHand (Some (record { client = client.0; link = seat.link })) k ⊎ Gone tables.lends k → Gone tables.lends k
-      away k at h2 = grind (arith, common_steps)
+    }))
 
 -- A client's link is to be closed.
 
@@ -127,7 +123,17 @@ pub record Parted (service : Service) (log : Log) (n : ℕ) (link : LinkId) : Ty
 
 pub part-with : (service : Service) (log : Log) (client : ClientNo) (link : LinkId) (tables : Tables) → Sound service log (Some (record { client = client.0; link = link })) tables → tables.seats client.0 ≡ None → tables.numbers link.0 ≡ Some client → Gone tables.lends client.0 → tables.parting ≡ []
     → Parted service log client.0 link → Sound service log None (parts link tables)
-part-with service log client link tables sound out number gone none parted = (let mine : Parting = record { link = link; bytes = []; is_client = true } in
+part-with service log client link tables sound out number gone none parted = (let new : Tables = parts link tables in
+    let apart : (k : ℕ) (seat : Seat) → tables.seats k ≡ Some seat → nat_eq seat.link.0 link.0 ≡ false =
+    λ k seat is. apart-links seat.link link (λ at. (let both : Some client ≡ Some (record { 0 = k }) = sym number ∙ ap (λ (l : LinkId). tables.numbers l.0) (sym at) ∙ (sound.seats k seat is).numbered in
+    none-some (tables.seats client.0) out (ap (λ (c : ClientNo). tables.seats c.0) (some-same client (record { 0 = k }) both) ∙ is))) in
+    let numbers : (other : LinkId) (someone : ClientNo) → Row tables.numbers link.0 None other.0 someone → OnHand None someone.0 other ⊎ ((seat : Seat) × (tables.seats someone.0 ≡ Some seat) × (seat.link ≡ other)) =
+    λ other someone h2. grind (arith, common_steps) in
+    let unlent : (other : LinkId) (someone : ClientNo) → Row tables.numbers link.0 None other.0 someone → tables.lends.links other.0 ≡ None =
+    λ other someone h2. grind (arith, common_steps) in
+    let away : (k : ℕ) → InHand (Some (record { client = client.0; link = link })) k ⊎ Gone tables.lends k → InHand None k ⊎ Gone tables.lends k =
+    λ k h1. grind (arith, common_steps) in
+    (let mine : Parting = record { link = link; bytes = []; is_client = true } in
     let the : new.parting ≡ mine ∷ [] = ap (λ p. p ++ mine ∷ []) none in
     let closing : (other : LinkId) → tables.lends.closing ≡ other ∷ [] → nat_eq other.0 link.0 ≡ false =
     λ other is. apart-links other link (λ at. none-some (tables.numbers other.0) (sound.unclosing other is) (ap (λ (l : LinkId). tables.numbers l.0) at ∙ number)) in
@@ -160,22 +166,7 @@ part-with service log client link tables sound out number gone none parted = (le
       known = λ other opened. link-or-other other link (Known new.numbers tables.lends new.parting) (Parts mine the refl)
           (λ at. known-as tables.numbers new.numbers tables.lends tables.parting new.parting other (set-other tables.numbers link.0 other.0 None at) (λ p is on. absurd (none-one tables.parting none is)) (sound.known other opened));
       served = sound.served;
-    }) where
-      new : Tables
-      new = parts link tables
-
-      apart : (k : ℕ) (seat : Seat) → tables.seats k ≡ Some seat → nat_eq seat.link.0 link.0 ≡ false
-      apart k seat is = apart-links seat.link link (λ at. (let both : Some client ≡ Some (record { 0 = k }) = sym number ∙ ap (λ (l : LinkId). tables.numbers l.0) (sym at) ∙ (sound.seats k seat is).numbered in
-          none-some (tables.seats client.0) out (ap (λ (c : ClientNo). tables.seats c.0) (some-same client (record { 0 = k }) both) ∙ is)))
-
-      numbers : (other : LinkId) (someone : ClientNo) → Row tables.numbers link.0 None other.0 someone → OnHand None someone.0 other ⊎ ((seat : Seat) × (tables.seats someone.0 ≡ Some seat) × (seat.link ≡ other))
-      numbers other someone h2 = grind (arith, common_steps)
-
-      unlent : (other : LinkId) (someone : ClientNo) → Row tables.numbers link.0 None other.0 someone → tables.lends.links other.0 ≡ None
-      unlent other someone h2 = grind (arith, common_steps)
-
-      away : (k : ℕ) → InHand (Some (record { client = client.0; link = link })) k ⊎ Gone tables.lends k → InHand None k ⊎ Gone tables.lends k
-      away k h1 = grind (arith, common_steps)
+    }))
 
 -- A client's session goes on: its query is asked for, and where it ends nothing more is.
 

@@ -55,11 +55,11 @@ apart : (log : Log) (e : Entry) (k : ℕ) (came other : Arrival) → Fits log e 
 apart log e k came other fits is new same = named-none came.link (came_as came.link) log (came-names came.link) (subst (λ (l : LinkId). IsNew l log) (sym same) (new-link log e other fits new)) (arrival-as [] log k came is)
 
 once-step : (log : Log) (e : Entry) → Fits log e → Once log → Once (log ++ e ∷ [])
-once-step log e fits before k j came other one two same = (let place : (k : ℕ) (came : Arrival) → slice_get (arrivals (log ++ e ∷ [])) k ≡ Some came → Place (arrivals log) (arrival_in log e) k came =
+once-step log e fits before k j came other one two same = (let by : Place (arrivals log) (arrival_in log e) k came → Place (arrivals log) (arrival_in log e) j other → k ≡ j =
+    λ h0 h1. grind (arith, common_steps, apart) in
+    (let place : (k : ℕ) (came : Arrival) → slice_get (arrivals (log ++ e ∷ [])) k ≡ Some came → Place (arrivals log) (arrival_in log e) k came =
     λ k came is. place-of (arrivals log) (arrival_in log e) k came (ap (λ all. slice_get all k) (sym (arrivals-more [] log (e ∷ []))) ∙ is) in
-    by (place k came one) (place j other two)) where
-      by : Place (arrivals log) (arrival_in log e) k came → Place (arrivals log) (arrival_in log e) j other → k ≡ j
-      by h0 h1 = grind (arith, common_steps, apart)
+    by (place k came one) (place j other two)))
 
 pub once : (log : Log) → AllLawful Fits log → Once log
 once log told = lawful-each Fits Once log once-step (λ k j came other one two same. absurd (let none : None ≡ Some came = one in cc)) told
@@ -75,9 +75,8 @@ pub data Comes (log : Log) (e : Entry) (n : ℕ) (came : Arrival) : Type 0 where
 
 pub comes-of : (log : Log) (e : Entry) (n : ℕ) (came : Arrival) → Fits log e → arrival_of n (log ++ e ∷ []) ≡ Some came → Comes log e n came
 comes-of log e zero came fits is = absurd (let none : None ≡ Some came = is in cc)
-comes-of log e (suc n) came fits is = by (place-of (arrivals log) (arrival_in log e) n came (ap (λ all. slice_get all n) (sym (arrivals-more [] log (e ∷ []))) ∙ is)) where
-  by : Place (arrivals log) (arrival_in log e) n came → Comes log e (suc n) came
-  by h0 = grind (arith, common_steps, new-link)
+comes-of log e (suc n) came fits is = (let by : Place (arrivals log) (arrival_in log e) n came → Comes log e (suc n) came = λ h0. grind (arith, common_steps, new-link) in
+    by (place-of (arrivals log) (arrival_in log e) n came (ap (λ all. slice_get all n) (sym (arrivals-more [] log (e ∷ []))) ∙ is)))
 
 -- Which clients are connected, and how an open link to a server stands, by the tables.
 
@@ -334,24 +333,25 @@ may-send service log tables link lent command k sound is none has less = by (sou
   bytes = take k (drop command.sent command.bytes)
 
   by : RowStands service log tables.lends link lent → IsLawful service log (Wrote link command.tag bytes)
-  by row = (let may : MaySend service row.turn.client stands.ordinal link bytes log = record {
-    message = stands.asked.message;
-    due = stands.asked.due;
-    asks = stands.asked.asks;
-    form = stands.asked.form;
-    owner = owner-is service log tables.lends link lent stands.asked.message stands.asked.due row;
-    user = lent.backend.account;
-    is_user = row.user;
-    logged_in = record {
-      said = inside.said;
-      rest = inside.past ++ inside.part;
-      is = inside.is;
-      written = subst (IsPrefix inside.said) (sym (row-written link log row.unlost)) (said-written service.forms lent.backend.account (heard_of link log) (pieces_of link log) lent.backend inside none);
-    };
-    elsewhere = λ other at. carried command.sent other (sym stands.carrier ∙ at);
-    follows = follows command.sent refl;
-  } in
-      subst (λ (t : Tag). IsLawful service log (Wrote link t bytes)) (sym stands.tag) may) where
+  by row = (let carried : (sent : ℕ) (other : LinkId) → carried_by link sent ≡ Some other → other ≡ link = λ sent other at. grind (arith, common_steps, some-same) in
+      (let may : MaySend service row.turn.client stands.ordinal link bytes log = record {
+        message = stands.asked.message;
+        due = stands.asked.due;
+        asks = stands.asked.asks;
+        form = stands.asked.form;
+        owner = owner-is service log tables.lends link lent stands.asked.message stands.asked.due row;
+        user = lent.backend.account;
+        is_user = row.user;
+        logged_in = record {
+          said = inside.said;
+          rest = inside.past ++ inside.part;
+          is = inside.is;
+          written = subst (IsPrefix inside.said) (sym (row-written link log row.unlost)) (said-written service.forms lent.backend.account (heard_of link log) (pieces_of link log) lent.backend inside none);
+        };
+        elsewhere = λ other at. carried command.sent other (sym stands.carrier ∙ at);
+        follows = follows command.sent refl;
+      } in
+      subst (λ (t : Tag). IsLawful service log (Wrote link t bytes)) (sym stands.tag) may)) where
         stands : HandedStands service log row.turn.client link command
         stands = row.command command has
 
@@ -376,14 +376,10 @@ may-send service log tables link lent command k sound is none has less = by (sou
             ∙ ap (λ (t : Tag). inside.others ++ record { tag = t; bytes = take command.sent command.bytes } ∷ []) stands.tag)
             (record { rest = drop k (drop command.sent command.bytes); is = front-of command.bytes command.sent k ∙ whole })
 
-        carried : (sent : ℕ) (other : LinkId) → carried_by link sent ≡ Some other → other ≡ link
-        carried sent other at = grind (arith, common_steps, some-same)
-
 -- What is left to be written there.
 pub may-write : (service : Service) (log : Log) (tables : Tables) (link : LinkId) (lent : Lent) (l : Sent) (k : ℕ) → Sound service log None tables → tables.lends.links link.0 ≡ Some lent → left lent.backend ≡ Some l → IsLawful service log (Wrote link l.tag (take k l.bytes))
-may-write service log tables link lent l k sound is lefts = by (left-at lent.backend l lefts) where
-  by : LeftAt lent.backend l → IsLawful service log (Wrote link l.tag (take k l.bytes))
-  by h0 = grind (arith, common_steps, may-say, may-send)
+may-write service log tables link lent l k sound is lefts = (let by : LeftAt lent.backend l → IsLawful service log (Wrote link l.tag (take k l.bytes)) = λ h0. grind (arith, common_steps, may-say, may-send) in
+    by (left-at lent.backend l lefts))
 
 -- The open that the router asks for is lawful.
 

@@ -35,9 +35,9 @@ turn-there : (link : LinkId) (tries : List (Option LinkId)) (turns : List Turn) 
 turn-there link [] [] turn new at = absurd (let no' : None ≡ Some turn = at in cc)
 turn-there link [] (first ∷ turns) turn new at = ap (λ b. cond b (Some first) None) (same_number link.0) ∙ at
 turn-there link (t ∷ tries) [] turn new at = absurd (let no' : None ≡ Some turn = at in cc)
-turn-there link (t ∷ tries) (first ∷ turns) turn new at = by (is_link link t) new (λ none. turn-there link tries turns turn none at) where
-  by : (b : Bool) → (b || list_any (is_link link) tries) ≡ false → (list_any (is_link link) tries ≡ false → turn_by link (tries ++ Some link ∷ []) turns ≡ Some turn) → cond b (Some first) (turn_by link (tries ++ Some link ∷ []) turns) ≡ Some turn
-  by b none later = grind (arith, common_steps)
+turn-there link (t ∷ tries) (first ∷ turns) turn new at = (let by : (b : Bool) → (b || list_any (is_link link) tries) ≡ false → (list_any (is_link link) tries ≡ false → turn_by link (tries ++ Some link ∷ []) turns ≡ Some turn) → cond b (Some first) (turn_by link (tries ++ Some link ∷ []) turns) ≡ Some turn =
+    λ b none later. grind (arith, common_steps) in
+    by (is_link link t) new (λ none. turn-there link tries turns turn none at))
 
 -- An open is for the client that waits.
 pub record IsAwaited (service : Service) (log : Log) (lends : Lends) (client : ClientNo) : Type 0 where
@@ -227,12 +227,9 @@ turn-next service log e tables on = next-turn service log e (turn-for service lo
 
 -- what an open refuses is the command in work
 open-spares : (service : Service) (log : Log) (e : Entry) (n i arrived : ℕ) (turn : Turn) → next_turn service log ≡ Some turn → turn.ordinal ≡ arrived → arrived < i → (server : ServerId) (address : Address) → e ≡ OpenFailed server address → Spares service log e n i
-open-spares service log e n i arrived turn next same later server address is other refuses = by (nat_eq i other.ordinal) refl where
-  first : other.ordinal ≡ arrived
-  first = ap (λ (t : Turn). t.ordinal) (some-same other turn (sym refuses ∙ ap (refused_by service log) is ∙ next)) ∙ same
-
-  by : (b : Bool) → nat_eq i other.ordinal ≡ b → is_turn n i other ≡ false
-  by b at = grind (arith, common_steps, nat_eq-true)
+open-spares service log e n i arrived turn next same later server address is other refuses = (let first : other.ordinal ≡ arrived = ap (λ (t : Turn). t.ordinal) (some-same other turn (sym refuses ∙ ap (refused_by service log) is ∙ next)) ∙ same in
+    let by : (b : Bool) → nat_eq i other.ordinal ≡ b → is_turn n i other ≡ false = λ b at. grind (arith, common_steps, nat_eq-true) in
+    by (nat_eq i other.ordinal) refl)
 
 -- A link can't be opened.
 pub open-failed-step : (service : Service) (log : Log) (server : ServerId) (address : Address) (tables : Tables) → Sound service log None tables → OnOpen service log (OpenFailed server address) tables → Sound service (log ++ OpenFailed server address ∷ []) None (told service.setup (open_failed tables.lends) tables)

@@ -54,13 +54,11 @@ bytes-more pieces piece = flat_map-append piece_bytes pieces (piece ∷ []) ∙ 
 pub behind-past : (n : ℕ) (pieces more : List Command) → length (bytes_in pieces) < n → behind n (pieces ++ more) ≡ behind (n - length (bytes_in pieces)) more
 behind-past n [] more less = (let same : n ≡ n - 0 = omega arith in ap (λ k. behind k more) same)
 behind-past zero (p ∷ pieces) more less = absurd (omega arith)
-behind-past (suc n) (p ∷ pieces) more less = by (nat_le (length p.bytes) (suc n)) refl (behind-past (suc n - length p.bytes) pieces more (let sum = total in omega arith)) where
-  total : length (p.bytes ++ bytes_in pieces) ≡ length p.bytes + length (bytes_in pieces)
-  total = length-append p.bytes (bytes_in pieces)
-
-  by : (b : Bool) → nat_le (length p.bytes) (suc n) ≡ b → behind (suc n - length p.bytes) (pieces ++ more) ≡ behind (suc n - length p.bytes - length (bytes_in pieces)) more
-      → cond b (behind (suc n - length p.bytes) (pieces ++ more)) (record p { bytes = drop (suc n) p.bytes } ∷ pieces ++ more) ≡ behind (suc n - length (p.bytes ++ bytes_in pieces)) more
-  by b at later = grind (arith, common_steps, leb-false)
+behind-past (suc n) (p ∷ pieces) more less = (let total : length (p.bytes ++ bytes_in pieces) ≡ length p.bytes + length (bytes_in pieces) = length-append p.bytes (bytes_in pieces) in
+    let by : (b : Bool) → nat_le (length p.bytes) (suc n) ≡ b → behind (suc n - length p.bytes) (pieces ++ more) ≡ behind (suc n - length p.bytes - length (bytes_in pieces)) more
+    → cond b (behind (suc n - length p.bytes) (pieces ++ more)) (record p { bytes = drop (suc n) p.bytes } ∷ pieces ++ more) ≡ behind (suc n - length (p.bytes ++ bytes_in pieces)) more =
+    λ b at later. grind (arith, common_steps, leb-false) in
+    by (nat_le (length p.bytes) (suc n)) refl (behind-past (suc n - length p.bytes) pieces more (let sum = total in omega arith)))
 
 pub behind-short : (n : ℕ) (pieces : List Command) → length (bytes_in pieces) < n → behind n pieces ≡ []
 behind-short n pieces less = ap (behind n) (sym (append-nil pieces)) ∙ behind-past n pieces [] less
@@ -69,12 +67,10 @@ behind-short n pieces less = ap (behind n) (sym (append-nil pieces)) ∙ behind-
 pub behind-all : (n : ℕ) (pieces : List Command) → list_all has_bytes pieces ≡ true → length (bytes_in pieces) ≤ n → behind n pieces ≡ []
 behind-all n [] some fits = refl
 behind-all zero (p ∷ pieces) some fits = grind (arith, common_steps, length-append, some-bytes)
-behind-all (suc n) (p ∷ pieces) some fits = by (nat_le (length p.bytes) (suc n)) refl (behind-all (suc n - length p.bytes) pieces (and_parts (has_bytes p) (list_all has_bytes pieces) some).1 (let sum = total in omega arith)) where
-  total : length (p.bytes ++ bytes_in pieces) ≡ length p.bytes + length (bytes_in pieces)
-  total = length-append p.bytes (bytes_in pieces)
-
-  by : (b : Bool) → nat_le (length p.bytes) (suc n) ≡ b → behind (suc n - length p.bytes) pieces ≡ [] → cond b (behind (suc n - length p.bytes) pieces) (record p { bytes = drop (suc n) p.bytes } ∷ pieces) ≡ []
-  by b at later = grind (arith, common_steps, leb-false)
+behind-all (suc n) (p ∷ pieces) some fits = (let total : length (p.bytes ++ bytes_in pieces) ≡ length p.bytes + length (bytes_in pieces) = length-append p.bytes (bytes_in pieces) in
+    let by : (b : Bool) → nat_le (length p.bytes) (suc n) ≡ b → behind (suc n - length p.bytes) pieces ≡ [] → cond b (behind (suc n - length p.bytes) pieces) (record p { bytes = drop (suc n) p.bytes } ∷ pieces) ≡ [] =
+    λ b at later. grind (arith, common_steps, leb-false) in
+    by (nat_le (length p.bytes) (suc n)) refl (behind-all (suc n - length p.bytes) pieces (and_parts (has_bytes p) (list_all has_bytes pieces) some).1 (let sum = total in omega arith)))
 
 pub behind-one : (n : ℕ) (piece : Command) → 0 < n → length piece.bytes ≤ n → behind n (piece ∷ []) ≡ []
 behind-one n piece some fits = grind (arith, common_steps, leb-false)

@@ -149,10 +149,9 @@ command-taken forms user heard pieces backend command n at none is some fits fre
         here = sym (ap (list_any (is_of m i)) now) ∙ any
 
         by : (sent : ℕ) → command.sent ≡ sent → list_any (is_of m i) at.others ≡ false
-        by zero unsent = (let out = of-commands m i (length at.said) pieces (fresh m i command is unsent (sym (or-nothing (is_command m i command.tag)) ∙ here)) in
-            (or_parts (list_any (is_of m i) at.others) (list_any (is_of m i) (begun backend.command)) (sym (list_any-append (is_of m i) at.others (begun backend.command)) ∙ sym (ap (list_any (is_of m i)) at.commands) ∙ out)).0) where
-              or-nothing : (b : Bool) → (b || false) ≡ b
-              or-nothing b = grind (arith, common_steps)
+        by zero unsent = (let or-nothing : (b : Bool) → (b || false) ≡ b = λ b. grind (arith, common_steps) in
+            (let out = of-commands m i (length at.said) pieces (fresh m i command is unsent (sym (or-nothing (is_command m i command.tag)) ∙ here)) in
+            (or_parts (list_any (is_of m i) at.others) (list_any (is_of m i) (begun backend.command)) (sym (list_any-append (is_of m i) at.others (begun backend.command)) ∙ sym (ap (list_any (is_of m i)) at.commands) ∙ out)).0))
         by (suc sent) was = at.new m i (ap (λ (o : Option Handed). list_any (is_of m i) (begun o)) is ∙ ap (list_any (is_of m i)) (begun-some command (omega arith)) ∙ here)
 
 -- So many bytes of what is left are written, with its tag.

@@ -87,10 +87,10 @@ open-from setup reply i (m ∷ messages) work is = grind (arith, common_steps, s
 -- it has no answer
 pub open-none : (setup : Setup) (reply : ℕ → Option Answer) (i : ℕ) (messages : List Framed) (work : Work) → first_open setup reply i messages ≡ Some work → answer_of setup (reply work.ordinal) work.message.payload ≡ None
 open-none setup reply i [] work is = absurd (let no : None ≡ Some work = is in cc)
-open-none setup reply i (m ∷ messages) work is = by (answer_of setup (reply i) m.payload) refl is (open-none setup reply (suc i) messages work) where
-  by : (o : Option Answer) → answer_of setup (reply i) m.payload ≡ o → cond (is_some o) (first_open setup reply (suc i) messages) (Some (at_place i m)) ≡ Some work
-      → (first_open setup reply (suc i) messages ≡ Some work → answer_of setup (reply work.ordinal) work.message.payload ≡ None) → answer_of setup (reply work.ordinal) work.message.payload ≡ None
-  by o at here later = grind (arith, common_steps, some-same)
+open-none setup reply i (m ∷ messages) work is = (let by : (o : Option Answer) → answer_of setup (reply i) m.payload ≡ o → cond (is_some o) (first_open setup reply (suc i) messages) (Some (at_place i m)) ≡ Some work
+    → (first_open setup reply (suc i) messages ≡ Some work → answer_of setup (reply work.ordinal) work.message.payload ≡ None) → answer_of setup (reply work.ordinal) work.message.payload ≡ None =
+    λ o at here later. grind (arith, common_steps, some-same) in
+    by (answer_of setup (reply i) m.payload) refl is (open-none setup reply (suc i) messages work))
 
 -- messages behind it change nothing of it, nor of what is due
 pub open-more : (setup : Setup) (reply : ℕ → Option Answer) (i : ℕ) (messages later : List Framed) (work : Work) → first_open setup reply i messages ≡ Some work → first_open setup reply i (messages ++ later) ≡ Some work

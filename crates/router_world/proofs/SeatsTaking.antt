@@ -46,14 +46,14 @@ within-framed (suc packets) limit announced id bytes message rest is = found (fi
   found : (first : Found) → first_packet limit announced id bytes ≡ first → and_then first (λ packet r. continued packet r (message_within packets limit (announced + longest) (next_id id) r)) ≡ Whole message rest → Later packets limit announced id → IsFramed limit announced id message
   found Nothing at same later = absurd (let no : Nothing ≡ Whole message rest = same in cc)
   found (Faulty fault) at same later = absurd (let no : Faulty fault ≡ Whole message rest = same in cc)
-  found (Whole packet r) at same later = (let there = first_packet-whole limit announced id bytes packet r at in
+  found (Whole packet r) at same later = (let by : packet.first ≡ id → announced + length packet.payload ≤ limit → (long : Bool) → nat_eq (length packet.payload) longest ≡ long → cond long (begun packet (message_within packets limit (announced + longest) (next_id id) r)) (Whole packet r) ≡ Whole message rest
+      → IsFramed limit announced id message =
+      λ first fits long h3 same. grind (arith, common_steps, nat_eq-true) in
+      (let there = first_packet-whole limit announced id bytes packet r at in
       let size = packet_size limit announced id bytes packet r there in
       let first : packet.first ≡ id = ap (λ (f : Framed). f.first) there.is in
       let allowed = there.allowed in
-      by first (omega arith) (nat_eq (length packet.payload) longest) refl same) where
-        by : packet.first ≡ id → announced + length packet.payload ≤ limit → (long : Bool) → nat_eq (length packet.payload) longest ≡ long → cond long (begun packet (message_within packets limit (announced + longest) (next_id id) r)) (Whole packet r) ≡ Whole message rest
-            → IsFramed limit announced id message
-        by first fits long h3 same = grind (arith, common_steps, nat_eq-true)
+      by first (omega arith) (nat_eq (length packet.payload) longest) refl same))
 
 pub message-framed : (limit first : ℕ) (bytes : List ℕ) (message : Framed) (rest : List ℕ) → first_message limit first bytes ≡ Whole message rest → IsFramed limit 0 first message
 unfolding first_message

@@ -67,22 +67,21 @@ pub record IsMute (e : Entry) : Type 0 where
   pub failure : is_failure e ≡ false
 
 pub sounds-mute : (log : Log) (e : Entry) → IsMute e → Sounds log e
-sounds-mute log e mute = record {
-  read = λ link. bytes-idle got_bytes link log e mute.got;
-  written = λ link. bytes-idle wrote_bytes link log e mute.wrote;
-  lost = λ link. same-any is_loss mute.loss link;
-  broken = λ link. same-any is_failure mute.failure link;
-  heard = λ link. same-sound (flat_map got_bytes) (λ l. map-still l e mute.got) link;
-  pieces = λ link. same-sound (filter_map piece) (λ l. pieces-still l e mute.piece) link;
-} where
-  same-any : (p : Entry → Bool) → p e ≡ false → (link : LinkId) → list_any p (of_link link (log ++ e ∷ [])) ≡ list_any p (of_link link log)
-  same-any p none link = grind (arith, common_steps, of_link-same, any-still)
-
-  same-sound : {X : Type 0} (f : Log → List X) → ((l : Log) → f (l ++ e ∷ []) ≡ f l) → (link : LinkId) → f (until_loss (of_link link (log ++ e ∷ []))) ≡ f (until_loss (of_link link log))
-  same-sound f same link = by (bool_cases (is_link link (link_of e))) where
-    by : (is_link link (link_of e) ≡ true) ⊎ (is_link link (link_of e) ≡ false) → f (until_loss (of_link link (log ++ e ∷ []))) ≡ f (until_loss (of_link link log))
-    by (inl here) = ap (λ l. f (until_loss l)) (of_link-same link log e here) ∙ sound-still f (of_link link log) e mute.loss same
-    by (inr other) = ap (λ l. f (until_loss l)) (Rattle.mx_wire.specs.Growth.of_link-other link log e other)
+sounds-mute log e mute = (let same-any : (p : Entry → Bool) → p e ≡ false → (link : LinkId) → list_any p (of_link link (log ++ e ∷ [])) ≡ list_any p (of_link link log) =
+    λ p none link. grind (arith, common_steps, of_link-same, any-still) in
+    record {
+      read = λ link. bytes-idle got_bytes link log e mute.got;
+      written = λ link. bytes-idle wrote_bytes link log e mute.wrote;
+      lost = λ link. same-any is_loss mute.loss link;
+      broken = λ link. same-any is_failure mute.failure link;
+      heard = λ link. same-sound (flat_map got_bytes) (λ l. map-still l e mute.got) link;
+      pieces = λ link. same-sound (filter_map piece) (λ l. pieces-still l e mute.piece) link;
+    }) where
+      same-sound : {X : Type 0} (f : Log → List X) → ((l : Log) → f (l ++ e ∷ []) ≡ f l) → (link : LinkId) → f (until_loss (of_link link (log ++ e ∷ []))) ≡ f (until_loss (of_link link log))
+      same-sound f same link = by (bool_cases (is_link link (link_of e))) where
+        by : (is_link link (link_of e) ≡ true) ⊎ (is_link link (link_of e) ≡ false) → f (until_loss (of_link link (log ++ e ∷ []))) ≡ f (until_loss (of_link link log))
+        by (inl here) = ap (λ l. f (until_loss l)) (of_link-same link log e here) ∙ sound-still f (of_link link log) e mute.loss same
+        by (inr other) = ap (λ l. f (until_loss l)) (Rattle.mx_wire.specs.Growth.of_link-other link log e other)
 
 -- An entry that breaks off no login refuses nothing.
 pub refuses-none : (service : Service) (log : Log) (e : Entry) → refused_by service log e ≡ option_and_then (refused_on service log e) (link_of e) → ((user : Account) (link : LinkId) → breaks_off user link log e ≡ false) → refused_by service log e ≡ None

@@ -55,7 +55,11 @@ pub record Mine (service : Service) (log : Log) (e : Entry) (n : ℕ) (hand : Op
 
 pub moved : (service : Service) (log : Log) (e : Entry) (n : ℕ) (hand : Option Hand) (tables : Tables) (seats : ℕ → Option Seat) (lends : Lends) → Sound service log None tables → Others service log e n tables → Mine service log e n hand tables seats lends
     → Sound service (log ++ e ∷ []) hand (record tables { seats = seats; lends = lends })
-moved service log e n hand tables seats lends sound others mine = (let seat-of : (k : ℕ) (seat : Seat) → nat_eq k n ≡ false → tables.seats k ≡ Some seat → Sits service (log ++ e ∷ []) tables.numbers lends k seat =
+moved service log e n hand tables seats lends sound others mine = (let unlent : (link : LinkId) (client : ClientNo) → tables.numbers link.0 ≡ Some client → ((old : Lent) × (tables.lends.links link.0 ≡ Some old)) ⊎ (tables.numbers link.0 ≡ None) → ⊥ =
+    λ link client is h3. grind (arith, common_steps, none-some) in
+    let unclosing : (link : LinkId) → (tables.lends.closing ≡ link ∷ []) ⊎ ((lent : Lent) × (tables.lends.links link.0 ≡ Some lent)) → tables.numbers link.0 ≡ None =
+    λ link h1. grind (arith, common_steps, none-if, none-some) in
+    (let seat-of : (k : ℕ) (seat : Seat) → nat_eq k n ≡ false → tables.seats k ≡ Some seat → Sits service (log ++ e ∷ []) tables.numbers lends k seat =
     λ k seat at was. (let sits = sound.seats k seat was in record {
       stands = seat-calm service log e k seat others.lawful sits.stands (others.calm k at) (others.seats k seat at was) (working k seat at was seat.session.phase sits.serves);
       serves = serves-apart seat.session.phase n k seat.session.client.arrived tables.lends lends mine.apart at sits.serves;
@@ -76,7 +80,7 @@ moved service log e n hand tables seats lends sound others mine = (let seat-of :
       parts = λ parting is. absurd (let none : [] ≡ parting ∷ [] = sym others.unparted ∙ is in cc);
       known = λ link opened. known link (mine.known link opened);
       served = others.served;
-    }) where
+    })) where
       leaves : (k : ℕ) → nat_eq k n ≡ false → (link : LinkId) (lent : Lent) → tables.lends.owned k ≡ Some link → tables.lends.links link.0 ≡ Some lent → Leaves link log e
       leaves k apart link lent owns is = (let row = sound.lends.rows link lent is in let owner = sound.lends.owned k link owns in
           let same : owner.lent ≡ lent = some-same owner.lent lent (sym owner.there ∙ is) in
@@ -91,16 +95,10 @@ moved service log e n hand tables seats lends sound others mine = (let seat-of :
 
       numbers : (link : LinkId) (client : ClientNo) → OnHand None client.0 link ⊎ ((seat : Seat) × (tables.seats client.0 ≡ Some seat) × (seat.link ≡ link)) → OnHand hand client.0 link ⊎ ((seat : Seat) × (seats client.0 ≡ Some seat) × (seat.link ≡ link))
       numbers link client (inl none) = absurd none
-      numbers link client (inr seat) = one-or-other client.0 n (λ m. tables.seats m ≡ Some seat.0 → OnHand hand m link ⊎ ((s : Seat) × (seats m ≡ Some s) × (s.link ≡ link))) (λ is. by (mine.numbers link seat.0 is seat.2))
-          (λ at is. inr (seat.0, mine.others client.0 at ∙ is, seat.2)) seat.1 where
-            by : OnHand hand n link ⊎ (seats n ≡ Some seat.0) → OnHand hand n link ⊎ ((s : Seat) × (seats n ≡ Some s) × (s.link ≡ link))
-            by h0 = grind (arith, common_steps)
-
-      unlent : (link : LinkId) (client : ClientNo) → tables.numbers link.0 ≡ Some client → ((old : Lent) × (tables.lends.links link.0 ≡ Some old)) ⊎ (tables.numbers link.0 ≡ None) → ⊥
-      unlent link client is h3 = grind (arith, common_steps, none-some)
-
-      unclosing : (link : LinkId) → (tables.lends.closing ≡ link ∷ []) ⊎ ((lent : Lent) × (tables.lends.links link.0 ≡ Some lent)) → tables.numbers link.0 ≡ None
-      unclosing link h1 = grind (arith, common_steps, none-if, none-some)
+      numbers link client (inr seat) = (let by : OnHand hand n link ⊎ (seats n ≡ Some seat.0) → OnHand hand n link ⊎ ((s : Seat) × (seats n ≡ Some s) × (s.link ≡ link)) =
+          λ h0. grind (arith, common_steps) in
+          one-or-other client.0 n (λ m. tables.seats m ≡ Some seat.0 → OnHand hand m link ⊎ ((s : Seat) × (seats m ≡ Some s) × (s.link ≡ link))) (λ is. by (mine.numbers link seat.0 is seat.2))
+          (λ at is. inr (seat.0, mine.others client.0 at ∙ is, seat.2)) seat.1)
 
       known : (link : LinkId) → IsOpen link log ⊎ Known tables.numbers lends tables.parting link → Known tables.numbers lends tables.parting link
       known link (inr is) = is
