@@ -171,10 +171,11 @@ impl Wire for Flood {
     fn close(&mut self, _: LinkId) {}
 }
 
-// The sizes of the reads, and whether a write was offered, where the loop ends as the wire says.
-fn reads(alloc: Global, left: usize) -> Option<([usize; 4], bool)> {
+/// `flood <bytes>` lets one client send so many bytes at one wake. The answer is the sizes of the first four reads, 7 for one that isn't
+/// made, and whether a write was offered.
+pub fn answer(alloc: Global, case: &mut Case<'_>) -> Result<String, CaseFault> {
     let mut wire = Flood {
-        left,
+        left: case.number()?,
         came: false,
         woke: false,
         sizes: [7; 4],
@@ -182,18 +183,10 @@ fn reads(alloc: Global, left: usize) -> Option<([usize; 4], bool)> {
         offered: false,
     };
     let end = serve(alloc, &mut Reader, &mut wire, 5);
-    if matches!(end, ServeEnd::Over) {
-        Some((wire.sizes, wire.offered))
-    } else {
-        None
+    let sizes = wire.sizes;
+    let offered = wire.offered;
+    if !matches!(end, ServeEnd::Over) {
+        return Err(CaseFault::Bad);
     }
-}
-
-/// `flood <bytes>` lets one client send so many bytes at one wake. The answer is the sizes of the first four reads, 7 for one that isn't
-/// made, and whether a write was offered.
-pub fn answer(alloc: Global, case: &mut Case<'_>) -> Result<String, CaseFault> {
-    match reads(alloc, case.number()?) {
-        Some((sizes, offered)) => Ok(format!(in alloc; "{sizes:?} {offered}")?),
-        None => Err(CaseFault::Bad),
-    }
+    Ok(format!(in alloc; "{sizes:?} {offered}")?)
 }
