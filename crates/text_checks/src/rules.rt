@@ -71,18 +71,18 @@ fn follow(
     out: &mut String,
 ) -> Result<(), CaseFault> {
     let mut flag = 0;
-    let mut gap = "";
     for text in texts.split(" | ") {
-        out.push_str(gap)?;
         let ask = ask_of(alloc, client, flag, text)?;
         flag = push_answer(out, rules, &ask)?;
-        gap = " | ";
     }
     Ok(())
 }
 
 // Appends what the rules say of a text, and gives the flag of the next one.
 fn push_answer(out: &mut String, rules: &Rules, ask: &Ask) -> Result<u16, CaseFault> {
+    if !out.is_empty() {
+        out.push_str(" | ")?;
+    }
     let routed = rules.route(ask)?;
     push_routed(out, &routed)?;
     Ok(routed.next_flag.unwrap_or(ask.flag))
