@@ -3,14 +3,18 @@
 //! one that begins with `#`, is copied as it is, so that both read as a table.
 #![tactic(auto)]
 
+mod answer;
 mod case;
 mod fault;
 mod field;
+mod fields;
 mod runner;
 mod show;
 
+pub use answer::Answer;
 pub use case::Case;
 pub use fault::CaseFault;
 pub use field::{MOST_BYTES, bytes_of};
+pub use fields::Fields;
 pub use runner::run;
 pub use show::shown;

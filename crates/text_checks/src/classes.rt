@@ -1,27 +1,31 @@
 // Classes of statements.
-use crate::settings::{push_settings, shape_name};
-use crate::show::{push_bytes, push_text, push_those, separate};
-use check_lines::{Case, CaseFault};
+use crate::settings::{apply, push_settings, shape_name};
+use crate::show::{push_bytes, push_those};
+use check_lines::{Answer, Fields};
+use mx_base::OutOfMemory;
 use pin_classifier::{Class, Locking, Shape, classify};
 use session_vars::{SetShape, Settings};
-use std::alloc::Global;
 
-// A class by its name in reports, what of it holds, and the statement's shape where that matters.
-pub(crate) fn class(alloc: Global, case: &mut Case<'_>, out: &mut String) -> Result<(), CaseFault> {
-    let class = classify(alloc, &case.rest_bytes(alloc)?)?;
-    push_class(&class, out)
-}
-
-fn push_class(class: &Class, out: &mut String) -> Result<(), CaseFault> {
-    write!(out, "{}", class.name())?;
-    if let Some(refusal) = class.refusal {
-        write!(out, ", {}", refusal.code())?;
+/// `class <statement>`: its class by its name in reports, what of it holds, and the statement's shape where that matters.
+pub(crate) fn class(fields: &mut Fields<'_>) {
+    let statement = fields.rest_bytes();
+    match classify(fields.answer.alloc(), &statement) {
+        Ok(class) => push_class(&mut fields.answer, &class),
+        Err(OutOfMemory) => fields.answer.refused(),
     }
-    push_flags(class, out)?;
-    push_shape(&class.shape, out)
 }
 
-fn push_flags(class: &Class, out: &mut String) -> Result<(), CaseFault> {
+fn push_class(answer: &mut Answer, class: &Class) {
+    answer.display(class.name());
+    if let Some(refusal) = class.refusal {
+        answer.text(", ");
+        answer.display(refusal.code());
+    }
+    push_flags(answer, class);
+    push_shape(answer, &class.shape);
+}
+
+fn push_flags(answer: &mut Answer, class: &Class) {
     let (takes, frees) = match class.locks {
         Locking::Takes => (true, false),
         Locking::Frees => (false, true),
@@ -40,62 +44,56 @@ fn push_flags(class: &Class, out: &mut String) -> Result<(), CaseFault> {
         (class.reads_diag, "reads diagnostics"),
         (class.calc_rows, "counts rows"),
     ];
-    push_those(out, 0, &flags)
+    push_those(answer, 0, &flags);
 }
 
-fn push_shape(shape: &Shape, out: &mut String) -> Result<(), CaseFault> {
+fn push_shape(answer: &mut Answer, shape: &Shape) {
     match shape {
-        Shape::ConnectionId => push_text(out, ", connection id"),
+        Shape::ConnectionId => answer.text(", connection id"),
         Shape::Use(schema) => {
-            out.push_str(", use ")?;
-            push_bytes(out, schema.as_slice())
+            answer.text(", use ");
+            push_bytes(answer, schema.as_slice());
         }
         Shape::Set(shape) => {
-            out.push_str(", set ")?;
-            push_text(out, shape_name(shape))
+            answer.text(", set ");
+            answer.text(shape_name(shape));
         }
-        Shape::Other => Ok(()),
+        Shape::Other => {}
     }
 }
 
-// The names of the classes of what a client says, and the settings that this leaves it. It logged in with the collation of
-// the number at the front.
-pub(crate) fn opening(alloc: Global, text: &str, out: &mut String) -> Result<(), CaseFault> {
-    let Some((number, statements)) = text.split_once(" | ") else {
-        return Err(CaseFault::Bad);
-    };
-    let Ok(number) = number.parse::<u8>() else {
-        return Err(CaseFault::Bad);
-    };
-    let mut settings = Settings::for_collation(alloc, number)?;
-    hear_all(alloc, &mut settings, statements, out)
+/// `opening <collation> | <statement> | <statement> ..`: the names of the classes of what a client says that logged in with the
+/// collation of this number, and the settings that this leaves it.
+pub(crate) fn opening(fields: &mut Fields<'_>) {
+    let collation = fields.number();
+    let _bar = fields.text();
+    let statements = fields.rest_text();
+    match Settings::for_collation(fields.answer.alloc(), collation) {
+        Ok(mut settings) => hear_all(&mut fields.answer, &mut settings, statements),
+        Err(OutOfMemory) => fields.answer.refused(),
+    }
 }
 
-fn hear_all(
-    alloc: Global,
-    settings: &mut Settings,
-    statements: &str,
-    out: &mut String,
-) -> Result<(), CaseFault> {
+fn hear_all(answer: &mut Answer, settings: &mut Settings, statements: &str) {
     for statement in statements.split(" | ") {
-        separate(out, 0, " ")?;
-        hear(alloc, settings, statement, out)?;
+        answer.separate(0, " ");
+        hear(answer, settings, statement);
     }
-    out.push_str(": ")?;
-    push_settings(settings, out)
+    answer.text(": ");
+    push_settings(answer, settings);
 }
 
 // Appends the name of a statement's class, and makes its changes.
-fn hear(
-    alloc: Global,
-    settings: &mut Settings,
-    statement: &str,
-    out: &mut String,
-) -> Result<(), CaseFault> {
-    let class = classify(alloc, statement.as_bytes())?;
-    out.push_str(class.name().as_str())?;
-    if let Shape::Set(SetShape::Tracked(changes)) = &class.shape {
-        settings.apply(changes.as_slice())?;
+fn hear(answer: &mut Answer, settings: &mut Settings, statement: &str) {
+    match classify(answer.alloc(), statement.as_bytes()) {
+        Ok(class) => hear_class(answer, settings, &class),
+        Err(OutOfMemory) => answer.refused(),
     }
-    Ok(())
+}
+
+fn hear_class(answer: &mut Answer, settings: &mut Settings, class: &Class) {
+    answer.text(class.name().as_str());
+    if let Shape::Set(SetShape::Tracked(changes)) = &class.shape {
+        apply(answer, settings, changes.as_slice());
+    }
 }

@@ -1,129 +1,148 @@
 // Digests, their hashes, and tables of them.
-use crate::show::{or_none, push_bytes, push_quoted, separate};
-use check_lines::{Case, CaseFault};
-use mx_base::{Bytes, Hostgroup};
-use query_digest::{DigestKey, DigestTable, digest, digest_hash};
-use std::alloc::Global;
+use crate::show::{or_none, push_bytes, push_quoted};
+use check_lines::{Answer, Fields};
+use mx_base::{Bytes, Hostgroup, OutOfMemory};
+use query_digest::{Counted, DigestKey, DigestTable, digest, digest_hash};
 
-pub(crate) fn answer(
-    alloc: Global,
-    case: &mut Case<'_>,
-    out: &mut String,
-) -> Result<(), CaseFault> {
-    let text = case.rest_bytes(alloc)?;
-    if case.reader == "hash" {
-        write!(out, "{:016x}", digest_hash(&text))?;
-        return Ok(());
+/// `hash <text>`: the hash of a digest.
+pub(crate) fn hash_of(fields: &mut Fields<'_>) {
+    let text = fields.rest_bytes();
+    fields.answer.digits(&digest_hash(&text).to_be_bytes());
+}
+
+/// `digest <text>`: its digest.
+pub(crate) fn digest_of(fields: &mut Fields<'_>) {
+    let text = fields.rest_bytes();
+    match digest(fields.answer.alloc(), &text) {
+        Ok(digest) => push_quoted(&mut fields.answer, digest.as_slice()),
+        Err(OutOfMemory) => fields.answer.refused(),
     }
-    push_quoted(out, digest(alloc, &text)?.as_slice())
 }
 
-// A key of the schema `s` and the user `u`.
-fn key_in(alloc: Global, hostgroup: u16, text: &[u8]) -> Result<DigestKey, CaseFault> {
-    Ok(DigestKey {
-        hostgroup: Hostgroup(hostgroup),
-        schema: Bytes::from_slice(alloc, b"s")?,
-        user: Bytes::from_slice(alloc, b"u")?,
-        digest: digest(alloc, text)?,
-    })
-}
-
-// The key of a statement as a case writes it: hostgroup, schema, user and text.
-fn key_of(alloc: Global, text: &str) -> Result<DigestKey, CaseFault> {
-    let mut fields = Case {
-        reader: "",
-        rest: text,
-    };
-    Ok(DigestKey {
-        hostgroup: Hostgroup(fields.number()?),
-        schema: Bytes::from_vec(fields.bytes(alloc)?),
-        user: Bytes::from_vec(fields.bytes(alloc)?),
-        digest: digest(alloc, fields.rest_text().as_bytes())?,
-    })
-}
-
-// Records statements with ` | ` between them: what each did, and the rows of the table.
-pub(crate) fn table(alloc: Global, text: &str, out: &mut String) -> Result<(), CaseFault> {
-    let mut table = DigestTable::new(alloc);
-    if text.is_empty() {
-        return push_rows(&table, out);
+/// `table <statement> | <statement> ..`, each of hostgroup, schema, user and text: what recording each did, and the rows of the
+/// table.
+pub(crate) fn table(fields: &mut Fields<'_>) {
+    let mut table = DigestTable::new(fields.answer.alloc());
+    let text = fields.rest_text();
+    if !text.is_empty() {
+        record_all(fields, text, &mut table);
     }
-    record_all(alloc, text, &mut table, out)
+    push_rows(&mut fields.answer, &table);
 }
 
-fn record_all(
-    alloc: Global,
-    text: &str,
-    table: &mut DigestTable,
-    out: &mut String,
-) -> Result<(), CaseFault> {
+fn record_all<'a>(fields: &mut Fields<'a>, text: &'a str, table: &mut DigestTable) {
     for part in text.split(" | ") {
-        separate(out, 0, " ")?;
-        let key = key_of(alloc, part)?;
-        push_recorded(table, key, out)?;
+        fields.answer.separate(0, " ");
+        fields.case.rest = part;
+        record_next(fields, table);
     }
-    out.push_str(": ")?;
-    push_rows(table, out)
+    fields.answer.text(": ");
 }
 
-// Records a key, and appends what that did.
-fn push_recorded(
-    table: &mut DigestTable,
-    key: DigestKey,
-    out: &mut String,
-) -> Result<(), CaseFault> {
-    let recorded = table.record(key)?;
-    write!(out, "{recorded:?}")?;
-    Ok(())
+// Records the statement that the fields are of, and appends what that did.
+fn record_next(fields: &mut Fields<'_>, table: &mut DigestTable) {
+    let hostgroup = fields.number();
+    let schema = fields.bytes();
+    let user = fields.bytes();
+    let text = fields.rest_text();
+    let key = DigestKey {
+        hostgroup: Hostgroup(hostgroup),
+        schema: Bytes::from_vec(schema),
+        user: Bytes::from_vec(user),
+        digest: digest_or_none(&mut fields.answer, text.as_bytes()),
+    };
+    let counted = record(&mut fields.answer, table, key);
+    push_counted(&mut fields.answer, counted);
 }
 
-fn push_rows(table: &DigestTable, out: &mut String) -> Result<(), CaseFault> {
-    let start = out.len();
+// The digest of a text, or none where memory is refused.
+fn digest_or_none(answer: &mut Answer, text: &[u8]) -> Bytes {
+    match digest(answer.alloc(), text) {
+        Ok(digest) => digest,
+        Err(OutOfMemory) => {
+            answer.refused();
+            Bytes::new(answer.alloc())
+        }
+    }
+}
+
+// Records a key.
+fn record(answer: &mut Answer, table: &mut DigestTable, key: DigestKey) -> Option<Counted> {
+    match table.record(key) {
+        Ok(counted) => Some(counted),
+        Err(OutOfMemory) => {
+            answer.refused();
+            None
+        }
+    }
+}
+
+fn push_counted(answer: &mut Answer, counted: Option<Counted>) {
+    if let Some(counted) = counted {
+        answer.debug(counted);
+    }
+}
+
+fn push_rows(answer: &mut Answer, table: &DigestTable) {
+    let start = answer.len();
     for (key, count) in table.iter() {
-        separate(out, start, " | ")?;
-        push_row(key, *count, out)?;
+        answer.separate(start, " | ");
+        push_row(answer, key, *count);
     }
-    or_none(out, start, "empty")
+    or_none(answer, start, "empty");
 }
 
-fn push_row(key: &DigestKey, count: u64, out: &mut String) -> Result<(), CaseFault> {
-    write!(out, "{} ", key.hostgroup.0)?;
-    push_bytes(out, key.schema.as_slice())?;
-    out.push(' ')?;
-    push_bytes(out, key.user.as_slice())?;
-    out.push(' ')?;
-    push_quoted(out, key.digest.as_slice())?;
-    write!(out, " {count}")?;
-    Ok(())
+fn push_row(answer: &mut Answer, key: &DigestKey, count: u64) {
+    answer.display(key.hostgroup.0);
+    answer.text(" ");
+    push_bytes(answer, key.schema.as_slice());
+    answer.text(" ");
+    push_bytes(answer, key.user.as_slice());
+    answer.text(" ");
+    push_quoted(answer, key.digest.as_slice());
+    answer.text(" ");
+    answer.display(count);
 }
 
-// Records one statement in so many hostgroups, and then in two that are named: how many rows there are, and what the two
-// did.
-pub(crate) fn fill(alloc: Global, case: &mut Case<'_>, out: &mut String) -> Result<(), CaseFault> {
-    let count = case.number()?;
-    let named = [case.number()?, case.number()?];
-    let text = case.rest_text().as_bytes();
-    let mut table = DigestTable::new(alloc);
-    fill_table(alloc, &mut table, count, named, text, out)
+/// `fill <count> <hostgroup> <hostgroup> <text>`: records the text in so many hostgroups, and then in the two that are named: how
+/// many rows there are, and what the two did.
+pub(crate) fn fill(fields: &mut Fields<'_>) {
+    let count = fields.number();
+    let named = [fields.number(), fields.number()];
+    let text = fields.rest_text();
+    let mut table = DigestTable::new(fields.answer.alloc());
+    fill_table(&mut fields.answer, &mut table, count, text);
+    push_named(&mut fields.answer, &mut table, named, text);
 }
 
-fn fill_table(
-    alloc: Global,
-    table: &mut DigestTable,
-    count: u16,
-    named: [u16; 2],
-    text: &[u8],
-    out: &mut String,
-) -> Result<(), CaseFault> {
+fn fill_table(answer: &mut Answer, table: &mut DigestTable, count: u16, text: &str) {
     for hostgroup in 0..count {
-        let key = key_in(alloc, hostgroup, text)?;
-        table.record(key)?;
+        record_in(answer, table, hostgroup, text);
     }
-    write!(out, "{} rows:", table.len())?;
+}
+
+fn push_named(answer: &mut Answer, table: &mut DigestTable, named: [u16; 2], text: &str) {
+    answer.display(table.len());
+    answer.text(" rows:");
     for hostgroup in named {
-        out.push(' ')?;
-        let key = key_in(alloc, hostgroup, text)?;
-        push_recorded(table, key, out)?;
+        answer.text(" ");
+        let counted = record_in(answer, table, hostgroup, text);
+        push_counted(answer, counted);
     }
-    Ok(())
+}
+
+// Records a text of the schema `s` and the user `u`.
+fn record_in(
+    answer: &mut Answer,
+    table: &mut DigestTable,
+    hostgroup: u16,
+    text: &str,
+) -> Option<Counted> {
+    let key = DigestKey {
+        hostgroup: Hostgroup(hostgroup),
+        schema: Bytes::from_vec(answer.spelled("s")),
+        user: Bytes::from_vec(answer.spelled("u")),
+        digest: digest_or_none(answer, text.as_bytes()),
+    };
+    record(answer, table, key)
 }

@@ -11,32 +11,38 @@ mod settings;
 mod show;
 mod tokens;
 
-use check_lines::{Case, CaseFault};
+use check_lines::{Case, CaseFault, Fields};
 use std::alloc::Global;
 use std::io;
 
-fn answer(alloc: Global, case: &mut Case<'_>) -> Result<String, CaseFault> {
-    let mut out = String::new(alloc);
-    answer_into(alloc, case, &mut out)?;
-    Ok(out)
+fn read(fields: &mut Fields<'_>) {
+    match fields.case.reader {
+        "tokens" => tokens::tokens(fields),
+        "says" => tokens::says_first(fields),
+        "token_at" => tokens::token_at(fields),
+        "digest" => digests::digest_of(fields),
+        "hash" => digests::hash_of(fields),
+        "table" => digests::table(fields),
+        "fill" => digests::fill(fields),
+        "set" => settings::set(fields),
+        "collation" => settings::collation(fields),
+        "texts" => settings::texts(fields),
+        "bring" => settings::bring(fields),
+        "class" => classes::class(fields),
+        "opening" => classes::opening(fields),
+        "pins" => pins::pins(fields),
+        "route" => rules::route(fields),
+        "as" => rules::route_as(fields),
+        "pattern" => rules::pattern(fields),
+        _ => fields.answer.bad(),
+    }
 }
 
-// Appends the answer.
-fn answer_into(alloc: Global, case: &mut Case<'_>, out: &mut String) -> Result<(), CaseFault> {
-    match case.reader {
-        "tokens" | "says" | "token_at" => tokens::answer(alloc, case, out),
-        "digest" | "hash" => digests::answer(alloc, case, out),
-        "table" => digests::table(alloc, case.rest_text(), out),
-        "fill" => digests::fill(alloc, case, out),
-        "set" | "collation" => settings::answer(alloc, case, out),
-        "texts" => settings::texts(alloc, case.rest_text(), out),
-        "bring" => settings::bring(alloc, case.rest_text(), out),
-        "class" => classes::class(alloc, case, out),
-        "opening" => classes::opening(alloc, case.rest_text(), out),
-        "pins" => pins::pins(alloc, case.rest_text(), out),
-        "route" | "as" | "pattern" => rules::answer(alloc, case, out),
-        _ => Err(CaseFault::Bad),
-    }
+fn answer(alloc: Global, case: &mut Case<'_>) -> Result<String, CaseFault> {
+    let mut fields = Fields::of(alloc, *case);
+    read(&mut fields);
+    *case = fields.case;
+    fields.answer.finished()
 }
 
 fn main(rt: HostRuntime) -> io::Result<()> {

@@ -1,12 +1,12 @@
 // The reasons for which a session keeps its link, reply by reply.
 use crate::answered::reply_end;
-use crate::show::{push_those, separate};
-use check_lines::CaseFault;
+use crate::show::push_those;
+use check_lines::{Answer, Fields};
+use mx_base::OutOfMemory;
 use pin_classifier::{Class, classify};
 use session_state::{
     EndKind, Pin, ReplyEnd, insert_id_after, insert_id_prepared, is_pinned, needs_reset, pin_after,
 };
-use std::alloc::Global;
 
 // What is left in a session.
 #[derive(Clone, Copy)]
@@ -16,9 +16,9 @@ struct Left {
 }
 
 // Appends the names of the reasons, and what follows from them.
-fn push_left(left: Left, out: &mut String) -> Result<(), CaseFault> {
+fn push_left(answer: &mut Answer, left: Left) {
     let pin = left.pin;
-    let start = out.len();
+    let start = answer.len();
     let names = [
         (!is_pinned(pin), "none"),
         (pin.deep, "deep"),
@@ -31,7 +31,7 @@ fn push_left(left: Left, out: &mut String) -> Result<(), CaseFault> {
         (needs_reset(pin), "needs reset"),
         (left.id.is_none(), "id unknown"),
     ];
-    push_those(out, start, &names)
+    push_those(answer, start, &names);
 }
 
 fn id_after(known: Option<u64>, class: &Class, end: &ReplyEnd) -> Option<u64> {
@@ -42,22 +42,34 @@ fn id_after(known: Option<u64>, class: &Class, end: &ReplyEnd) -> Option<u64> {
     }
 }
 
-// A step is how the reply ended, a blank, and the statement. `shared` or `kept` behind the first is the rules' word.
-fn step(alloc: Global, left: Left, text: &str) -> Result<Left, CaseFault> {
+// The rules' word on whether links are shared, where they have one.
+fn multiplex_of(word: &str) -> Option<bool> {
+    match word {
+        "" => None,
+        "shared" => Some(true),
+        _ => Some(false),
+    }
+}
+
+// A step is how the reply ended, a blank, and the statement. `/shared` or `/kept` behind the first is the rules' word.
+fn step(answer: &mut Answer, left: Left, text: &str) -> Left {
     let Some((ended, statement)) = text.split_once(' ') else {
-        return Err(CaseFault::Bad);
+        answer.bad();
+        return left;
     };
-    let (ended, multiplex) = match ended.split_once('/') {
-        None => (ended, None),
-        Some((ended, "shared")) => (ended, Some(true)),
-        Some((ended, _)) => (ended, Some(false)),
-    };
-    let end = reply_end(ended)?;
-    let class = classify(alloc, statement.as_bytes())?;
-    Ok(Left {
-        pin: pin_after(left.pin, &class, multiplex, &end),
-        id: id_after(left.id, &class, &end),
-    })
+    let (ended, word) = ended.split_once('/').unwrap_or((ended, ""));
+    let multiplex = multiplex_of(word);
+    let end = reply_end(answer, ended);
+    match classify(answer.alloc(), statement.as_bytes()) {
+        Ok(class) => Left {
+            pin: pin_after(left.pin, &class, multiplex, &end),
+            id: id_after(left.id, &class, &end),
+        },
+        Err(OutOfMemory) => {
+            answer.refused();
+            left
+        }
+    }
 }
 
 // What is left in a fresh session.
@@ -76,13 +88,17 @@ fn fresh() -> Left {
     }
 }
 
-/// What is left in a fresh session after each of these steps, which stand between ` | `.
-pub(crate) fn pins(alloc: Global, text: &str, out: &mut String) -> Result<(), CaseFault> {
+/// `pins <step> | <step> ..`: what is left in a fresh session after each of these steps.
+pub(crate) fn pins(fields: &mut Fields<'_>) {
+    let steps = fields.rest_text();
+    push_pins(&mut fields.answer, steps);
+}
+
+fn push_pins(answer: &mut Answer, steps: &str) {
     let mut left = fresh();
-    for part in text.split(" | ") {
-        left = step(alloc, left, part)?;
-        separate(out, 0, " | ")?;
-        push_left(left, out)?;
+    for text in steps.split(" | ") {
+        left = step(answer, left, text);
+        answer.separate(0, " | ");
+        push_left(answer, left);
     }
-    Ok(())
 }

@@ -1,8 +1,7 @@
 // A table of rules as a case writes it: fields are `key: value` with `, ` between them, and rules have `; ` between them.
-use check_lines::{CaseFault, bytes_of};
+use check_lines::Answer;
 use mx_base::{Bytes, Hostgroup};
 use query_rules::RuleRow;
-use std::alloc::Global;
 
 // A rule of which nothing is said.
 fn blank_row() -> RuleRow {
@@ -27,14 +26,7 @@ fn blank_row() -> RuleRow {
     }
 }
 
-fn number(value: &str) -> Result<u32, CaseFault> {
-    match value.parse::<u32>() {
-        Ok(number) => Ok(number),
-        Err(_) => Err(CaseFault::Bad),
-    }
-}
-
-fn set_number(row: &mut RuleRow, key: &str, value: u32) {
+fn set_number(row: &mut RuleRow, key: &str, value: u32) -> bool {
     let small = u16::try_from(value).unwrap_or(u16::MAX);
     match key {
         "rule_id" => row.rule_id = value,
@@ -42,74 +34,74 @@ fn set_number(row: &mut RuleRow, key: &str, value: u32) {
         "flagOUT" => row.flagOUT = Some(small),
         "next_query_flagIN" => row.next_query_flagIN = Some(small),
         "destination_hostgroup" => row.destination_hostgroup = Some(Hostgroup(small)),
-        _ => {}
+        _ => return false,
     }
+    true
 }
 
-fn set_flag(row: &mut RuleRow, key: &str, value: bool) {
+fn set_flag(row: &mut RuleRow, key: &str, value: bool) -> bool {
     match key {
         "active" => row.active = value,
         "negate_match_pattern" => row.negate_match_pattern = value,
         "multiplex" => row.multiplex = Some(value),
         "apply" => row.apply = value,
-        _ => {}
+        _ => return false,
     }
+    true
 }
 
-fn set_text(row: &mut RuleRow, key: &str, value: Bytes) -> Result<(), CaseFault> {
+fn set_text(answer: &mut Answer, row: &mut RuleRow, key: &str, value: Option<Bytes>) {
     match key {
-        "username" => row.username = Some(value),
-        "schemaname" => row.schemaname = Some(value),
-        "match_digest" => row.match_digest = Some(value),
-        "match_pattern" => row.match_pattern = Some(value),
-        "replace_pattern" => row.replace_pattern = Some(value),
-        "error_msg" => row.error_msg = Some(value),
-        "OK_msg" => row.OK_msg = Some(value),
-        _ => return Err(CaseFault::Bad),
+        "username" => row.username = value,
+        "schemaname" => row.schemaname = value,
+        "match_digest" => row.match_digest = value,
+        "match_pattern" => row.match_pattern = value,
+        "replace_pattern" => row.replace_pattern = value,
+        "error_msg" => row.error_msg = value,
+        "OK_msg" => row.OK_msg = value,
+        _ => answer.bad(),
     }
-    Ok(())
 }
 
-fn set_field(alloc: Global, row: &mut RuleRow, key: &str, value: &str) -> Result<(), CaseFault> {
-    match key {
-        "digest" => row.digest = u64::from_str_radix(value, 16).ok(),
-        "rule_id" | "flagIN" | "flagOUT" | "next_query_flagIN" | "destination_hostgroup" => {
-            set_number(row, key, number(value)?)
-        }
-        "active" | "negate_match_pattern" | "multiplex" | "apply" => set_flag(
-            row,
-            key,
-            value == "1",
-        ),
-        _ => return set_text(row, key, Bytes::from_vec(bytes_of(alloc, value)?)),
+// A field is a digest in hex digits, a number, `1` or `0`, or else a text. A text is tried where it is no number.
+fn set_field(answer: &mut Answer, row: &mut RuleRow, key: &str, value: &str) {
+    if key == "digest" {
+        row.digest = u64::from_str_radix(value, 16).ok();
+    } else if !set_flag(row, key, value == "1") && !set_counted(row, key, value) {
+        let text = Bytes::from_vec(answer.spelled(value));
+        set_text(answer, row, key, Some(text));
     }
-    Ok(())
 }
 
-fn set_fields(alloc: Global, row: &mut RuleRow, text: &str) -> Result<(), CaseFault> {
+fn set_counted(row: &mut RuleRow, key: &str, value: &str) -> bool {
+    match value.parse() {
+        Ok(value) => set_number(row, key, value),
+        Err(_) => false,
+    }
+}
+
+fn set_fields(answer: &mut Answer, row: &mut RuleRow, text: &str) {
     for field in text.split(", ") {
-        match field.split_once(": ") {
-            Some((key, value)) => set_field(alloc, row, key, value)?,
-            None => return Err(CaseFault::Bad),
-        }
+        let (key, value) = field.split_once(": ").unwrap_or((field, ""));
+        set_field(answer, row, key, value);
     }
-    Ok(())
-}
-
-fn read_row(alloc: Global, text: &str) -> Result<RuleRow, CaseFault> {
-    let mut row = blank_row();
-    set_fields(alloc, &mut row, text)?;
-    Ok(row)
 }
 
 /// The rows of a table, none of an empty text.
-pub fn read_rows(alloc: Global, text: &str) -> Result<Vec<RuleRow>, CaseFault> {
-    let mut rows = Vec::new(alloc);
-    if text.is_empty() {
-        return Ok(rows);
+pub fn read_rows(answer: &mut Answer, text: &str) -> Vec<RuleRow> {
+    let mut rows = Vec::new(answer.alloc());
+    if !text.is_empty() {
+        for part in text.split("; ") {
+            read_row(answer, &mut rows, part);
+        }
     }
-    for part in text.split("; ") {
-        rows.push(read_row(alloc, part)?)?;
+    rows
+}
+
+fn read_row(answer: &mut Answer, rows: &mut Vec<RuleRow>, text: &str) {
+    let mut row = blank_row();
+    set_fields(answer, &mut row, text);
+    if rows.push(row).is_err() {
+        answer.refused();
     }
-    Ok(rows)
 }

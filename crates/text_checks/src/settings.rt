@@ -1,31 +1,34 @@
 // SET statements, settings and the statements that lead from some to others.
-use crate::show::{or_none, push_bytes, push_text, separate};
-use check_lines::{Case, CaseFault};
-use mx_base::Bytes;
+use crate::show::{or_none, push_bytes};
+use check_lines::{Answer, Fields};
+use mx_base::{Bytes, OutOfMemory};
 use session_vars::{
     Change, Changes, SetShape, SetTexts, Settings, Slot, SlotValue, can_be_set, difference,
     read_set, set_texts,
 };
-use std::alloc::Global;
 
-pub(crate) fn answer(
-    alloc: Global,
-    case: &mut Case<'_>,
-    out: &mut String,
-) -> Result<(), CaseFault> {
-    if case.reader == "collation" {
-        return push_settings(&Settings::for_collation(alloc, case.number()?)?, out);
+/// `collation <number>`: the settings of a client that logs in with it.
+pub(crate) fn collation(fields: &mut Fields<'_>) {
+    let number = fields.number();
+    match Settings::for_collation(fields.answer.alloc(), number) {
+        Ok(settings) => push_settings(&mut fields.answer, &settings),
+        Err(OutOfMemory) => fields.answer.refused(),
     }
-    let shape = read_set(alloc, &case.rest_bytes(alloc)?)?;
-    push_shape(&shape, out)
 }
 
-// A SET statement by its shape, and its changes where it is tracked.
-fn push_shape(shape: &SetShape, out: &mut String) -> Result<(), CaseFault> {
-    out.push_str(shape_name(shape))?;
-    match shape {
-        SetShape::Tracked(changes) => push_changes(changes.as_slice(), out),
-        _ => Ok(()),
+/// `set <statement>`: a SET statement by its shape, and its changes where it is tracked.
+pub(crate) fn set(fields: &mut Fields<'_>) {
+    let statement = fields.rest_bytes();
+    match read_set(fields.answer.alloc(), &statement) {
+        Ok(shape) => push_shape(&mut fields.answer, &shape),
+        Err(OutOfMemory) => fields.answer.refused(),
+    }
+}
+
+fn push_shape(answer: &mut Answer, shape: &SetShape) {
+    answer.text(shape_name(shape));
+    if let SetShape::Tracked(changes) = shape {
+        push_changes(answer, changes.as_slice());
     }
 }
 
@@ -39,194 +42,213 @@ pub(crate) fn shape_name(shape: &SetShape) -> &'static str {
     }
 }
 
-fn push_changes(changes: &[Change], out: &mut String) -> Result<(), CaseFault> {
-    out.push_str(": ")?;
-    let start = out.len();
+fn push_changes(answer: &mut Answer, changes: &[Change]) {
+    answer.text(": ");
+    let start = answer.len();
     for change in changes {
-        separate(out, start, ", ")?;
-        push_value(change.slot, &change.value, out)?;
+        answer.separate(start, ", ");
+        push_value(answer, change.slot, &change.value);
     }
-    Ok(())
 }
 
 // Settings but for those at their default.
-pub(crate) fn push_settings(settings: &Settings, out: &mut String) -> Result<(), CaseFault> {
-    let start = out.len();
+pub(crate) fn push_settings(answer: &mut Answer, settings: &Settings) {
+    let start = answer.len();
     for slot in Slot::ALL {
         let value = settings.value(slot);
         if value.is_text() {
-            separate(out, start, ", ")?;
-            push_value(slot, value, out)?;
+            answer.separate(start, ", ");
+            push_value(answer, slot, value);
         }
     }
-    or_none(out, start, "defaults")
+    or_none(answer, start, "defaults");
 }
 
 // Appends `name = value`.
-fn push_value(slot: Slot, value: &SlotValue, out: &mut String) -> Result<(), CaseFault> {
-    push_bytes(out, slot.name())?;
-    out.push_str(" = ")?;
+fn push_value(answer: &mut Answer, slot: Slot, value: &SlotValue) {
+    push_bytes(answer, slot.name());
+    answer.text(" = ");
     match value {
-        SlotValue::Default => push_text(out, "DEFAULT"),
-        SlotValue::Text(value) => push_bytes(out, value.as_slice()),
+        SlotValue::Default => answer.text("DEFAULT"),
+        SlotValue::Text(value) => push_bytes(answer, value.as_slice()),
     }
 }
 
 // Changes as a case writes them: `name = value`, with `; ` between them.
-fn changes_of(alloc: Global, text: &str) -> Result<Changes, CaseFault> {
-    let mut changes = Changes::new(alloc);
+fn changes_of(answer: &mut Answer, text: &str) -> Changes {
+    let mut changes = Changes::new(answer.alloc());
     if !text.is_empty() {
         for part in text.split("; ") {
-            changes.push(change_of(alloc, part)?)?;
+            add_change(answer, &mut changes, part);
         }
     }
-    Ok(changes)
+    changes
 }
 
-fn change_of(alloc: Global, text: &str) -> Result<Change, CaseFault> {
-    let Some((name, value)) = text.split_once(" = ") else {
-        return Err(CaseFault::Bad);
-    };
-    let Some(slot) = slot_named(name) else {
-        return Err(CaseFault::Bad);
-    };
-    let value = value_of(alloc, value)?;
-    Ok(Change {
-        slot,
-        value,
-        adds: false,
-    })
+fn add_change(answer: &mut Answer, changes: &mut Changes, text: &str) {
+    let (name, value) = text.split_once(" = ").unwrap_or(("", ""));
+    match slot_named(name) {
+        Some(slot) => {
+            let value = value_of(answer, value);
+            let adds = false;
+            answer.done(changes.push(Change { slot, value, adds }));
+        }
+        None => answer.bad(),
+    }
 }
 
 fn slot_named(name: &str) -> Option<Slot> {
-    match name {
-        "names" => Some(Slot::Names),
-        _ => Slot::named(name.as_bytes()),
-    }
-}
-
-fn value_of(alloc: Global, text: &str) -> Result<SlotValue, CaseFault> {
-    match text {
-        "DEFAULT" => Ok(SlotValue::Default),
-        _ => Ok(SlotValue::Text(Bytes::from_slice(alloc, text.as_bytes())?)),
-    }
-}
-
-// The statements that make changes.
-pub(crate) fn texts(alloc: Global, text: &str, out: &mut String) -> Result<(), CaseFault> {
-    match texts_of(alloc, &changes_of(alloc, text)?)? {
-        Some(texts) => push_texts(&texts, out),
-        None => push_text(out, "can't be set"),
-    }
-}
-
-fn texts_of(alloc: Global, changes: &Changes) -> Result<Option<SetTexts>, CaseFault> {
-    if can_be_set(changes.as_slice()) {
-        Ok(Some(set_texts(alloc, changes.as_slice())?))
+    if name == "names" {
+        Some(Slot::Names)
     } else {
-        Ok(None)
+        Slot::named(name.as_bytes())
     }
 }
 
-fn push_texts(texts: &SetTexts, out: &mut String) -> Result<(), CaseFault> {
-    push_statement(&texts.names, out)?;
-    out.push_str(" | ")?;
-    push_statement(&texts.session, out)
+fn value_of(answer: &mut Answer, text: &str) -> SlotValue {
+    if text == "DEFAULT" {
+        SlotValue::Default
+    } else {
+        SlotValue::Text(Bytes::from_vec(answer.spelled(text)))
+    }
 }
 
-fn push_statement(text: &Option<Bytes>, out: &mut String) -> Result<(), CaseFault> {
+/// `texts <changes>`: the statements that make changes.
+pub(crate) fn texts(fields: &mut Fields<'_>) {
+    let text = fields.rest_text();
+    let changes = changes_of(&mut fields.answer, text);
+    match texts_of(&mut fields.answer, changes.as_slice()) {
+        Some(texts) => push_texts(&mut fields.answer, &texts),
+        None => fields.answer.text("can't be set"),
+    }
+}
+
+// The statements that make changes, none where they can't be set.
+fn texts_of(answer: &mut Answer, changes: &[Change]) -> Option<SetTexts> {
+    if !can_be_set(changes) {
+        return None;
+    }
+    match set_texts(answer.alloc(), changes) {
+        Ok(texts) => Some(texts),
+        Err(OutOfMemory) => {
+            answer.refused();
+            None
+        }
+    }
+}
+
+fn push_texts(answer: &mut Answer, texts: &SetTexts) {
+    push_statement(answer, &texts.names);
+    answer.text(" | ");
+    push_statement(answer, &texts.session);
+}
+
+fn push_statement(answer: &mut Answer, text: &Option<Bytes>) {
     match text {
-        Some(text) => push_bytes(out, text.as_slice()),
-        None => push_text(out, "-"),
+        Some(text) => push_bytes(answer, text.as_slice()),
+        None => answer.text("-"),
     }
 }
 
-// Settings as a case writes them: `fresh`, or the number of a collation and then changes.
-fn settings_of(alloc: Global, text: &str) -> Result<Settings, CaseFault> {
+// Settings as a case writes them: `fresh`, or the number of a collation and then changes. None where that is a fault.
+fn settings_of(answer: &mut Answer, text: &str) -> Option<Settings> {
     if text == "fresh" {
-        return Ok(Settings::defaults(alloc)?);
+        return kept(answer, Settings::defaults(answer.alloc()));
     }
     let (number, changes) = text.split_once("; ").unwrap_or((text, ""));
-    let Ok(number) = number.parse::<u8>() else {
-        return Err(CaseFault::Bad);
-    };
-    let changes = changes_of(alloc, changes)?;
-    changed(alloc, number, changes.as_slice())
+    let changes = changes_of(answer, changes);
+    let mut settings = collation_named(answer, number)?;
+    apply(answer, &mut settings, changes.as_slice());
+    Some(settings)
 }
 
-fn changed(alloc: Global, number: u8, changes: &[Change]) -> Result<Settings, CaseFault> {
-    let mut settings = Settings::for_collation(alloc, number)?;
-    settings.apply(changes)?;
-    Ok(settings)
+// The settings of a client that logs in with the collation of this number.
+fn collation_named(answer: &mut Answer, number: &str) -> Option<Settings> {
+    match number.parse() {
+        Ok(number) => kept(answer, Settings::for_collation(answer.alloc(), number)),
+        Err(_) => {
+            answer.bad();
+            None
+        }
+    }
 }
 
-// The statements that lead from settings to others, and whether they do once they are read.
-pub(crate) fn bring(alloc: Global, text: &str, out: &mut String) -> Result<(), CaseFault> {
-    let Some((from, to)) = text.split_once(" -> ") else {
-        return Err(CaseFault::Bad);
-    };
-    let to = settings_of(alloc, to)?;
-    bring_to(alloc, from, &to, out)
+// Settings, none where memory was refused.
+fn kept(answer: &mut Answer, settings: Result<Settings, OutOfMemory>) -> Option<Settings> {
+    match settings {
+        Ok(settings) => Some(settings),
+        Err(OutOfMemory) => {
+            answer.refused();
+            None
+        }
+    }
 }
 
-fn bring_to(alloc: Global, from: &str, to: &Settings, out: &mut String) -> Result<(), CaseFault> {
-    let mut held = settings_of(alloc, from)?;
-    lead(alloc, &mut held, to, out)
+/// Makes changes.
+pub(crate) fn apply(answer: &mut Answer, settings: &mut Settings, changes: &[Change]) {
+    answer.done(settings.apply(changes));
+}
+
+/// `bring <settings> -> <settings>`: the statements that lead from settings to others, and whether they do once they are read.
+pub(crate) fn bring(fields: &mut Fields<'_>) {
+    let (from, to) = fields.rest_text().split_once(" -> ").unwrap_or(("", ""));
+    if let Some(to) = settings_of(&mut fields.answer, to) {
+        bring_to(&mut fields.answer, from, &to);
+    }
+}
+
+fn bring_to(answer: &mut Answer, from: &str, to: &Settings) {
+    if let Some(mut held) = settings_of(answer, from) {
+        lead(answer, &mut held, to);
+    }
 }
 
 // The statements that lead from settings to others, where `Names` is wanted as a text.
-fn leading(alloc: Global, from: &Settings, to: &Settings) -> Result<Option<SetTexts>, CaseFault> {
+fn leading(answer: &mut Answer, from: &Settings, to: &Settings) -> Option<SetTexts> {
     if !to.value(Slot::Names).is_text() {
-        return Ok(None);
+        return None;
     }
-    texts_of(alloc, &difference(alloc, from, to)?)
-}
-
-fn lead(
-    alloc: Global,
-    held: &mut Settings,
-    to: &Settings,
-    out: &mut String,
-) -> Result<(), CaseFault> {
-    match leading(alloc, held, to)? {
-        Some(texts) => hear_texts(alloc, &texts, held, to, out),
-        None => push_text(out, "names have to be wanted"),
+    match difference(answer.alloc(), from, to) {
+        Ok(changes) => texts_of(answer, changes.as_slice()),
+        Err(OutOfMemory) => {
+            answer.refused();
+            None
+        }
     }
 }
 
-fn hear_texts(
-    alloc: Global,
-    texts: &SetTexts,
-    held: &mut Settings,
-    to: &Settings,
-    out: &mut String,
-) -> Result<(), CaseFault> {
-    push_texts(texts, out)?;
-    apply_text(alloc, held, &texts.names)?;
-    apply_text(alloc, held, &texts.session)?;
-    let is_same = are_same(held, to);
-    push_text(out, if is_same { " | same" } else { " | other" })
+fn lead(answer: &mut Answer, held: &mut Settings, to: &Settings) {
+    match leading(answer, held, to) {
+        Some(texts) => {
+            push_texts(answer, &texts);
+            hear(answer, held, &texts.names);
+            hear(answer, held, &texts.session);
+            push_same(answer, held, to);
+        }
+        None => answer.text("names have to be wanted"),
+    }
 }
 
 // Reads a statement and makes its changes.
-fn apply_text(
-    alloc: Global,
-    settings: &mut Settings,
-    text: &Option<Bytes>,
-) -> Result<(), CaseFault> {
-    let Some(text) = text else {
-        return Ok(());
-    };
-    if let SetShape::Tracked(changes) = read_set(alloc, text.as_slice())? {
-        settings.apply(changes.as_slice())?;
+fn hear(answer: &mut Answer, settings: &mut Settings, statement: &Option<Bytes>) {
+    if let Some(statement) = statement {
+        hear_statement(answer, settings, statement.as_slice());
     }
-    Ok(())
 }
 
-fn are_same(a: &Settings, b: &Settings) -> bool {
-    Slot::ALL
+fn hear_statement(answer: &mut Answer, settings: &mut Settings, statement: &[u8]) {
+    match read_set(answer.alloc(), statement) {
+        Ok(SetShape::Tracked(changes)) => apply(answer, settings, changes.as_slice()),
+        Ok(_) => {}
+        Err(OutOfMemory) => answer.refused(),
+    }
+}
+
+fn push_same(answer: &mut Answer, a: &Settings, b: &Settings) {
+    let is_same = Slot::ALL
         .iter()
-        .all(|slot| same_value(a.value(*slot), b.value(*slot)))
+        .all(|slot| same_value(a.value(*slot), b.value(*slot)));
+    answer.text(if is_same { " | same" } else { " | other" });
 }
 
 fn same_value(a: &SlotValue, b: &SlotValue) -> bool {
