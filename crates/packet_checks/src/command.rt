@@ -1,49 +1,62 @@
 // Commands of clients.
-use crate::fields::Fields;
-use crate::show::{debug, named, word};
-use check_lines::CaseFault;
+use crate::show::spell_next;
+use check_lines::{Answer, Fields};
 use command_parse::{Command, Known};
-use std::alloc::Global;
 
 /// `parse <params> <bound> <payload>`: the command of a payload, where the statement that it names is known to have so many
 /// parameters, whose types are bound or not; `parse none none <payload>` where none is known.
-pub fn parse(alloc: Global, fields: &mut Fields<'_>) -> Result<String, CaseFault> {
-    let known = known(fields.text(), fields.text())?;
-    let payload = fields.rest_bytes(alloc);
+pub fn parse(fields: &mut Fields<'_>) {
+    let params = fields.text();
+    let bound = fields.text();
+    let payload = fields.rest_bytes();
+    let known = known(&mut fields.answer, params, bound);
     match command_parse::parse(&payload, known) {
-        Ok(command) => show(alloc, command),
-        Err(fault) => debug(alloc, fault),
+        Ok(command) => show(&mut fields.answer, command),
+        Err(fault) => fields.answer.debug(fault),
     }
 }
 
 // A command, of those that are parsed so far.
-fn show(alloc: Global, command: Command<'_>) -> Result<String, CaseFault> {
+fn show(answer: &mut Answer, command: Command<'_>) {
     match command {
-        Command::Quit => word(alloc, "quit"),
-        Command::Ping => word(alloc, "ping"),
-        Command::Query { text } => named(alloc, "query", text),
-        Command::InitDb { schema } => named(alloc, "init_db", schema),
-        Command::FieldList { rest } => named(alloc, "field_list", rest),
-        Command::Refused(byte) => Ok(format!(in alloc; "refused {byte}")?),
-        _ => Err(CaseFault::Bad),
+        Command::Quit => answer.text("quit"),
+        Command::Ping => answer.text("ping"),
+        Command::Query { text } => named(answer, "query", text),
+        Command::InitDb { schema } => named(answer, "init_db", schema),
+        Command::FieldList { rest } => named(answer, "field_list", rest),
+        Command::Refused(byte) => refused(answer, byte),
+        _ => answer.bad(),
     }
 }
 
+// A name, and bytes.
+fn named(answer: &mut Answer, name: &str, bytes: &[u8]) {
+    answer.text(name);
+    spell_next(answer, bytes);
+}
+
+// A command that isn't taken.
+fn refused(answer: &mut Answer, byte: u8) {
+    answer.text("refused ");
+    answer.display(byte);
+}
+
 // What is known of a statement.
-fn known(params: &str, bound: &str) -> Result<Option<Known>, CaseFault> {
+fn known(answer: &mut Answer, params: &str, bound: &str) -> Option<Known> {
     if params == "none" {
-        return Ok(None);
+        return None;
     }
     match (params.parse(), bound.parse()) {
-        (Ok(params), Ok(bound)) => Ok(Some(Known { params, bound })),
-        _ => Err(CaseFault::Bad),
+        (Ok(params), Ok(bound)) => Some(Known { params, bound }),
+        _ => {
+            answer.bad();
+            None
+        }
     }
 }
 
 /// `statement_of <payload>`: the statement that it names.
-pub fn statement_of(alloc: Global, fields: &mut Fields<'_>) -> Result<String, CaseFault> {
-    debug(
-        alloc,
-        command_parse::statement_of(&fields.rest_bytes(alloc)),
-    )
+pub fn statement_of(fields: &mut Fields<'_>) {
+    let payload = fields.rest_bytes();
+    fields.answer.debug(command_parse::statement_of(&payload));
 }

@@ -1,87 +1,89 @@
 // Messages out of packets, and back.
-use crate::fields::Fields;
-use crate::show::{append, debug, nothing, with_id};
+use crate::show::{bytes, debug, with_id};
 use crate::steps::{Steps, take_steps};
 use crate::text::id_of;
-use check_lines::{CaseFault, bytes_of, shown};
-use mx_base::Bytes;
+use check_lines::{Answer, Fields};
+use mx_base::{Bytes, OutOfMemory};
 use packet_frame::{Framer, Payloads, payloads_of, write_message};
-use std::alloc::Global;
 
 /// `framer <limit> <step> ..`: a Framer that is led through the steps `feed=<piece>`, `next=<first>`, `kept`, `announced`,
 /// `err_id=<unfed>` and `take=<first>`, which is next, then payload and done where a message is found.
-pub fn feed(alloc: Global, fields: &mut Fields<'_>) -> Result<String, CaseFault> {
+pub fn feed(fields: &mut Fields<'_>) {
     let limit = fields.number();
-    take_steps(alloc, fields, Ok(Framer::new(alloc, limit)))
+    let framer = Framer::new(fields.answer.alloc(), limit);
+    take_steps(fields, Ok(framer));
 }
 
 impl Steps for Framer {
-    fn step(
-        &mut self,
-        alloc: Global,
-        call: &str,
-        argument: &str,
-        bytes: &mut [u8],
-    ) -> Result<String, CaseFault> {
+    fn step(&mut self, answer: &mut Answer, call: &str, argument: &str, bytes: &mut [u8]) {
         match call {
-            "feed" => nothing(alloc, self.feed(bytes)),
-            "next" | "take" => next(alloc, self, id_of(argument), call == "take"),
-            "kept" => debug(alloc, self.kept()),
-            "announced" => debug(alloc, self.announced()),
-            "err_id" => debug(alloc, self.err_id(bytes)),
-            _ => Err(CaseFault::Bad),
+            "feed" => answer.done(self.feed(bytes)),
+            "next" => next(answer, self, argument),
+            "take" => take(answer, self, argument),
+            "kept" => debug(answer, self.kept()),
+            "announced" => debug(answer, self.announced()),
+            "err_id" => debug(answer, self.err_id(bytes)),
+            _ => answer.bad(),
         }
     }
 }
 
-// The message that is found next, which may be taken.
-fn next(
-    alloc: Global,
-    framer: &mut Framer,
-    first: Result<u8, CaseFault>,
-    is_taken: bool,
-) -> Result<String, CaseFault> {
-    match framer.next(first?) {
-        Ok(Some(_)) if is_taken => {
-            let payload = shown(alloc, framer.payload());
+// The message that is found next.
+fn next(answer: &mut Answer, framer: &mut Framer, first: &str) {
+    let first = id_of(answer, first);
+    debug(answer, framer.next(first));
+}
+
+// The message that is found next, which is taken.
+fn take(answer: &mut Answer, framer: &mut Framer, first: &str) {
+    let first = id_of(answer, first);
+    match framer.next(first) {
+        Ok(Some(_)) => {
+            bytes(answer, framer.payload());
             framer.done();
-            payload
         }
-        other => debug(alloc, other),
+        other => debug(answer, other),
     }
 }
 
 /// `payloads_of <limit> <first> <piece> ..`: the fault behind the messages of the pieces, and their payloads.
-pub fn join(alloc: Global, fields: &mut Fields<'_>) -> Result<String, CaseFault> {
+pub fn join(fields: &mut Fields<'_>) {
     let limit = fields.number();
     let first = fields.number();
-    let pieces = pieces_of(alloc, fields.case.rest_text(), ' ')?;
-    show(alloc, payloads_of(alloc, limit, first, &pieces)?)
+    let pieces = fields.rest_text();
+    let pieces = pieces_of(&mut fields.answer, pieces, ' ');
+    match payloads_of(fields.answer.alloc(), limit, first, &pieces) {
+        Ok(found) => show(&mut fields.answer, &found),
+        Err(OutOfMemory) => fields.answer.refused(),
+    }
 }
 
 // The fault, and the payloads before it.
-fn show(alloc: Global, found: Payloads) -> Result<String, CaseFault> {
-    let mut answer = debug(alloc, found.fault)?;
+fn show(answer: &mut Answer, found: &Payloads) {
+    answer.debug(found.fault);
     for payload in &found.payloads {
-        append(&mut answer, " ", shown(alloc, payload.as_slice()))?;
+        answer.text(" ");
+        answer.bytes(payload.as_slice());
     }
-    Ok(answer)
 }
 
 /// The pieces of a text between which this character stands.
-pub fn pieces_of(alloc: Global, text: &str, between: char) -> Result<Vec<Bytes>, CaseFault> {
-    let mut pieces = Vec::new(alloc);
+pub fn pieces_of(answer: &mut Answer, text: &str, between: char) -> Vec<Bytes> {
+    let mut pieces = Vec::new(answer.alloc());
     for piece in text.split(between) {
-        pieces.push(Bytes::from_vec(bytes_of(alloc, piece)?))?;
+        let bytes = answer.spelled(piece);
+        if pieces.push(Bytes::from_vec(bytes)).is_err() {
+            answer.refused();
+        }
     }
-    Ok(pieces)
+    pieces
 }
 
 /// `write_message <first> <before> <payload>`: the id behind the last packet, and the bytes before with the packets.
-pub fn write(alloc: Global, fields: &mut Fields<'_>) -> Result<String, CaseFault> {
+pub fn write(fields: &mut Fields<'_>) {
     let first = fields.number();
-    let mut out = fields.bytes(alloc);
-    let payload = fields.rest_bytes(alloc);
+    let mut out = fields.bytes();
+    let payload = fields.rest_bytes();
     let id = write_message(&mut out, first, &payload);
-    with_id(alloc, id, &out)
+    with_id(&mut fields.answer, id, &out);
 }

@@ -4,7 +4,6 @@
 
 mod client;
 mod command;
-mod fields;
 mod framing;
 mod login;
 mod number;
@@ -18,49 +17,41 @@ mod table;
 mod text;
 mod track;
 
-use crate::fields::Fields;
-use check_lines::{Case, CaseFault};
+use check_lines::{Case, CaseFault, Fields};
 use std::alloc::Global;
 use std::io;
 
-fn answered(alloc: Global, fields: &mut Fields<'_>) -> Result<String, CaseFault> {
+fn read(fields: &mut Fields<'_>) {
     match fields.case.reader {
-        "put_lenenc" => number::put(alloc, fields),
-        "framer" => framing::feed(alloc, fields),
-        "payloads_of" => framing::join(alloc, fields),
-        "write_message" => framing::write(alloc, fields),
-        "write_ok" => reply::ok(alloc, fields),
-        "write_err" => reply::err(alloc, fields),
-        "write_eof" => reply::eof(alloc, fields),
-        "write_table" => table::write(alloc, fields),
-        "track" => track::track(alloc, fields),
-        "is_lone_reply" => reply::is_lone(alloc, fields),
-        "sha1" => password::digest(alloc, fields),
-        "answer" => password::answer(alloc, fields),
-        "check" => password::check(alloc, fields),
-        "parse" => command::parse(alloc, fields),
-        "statement_of" => command::statement_of(alloc, fields),
-        "write_switch" => rewrite::switch(alloc, fields),
-        "greeted" | "told" => client::serve(alloc, fields),
-        "backend" => server::log_in(alloc, fields),
-        reader if reader.starts_with("get_") => number::get(alloc, fields),
-        reader if reader.starts_with("rewrite_") => rewrite::again(alloc, fields),
-        _ => login::read(alloc, fields),
+        "put_lenenc" => number::put(fields),
+        "framer" => framing::feed(fields),
+        "payloads_of" => framing::join(fields),
+        "write_message" => framing::write(fields),
+        "write_ok" => reply::ok(fields),
+        "write_err" => reply::err(fields),
+        "write_eof" => reply::eof(fields),
+        "write_table" => table::write(fields),
+        "track" => track::track(fields),
+        "is_lone_reply" => reply::is_lone(fields),
+        "sha1" => password::digest(fields),
+        "answer" => password::answer(fields),
+        "check" => password::check(fields),
+        "parse" => command::parse(fields),
+        "statement_of" => command::statement_of(fields),
+        "write_switch" => rewrite::switch(fields),
+        "greeted" | "told" => client::serve(fields),
+        "backend" => server::log_in(fields),
+        reader if reader.starts_with("get_") => number::get(fields),
+        reader if reader.starts_with("rewrite_") => rewrite::again(fields),
+        _ => login::read(fields),
     }
 }
 
-// What is answered where no field has a fault.
 fn answer(alloc: Global, case: &mut Case<'_>) -> Result<String, CaseFault> {
-    let mut fields = Fields {
-        case: *case,
-        fault: None,
-    };
-    let answer = answered(alloc, &mut fields);
+    let mut fields = Fields::of(alloc, *case);
+    read(&mut fields);
     *case = fields.case;
-    match fields.fault {
-        Some(fault) => Err(fault),
-        None => answer,
-    }
+    fields.answer.finished()
 }
 
 fn main(rt: HostRuntime) -> io::Result<()> {

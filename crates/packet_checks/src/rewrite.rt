@@ -3,47 +3,60 @@ ghost use Rattle.std.specs.Prelude.{◌≤◌, length, IsTrue};
 ghost use Rattle.std.specs.Option.{ForSome};
 ghost use Rattle.handshake.specs.Spelling.{IsText};
 
-use crate::fields::Fields;
 use crate::show::appended;
 use crate::text::is_text;
-use check_lines::CaseFault;
+use check_lines::{Answer, Fields};
 use handshake::{
-    Response, read_greeting, read_response, write_greeting, write_response, write_switch,
+    Greeting, Response, read_greeting, read_response, write_greeting, write_response, write_switch,
 };
 use mx_base::Bytes;
-use std::alloc::Global;
 
 /// `rewrite_greeting <before> <payload>`, and so `rewrite_response`: the bytes before, and what is read of the payload, written.
-pub fn again(alloc: Global, fields: &mut Fields<'_>) -> Result<String, CaseFault> {
-    let mut out = fields.bytes(alloc);
-    let payload = fields.bytes(alloc);
-    match fields.case.reader {
-        "rewrite_greeting" => greeting(alloc, &mut out, &payload),
-        "rewrite_response" => response(alloc, &mut out, &payload),
-        _ => Err(CaseFault::Bad),
+pub fn again(fields: &mut Fields<'_>) {
+    let mut out = fields.bytes();
+    let payload = fields.bytes();
+    write(&mut fields.answer, fields.case.reader, &mut out, &payload);
+}
+
+fn write(answer: &mut Answer, reader: &str, out: &mut Vec<u8>, payload: &[u8]) {
+    match reader {
+        "rewrite_greeting" => greeting(answer, out, payload),
+        "rewrite_response" => response(answer, out, payload),
+        _ => answer.bad(),
     }
 }
 
 // The bytes before, and a greeting as it is read.
-fn greeting(alloc: Global, out: &mut Vec<u8>, payload: &[u8]) -> Result<String, CaseFault> {
-    match read_greeting(alloc, payload) {
-        Ok(greeting)
-            if is_text(greeting.version.as_slice()) && is_text(greeting.plugin.as_slice()) => {
-            let done = write_greeting(out, &greeting);
-            appended(alloc, done, out)
-        }
-        _ => Err(CaseFault::Bad),
+fn greeting(answer: &mut Answer, out: &mut Vec<u8>, payload: &[u8]) {
+    match read_greeting(answer.alloc(), payload) {
+        Ok(greeting) => put_greeting(answer, out, &greeting),
+        Err(_) => answer.bad(),
+    }
+}
+
+fn put_greeting(answer: &mut Answer, out: &mut Vec<u8>, greeting: &Greeting) {
+    if is_text(greeting.version.as_slice()) && is_text(greeting.plugin.as_slice()) {
+        let done = write_greeting(out, greeting);
+        appended(answer, done, out);
+    } else {
+        answer.bad();
     }
 }
 
 // The bytes before, and a response as it is read.
-fn response(alloc: Global, out: &mut Vec<u8>, payload: &[u8]) -> Result<String, CaseFault> {
-    match read_response(alloc, payload) {
-        Ok(response) if may_be_written(&response) => {
-            let done = write_response(out, &response);
-            appended(alloc, done, out)
-        }
-        _ => Err(CaseFault::Bad),
+fn response(answer: &mut Answer, out: &mut Vec<u8>, payload: &[u8]) {
+    match read_response(answer.alloc(), payload) {
+        Ok(response) => put_response(answer, out, &response),
+        Err(_) => answer.bad(),
+    }
+}
+
+fn put_response(answer: &mut Answer, out: &mut Vec<u8>, response: &Response) {
+    if may_be_written(response) {
+        let done = write_response(out, response);
+        appended(answer, done, out);
+    } else {
+        answer.bad();
     }
 }
 
@@ -71,9 +84,9 @@ fn is_text_or_none(text: &Option<Bytes>) -> bool
 }
 
 /// `write_switch <salt> <before>`: the bytes before and the request to switch.
-pub fn switch(alloc: Global, fields: &mut Fields<'_>) -> Result<String, CaseFault> {
-    let salt = fields.array(alloc);
-    let mut out = fields.bytes(alloc);
+pub fn switch(fields: &mut Fields<'_>) {
+    let salt = fields.array();
+    let mut out = fields.bytes();
     let done = write_switch(&mut out, &salt);
-    appended(alloc, done, &out)
+    appended(&mut fields.answer, done, &out);
 }

@@ -1,12 +1,10 @@
 // The link to a server.
-use crate::fields::Fields;
-use crate::show::{Spelled, debug, nothing, word};
+use crate::show::{bytes, debug, spell_next, word};
 use crate::steps::{Steps, take_steps};
 use crate::text::{id_of, is_text, number_of};
-use check_lines::{CaseFault, bytes_of, shown};
+use check_lines::{Answer, Fields};
 use mx_base::{ClientNo, Tag};
 use server_side::{Backend, BackendFault, Heard, Stage};
-use std::alloc::Global;
 
 /// The tag of each command.
 const COMMAND: Tag = Tag::For {
@@ -17,39 +15,28 @@ const COMMAND: Tag = Tag::For {
 /// `backend <found rows> <user> <password> <step> ..`: a Backend that is led through the steps `got=<piece>`, `each=<piece>`,
 /// whose bytes come each alone, `command=<first>:<payload>`, `write`, which is outgoing and then taken whole,
 /// `taken=<count>`, `withdraw` and the words of `look`.
-pub fn log_in(alloc: Global, fields: &mut Fields<'_>) -> Result<String, CaseFault> {
+pub fn log_in(fields: &mut Fields<'_>) {
     let found_rows = fields.text() == "true";
-    let user = fields.bytes(alloc);
-    let password = fields.bytes(alloc);
-    if !is_text(&user) {
-        return Err(CaseFault::Bad);
+    let user = fields.bytes();
+    let password = fields.bytes();
+    let alloc = fields.answer.alloc();
+    if is_text(&user) {
+        take_steps(fields, Backend::new(alloc, &user, &password, found_rows));
+    } else {
+        fields.answer.bad();
     }
-    take_steps(
-        alloc,
-        fields,
-        Backend::new(alloc, &user, &password, found_rows),
-    )
 }
 
 impl Steps for Backend {
-    fn step(
-        &mut self,
-        alloc: Global,
-        call: &str,
-        argument: &str,
-        bytes: &mut [u8],
-    ) -> Result<String, CaseFault> {
+    fn step(&mut self, answer: &mut Answer, call: &str, argument: &str, bytes: &mut [u8]) {
         match call {
-            "got" => debug(alloc, self.got(bytes)),
-            "each" => debug(alloc, each(self, bytes)),
-            "command" => command(alloc, self, command_of(alloc, argument)),
-            "taken" => take(alloc, self, number_of(argument)),
-            "write" => write(alloc, self),
-            "withdraw" => {
-                self.withdraw();
-                Ok(String::new(alloc))
-            }
-            _ => look(alloc, self, call),
+            "got" => debug(answer, self.got(bytes)),
+            "each" => debug(answer, each(self, bytes)),
+            "command" => command(answer, self, argument),
+            "taken" => take(answer, self, argument),
+            "write" => write(answer, self),
+            "withdraw" => self.withdraw(),
+            _ => look(answer, self, call),
         }
     }
 }
@@ -68,72 +55,58 @@ fn each(backend: &mut Backend, piece: &mut [u8]) -> Result<Heard, BackendFault> 
 }
 
 // What can be seen of a link.
-fn look(alloc: Global, backend: &Backend, call: &str) -> Result<String, CaseFault> {
+fn look(answer: &mut Answer, backend: &Backend, call: &str) {
     match call {
-        "outgoing" => outgoing(alloc, backend),
-        "reply" => shown(alloc, backend.reply()),
-        "stage" => debug(alloc, backend.stage()),
-        "has_command" => debug(alloc, backend.has_command()),
-        "is_begun" => debug(alloc, backend.is_begun()),
-        "is_sent" => debug(alloc, backend.is_sent()),
-        _ => Err(CaseFault::Bad),
+        "outgoing" => outgoing(answer, backend),
+        "reply" => bytes(answer, backend.reply()),
+        "stage" => debug(answer, backend.stage()),
+        "has_command" => debug(answer, backend.has_command()),
+        "is_begun" => debug(answer, backend.is_begun()),
+        "is_sent" => debug(answer, backend.is_sent()),
+        _ => answer.bad(),
     }
 }
 
 // What is to be written, and what it is for.
-fn outgoing(alloc: Global, backend: &Backend) -> Result<String, CaseFault> {
+fn outgoing(answer: &mut Answer, backend: &Backend) {
     match backend.outgoing() {
-        Some(left) => tagged(alloc, left.tag, left.bytes),
-        None => word(alloc, "none"),
+        Some(left) => tagged(answer, left.tag, left.bytes),
+        None => word(answer, "none"),
     }
 }
 
 // Bytes behind their tag.
-fn tagged(alloc: Global, tag: Tag, bytes: &[u8]) -> Result<String, CaseFault> {
-    let bytes = Spelled(bytes);
-    Ok(format!(in alloc; "{tag:?} {bytes}")?)
+fn tagged(answer: &mut Answer, tag: Tag, bytes: &[u8]) {
+    debug(answer, tag);
+    spell_next(answer, bytes);
 }
 
 // What is to be written, all of which is written then.
-fn write(alloc: Global, backend: &mut Backend) -> Result<String, CaseFault> {
-    let answer = outgoing(alloc, backend);
+fn write(answer: &mut Answer, backend: &mut Backend) {
+    outgoing(answer, backend);
     if let Some(left) = backend.outgoing() {
         let count = left.bytes.len();
         backend.taken(count);
     }
-    answer
-}
-
-// The sequence id and the payload of a command.
-fn command_of(alloc: Global, argument: &str) -> Result<(u8, Vec<u8>), CaseFault> {
-    let (first, payload) = argument.split_once(':').unwrap_or((argument, ""));
-    Ok((id_of(first)?, bytes_of(alloc, payload)?))
 }
 
 // A command is to be written, where the router is logged in and none is.
-fn command(
-    alloc: Global,
-    backend: &mut Backend,
-    command: Result<(u8, Vec<u8>), CaseFault>,
-) -> Result<String, CaseFault> {
-    let (first, payload) = command?;
+fn command(answer: &mut Answer, backend: &mut Backend, argument: &str) {
+    let (first, payload) = argument.split_once(':').unwrap_or((argument, ""));
+    let first = id_of(answer, first);
+    let payload = answer.spelled(payload);
     if backend.stage() != Stage::In || backend.has_command() {
-        return Err(CaseFault::Bad);
+        answer.bad();
+    } else {
+        answer.done(backend.command(COMMAND, &payload, first));
     }
-    nothing(alloc, backend.command(COMMAND, &payload, first))
 }
 
 // So many bytes were written of what is left.
-fn take(
-    alloc: Global,
-    backend: &mut Backend,
-    count: Result<u64, CaseFault>,
-) -> Result<String, CaseFault> {
-    match (backend.outgoing(), count) {
-        (Some(left), Ok(count)) if count <= left.bytes.len() as u64 => {
-            backend.taken(count as usize);
-            Ok(String::new(alloc))
-        }
-        _ => Err(CaseFault::Bad),
+fn take(answer: &mut Answer, backend: &mut Backend, count: &str) {
+    let count = number_of(answer, count);
+    match backend.outgoing() {
+        Some(left) if count <= left.bytes.len() as u64 => backend.taken(count as usize),
+        _ => answer.bad(),
     }
 }

@@ -1,57 +1,67 @@
 // Tables that the router writes.
 ghost use Rattle.std.specs.Prelude.{◌≡◌, ◌<◌, length};
 
-use crate::fields::Fields;
 use crate::framing::pieces_of;
 use crate::show::with_id;
-use check_lines::CaseFault;
-use mx_base::{Bytes, OutOfMemory};
+use check_lines::{Answer, Fields};
+use mx_base::Bytes;
 use reply_text::Table;
-use std::alloc::Global;
 
 /// `write_table <first> <status> <column>,<column>.. <cell>,<cell>..`: the id behind a table of one row, and its bytes. A cell NULL
 /// is none.
-pub fn write(alloc: Global, fields: &mut Fields<'_>) -> Result<String, CaseFault> {
+pub fn write(fields: &mut Fields<'_>) {
     let first = fields.number();
     let status = fields.number();
-    let columns = pieces_of(alloc, fields.text(), ',')?;
-    let row = cells(alloc, fields.text())?;
+    let names = fields.text();
+    let cells = fields.text();
+    let columns = pieces_of(&mut fields.answer, names, ',');
+    let row = cells_of(&mut fields.answer, cells);
     if columns.is_empty() || row.len() != columns.len() {
-        return Err(CaseFault::Bad);
+        fields.answer.bad();
+    } else {
+        written(&mut fields.answer, first, status, columns, row);
     }
-    written(alloc, first, status, columns, row)
 }
 
 // The table of one row.
 fn written(
-    alloc: Global,
+    answer: &mut Answer,
     first: u8,
     status: u16,
     columns: Vec<Bytes>,
     row: Vec<Option<Bytes>>,
-) -> Result<String, CaseFault>
+)
     requires some { 0 < length columns.items }
     requires cells { length row.items ≡ length columns.items }
 {
-    let mut rows = Vec::new(alloc);
-    rows.push(row)?;
-    let table = Table { columns, rows };
-    let mut out = Vec::new(alloc);
-    let id = reply_text::write_table(&mut out, first, status, &table);
-    with_id(alloc, id, &out)
+    let mut rows = Vec::new(answer.alloc());
+    match rows.push(row) {
+        Ok(()) => {
+            let mut out = Vec::new(answer.alloc());
+            let id = reply_text::write_table(&mut out, first, status, &Table { columns, rows });
+            with_id(answer, id, &out);
+        }
+        Err(_) => answer.refused(),
+    }
 }
 
-fn cells(alloc: Global, texts: &str) -> Result<Vec<Option<Bytes>>, OutOfMemory> {
-    let mut cells = Vec::new(alloc);
+// The cells of a row.
+fn cells_of(answer: &mut Answer, texts: &str) -> Vec<Option<Bytes>> {
+    let mut cells = Vec::new(answer.alloc());
     for text in texts.split(',') {
-        cells.push(cell(alloc, text)?)?;
+        let cell = cell(answer, text);
+        if cells.push(cell).is_err() {
+            answer.refused();
+        }
     }
-    Ok(cells)
+    cells
 }
 
-fn cell(alloc: Global, text: &str) -> Result<Option<Bytes>, OutOfMemory> {
+// A cell.
+fn cell(answer: &mut Answer, text: &str) -> Option<Bytes> {
     if text == "NULL" {
-        return Ok(None);
+        None
+    } else {
+        Some(Bytes::from_vec(answer.spelled(text)))
     }
-    Ok(Some(Bytes::from_slice(alloc, text.as_bytes())?))
 }

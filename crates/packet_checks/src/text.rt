@@ -2,7 +2,7 @@
 ghost use Rattle.std.specs.Prelude.{◌↔◌, IsTrue};
 ghost use Rattle.handshake.specs.Spelling.{IsText};
 
-use check_lines::CaseFault;
+use check_lines::Answer;
 
 /// Whether bytes are a text, which has no NUL.
 pub fn is_text(bytes: &[u8]) -> bool
@@ -12,17 +12,23 @@ pub fn is_text(bytes: &[u8]) -> bool
 }
 
 /// The number that an argument spells.
-pub fn number_of(argument: &str) -> Result<u64, CaseFault> {
+pub fn number_of(answer: &mut Answer, argument: &str) -> u64 {
     match argument.parse() {
-        Ok(number) => Ok(number),
-        Err(_) => Err(CaseFault::Bad),
+        Ok(number) => number,
+        Err(_) => {
+            answer.bad();
+            0
+        }
     }
 }
 
 /// The sequence id that an argument spells.
-pub fn id_of(argument: &str) -> Result<u8, CaseFault> {
+pub fn id_of(answer: &mut Answer, argument: &str) -> u8 {
     match argument.parse() {
-        Ok(id) => Ok(id),
-        Err(_) => Err(CaseFault::Bad),
+        Ok(id) => id,
+        Err(_) => {
+            answer.bad();
+            0
+        }
     }
 }
