@@ -3,12 +3,10 @@ ghost use Rattle.std.specs.Prelude.{◌≡◌, true, if◌then◌else◌};
 ghost use Rattle.mx_wire.specs.Log.{is_open, is_link, link_of, open_step};
 ghost use Rattle.mx_wire.specs.Tells.{OpenFor};
 
-use crate::words::{debug, small};
-use check_lines::{Case, CaseFault};
+use check_lines::{Answer, Fields};
 use mem_wire::Tape;
 use mx_base::{Address, LinkId, Port, ServerId, Tag};
 use mx_wire::{Entry, Wire};
-use std::alloc::Global;
 
 const ADDRESS: Address = Address {
     ip: [127, 0, 0, 1],
@@ -17,58 +15,62 @@ const ADDRESS: Address = Address {
 
 /// What the tape answers to a call: `listen`, `wait <until>`, `next`, `accept`, `accept_admin`, `open <server>`,
 /// `read <link>`, `write <link> <bytes>` or `close <link>`, of a link that is open. The address is always the same.
-pub(crate) fn called(
-    alloc: Global,
-    tape: &mut Tape,
-    call: &mut Case<'_>,
-) -> Result<String, CaseFault> {
-    match call.reader {
-        "listen" => debug(alloc, &tape.listen(Port::Traffic, ADDRESS)),
-        "wait" => debug(alloc, &tape.wait(call.number()?)),
-        "next" => debug(alloc, &tape.next_ready()),
-        "accept" => debug(alloc, &tape.accept(Port::Traffic)),
-        "accept_admin" => debug(alloc, &tape.accept(Port::Admin)),
-        "open" => debug(alloc, &tape.open(ServerId(small(call)?), ADDRESS)),
-        _ => call_link(alloc, tape, call),
+pub(crate) fn called(fields: &mut Fields<'_>, tape: &mut Tape) {
+    match fields.case.reader {
+        "listen" => fields.answer.debug(tape.listen(Port::Traffic, ADDRESS)),
+        "wait" => wait(fields, tape),
+        "next" => fields.answer.debug(tape.next_ready()),
+        "accept" => fields.answer.debug(tape.accept(Port::Traffic)),
+        "accept_admin" => fields.answer.debug(tape.accept(Port::Admin)),
+        "open" => open(fields, tape),
+        _ => call_link(fields, tape),
     }
 }
 
+fn wait(fields: &mut Fields<'_>, tape: &mut Tape) {
+    let until_ms = fields.number();
+    fields.answer.debug(tape.wait(until_ms));
+}
+
+fn open(fields: &mut Fields<'_>, tape: &mut Tape) {
+    let server = ServerId(fields.number());
+    fields.answer.debug(tape.open(server, ADDRESS));
+}
+
 // A call of a link that is open.
-fn call_link(alloc: Global, tape: &mut Tape, call: &mut Case<'_>) -> Result<String, CaseFault> {
-    let link = LinkId(call.number()?);
+fn call_link(fields: &mut Fields<'_>, tape: &mut Tape) {
+    let link = LinkId(fields.number());
     if !is_told_open(tape, link) {
-        return Err(CaseFault::Bad);
+        return fields.answer.bad();
     }
-    match call.reader {
-        "read" => read(alloc, tape, link),
-        "write" => write(alloc, tape, link, call),
+    match fields.case.reader {
+        "read" => read(&mut fields.answer, tape, link),
+        "write" => write(fields, tape, link),
         _ => {
             tape.close(link);
-            debug(alloc, &"closed")
+            fields.answer.debug("closed");
         }
     }
 }
 
-fn read(alloc: Global, tape: &mut Tape, link: LinkId) -> Result<String, CaseFault>
+fn read(answer: &mut Answer, tape: &mut Tape, link: LinkId)
     requires { OpenFor tape.old.told link }
 {
-    let mut into = vec![in alloc; 0u8; 65_536]?;
-    debug(alloc, &tape.read(link, &mut into))
+    match vec![in answer.alloc(); 0u8; 65_536] {
+        Ok(mut into) => answer.debug(tape.read(link, &mut into)),
+        Err(_) => answer.refused(),
+    }
 }
 
-fn write(
-    alloc: Global,
-    tape: &mut Tape,
-    link: LinkId,
-    call: &mut Case<'_>,
-) -> Result<String, CaseFault>
+fn write(fields: &mut Fields<'_>, tape: &mut Tape, link: LinkId)
     requires { OpenFor tape.old.told link }
 {
-    let piece = call.text()?.as_bytes();
+    let piece = fields.text().as_bytes();
     if piece.is_empty() {
-        return Err(CaseFault::Bad);
+        fields.answer.bad();
+    } else {
+        fields.answer.debug(tape.write(link, Tag::Own, piece));
     }
-    debug(alloc, &tape.write(link, Tag::Own, piece))
 }
 
 fn is_told_open(tape: &Tape, link: LinkId) -> bool

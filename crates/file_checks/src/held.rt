@@ -1,64 +1,68 @@
 // Files and a sink in memory.
-use crate::answers::{Answering, and_left, answers};
-use crate::words::{bytes_in, debug};
-use check_lines::{Case, CaseFault};
+use crate::answers::{Answering, answer_all};
+use check_lines::{Answer, Fields};
 use mem_wire::{MemFiles, MemSink};
 use mx_base::Bytes;
 use mx_wire::{Files, Sink};
-use std::alloc::Global;
+use std::str;
 
 impl Answering for MemFiles {
-    fn answer(&mut self, alloc: Global, part: &str) -> Result<String, CaseFault> {
-        match self.read(part) {
-            Ok(bytes) => debug(alloc, &std::str::from_utf8(&bytes)),
-            Err(fault) => debug(alloc, &fault),
+    fn answer(&mut self, fields: &mut Fields<'_>) {
+        match self.read(fields.case.reader) {
+            Ok(bytes) => fields.answer.debug(str::from_utf8(&bytes)),
+            Err(fault) => fields.answer.debug(fault),
         }
     }
 }
 
 impl Answering for MemSink {
-    fn answer(&mut self, alloc: Global, part: &str) -> Result<String, CaseFault> {
-        debug(alloc, &self.put(part.as_bytes()))
+    fn answer(&mut self, fields: &mut Fields<'_>) {
+        let text = fields.case.reader.as_bytes();
+        fields.answer.debug(self.put(text));
     }
 }
 
 // The one call that fails.
-fn failing_of(alloc: Global, case: &mut Case<'_>) -> Result<Vec<u64>, CaseFault> {
-    let call = case.number()?;
-    Ok(vec![in alloc; call; 1]?)
+fn failing_of(fields: &mut Fields<'_>) -> Vec<u64> {
+    let call = fields.number();
+    match vec![in fields.answer.alloc(); call; 1] {
+        Ok(failing) => failing,
+        Err(_) => {
+            fields.answer.refused();
+            Vec::new(fields.answer.alloc())
+        }
+    }
 }
 
-fn put_entry(
-    alloc: Global,
-    entries: &mut Vec<(Bytes, Bytes)>,
-    name: &str,
-    text: &str,
-) -> Result<(), CaseFault> {
-    let name = bytes_in(alloc, name)?;
-    let text = bytes_in(alloc, text)?;
-    entries.push((name, text))?;
-    Ok(())
+fn put_entry(answer: &mut Answer, entries: &mut Vec<(Bytes, Bytes)>, name: &str, text: &str) {
+    let name = Bytes::from_vec(answer.spelled(name));
+    let text = Bytes::from_vec(answer.spelled(text));
+    if entries.push((name, text)).is_err() {
+        answer.refused();
+    }
 }
 
-fn entries_of(alloc: Global) -> Result<Vec<(Bytes, Bytes)>, CaseFault> {
-    let mut entries = Vec::new(alloc);
-    put_entry(alloc, &mut entries, "a", "one")?;
-    put_entry(alloc, &mut entries, "b", "two")?;
-    Ok(entries)
+fn entries_of(answer: &mut Answer) -> Vec<(Bytes, Bytes)> {
+    let mut entries = Vec::new(answer.alloc());
+    put_entry(answer, &mut entries, "a", "one");
+    put_entry(answer, &mut entries, "b", "two");
+    entries
 }
 
 /// `files <failing call> <name>,<name>,..`: what each read answers where the file `a` has the text `one` and `b` has `two`.
-pub(crate) fn files(alloc: Global, case: &mut Case<'_>) -> Result<String, CaseFault> {
-    let failing = failing_of(alloc, case)?;
-    let entries = entries_of(alloc)?;
-    let mut files = MemFiles::new(alloc, entries, failing);
-    answers(alloc, &mut files, case.rest_text(), ",", "; ")
+pub(crate) fn files(fields: &mut Fields<'_>) {
+    let failing = failing_of(fields);
+    let entries = entries_of(&mut fields.answer);
+    let mut files = MemFiles::new(fields.answer.alloc(), entries, failing);
+    let names = fields.rest_text();
+    answer_all(fields, &mut files, names, ",", "; ");
 }
 
 /// `sink <failing call> <text> <text> ..`: the answer to each put, and the bytes that were taken.
-pub(crate) fn sink(alloc: Global, case: &mut Case<'_>) -> Result<String, CaseFault> {
-    let failing = failing_of(alloc, case)?;
-    let mut sink = MemSink::new(alloc, failing);
-    let put = answers(alloc, &mut sink, case.rest_text(), " ", "; ");
-    and_left(put, &std::str::from_utf8(sink.bytes()))
+pub(crate) fn sink(fields: &mut Fields<'_>) {
+    let failing = failing_of(fields);
+    let mut sink = MemSink::new(fields.answer.alloc(), failing);
+    let texts = fields.rest_text();
+    answer_all(fields, &mut sink, texts, " ", "; ");
+    fields.answer.debug(str::from_utf8(sink.bytes()));
 }

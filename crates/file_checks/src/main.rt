@@ -14,28 +14,35 @@ mod servers;
 mod transcripts;
 mod words;
 
-use check_lines::{Case, CaseFault};
+use check_lines::{Case, CaseFault, Fields};
 use std::alloc::Global;
 use std::io;
 
-fn answer(alloc: Global, case: &mut Case<'_>) -> Result<String, CaseFault> {
-    match case.reader {
-        "config" => configs::config(alloc, case),
-        "rows" => configs::rows(alloc, case),
-        "rules" => configs::rules(alloc, case),
-        "servers" => servers::servers(alloc, case),
-        "like_servers" => servers::like_servers(alloc, case),
-        "number" => servers::number(alloc, case),
-        "server" => servers::server(alloc, case),
-        "pool" => pool::follow(alloc, case),
-        "recording" => recordings::recording(alloc, case),
-        "entries" => recordings::entries(alloc, case),
-        "transcript" => transcripts::transcript_of(alloc, case),
-        "play" => plays::play(alloc, case),
-        "files" => held::files(alloc, case),
-        "sink" => held::sink(alloc, case),
-        _ => Err(CaseFault::Bad),
+fn read(fields: &mut Fields<'_>) {
+    match fields.case.reader {
+        "config" => configs::config(fields),
+        "rows" => configs::rows(fields),
+        "rules" => configs::rules(fields),
+        "servers" => servers::servers(fields),
+        "like_servers" => servers::like_servers(fields),
+        "number" => servers::number(fields),
+        "server" => servers::server(fields),
+        "pool" => pool::follow(fields),
+        "recording" => recordings::recording(fields),
+        "entries" => recordings::entries(fields),
+        "transcript" => transcripts::transcript_of(fields),
+        "play" => plays::play(fields),
+        "files" => held::files(fields),
+        "sink" => held::sink(fields),
+        _ => fields.answer.bad(),
     }
+}
+
+fn answer(alloc: Global, case: &mut Case<'_>) -> Result<String, CaseFault> {
+    let mut fields = Fields::of(alloc, *case);
+    read(&mut fields);
+    *case = fields.case;
+    fields.answer.finished()
 }
 
 fn main(rt: HostRuntime) -> io::Result<()> {

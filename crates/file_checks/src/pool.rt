@@ -1,11 +1,10 @@
 // What is asked of a table of servers.
-use crate::answers::{Answering, answers};
+use crate::answers::{Answering, answer_all};
 use crate::rows::rows_of;
 use crate::servers::build;
-use check_lines::{Case, CaseFault};
+use check_lines::{Answer, Fields};
 use hostgroups::{ServerStatus, Servers};
 use mx_base::{Hostgroup, ServerId};
-use std::alloc::Global;
 use std::fmt::Debug;
 
 /// A table of servers, and how many connections each has.
@@ -20,7 +19,7 @@ struct Pool {
 struct Step<'a> {
     name: &'a str,
     first: u16,
-    second: Option<u64>,
+    second: u64,
 }
 
 /// `pool <row> <row> .. | <step> <step> ..`: the answers to the steps.
@@ -34,97 +33,87 @@ struct Step<'a> {
 /// | `tick:<ms>` | this moment |
 /// | `up:<server>`, `soft:<server>`, `hard:<server>` | an operator's status: ONLINE, OFFLINE_SOFT, OFFLINE_HARD |
 /// | `online:<hostgroup>`, `status:<server>` | what `Servers` says |
-pub(crate) fn follow(alloc: Global, case: &mut Case<'_>) -> Result<String, CaseFault> {
-    let Some((rows, steps)) = case.rest_text().split_once(" | ") else {
-        return Err(CaseFault::Bad);
+pub(crate) fn follow(fields: &mut Fields<'_>) {
+    let Some((rows, steps)) = fields.rest_text().split_once(" | ") else {
+        return fields.answer.bad();
     };
-    let rows = rows_of(alloc, rows)?;
-    let counts = vec![in alloc; 0; rows.len()]?;
-    let Ok(servers) = build(alloc, &rows) else {
-        return Err(CaseFault::Bad);
-    };
-    let mut pool = Pool { servers, counts };
-    play(alloc, &mut pool, steps)
-}
-
-fn play(alloc: Global, pool: &mut Pool, steps: &str) -> Result<String, CaseFault> {
-    let mut text = answers(alloc, pool, steps, " ", "")?;
-    text.pop();
-    Ok(text)
+    let alloc = fields.answer.alloc();
+    let rows = rows_of(&mut fields.answer, rows);
+    match (build(alloc, &rows), vec![in alloc; 0; rows.len()]) {
+        (Ok(servers), Ok(counts)) => {
+            let mut pool = Pool { servers, counts };
+            answer_all(fields, &mut pool, steps, " ", "");
+        }
+        _ => fields.answer.bad(),
+    }
 }
 
 // `<name>:<first>` or `<name>:<first>,<second>`.
 fn step_of(text: &str) -> Option<Step<'_>> {
     let (name, numbers) = text.split_once(':')?;
-    let (first, second) = match numbers.split_once(',') {
-        Some((first, second)) => (first, Some(second.parse::<u64>().ok()?)),
-        None => (numbers, None),
-    };
+    let (first, second) = numbers.split_once(',').unwrap_or((numbers, "0"));
     Some(Step {
         name,
-        first: first.parse::<u16>().ok()?,
-        second,
+        first: first.parse().ok()?,
+        second: second.parse().ok()?,
     })
 }
 
-// An answer, with a blank behind it.
-fn told<T: Debug>(alloc: Global, answer: &T) -> Result<String, CaseFault> {
-    Ok(format!(in alloc; "{answer:?} ")?)
+fn told<T: Debug + Drop>(answer: &mut Answer, value: T) {
+    answer.separate(0, " ");
+    answer.debug(value);
 }
 
-fn told_pick(alloc: Global, picked: Option<ServerId>) -> Result<String, CaseFault> {
+fn told_pick(answer: &mut Answer, picked: Option<ServerId>) {
+    answer.separate(0, " ");
     match picked {
-        Some(server) => told(alloc, &server.0),
-        None => Ok(String::from_str(alloc, "none ")?),
+        Some(server) => answer.display(server.0),
+        None => answer.text("none"),
     }
 }
 
 impl Answering for Pool {
-    fn answer(&mut self, alloc: Global, part: &str) -> Result<String, CaseFault> {
-        match step_of(part) {
-            Some(step) => self.take(alloc, step),
-            None => Err(CaseFault::Bad),
+    fn answer(&mut self, fields: &mut Fields<'_>) {
+        match step_of(fields.case.reader) {
+            Some(step) => self.take(&mut fields.answer, step),
+            None => fields.answer.bad(),
         }
     }
 }
 
 impl Pool {
-    fn take(&mut self, alloc: Global, step: Step<'_>) -> Result<String, CaseFault> {
-        match (step.name, step.second) {
-            ("picks", Some(times)) => self.picks(alloc, Hostgroup(step.first), times),
-            ("open", None) => told_pick(alloc, self.open(Hostgroup(step.first))),
-            ("online", None) => told(alloc, &self.servers.online(Hostgroup(step.first))),
-            ("status", None) => told(alloc, &self.servers.status(ServerId(step.first))),
-            ("up", None) => self.set(alloc, step.first, ServerStatus::Online),
-            ("soft", None) => self.set(alloc, step.first, ServerStatus::OfflineSoft),
-            ("hard", None) => self.set(alloc, step.first, ServerStatus::OfflineHard),
-            _ => self.learn(alloc, step),
+    fn take(&mut self, answer: &mut Answer, step: Step<'_>) {
+        let hostgroup = Hostgroup(step.first);
+        let server = ServerId(step.first);
+        match step.name {
+            "picks" => self.picks(answer, hostgroup, step.second),
+            "open" => told_pick(answer, self.open(hostgroup)),
+            "online" => told(answer, self.servers.online(hostgroup)),
+            "status" => told(answer, self.servers.status(server)),
+            "up" => told(
+                answer,
+                self.servers.set_status(server, ServerStatus::Online),
+            ),
+            "soft" => told(
+                answer,
+                self.servers.set_status(server, ServerStatus::OfflineSoft),
+            ),
+            "hard" => told(
+                answer,
+                self.servers.set_status(server, ServerStatus::OfflineHard),
+            ),
+            "close" => self.count(server, false),
+            "tick" => self.servers.tick(u64::from(step.first)),
+            "failed" => self.servers.open_failed(server, step.second),
+            _ => answer.bad(),
         }
     }
 
-    // A step that has no answer.
-    fn learn(&mut self, alloc: Global, step: Step<'_>) -> Result<String, CaseFault> {
-        match (step.name, step.second) {
-            ("close", None) => self.count(ServerId(step.first), false),
-            ("tick", None) => self.servers.tick(u64::from(step.first)),
-            ("failed", Some(now_ms)) => self.servers.open_failed(ServerId(step.first), now_ms),
-            _ => return Err(CaseFault::Bad),
-        }
-        Ok(String::new(alloc))
-    }
-
-    fn picks(
-        &mut self,
-        alloc: Global,
-        hostgroup: Hostgroup,
-        times: u64,
-    ) -> Result<String, CaseFault> {
-        let mut text = String::new(alloc);
+    fn picks(&mut self, answer: &mut Answer, hostgroup: Hostgroup, times: u64) {
         for _ in 0..times {
             let picked = self.servers.pick(hostgroup, self.counts.as_slice());
-            text.push_str(&told_pick(alloc, picked)?)?;
+            told_pick(answer, picked);
         }
-        Ok(text)
     }
 
     fn open(&mut self, hostgroup: Hostgroup) -> Option<ServerId> {
@@ -145,14 +134,5 @@ impl Pool {
                 count.saturating_sub(1)
             };
         }
-    }
-
-    fn set(
-        &mut self,
-        alloc: Global,
-        number: u16,
-        status: ServerStatus,
-    ) -> Result<String, CaseFault> {
-        told(alloc, &self.servers.set_status(ServerId(number), status))
     }
 }

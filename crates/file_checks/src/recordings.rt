@@ -1,20 +1,20 @@
 // Recordings.
-use crate::words::{debug, lines};
-use check_lines::{Case, CaseFault};
+use crate::words::lines;
+use check_lines::Fields;
 use recording::read_recording;
-use std::alloc::Global;
 
 /// `recording <lines>`: how many entries the lines have, or their first fault.
-pub(crate) fn recording(alloc: Global, case: &mut Case<'_>) -> Result<String, CaseFault> {
-    let text = lines(alloc, case.rest_text())?;
-    match read_recording(alloc, &text) {
-        Ok(entries) => debug(alloc, &entries.len()),
-        Err(refusal) => debug(alloc, &refusal),
+pub(crate) fn recording(fields: &mut Fields<'_>) {
+    let text = lines(fields);
+    match read_recording(fields.answer.alloc(), &text) {
+        Ok(entries) => fields.answer.debug(entries.len()),
+        Err(refusal) => fields.answer.debug(refusal),
     }
 }
 
 /// `entries <lines>`: the entries of the lines, or their first fault.
-pub(crate) fn entries(alloc: Global, case: &mut Case<'_>) -> Result<String, CaseFault> {
-    let text = lines(alloc, case.rest_text())?;
-    debug(alloc, &read_recording(alloc, &text))
+pub(crate) fn entries(fields: &mut Fields<'_>) {
+    let text = lines(fields);
+    let entries = read_recording(fields.answer.alloc(), &text);
+    fields.answer.debug(entries);
 }

@@ -1,8 +1,7 @@
 // Rows of servers.
-use check_lines::CaseFault;
+use check_lines::Answer;
 use hostgroups::{ServerRow, ServerStatus};
 use mx_base::{Address, Hostgroup};
-use std::alloc::Global;
 
 /// The address 127.0.x.y of a host's number and a port.
 pub(crate) fn at(host: u16, port: u16) -> Address {
@@ -15,23 +14,23 @@ pub(crate) fn at(host: u16, port: u16) -> Address {
 
 /// The row of `<hostgroup>,<host>,<port>,<connections>,<status>`, of weight 1; or of
 /// `<hostgroup>,<port>,<weight>,<connections>`, of the host 1 and ONLINE.
-pub(crate) fn row_of(numbers: &[u16]) -> Result<ServerRow, CaseFault> {
+fn row_of(numbers: &[u16]) -> Option<ServerRow> {
     match numbers {
-        [hostgroup, host, port, connections, status] => Ok(ServerRow {
+        [hostgroup, host, port, connections, status] => Some(ServerRow {
             hostgroup: Hostgroup(*hostgroup),
             address: at(*host, *port),
             weight: 1,
             max_connections: *connections,
             status: status_of(*status),
         }),
-        [hostgroup, port, weight, connections] => Ok(ServerRow {
+        [hostgroup, port, weight, connections] => Some(ServerRow {
             hostgroup: Hostgroup(*hostgroup),
             address: at(1, *port),
             weight: *weight,
             max_connections: *connections,
             status: ServerStatus::Online,
         }),
-        _ => Err(CaseFault::Bad),
+        _ => None,
     }
 }
 
@@ -44,42 +43,47 @@ fn status_of(status: u16) -> ServerStatus {
 }
 
 // The numbers of a field, with a comma between each two.
-fn numbers(alloc: Global, field: &str) -> Result<Vec<u16>, CaseFault> {
-    let mut numbers = Vec::new(alloc);
+fn numbers(answer: &mut Answer, field: &str) -> Vec<u16> {
+    let mut numbers = Vec::new(answer.alloc());
     for number in field.split(',') {
-        match number.parse::<u16>() {
-            Ok(number) => numbers.push(number)?,
-            Err(_) => return Err(CaseFault::Bad),
-        }
+        put_number(answer, &mut numbers, number);
     }
-    Ok(numbers)
+    numbers
 }
 
-fn row(alloc: Global, field: &str) -> Result<ServerRow, CaseFault> {
-    row_of(&numbers(alloc, field)?)
+fn put_number(answer: &mut Answer, numbers: &mut Vec<u16>, number: &str) {
+    match number.parse() {
+        Ok(number) if numbers.push(number).is_ok() => {}
+        Ok(_) => answer.refused(),
+        Err(_) => answer.bad(),
+    }
+}
+
+fn put_row(answer: &mut Answer, rows: &mut Vec<ServerRow>, row: Option<ServerRow>) {
+    match row {
+        Some(row) if rows.push(row).is_ok() => {}
+        Some(_) => answer.refused(),
+        None => answer.bad(),
+    }
 }
 
 /// The rows of fields with a blank between each two.
-pub(crate) fn rows_of(alloc: Global, text: &str) -> Result<Vec<ServerRow>, CaseFault> {
-    let mut rows = Vec::new(alloc);
-    if text.is_empty() {
-        return Ok(rows);
+pub(crate) fn rows_of(answer: &mut Answer, text: &str) -> Vec<ServerRow> {
+    let mut rows = Vec::new(answer.alloc());
+    if !text.is_empty() {
+        for field in text.split(' ') {
+            let numbers = numbers(answer, field);
+            put_row(answer, &mut rows, row_of(&numbers));
+        }
     }
-    for field in text.split(' ') {
-        rows.push(row(alloc, field)?)?;
-    }
-    Ok(rows)
+    rows
 }
 
 /// So many rows of the host 1, each with a port of its own and so many connections.
-pub(crate) fn like_rows(
-    alloc: Global,
-    count: u16,
-    connections: u16,
-) -> Result<Vec<ServerRow>, CaseFault> {
-    let mut rows = Vec::new(alloc);
+pub(crate) fn like_rows(answer: &mut Answer, count: u16, connections: u16) -> Vec<ServerRow> {
+    let mut rows = Vec::new(answer.alloc());
     for port in 0..count {
-        rows.push(row_of(&[0, port, 1, connections])?)?;
+        put_row(answer, &mut rows, row_of(&[0, port, 1, connections]));
     }
-    Ok(rows)
+    rows
 }

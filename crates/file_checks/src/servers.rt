@@ -1,7 +1,6 @@
 // Tables of servers.
 use crate::rows::{at, like_rows, rows_of};
-use crate::words::{debug, small};
-use check_lines::{Case, CaseFault};
+use check_lines::Fields;
 use hostgroups::{ServerRow, ServerStatus, Servers, ServersFault};
 use mx_base::{Address, Hostgroup, ServerId};
 use std::alloc::Global;
@@ -19,15 +18,20 @@ fn fault_of(alloc: Global, rows: &[ServerRow]) -> Option<ServersFault> {
 }
 
 /// `servers <row> <row> ..`: the fault of the table of these rows, if it has one.
-pub(crate) fn servers(alloc: Global, case: &mut Case<'_>) -> Result<String, CaseFault> {
-    let rows = rows_of(alloc, case.rest_text())?;
-    debug(alloc, &fault_of(alloc, &rows))
+pub(crate) fn servers(fields: &mut Fields<'_>) {
+    let rows = fields.rest_text();
+    let rows = rows_of(&mut fields.answer, rows);
+    let fault = fault_of(fields.answer.alloc(), &rows);
+    fields.answer.debug(fault);
 }
 
 /// `like_servers <count> <connections>`: the fault of a table of so many servers, each with so many connections.
-pub(crate) fn like_servers(alloc: Global, case: &mut Case<'_>) -> Result<String, CaseFault> {
-    let rows = like_rows(alloc, small(case)?, small(case)?)?;
-    debug(alloc, &fault_of(alloc, &rows))
+pub(crate) fn like_servers(fields: &mut Fields<'_>) {
+    let count = fields.number();
+    let connections = fields.number();
+    let rows = like_rows(&mut fields.answer, count, connections);
+    let fault = fault_of(fields.answer.alloc(), &rows);
+    fields.answer.debug(fault);
 }
 
 fn number_in(
@@ -43,11 +47,14 @@ fn number_in(
 }
 
 /// `number <hostgroup> <host> <port> <row> <row> ..`: the number of this server.
-pub(crate) fn number(alloc: Global, case: &mut Case<'_>) -> Result<String, CaseFault> {
-    let hostgroup = Hostgroup(small(case)?);
-    let address = at(small(case)?, small(case)?);
-    let rows = rows_of(alloc, case.rest_text())?;
-    debug(alloc, &number_in(alloc, &rows, hostgroup, address))
+pub(crate) fn number(fields: &mut Fields<'_>) {
+    let hostgroup = Hostgroup(fields.number());
+    let host = fields.number();
+    let address = at(host, fields.number());
+    let rows = fields.rest_text();
+    let rows = rows_of(&mut fields.answer, rows);
+    let number = number_in(fields.answer.alloc(), &rows, hostgroup, address);
+    fields.answer.debug(number);
 }
 
 fn found_in(
@@ -62,8 +69,10 @@ fn found_in(
 }
 
 /// `server <number> <row> <row> ..`: the status of the server with this number, and its row.
-pub(crate) fn server(alloc: Global, case: &mut Case<'_>) -> Result<String, CaseFault> {
-    let number = ServerId(small(case)?);
-    let rows = rows_of(alloc, case.rest_text())?;
-    debug(alloc, &found_in(alloc, &rows, number))
+pub(crate) fn server(fields: &mut Fields<'_>) {
+    let number = ServerId(fields.number());
+    let rows = fields.rest_text();
+    let rows = rows_of(&mut fields.answer, rows);
+    let found = found_in(fields.answer.alloc(), &rows, number);
+    fields.answer.debug(found);
 }

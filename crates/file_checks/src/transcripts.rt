@@ -1,10 +1,9 @@
 // Transcripts of logs.
-use crate::words::{debug, small, text_of};
-use check_lines::{Case, CaseFault};
-use mx_base::{Address, Bytes, ClientNo, Hostgroup, LinkId, Port, ServerId, Tag};
+use crate::words::text_of;
+use check_lines::{Case, Fields};
+use mx_base::{Address, Bytes, ClientNo, Hostgroup, LinkId, OutOfMemory, Port, ServerId, Tag};
 use mx_wire::Entry;
 use recording::transcript;
-use std::alloc::Global;
 
 const ADDRESS: Address = Address {
     ip: [127, 0, 0, 1],
@@ -12,48 +11,52 @@ const ADDRESS: Address = Address {
 };
 
 /// `transcript <entry>; <entry>; ..`: the transcript of a log of these entries.
-pub(crate) fn transcript_of(alloc: Global, case: &mut Case<'_>) -> Result<String, CaseFault> {
-    let log = log_of(alloc, case.rest_text())?;
-    let lines = transcript(alloc, &log)?;
-    debug(alloc, &text_of(&lines))
+pub(crate) fn transcript_of(fields: &mut Fields<'_>) {
+    let text = fields.rest_text();
+    let log = log_of(fields, text);
+    match transcript(fields.answer.alloc(), &log) {
+        Ok(lines) => fields.answer.debug(text_of(&lines)),
+        Err(OutOfMemory) => fields.answer.refused(),
+    }
 }
 
-fn log_of(alloc: Global, text: &str) -> Result<Vec<Entry>, CaseFault> {
-    let mut log = Vec::new(alloc);
-    if text.is_empty() {
-        return Ok(log);
+fn log_of<'a>(fields: &mut Fields<'a>, text: &'a str) -> Vec<Entry> {
+    let mut log = Vec::new(fields.answer.alloc());
+    if !text.is_empty() {
+        for text in text.split("; ") {
+            fields.case = Case::of(text);
+            put_entry(fields, &mut log);
+        }
     }
-    for text in text.split("; ") {
-        put_entry(alloc, &mut log, text)?;
-    }
-    Ok(log)
+    log
 }
 
-fn put_entry(alloc: Global, log: &mut Vec<Entry>, text: &str) -> Result<(), CaseFault> {
-    let entry = entry_of(alloc, &mut Case::of(text))?;
-    log.push(entry)?;
-    Ok(())
+fn put_entry(fields: &mut Fields<'_>, log: &mut Vec<Entry>) {
+    let entry = entry_of(fields);
+    if log.push(entry).is_err() {
+        fields.answer.refused();
+    }
 }
 
 // `woke <link> <until>`, `accepted <link> <port>`, where 0 is the port for traffic, `opened <link> <server>`, `exec <link> 0`,
 // `closed <link> 0`, or a write.
-fn entry_of(alloc: Global, words: &mut Case<'_>) -> Result<Entry, CaseFault> {
-    let link = LinkId(words.number()?);
-    let n = small(words)?;
-    match words.reader {
-        "accepted" => Ok(accepted(link, n)),
-        "opened" => Ok(Entry::Opened {
+fn entry_of(fields: &mut Fields<'_>) -> Entry {
+    let link = LinkId(fields.number());
+    let n = fields.number();
+    match fields.case.reader {
+        "accepted" => accepted(link, n),
+        "opened" => Entry::Opened {
             server: ServerId(n),
             address: ADDRESS,
             link,
-        }),
-        "exec" => Ok(Entry::Exec { link }),
-        "closed" => Ok(Entry::Closed { link }),
-        "woke" => Ok(Entry::Woke {
+        },
+        "exec" => Entry::Exec { link },
+        "closed" => Entry::Closed { link },
+        "woke" => Entry::Woke {
             until_ms: u64::from(n),
             now_ms: 0,
-        }),
-        _ => wrote(alloc, words, link, n),
+        },
+        _ => wrote(fields, link, n),
     }
 }
 
@@ -70,10 +73,10 @@ fn accepted(link: LinkId, port: u16) -> Entry {
 }
 
 // `<tag> <link> <n> <bytes>`: a write, of the client 1 where the tag names one, with its ordinal or hostgroup.
-fn wrote(alloc: Global, words: &mut Case<'_>, link: LinkId, n: u16) -> Result<Entry, CaseFault> {
-    let tag = tag_of(words.reader, n);
-    let bytes = Bytes::from_vec(words.bytes(alloc)?);
-    Ok(Entry::Wrote { link, tag, bytes })
+fn wrote(fields: &mut Fields<'_>, link: LinkId, n: u16) -> Entry {
+    let tag = tag_of(fields.case.reader, n);
+    let bytes = Bytes::from_vec(fields.bytes());
+    Entry::Wrote { link, tag, bytes }
 }
 
 fn tag_of(word: &str, n: u16) -> Tag {
