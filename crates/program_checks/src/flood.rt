@@ -2,11 +2,10 @@
 ghost use Rattle.std.specs.Prelude.{None, Some, [], ◌∷◌, replicate, true, false};
 ghost use Rattle.mx_base.specs.declared.tag.Tag.TheVariants as tag;
 
-use check_lines::{Case, CaseFault};
+use check_lines::Fields;
 use mx_base::{Address, LinkId, OutOfMemory, Piece, Port, ServerId, Tag};
 use mx_wire::{Accepted, Got, Listened, Opened, Took, Wire, Woke};
 use ready_loop::{Act, Event, Machine, ServeEnd, serve};
-use std::alloc::Global;
 
 const GREETING: &[u8] = &[7];
 
@@ -173,20 +172,21 @@ impl Wire for Flood {
 
 /// `flood <bytes>` lets one client send so many bytes at one wake. The answer is the sizes of the first four reads, 7 for one that isn't
 /// made, and whether a write was offered.
-pub fn answer(alloc: Global, case: &mut Case<'_>) -> Result<String, CaseFault> {
+pub fn answer(fields: &mut Fields<'_>) {
     let mut wire = Flood {
-        left: case.number()?,
+        left: fields.number(),
         came: false,
         woke: false,
         sizes: [7; 4],
         reads: 0,
         offered: false,
     };
-    let end = serve(alloc, &mut Reader, &mut wire, 5);
-    let sizes = wire.sizes;
-    let offered = wire.offered;
-    if !matches!(end, ServeEnd::Over) {
-        return Err(CaseFault::Bad);
+    match serve(fields.answer.alloc(), &mut Reader, &mut wire, 5) {
+        ServeEnd::Over => {
+            fields.answer.debug(wire.sizes);
+            fields.answer.text(" ");
+            fields.answer.display(wire.offered);
+        }
+        _ => fields.answer.bad(),
     }
-    Ok(format!(in alloc; "{sizes:?} {offered}")?)
 }

@@ -4,7 +4,7 @@ ghost use Rattle.recording.specs.Playable.{IsPlayable};
 
 use crate::configs::{NO_SERVER, ONE_SERVER, PROXY, TWO_CLIENTS, UNKNOWN_KEYS};
 use crate::names::spelled;
-use check_lines::{Case, CaseFault};
+use check_lines::{Answer, CaseFault, Fields};
 use mx_base::Bytes;
 use recording::{RecordEntry, read_recording};
 use std::alloc::Global;
@@ -43,24 +43,45 @@ pub fn entries_of(alloc: Global, recording: &str) -> Result<Vec<RecordEntry>, Ca
     }
 }
 
-// The words of a command line.
-fn words_of(alloc: Global, line: &str) -> Result<Vec<String>, CaseFault> {
-    let mut words = Vec::new(alloc);
-    for word in line.split_whitespace() {
-        words.push(String::from_str(alloc, word)?)?;
+/// Adds a word to a command line.
+pub fn add_word(answer: &mut Answer, words: &mut Vec<String>, word: &str) {
+    match String::from_str(answer.alloc(), word) {
+        Ok(word) => {
+            if words.push(word).is_err() {
+                answer.refused();
+            }
+        }
+        Err(_) => answer.refused(),
     }
-    Ok(words)
 }
 
-// A file of this name and text.
-fn file(alloc: Global, name: &str, front: &str, rest: &str) -> Result<(Bytes, Bytes), CaseFault> {
-    let text = format!(in alloc; "{front}{rest}")?;
-    let name = Bytes::from_slice(alloc, name.as_bytes())?;
-    Ok((name, Bytes::from_slice(alloc, text.as_bytes())?))
+// The words of a command line.
+fn words_of(answer: &mut Answer, line: &str) -> Vec<String> {
+    let mut words = Vec::new(answer.alloc());
+    for word in line.split_whitespace() {
+        add_word(answer, &mut words, word);
+    }
+    words
+}
+
+// Adds a file of this name and text.
+fn add_file(
+    answer: &mut Answer,
+    files: &mut Vec<(Bytes, Bytes)>,
+    name: &str,
+    front: &str,
+    rest: &str,
+) {
+    let name = Bytes::from_vec(answer.spelled(name));
+    let mut text = Bytes::from_vec(answer.spelled(front));
+    answer.done(text.append(rest.as_bytes()));
+    if files.push((name, text)).is_err() {
+        answer.refused();
+    }
 }
 
 // The files of a run: the configurations, one of no bytes, and the recording.
-fn files_of(alloc: Global, recording: &str) -> Result<Vec<(Bytes, Bytes)>, CaseFault> {
+fn files_of(answer: &mut Answer, recording: &str) -> Vec<(Bytes, Bytes)> {
     let texts = [
         ("one_server", PROXY, ONE_SERVER),
         ("no_server", PROXY, NO_SERVER),
@@ -69,40 +90,42 @@ fn files_of(alloc: Global, recording: &str) -> Result<Vec<(Bytes, Bytes)>, CaseF
         ("empty", "", ""),
         ("recording", "", recording),
     ];
-    let mut files = Vec::new(alloc);
+    let mut files = Vec::new(answer.alloc());
     for (name, front, rest) in texts {
-        files.push(file(alloc, name, front, rest)?)?;
+        add_file(answer, &mut files, name, front, rest);
     }
-    Ok(files)
+    files
 }
 
 // The calls that fail.
-fn calls_of(alloc: Global, call: u64) -> Result<Vec<u64>, CaseFault> {
-    let mut calls = Vec::new(alloc);
-    if call != 0 {
-        calls.push(call)?;
+fn calls_of(answer: &mut Answer, call: u64) -> Vec<u64> {
+    let mut calls = Vec::new(answer.alloc());
+    if call != 0 && calls.push(call).is_err() {
+        answer.refused();
     }
-    Ok(calls)
+    calls
 }
 
-/// What is given with this command line and this recording, where no call fails.
-pub fn given_for(alloc: Global, line: &str, recording: &str) -> Result<Given, CaseFault> {
-    let words = words_of(alloc, line)?;
-    Ok(Given {
+/// What is given with these words and this recording, where no call fails.
+pub fn given_for(answer: &mut Answer, words: Vec<String>, recording: &str) -> Given {
+    Given {
         words,
-        files: files_of(alloc, recording)?,
-        reads: Vec::new(alloc),
-        puts: Vec::new(alloc),
-    })
+        files: files_of(answer, recording),
+        reads: Vec::new(answer.alloc()),
+        puts: Vec::new(answer.alloc()),
+    }
 }
 
 /// What `<read> <put> <word> <word> ..` gives. The files' call of the number `<read>` fails, and the sink's of the number `<put>`, where it
 /// isn't 0.
-pub fn given_words(alloc: Global, case: &mut Case<'_>) -> Result<Given, CaseFault> {
-    let reads = calls_of(alloc, case.number()?)?;
-    let puts = calls_of(alloc, case.number()?)?;
-    let mut given = given_for(alloc, case.rest_text(), COMES)?;
-    given.reads = reads;
-    given.puts = puts;
-    Ok(given)
+pub fn given_words(fields: &mut Fields<'_>) -> Given {
+    let read = fields.number();
+    let put = fields.number();
+    let line = fields.rest_text();
+    Given {
+        words: words_of(&mut fields.answer, line),
+        files: files_of(&mut fields.answer, COMES),
+        reads: calls_of(&mut fields.answer, read),
+        puts: calls_of(&mut fields.answer, put),
+    }
 }

@@ -1,5 +1,6 @@
 //! Runs the router over files, a wire and a sink in memory, a run for each case of stdin, and answers with the status and what was printed;
-//! and shows how the serving loop calls a wire, and what real sockets answer.
+//! runs it between clients that follow scripts and servers in memory; and shows how the serving loop calls a wire, and what real sockets
+//! answer.
 #![tactic(auto)]
 
 mod configs;
@@ -7,27 +8,37 @@ mod flood;
 mod given;
 mod names;
 mod runs;
+mod scripted;
 mod sockets;
 mod taken;
 
-use check_lines::{Case, CaseFault};
+use check_lines::{Case, CaseFault, Fields};
 use std::alloc::Global;
 use std::io;
 use std::thread::Threads;
+
+fn read<R: Threads + Sync>(rt: &R, fields: &mut Fields<'_>) {
+    match fields.case.reader {
+        "replay" => runs::replay(rt, fields),
+        "serve" => runs::serve(rt, fields),
+        "run" => runs::words(rt, fields),
+        "taken" => runs::taken(rt, fields),
+        "flood" => flood::answer(fields),
+        "scripted" => scripted::one(rt, fields),
+        "fails" => scripted::each_failing(rt, fields),
+        _ => fields.answer.bad(),
+    }
+}
 
 fn answer<R: Threads + Sync>(
     rt: &R,
     alloc: Global,
     case: &mut Case<'_>,
 ) -> Result<String, CaseFault> {
-    match case.reader {
-        "replay" => runs::replay(rt, alloc, case),
-        "serve" => runs::serve(rt, alloc, case),
-        "run" => runs::words(rt, alloc, case),
-        "taken" => runs::taken(rt, alloc, case),
-        "flood" => flood::answer(alloc, case),
-        _ => Err(CaseFault::Bad),
-    }
+    let mut fields = Fields::of(alloc, *case);
+    read(rt, &mut fields);
+    *case = fields.case;
+    fields.answer.finished()
 }
 
 fn main(rt: HostRuntime) -> io::Result<()> {

@@ -2,7 +2,7 @@
 use std::alloc::{AllocError, Global};
 
 /// Names with their hexadecimal digits. Where one's digits stand in another's, the longer comes first.
-const NAMES: [(&str, &str); 17] = [
+pub const NAMES: [(&str, &str); 17] = [
     // The greeting to the first client. A server's is the same.
     (
         "{greeting}",
@@ -66,22 +66,20 @@ const NAMES: [(&str, &str); 17] = [
     ("{ping}", "010000000e"),
 ];
 
-// The names of a text become their digits, or where it is `back` the digits their names.
-fn replaced(alloc: Global, text: &str, back: bool) -> Result<String, AllocError> {
-    let mut replaced = String::from_str(alloc, text)?;
-    for (name, digits) in NAMES {
-        let (from, to) = if back { (digits, name) } else { (name, digits) };
-        replaced = replaced.as_str().replace(alloc, from, to)?;
-    }
-    Ok(replaced)
-}
-
 /// A text with the digits of the names that stand in it.
 pub fn spelled(alloc: Global, text: &str) -> Result<String, AllocError> {
-    replaced(alloc, text, false)
+    let mut spelled = String::from_str(alloc, text)?;
+    for (name, digits) in NAMES {
+        spelled = spelled.as_str().replace(alloc, name, digits)?;
+    }
+    Ok(spelled)
 }
 
-/// A text with names in place of the digits that they stand for.
-pub fn named(alloc: Global, text: &str) -> Result<String, AllocError> {
-    replaced(alloc, text, true)
+/// A text with names of a table in place of the digits that they stand for.
+pub fn named(alloc: Global, names: &[(&str, &str)], text: &str) -> Result<String, AllocError> {
+    let mut named = String::from_str(alloc, text)?;
+    for (name, digits) in names {
+        named = named.as_str().replace(alloc, digits, name)?;
+    }
+    Ok(named)
 }

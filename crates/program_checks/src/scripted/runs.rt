@@ -1,11 +1,11 @@
 // Runs of the router over scripts.
 ghost use Rattle.std.specs.Prelude.{◌≡◌, [], IfOk, Some};
 
-use crate::configs::CONFIG;
-use crate::names::named;
-use crate::replies::{are_fronts, calls_in, written_to};
-use crate::scripts::scripts_of;
-use check_lines::{Case, CaseFault};
+use crate::runs::{push_lines, serve_words};
+use crate::scripted::names::NAMES;
+use crate::scripted::replies::{are_fronts, calls_in, written_to};
+use crate::scripted::scripts::scripts_of;
+use check_lines::{Answer, CaseFault, Fields};
 use mem_server::MemServer;
 use mem_wire::{MemFiles, MemSink};
 use mx_base::Bytes;
@@ -14,7 +14,6 @@ use proxy_run::{Status, run};
 use recording::transcript;
 use scripted_wire::Scripted;
 use std::alloc::Global;
-use std::str;
 use std::thread::Threads;
 
 /// What was seen of a run: its status, the transcript of the wire, how many calls that can fail were made, and the bytes that each client
@@ -50,25 +49,7 @@ fn wire_of(
     Ok(Scripted::new(alloc, servers, scripts, failing))
 }
 
-// The words `serve` and `config`.
-fn words_of(alloc: Global) -> Result<Vec<String>, CaseFault> {
-    let mut words = Vec::new(alloc);
-    for word in ["serve", "config"] {
-        words.push(String::from_str(alloc, word)?)?;
-    }
-    Ok(words)
-}
-
-// The configuration under the name `config`.
-fn files_of(alloc: Global) -> Result<MemFiles, CaseFault> {
-    let name = Bytes::from_slice(alloc, b"config")?;
-    let text = Bytes::from_slice(alloc, CONFIG.as_bytes())?;
-    let mut held = Vec::new(alloc);
-    held.push((name, text))?;
-    Ok(MemFiles::new(alloc, held, Vec::new(alloc)))
-}
-
-// Serves the configuration over a wire, and gives the status.
+// Serves the configuration of one server over a wire, and gives the status.
 fn serve<R: Threads + Sync>(
     rt: &R,
     alloc: Global,
@@ -76,10 +57,12 @@ fn serve<R: Threads + Sync>(
 ) -> Result<u8, CaseFault>
     requires { wire.old.told ≡ Some [] }
 {
-    let words = words_of(alloc)?;
-    let mut files = files_of(alloc)?;
-    let mut sink = MemSink::new(alloc, Vec::new(alloc));
-    let Status(status) = run(rt, alloc, &words, &mut files, wire, &mut sink);
+    let mut answer = Answer::new(alloc);
+    let given = serve_words(&mut answer, "one_server");
+    answer.finished()?;
+    let mut files = MemFiles::new(alloc, given.files, given.reads);
+    let mut sink = MemSink::new(alloc, given.puts);
+    let Status(status) = run(rt, alloc, &given.words, &mut files, wire, &mut sink);
     Ok(status)
 }
 
@@ -128,47 +111,38 @@ fn served<R: Threads + Sync>(
 }
 
 // The calls that fail: numbers with commas between them, or `-`.
-fn failing_of(alloc: Global, text: &str) -> Result<Vec<u64>, CaseFault> {
-    let mut failing = Vec::new(alloc);
-    if text == "-" {
-        return Ok(failing);
-    }
-    for number in text.split(',') {
-        match number.parse::<u64>() {
-            Ok(number) => failing.push(number)?,
-            Err(_) => return Err(CaseFault::Bad),
+fn failing_of(answer: &mut Answer, text: &str) -> Vec<u64> {
+    let mut failing = Vec::new(answer.alloc());
+    if text != "-" {
+        for number in text.split(',') {
+            add_failing(answer, &mut failing, number.parse().ok());
         }
     }
-    Ok(failing)
+    failing
 }
 
-// A transcript in one line, with names in it.
-fn line_of(alloc: Global, text: &[u8]) -> Result<String, CaseFault> {
-    let Ok(text) = str::from_utf8(text) else {
-        return Err(CaseFault::Bad);
-    };
-    let lines = text.replace(alloc, "\n", " | ")?;
-    Ok(named(alloc, lines.as_str().trim_end())?)
+fn add_failing(answer: &mut Answer, failing: &mut Vec<u64>, call: Option<u64>) {
+    match call {
+        Some(call) if failing.push(call).is_ok() => {}
+        Some(_) => answer.refused(),
+        None => answer.bad(),
+    }
 }
 
-// The status and the transcript of a run.
-fn shown(alloc: Global, seen: &Seen) -> Result<String, CaseFault> {
-    let line = line_of(alloc, seen.text.as_slice())?;
-    let blank = if line.is_empty() { "" } else { " " };
-    let status = seen.status;
-    Ok(format!(in alloc; "{status}{blank}{line}")?)
-}
-
-/// `run <servers> <failing> <script> | <script> ..` answers the status, and the transcript of the wire with a `|` in place of each line feed.
-pub fn one<R: Threads + Sync>(
-    rt: &R,
-    alloc: Global,
-    case: &mut Case<'_>,
-) -> Result<String, CaseFault> {
-    let servers = case.number()?;
-    let failing = failing_of(alloc, case.text()?)?;
-    let seen = served(rt, alloc, servers, case.rest_text(), failing, 0)?;
-    shown(alloc, &seen)
+/// `scripted <servers> <failing> <script> | <script> ..` answers the status, and the transcript of the wire with a `|` in place of each line
+/// feed.
+pub fn one<R: Threads + Sync>(rt: &R, fields: &mut Fields<'_>) {
+    let servers = fields.number();
+    let failing = fields.text();
+    let failing = failing_of(&mut fields.answer, failing);
+    let scripts = fields.rest_text();
+    match served(rt, fields.answer.alloc(), servers, scripts, failing, 0) {
+        Ok(seen) => {
+            fields.answer.display(seen.status);
+            push_lines(&mut fields.answer, &NAMES, " ", seen.text.as_slice());
+        }
+        Err(fault) => fields.answer.fail(fault),
+    }
 }
 
 // The runs of a case that differ in the call that fails.
@@ -181,71 +155,83 @@ struct Runs<'a> {
     scripts: &'a str,
 }
 
-// The runs that a case asks for.
-fn runs_of<'a>(case: &mut Case<'a>) -> Result<Runs<'a>, CaseFault> {
-    Ok(Runs {
-        servers: case.number()?,
-        first: case.number()?,
-        last: case.number()?,
-        clients: case.number()?,
-        scripts: case.rest_text(),
-    })
-}
-
 // Whether in the run whose k-th call fails each client is written a front of what it is where none fails.
 fn is_kept<R: Threads + Sync>(
     rt: &R,
-    alloc: Global,
+    answer: &mut Answer,
     runs: Runs<'_>,
     whole: &[Vec<u8>],
     k: u64,
-) -> Result<bool, CaseFault> {
-    let mut failing = Vec::new(alloc);
-    failing.push(k)?;
-    let seen = served(rt, alloc, runs.servers, runs.scripts, failing, runs.clients)?;
-    Ok((seen.status == 0 || seen.status == 6) && are_fronts(whole, &seen.written))
+) -> bool {
+    let mut failing = Vec::new(answer.alloc());
+    add_failing(answer, &mut failing, Some(k));
+    match served(
+        rt,
+        answer.alloc(),
+        runs.servers,
+        runs.scripts,
+        failing,
+        runs.clients,
+    ) {
+        Ok(seen) => (seen.status == 0 || seen.status == 6) && are_fronts(whole, &seen.written),
+        Err(fault) => {
+            answer.fail(fault);
+            false
+        }
+    }
 }
 
 // In how many of the runs that is so.
 fn kept_in<R: Threads + Sync>(
     rt: &R,
-    alloc: Global,
+    answer: &mut Answer,
     runs: Runs<'_>,
     whole: &[Vec<u8>],
-) -> Result<u64, CaseFault> {
+) -> u64 {
     let mut kept = 0u64;
     for k in runs.first..runs.last.saturating_add(1) {
-        if is_kept(rt, alloc, runs, whole, k)? {
+        if is_kept(rt, answer, runs, whole, k) {
             kept = kept.saturating_add(1);
         }
     }
-    Ok(kept)
+    kept
 }
 
 /// `fails <servers> <first> <last> <clients> <script> | <script> ..` runs once with no call that fails, and once for each number from
 /// `<first>` to `<last>` with that call failing. It answers in how many of these runs each client was written a front of what it was in
 /// the first, and whether the first made as many calls.
-pub fn each_failing<R: Threads + Sync>(
-    rt: &R,
-    alloc: Global,
-    case: &mut Case<'_>,
-) -> Result<String, CaseFault> {
-    let runs = runs_of(case)?;
-    let whole = served(
+pub fn each_failing<R: Threads + Sync>(rt: &R, fields: &mut Fields<'_>) {
+    let runs = Runs {
+        servers: fields.number(),
+        first: fields.number(),
+        last: fields.number(),
+        clients: fields.number(),
+        scripts: fields.rest_text(),
+    };
+    let alloc = fields.answer.alloc();
+    match served(
         rt,
         alloc,
         runs.servers,
         runs.scripts,
         Vec::new(alloc),
         runs.clients,
-    )?;
-    let kept = kept_in(rt, alloc, runs, &whole.written)?;
-    let count = runs.last.saturating_add(1).saturating_sub(runs.first);
-    let last = runs.last;
-    let enough = if last <= whole.calls {
-        "made"
+    ) {
+        Ok(whole) => push_kept(rt, &mut fields.answer, runs, &whole),
+        Err(fault) => fields.answer.fail(fault),
+    }
+}
+
+fn push_kept<R: Threads + Sync>(rt: &R, answer: &mut Answer, runs: Runs<'_>, whole: &Seen) {
+    let kept = kept_in(rt, answer, runs, &whole.written);
+    answer.display(kept);
+    answer.text(" of ");
+    answer.display(runs.last.saturating_add(1).saturating_sub(runs.first));
+    answer.text(", call ");
+    answer.display(runs.last);
+    answer.text(if runs.last <= whole.calls {
+        " is made"
     } else {
-        "not made"
-    };
-    Ok(format!(in alloc; "{kept} of {count}, call {last} is {enough}")?)
+        " is not made"
+    });
 }

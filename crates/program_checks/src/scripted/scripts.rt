@@ -3,7 +3,7 @@ ghost use Rattle.std.specs.Prelude.{IfOk};
 ghost use Rattle.std.specs.List.{All};
 ghost use Rattle.handshake.specs.Spelling.{IsText};
 
-use crate::accounts::account_of;
+use crate::scripted::accounts::account_of;
 use check_lines::CaseFault;
 use mx_base::Bytes;
 use scripted_wire::Script;

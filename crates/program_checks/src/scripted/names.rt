@@ -1,8 +1,7 @@
-// Bytes that stand in many cases, under names.
-use std::alloc::{AllocError, Global};
+// Bytes that stand in many cases of scripts, under names. Their salts are others than those of recordings.
 
 /// Names with their hexadecimal digits. Where one's digits stand in another's, the longer comes first.
-const NAMES: [(&str, &str); 16] = [
+pub const NAMES: [(&str, &str); 16] = [
     // The greeting to the first client.
     (
         "{greeting}",
@@ -63,12 +62,3 @@ const NAMES: [(&str, &str); 16] = [
     // The query "DO 1".
     ("{do_1}", "0500000003444f2031"),
 ];
-
-/// A text with names in place of the digits that they stand for.
-pub fn named(alloc: Global, text: &str) -> Result<String, AllocError> {
-    let mut named = String::from_str(alloc, text)?;
-    for (name, digits) in NAMES {
-        named = named.as_str().replace(alloc, digits, name)?;
-    }
-    Ok(named)
-}
