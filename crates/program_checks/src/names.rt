@@ -69,7 +69,7 @@ pub const NAMES: [(&str, &str); 17] = [
 /// A text with the digits of the names that stand in it.
 pub fn spelled(alloc: Global, text: &str) -> Result<String, AllocError> {
     let mut spelled = String::from_str(alloc, text)?;
-    for (name, digits) in NAMES {
+    for (name, digits) in &NAMES {
         spelled = spelled.as_str().replace(alloc, name, digits)?;
     }
     Ok(spelled)
