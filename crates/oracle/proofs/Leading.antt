@@ -17,7 +17,8 @@ use Rattle.oracle.specs.Entries.{prepared_at}
 use Rattle.oracle.specs.Runs.{IsAt, RunsStatement}
 use Rattle.story_view.specs.Names.{is_message as is_at_message, is_session, message_at, number_of, session_at, session_of as name_of}
 use Rattle.oracle.specs.Turns.{IsOf, Leads, account_of}
-use Rattle.oracle.specs.World.{IsWorld, answer_at, own_at, prepared_of, reply_of, session_of}
+use Rattle.oracle.specs.World.{IsWorld, answer_at, own_at, prepared_of, session_of}
+use Rattle.story_view.specs.Forms.{reply_of}
 use Rattle.oracle.specs.declared.own.Own.{Own}
 use Rattle.oracle.specs.declared.world.Statement.{Statement}
 use Rattle.oracle.specs.declared.world.Who.{Who}

@@ -11,17 +11,14 @@ use Rattle.private_model.specs.Commands.{Account, Reply, fresh_of}
 use Rattle.private_model.specs.Story.{Key}
 use Rattle.private_model.specs.Worlds.{Private}
 use Rattle.oracle.specs.Entries.{prepared_at}
+use Rattle.story_view.specs.Forms.{reply_of}
 use Rattle.story_view.specs.Names.{is_message, is_session, message_at, session_at}
 use Rattle.oracle.specs.declared.own.Own.{Own}
-use Rattle.oracle.specs.declared.world.Answer.{Answer}
 use Rattle.oracle.specs.declared.world.World.{World}
 
 -- the session of a name, where something ran in it
 abbrev pub own_at : World → SessionName → Option Own
 own_at world n = get_by (λ key. is_session (session_at n) key) world.owns
-
-abbrev pub reply_of : Answer → Reply
-reply_of answer = record { to_prepare = answer.to_prepare; payloads = answer.payloads }
 
 -- what a message was answered
 abbrev pub answer_at : World → MessageName → Option Reply

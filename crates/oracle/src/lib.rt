@@ -7,4 +7,4 @@ mod world;
 
 pub use own::Own;
 pub use prepared::Prepared;
-pub use world::{Answer, Statement, Who, World};
+pub use world::{Statement, Who, World};

@@ -9,26 +9,20 @@ ghost use Rattle.private_model.specs.Commands.{Command, Reset, cmd_of, fresh_of,
 ghost use Rattle.private_model.specs.Story.{Due as TheDue, End, is_message, is_name, put};
 ghost use Rattle.private_model.specs.View.{Setup};
 ghost use Rattle.private_model.specs.Worlds.{closed, first_private, in_session, in_table, private_prep, private_statement};
+ghost use Rattle.story_view.specs.Forms.{reply_of};
 ghost use Rattle.story_view.specs.Names.{message_of, session_of as name_of};
 ghost use Rattle.oracle.specs.Entries.{prepared_at};
 ghost use Rattle.oracle.specs.Turns.{IsOf, Leads};
-ghost use Rattle.oracle.specs.World.{AreTaken, IsWorld, answer_at, own_at, prepared_of, reply_of, session_of};
+ghost use Rattle.oracle.specs.World.{AreTaken, IsWorld, answer_at, own_at, prepared_of, session_of};
 
 use crate::{Own, Prepared};
 use mx_base::{Bytes, OutOfMemory};
-use server_rule::{Cmd, ReplyList, Session, TameServer};
+use server_rule::{Cmd, Session, TameServer};
 use session_state::Place;
 use session_vars::Settings;
 use std::alloc::Global;
 use std::collections::HashMap;
-use story_view::{MessageKey, SessionKey};
-
-/// A reply, and whether it answers a STMT_PREPARE.
-#[derive(Drop)]
-pub struct Answer {
-    pub to_prepare: bool,
-    pub payloads: ReplyList,
-}
+use story_view::{MessageKey, Reply, SessionKey};
 
 /// Whose a session is: its name, and the account of its client.
 #[derive(Clone, Copy)]
@@ -42,7 +36,7 @@ pub struct Who<'a> {
 #[derive(Drop)]
 pub struct World {
     owns: HashMap<SessionKey, Own>,
-    answers: HashMap<MessageKey, Answer>,
+    answers: HashMap<MessageKey, Reply>,
 }
 
 /// A statement of a client as it became due: its place among the messages, the schema and settings that its session takes, where
@@ -94,7 +88,7 @@ impl World {
     }
 
     /// What a message was answered, None where it wasn't. Takes no memory.
-    pub fn answered(&self, name: MessageKey) -> Option<&Answer>
+    pub fn answered(&self, name: MessageKey) -> Option<&Reply>
         ensures { option_map reply_of (option_copied result) ≡ answer_at self.now (message_of name) }
     {
         name.party.fits();
@@ -135,7 +129,7 @@ impl World {
     }
 
     // Puts the answer to a message.
-    fn answer(&mut self, name: MessageKey, answer: Answer) -> Result<(), OutOfMemory>
+    fn answer(&mut self, name: MessageKey, answer: Reply) -> Result<(), OutOfMemory>
         ensures answer { OnOk result ((message : MessageName) → answer_at self.new message ≡ put is_message (answer_at self.old) (message_of name) (Some (reply_of answer)) message) }
         ensures owns { self.new.owns ≡ self.old.owns }
     {
@@ -247,7 +241,7 @@ impl World {
         };
         self.answer(
             message,
-            Answer {
+            Reply {
                 to_prepare,
                 payloads,
             },

@@ -6,9 +6,10 @@ ghost use Rattle.mx_base.specs.declared.names.ServerId.{ServerId as TheServer};
 ghost use Rattle.private_model.specs.Commands.{runs};
 ghost use Rattle.private_model.specs.View.{Setup};
 ghost use Rattle.private_model.specs.Worlds.{first_private};
+ghost use Rattle.story_view.specs.Forms.{reply_of};
 ghost use Rattle.story_view.specs.Names.{message_of, session_of};
 ghost use Rattle.oracle.specs.Turns.{account_of as account_in};
-ghost use Rattle.oracle.specs.World.{answer_at, reply_of};
+ghost use Rattle.oracle.specs.World.{answer_at};
 ghost use Rattle.private_turns.specs.Kept.{AreAccepted, IsKept, IsSound, Turns};
 ghost use Rattle.private_turns.specs.Tables.{account_at, account_of, stored_at};
 ghost use Rattle.private_turns.specs.Turns.{turned};
@@ -16,10 +17,10 @@ ghost use Rattle.private_turns.specs.Turns.{turned};
 use crate::turn::{Turn, run};
 use crate::{Account, Accounts, Servers, Stopped};
 use mx_base::ServerId;
-use oracle::{Answer, Who, World};
+use oracle::{Who, World};
 use server_rule::TameServer;
 use std::alloc::Global;
-use story_view::{MessageKey, SessionKey};
+use story_view::{MessageKey, Reply, SessionKey};
 
 /// Sessions of clients' own over servers of their own. Behind an error nothing is promised.
 #[derive(Drop)]
@@ -58,7 +59,7 @@ impl<R: TameServer + Drop> OwnWorld<R> {
     }
 
     /// What a message was answered, None where it wasn't. Takes no memory.
-    pub fn answered(&self, message: MessageKey) -> Option<&Answer>
+    pub fn answered(&self, message: MessageKey) -> Option<&Reply>
         ensures { option_map reply_of (option_copied result) ≡ answer_at self.now.world (message_of message) }
     {
         self.world.answered(message)

@@ -10,14 +10,13 @@ ghost use Rattle.private_model.specs.View.{Setup};
 ghost use Rattle.story_view.specs.Forms.{command_of, question_of, reply_of};
 ghost use Rattle.story_view.specs.Names.{message_of, number_of};
 ghost use Rattle.story_view.specs.Tables.{opening_at};
-ghost use Rattle.oracle.specs.World.{answer_at, reply_of as answer_of};
+ghost use Rattle.oracle.specs.World.{answer_at};
 ghost use Rattle.private_turns.specs.Kept.{AreAccepted, IsSound};
 ghost use Rattle.private_turns.specs.Tables.{account_at, stored_at};
 ghost use Rattle.told_story.specs.Tells.{IsTold, Tells};
 
 use crate::Stop;
 use mx_base::{Hostgroup, LinkId, ServerId};
-use oracle::Answer;
 use private_turns::{Accounts, OwnWorld, Servers};
 use server_rule::TameServer;
 use std::alloc::Global;
@@ -56,8 +55,8 @@ impl<R: TameServer + Drop> Told<R> {
     }
 
     /// What a message was answered in the private world, None where it wasn't. Takes no memory.
-    pub fn answered(&self, message: MessageKey) -> Option<&Answer>
-        ensures { option_map answer_of (option_copied result) ≡ answer_at self.now.own.world (message_of message) }
+    pub fn answered(&self, message: MessageKey) -> Option<&Reply>
+        ensures { option_map reply_of (option_copied result) ≡ answer_at self.now.own.world (message_of message) }
     {
         self.own.answered(message)
     }

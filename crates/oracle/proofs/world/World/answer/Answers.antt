@@ -2,7 +2,7 @@ use Rattle.std.specs.Option.{option_map}
 use Rattle.std.proofs.Common.{Some, refl}
 use Rattle.story_view.specs.Names.{message_at}
 use Rattle.story_view.proofs.Keys.{message_test, put_at}
-use Rattle.oracle.specs.World.{reply_of}
+use Rattle.story_view.specs.Forms.{reply_of}
 use Rattle.oracle.proofs.world.World.answer.Goals as goal
 
 pub returns-clause-answer : goal.returns-clause-answer

@@ -3,7 +3,7 @@ use Rattle.std.specs.Option.{option_map}
 use Rattle.std.proofs.Common.{ap}
 use Rattle.story_view.specs.Names.{is_message, message_at, message_of}
 use Rattle.story_view.proofs.Keys.{message_same, read_at}
-use Rattle.oracle.specs.World.{reply_of}
+use Rattle.story_view.specs.Forms.{reply_of}
 use Rattle.oracle.proofs.world.World.answered.Goals as goal
 
 pub returns : goal.returns
