@@ -1,0 +1,28 @@
+use Rattle.std.proofs.Common.{◌∙◌, ap, sym}
+use Rattle.std.proofs.lemmas.Result.{IfOk-weaker}
+use Rattle.std.specs.Option.{option_map}
+use Rattle.told_plan.specs.KeyTable.{key_at}
+use Rattle.told_plan.specs.Plans.{plan_of, route_of}
+use Rattle.told_request.specs.Forms.{prepared_of}
+use Rattle.told_request.proofs.Requesting.{asks-nothing, asks-run}
+use Rattle.told_request.proofs.asked.requested.Goals as goal
+
+pub returns-in_default-prepared_by : goal.returns-in_default-prepared_by
+returns-in_default-prepared_by c = λ setup v d known keyed at.
+    c.quit-in_default-prepared_by.ensures
+    ∙ asks-nothing setup v (plan_of c.args.plan.now) c.args.moment d c.args.ordinal (route_of c.args.route.now) c.args.payload.now c.in-Some.number
+    (sym c.first_byte.ensures ∙ c.if-first_byte-ne-COM_STMT_EXECUTE.false) (sym c.get_u32.ensures ∙ c.in-Some.is)
+    c.messages-messages.result.now (c.messages-messages.ensures.told (plan_of c.args.plan.now) d at) _
+    (c.prepared_by.ensures setup v known d (c.number.ensures ∙ at.number)) (ap (option_map prepared_of) c.in_default-prepared_by.is)
+
+pub returns : goal.returns
+returns c = IfOk-weaker c.run_of.result _ _ (λ asked is setup v d known keyed at.
+    is
+    ∙ asks-run setup v (plan_of c.args.plan.now) c.args.moment d c.args.ordinal (route_of c.args.route.now) c.args.payload.now c.in-Some.number
+    (sym c.first_byte.ensures ∙ c.if-first_byte-ne-COM_STMT_EXECUTE.false) (sym c.get_u32.ensures ∙ c.in-Some.is)
+    c.messages-messages.result.now (c.messages-messages.ensures.told (plan_of c.args.plan.now) d at) _
+    (c.prepared_by.ensures setup v known d (c.number.ensures ∙ at.number))
+    (prepared_of c.in-Some-prepared_by.prepared) (ap (option_map prepared_of) c.in-Some-prepared_by.is)
+    (key_at c.args.keys.now c.in-Some-prepared_by.prepared.key) (keyed c.in-Some-prepared_by.prepared.key)
+    c.messages_before-before.result.now c.messages_before-before.ensures
+    c.number-2.result (c.number-2.ensures ∙ at.number) _ c.in_ok-args.ensures) c.run_of.ensures

@@ -1,0 +1,156 @@
+// What earlier messages bound to a prepared statement.
+ghost use Rattle.std.specs.Prelude.{◌≡◌, drop, option_copied, [], None, IfOk, OnOk};
+ghost use Rattle.std.specs.Option.{option_map_or, option_or};
+ghost use Rattle.mx_base.specs.Fields.{number_at};
+ghost use Rattle.log_story.specs.Executes.{args_in, bound_after, bound_by, given_in, with_long};
+ghost use Rattle.story_view.specs.Forms.{args_of};
+ghost use Rattle.told_request.specs.Forms.{bound_of, given_of, refused_by};
+
+use crate::command_byte::{COM_STMT_EXECUTE, COM_STMT_RESET, COM_STMT_SEND_LONG_DATA};
+use crate::given::{Given, given_in};
+use crate::long_data::{add_long, long_parts};
+use crate::payload::{behind, is_for};
+use crate::refusals::Refusals;
+use client_due::Message;
+use mx_base::{Bytes, OutOfMemory, get_u16};
+use session_vars::LongPart;
+use std::alloc::Global;
+use story_view::Args;
+
+// The types of the last execute that sent any, and the long data since the last execute or reset, one part for each parameter in the
+// order of their first bytes.
+#[derive(Drop)]
+pub(crate) struct Bound {
+    pub types: Option<Bytes>,
+    pub long: Vec<LongPart>,
+}
+
+// The types that an execute sends, or else those that are bound.
+fn types_or(
+    alloc: Global,
+    sent: Option<&[u8]>,
+    bound: Option<Bytes>,
+) -> Result<Option<Bytes>, OutOfMemory>
+    ensures { IfOk result (λ types. types ≡ option_or (option_copied sent.entry) bound) }
+{
+    match sent {
+        Some(types) => Ok(Some(Bytes::from_slice(alloc, types)?)),
+        None => Ok(bound),
+    }
+}
+
+impl Bound {
+    fn new(alloc: Global) -> Self
+        ensures { bound_of result ≡ record { types = None; long = [] } }
+    {
+        Bound {
+            types: None,
+            long: Vec::new(alloc),
+        }
+    }
+
+    // Long data come. Those of a parameter that isn't there are dropped.
+    fn take_long(&mut self, alloc: Global, params: u16, payload: &[u8]) -> Result<(), OutOfMemory>
+        ensures { OnOk result (bound_of self.new
+            ≡ option_map_or (with_long params (drop 7 payload.now) (bound_of self.old)) (number_at 2 5 payload.now) (bound_of self.old)) }
+    {
+        let Some(parameter) = get_u16(payload, 5) else {
+            return Ok(());
+        };
+        if parameter >= params {
+            return Ok(());
+        }
+        add_long(alloc, &mut self.long, parameter, behind(payload, 7))
+    }
+
+    // An execute comes.
+    fn take_execute(
+        &mut self,
+        alloc: Global,
+        params: u16,
+        payload: &[u8],
+    ) -> Result<(), OutOfMemory>
+        ensures { OnOk result (bound_of self.new
+            ≡ record { types = option_or (given_in params payload.now).types (bound_of self.old).types; long = [] }) }
+    {
+        self.long.clear();
+        if let Some(types) = given_in(params, payload).types {
+            self.types = Some(Bytes::from_slice(alloc, types)?);
+        }
+        Ok(())
+    }
+
+    // A message comes, which may be for the statement of a number, of so many parameters. An execute that the router refused binds
+    // nothing.
+    fn take(
+        &mut self,
+        alloc: Global,
+        params: u16,
+        number: u32,
+        refused: bool,
+        payload: &[u8],
+    ) -> Result<(), OutOfMemory>
+        ensures { OnOk result (bound_of self.new ≡ bound_after params number refused payload.now (bound_of self.old)) }
+    {
+        if is_for(COM_STMT_SEND_LONG_DATA, number, payload) {
+            return self.take_long(alloc, params, payload);
+        }
+        if is_for(COM_STMT_RESET, number, payload) {
+            self.long.clear();
+            return Ok(());
+        }
+        if is_for(COM_STMT_EXECUTE, number, payload) && !refused {
+            return self.take_execute(alloc, params, payload);
+        }
+        Ok(())
+    }
+
+    // The arguments of an execute that gives these itself.
+    fn into_args(self, alloc: Global, given: Given) -> Result<Args, OutOfMemory>
+        ensures { IfOk result (λ args. args_of args ≡ record (given_of given.entry) {
+          types = option_or (given_of given.entry).types (bound_of self).types;
+          long = (bound_of self).long;
+        }) }
+    {
+        let Bound { types, long } = self;
+        Ok(Args {
+            types: types_or(alloc, given.types, types)?,
+            nulls: Bytes::from_slice(alloc, given.nulls)?,
+            values: Bytes::from_slice(alloc, given.values)?,
+            long: long_parts(alloc, long)?,
+        })
+    }
+}
+
+// What messages bind, in order.
+fn bound_by(
+    alloc: Global,
+    params: u16,
+    number: u32,
+    refusals: &Refusals,
+    messages: &[Message],
+) -> Result<Bound, OutOfMemory>
+    ensures { IfOk result (λ bound. bound_of bound
+        ≡ bound_by params number (refused_by refusals.now) 1 messages.now (record { types = None; long = [] })) }
+{
+    let mut bound = Bound::new(alloc);
+    for (i, message) in messages.iter().enumerate() {
+        let refused = refusals.has(i as u64 + 1);
+        bound.take(alloc, params, number, refused, message.payload.as_slice())?;
+    }
+    Ok(bound)
+}
+
+// The arguments of an execute behind these messages.
+pub(crate) fn args_in(
+    alloc: Global,
+    params: u16,
+    number: u32,
+    refusals: &Refusals,
+    before: &[Message],
+    payload: &[u8],
+) -> Result<Args, OutOfMemory>
+    ensures { IfOk result (λ args. args_of args ≡ args_in params number (refused_by refusals.now) before.now payload.now) }
+{
+    bound_by(alloc, params, number, refusals, before)?.into_args(alloc, given_in(params, payload))
+}

@@ -1,0 +1,13 @@
+//! What a client's message asks of a server, by its own bytes and by the messages before it, in code.
+#![tactic(auto)]
+
+mod asked;
+mod bound;
+mod command_byte;
+mod given;
+mod long_data;
+mod payload;
+mod prepared;
+mod refusals;
+
+pub use asked::{Asked, requested};
