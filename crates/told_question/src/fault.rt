@@ -1,0 +1,2 @@
+// Values that are let go.
+pub(crate) fn let_go<T: Drop>(_old: T) {}
