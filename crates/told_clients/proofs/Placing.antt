@@ -1,0 +1,124 @@
+-- Clients of a log by their places.
+use Rattle.std.specs.Prelude.{◌≡◌, ◌+◌, ℕ, zero, suc, false, nat_eq, List, [], ◌∷◌, ◌++◌, length, map, set, drop, slice_get, Option, Some, None}
+use Rattle.std.proofs.Common.{◌∙◌, refl, sym, ap, subst, arith}
+use Rattle.std.proofs.lemmas.Option.{none-some, same_Some}
+use Rattle.mx_base.specs.declared.names.LinkId.{LinkId}
+use Rattle.client_session.specs.Setups.{Setup}
+use Rattle.log_story.specs.Tale.{Client}
+use Rattle.client_due.specs.Told.{Told}
+use Rattle.told_clients.specs.Clients.{AreFound, AreTold, IsNumbered, IsSeen}
+
+-- the client that stands at a place
+pub record IsThere (setup : Setup) (n : ℕ) (code : Told) (clients : List Client) (i : ℕ) : Type 0 where
+  pub client : Client
+  pub here : slice_get clients i ≡ Some client
+  pub told : IsNumbered setup n code client
+  pub rest : drop i clients ≡ client ∷ drop (i + 1) clients
+
+later : (i : ℕ) → suc (i + 1) ≡ suc i + 1
+later i = omega arith
+
+not_first : (j : ℕ) → nat_eq zero (suc j) ≡ false
+not_first j = grind arith
+
+first_not : (j : ℕ) → nat_eq (suc j) zero ≡ false
+first_not j = grind arith
+
+apart_more : (i j : ℕ) → nat_eq i j ≡ false → nat_eq (suc i) (suc j) ≡ false
+apart_more i j is = grind arith
+
+pub all_stay : (f : Client → Client) (clients : List Client) → ((j : ℕ) (client : Client) → slice_get clients j ≡ Some client → f client ≡ client) → map f clients ≡ clients
+all_stay f [] stay = refl
+all_stay f (client ∷ clients) stay = λ i. stay zero client refl i ∷ all_stay f clients (λ j. stay (suc j)) i
+
+module _ (setup : Setup) where
+  pub there_at : (n m : ℕ) (codes : List Told) (clients : List Client) (i : ℕ) (code : Told) → m ≡ i + n → AreTold setup n codes clients → slice_get codes i ≡ Some code
+      → IsThere setup m code clients i
+  there_at n m [] [] i code at told is = absurd (none-some code is)
+  there_at n m [] (client ∷ clients) i code at told is = absurd told
+  there_at n m (c ∷ codes) [] i code at told is = absurd told
+  there_at n m (c ∷ codes) (client ∷ clients) zero code at told is = record {
+    client = client;
+    here = refl;
+    told = subst (λ k. IsNumbered setup k code client) (omega (arith, at)) (subst (λ (x : Told). IsNumbered setup n x client) (same_Some c code is) told.0);
+    rest = refl;
+  }
+  there_at n m (c ∷ codes) (client ∷ clients) (suc i) code at told is =
+      let there = there_at (suc n) m codes clients i code (omega (arith, at)) told.1 is in
+      record { client = there.client; here = there.here; told = there.told; rest = there.rest ∙ ap (λ k. there.client ∷ drop k (client ∷ clients)) (later i) }
+
+  pub seen_at : (n m : ℕ) (codes : List Told) (clients : List Client) (i : ℕ) (client : Client) → m ≡ i + n → AreTold setup n codes clients → slice_get clients i ≡ Some client
+      → IsSeen setup m (slice_get codes i) client
+  seen_at n m codes [] i client at told is = absurd (none-some client is)
+  seen_at n m [] (c ∷ clients) i client at told is = absurd told
+  seen_at n m (code ∷ codes) (c ∷ clients) zero client at told is =
+      subst (λ k. IsNumbered setup k code client) (omega (arith, at)) (subst (λ (x : Client). IsNumbered setup n code x) (same_Some c client is) told.0)
+  seen_at n m (code ∷ codes) (c ∷ clients) (suc i) client at told is = seen_at (suc n) m codes clients i client (omega (arith, at)) told.1 is
+
+  pub seen_there : (n m : ℕ) (codes : List Told) (clients : List Client) (i : ℕ) (client : Client) (code : Told) → m ≡ i + n → AreTold setup n codes clients → slice_get clients i ≡ Some client
+      → slice_get codes i ≡ Some code → IsNumbered setup m code client
+  seen_there n m codes clients i client code at told is there = subst (λ o. IsSeen setup m o client) there (seen_at n m codes clients i client at told is)
+
+  pub unseen_there : (n m : ℕ) (codes : List Told) (clients : List Client) (i : ℕ) (client : Client) → m ≡ i + n → AreTold setup n codes clients → slice_get clients i ≡ Some client
+      → slice_get codes i ≡ None → ⊥
+  unseen_there n m codes clients i client at told is none = subst (λ o. IsSeen setup m o client) none (seen_at n m codes clients i client at told is)
+
+  pub number_at : (n m : ℕ) (codes : List Told) (clients : List Client) (i : ℕ) (client : Client) → m ≡ i + n → AreTold setup n codes clients → slice_get clients i ≡ Some client
+      → client.number.0 ≡ suc m
+  number_at n m codes clients i client at told is = go (slice_get codes i) (seen_at n m codes clients i client at told is)
+    where
+      go : (o : Option Told) → IsSeen setup m o client → client.number.0 ≡ suc m
+      go None seen = absurd seen
+      go (Some code) seen = seen.number
+
+  pub same_count : (n : ℕ) (codes : List Told) (clients : List Client) → AreTold setup n codes clients → length clients ≡ length codes
+  same_count n [] [] told = refl
+  same_count n [] (client ∷ clients) told = absurd told
+  same_count n (c ∷ codes) [] told = absurd told
+  same_count n (c ∷ codes) (client ∷ clients) told = ap suc (same_count (suc n) codes clients told.1)
+
+  -- one more comes
+  pub told_more : (n m : ℕ) (codes : List Told) (clients : List Client) (code : Told) (client : Client) → m ≡ length clients + n → AreTold setup n codes clients
+      → IsNumbered setup m code client → AreTold setup n (codes ++ code ∷ []) (clients ++ client ∷ [])
+  told_more n m [] [] code client at told is = (subst (λ k. IsNumbered setup k code client) (omega (arith, at)) is, tt)
+  told_more n m [] (c ∷ clients) code client at told is = absurd told
+  told_more n m (c ∷ codes) [] code client at told is = absurd told
+  told_more n m (c ∷ codes) (other ∷ clients) code client at told is = (told.0, told_more (suc n) m codes clients code client (omega (arith, at)) told.1 is)
+
+  -- one goes on as another, and the others stay
+  module _ (f : Client → Client) (new : Told) where
+    pub told_on : (n m i : ℕ) (codes : List Told) (clients : List Client) → m ≡ i + n → AreTold setup n codes clients
+        → ((client : Client) → slice_get clients i ≡ Some client → IsNumbered setup m new (f client))
+        → ((j : ℕ) (client : Client) → slice_get clients j ≡ Some client → nat_eq i j ≡ false → f client ≡ client)
+        → AreTold setup n (set codes i new) (map f clients)
+    told_on n m i [] [] at told here others = tt
+    told_on n m i [] (client ∷ clients) at told here others = absurd told
+    told_on n m i (c ∷ codes) [] at told here others = absurd told
+    told_on n m zero (c ∷ codes) (client ∷ clients) at told here others = (
+      subst (λ k. IsNumbered setup k new (f client)) (omega (arith, at)) (here client refl),
+      subst (λ all. AreTold setup (suc n) codes all) (sym (all_stay f clients (λ j other is. others (suc j) other is (not_first j)))) told.1,
+    )
+    told_on n m (suc i) (c ∷ codes) (client ∷ clients) at told here others = (
+      subst (λ (x : Client). IsNumbered setup n c x) (sym (others zero client refl (first_not i))) told.0,
+      told_on (suc n) m i codes clients (omega (arith, at)) told.1 here (λ j other is isnt. others (suc j) other is (apart_more i j isnt)),
+    )
+
+-- Where they are found.
+
+module _ (home : LinkId → Option ℕ) where
+  pub found_at : (n m : ℕ) (clients : List Client) (i : ℕ) (client : Client) → m ≡ i + n → AreFound home n clients → slice_get clients i ≡ Some client → home client.link ≡ Some m
+  found_at n m [] i client at found is = absurd (none-some client is)
+  found_at n m (c ∷ clients) zero client at found is = ap (λ (x : Client). home x.link) (sym (same_Some c client is)) ∙ found.0 ∙ ap (λ k. Some k) (omega (arith, at))
+  found_at n m (c ∷ clients) (suc i) client at found is = found_at (suc n) m clients i client (omega (arith, at)) found.1 is
+
+  pub found_on : (f : Client → Client) (n : ℕ) (clients : List Client) → ((j : ℕ) (client : Client) → slice_get clients j ≡ Some client → (f client).link ≡ client.link) → AreFound home n clients
+      → AreFound home n (map f clients)
+  found_on f n [] keeps found = tt
+  found_on f n (c ∷ clients) keeps found = (ap home (keeps zero c refl) ∙ found.0, found_on f (suc n) clients (λ j. keeps (suc j)) found.1)
+
+  -- one more comes on a link that was none
+  pub found_more : (other : LinkId → Option ℕ) (client : Client) → ((l : LinkId) (at : ℕ) → home l ≡ Some at → other l ≡ Some at) → (n m : ℕ) (clients : List Client) → m ≡ length clients + n
+      → other client.link ≡ Some m → AreFound home n clients → AreFound other n (clients ++ client ∷ [])
+  found_more other client keeps n m [] at here found = (here ∙ ap (λ k. Some k) (omega (arith, at)), tt)
+  found_more other client keeps n m (c ∷ clients) at here found =
+      (keeps c.link n found.0, found_more other client keeps (suc n) m clients (omega (arith, at)) here found.1)

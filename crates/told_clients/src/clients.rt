@@ -1,0 +1,170 @@
+// The clients of a log.
+ghost use Rattle.std.specs.Prelude.{◌≡◌, ◌<◌, ◌+◌, ℕ, true, is_some, List, [], ◌∷◌, ◌++◌, suc, length, map, slice_get, Some, IfSome, OnOk, option_copied};
+ghost use Rattle.mx_base.specs.declared.names.LinkId.{LinkId as TheLink};
+ghost use Rattle.client_session.specs.Setups.{Setup as Service};
+ghost use Rattle.private_model.specs.Story.{is_link_id, put as place};
+ghost use Rattle.log_story.specs.Tale.{Client, client_gets, client_hears, new_client};
+ghost use Rattle.told_clients.specs.Clients.{AreClients, AreTold, IsHome, IsSeen, home_at, replaced};
+
+use crate::Fault;
+use client_due::ToldClient;
+use client_session::Setup;
+use mx_base::{ClientNo, LinkId, OutOfMemory};
+use std::alloc::Global;
+use std::collections::HashMap;
+
+/// The clients of a log in the order in which they came. Their numbers count from 1, and no two have one link.
+#[derive(Drop)]
+pub struct Clients {
+    clients: Vec<ToldClient>,
+    homes: HashMap<LinkId, usize>,
+}
+
+// The number of a client behind so many.
+fn number_behind(count: usize) -> Option<u64>
+    ensures { IfSome result (λ number. number ≡ count + 1) }
+{
+    (count as u64).checked_add(1)
+}
+
+impl Clients {
+    /// No client came. Takes no memory.
+    pub fn new(alloc: Global) -> Self
+        ensures { (setup : Service) → AreClients setup result [] }
+    {
+        Clients {
+            clients: Vec::new(alloc),
+            homes: HashMap::new(alloc),
+        }
+    }
+
+    /// All of them, in order. Takes no memory.
+    pub fn as_slice(&self) -> &[ToldClient]
+        ensures { (setup : Service) (clients : List Client) → AreClients setup self.now clients → AreTold setup 0 result.now clients }
+    {
+        &self.clients
+    }
+
+    /// How many came. Takes no memory.
+    pub fn count(&self) -> usize
+        ensures { (setup : Service) (clients : List Client) → AreClients setup self.now clients → result ≡ length clients }
+    {
+        self.clients.len()
+    }
+
+    fn seat(&self, at: usize) -> Option<&ToldClient>
+        ensures { option_copied result ≡ slice_get self.now.clients.items at }
+    {
+        self.clients.get(at)
+    }
+
+    /// The one at a place, counted from 0. Takes no memory.
+    pub fn get(&self, at: usize) -> Option<&ToldClient>
+        ensures { (setup : Service) (clients : List Client) (client : Client) → AreClients setup self.now clients → slice_get clients at ≡ Some client
+            → IsSeen setup at (option_copied result) client }
+    {
+        self.seat(at)
+    }
+
+    /// A client comes on a link, with this salt (client/server protocol, "Connection Phase"). After an error nothing is promised.
+    pub fn accept(
+        &mut self,
+        alloc: Global,
+        setup: &Setup,
+        link: LinkId,
+        salt: [u8; 20],
+    ) -> Result<(), Fault>
+        ensures { OnOk result ((clients : List Client) → AreClients setup.now self.old clients
+            → AreClients setup.now self.new (clients ++ new_client (length clients + 1) link salt ∷ [])) }
+    {
+        if self.is_found(link) {
+            return Err(Fault::LinkTwice);
+        }
+        let at = self.clients.len();
+        let Some(number) = number_behind(at) else {
+            return Err(Fault::TooMany);
+        };
+        let client = ToldClient::new(alloc, setup, ClientNo(number), link, salt)?;
+        self.put(at, link, client)?;
+        Ok(())
+    }
+
+    // Whether a client has this link.
+    fn is_found(&self, link: LinkId) -> bool
+        ensures { result ≡ is_some (home_at self.now link) }
+    {
+        self.homes.contains_key(&link)
+    }
+
+    // A client more stands at this place.
+    fn put(&mut self, at: usize, link: LinkId, client: ToldClient) -> Result<(), OutOfMemory>
+        ensures clients { OnOk result (self.new.clients.items ≡ self.old.clients.items ++ client ∷ []) }
+        ensures homes { OnOk result ((l : TheLink) → home_at self.new l ≡ place is_link_id (home_at self.old) link (Some at) l) }
+    {
+        self.clients.push(client)?;
+        self.homes.insert(link, at)?;
+        Ok(())
+    }
+
+    // Whether the client at a place has this link.
+    fn has_link(&self, at: usize, link: LinkId) -> bool
+        ensures within { result ≡ true → at < length self.now.clients.items }
+        ensures is { (setup : Service) (clients : List Client) (client : Client) → AreClients setup self.now clients → slice_get clients at ≡ Some client
+            → result ≡ is_link_id client.link link }
+    {
+        match self.seat(at) {
+            None => false,
+            Some(client) => client.link() == link,
+        }
+    }
+
+    // Where the client of a link stands.
+    fn home(&self, link: LinkId) -> Option<usize>
+        ensures within { IfSome result (λ at. at < length self.now.clients.items) }
+        ensures is { (setup : Service) (clients : List Client) → AreClients setup self.now clients → IsHome result link clients }
+    {
+        let at = *self.homes.get(&link)?;
+        if !self.has_link(at, link) {
+            return None;
+        }
+        Some(at)
+    }
+
+    /// Bytes were read of the client of a link, if there is one. After OutOfMemory nothing is promised.
+    pub fn hears(
+        &mut self,
+        alloc: Global,
+        setup: &Setup,
+        link: LinkId,
+        bytes: &[u8],
+    ) -> Result<(), OutOfMemory>
+        ensures { OnOk result ((clients : List Client) → AreClients setup.now self.old clients
+            → AreClients setup.now self.new (map (client_hears link bytes.now) clients)) }
+    {
+        match self.home(link) {
+            None => Ok(()),
+            Some(at) => self.clients[at].hears(alloc, setup, bytes),
+        }
+    }
+
+    /// So many bytes were written to the client of a link, if there is one. Takes no memory.
+    pub fn gets(&mut self, link: LinkId, count: usize)
+        ensures { (setup : Service) (clients : List Client) → AreClients setup self.old clients
+            → AreClients setup self.new (map (client_gets link count) clients) }
+    {
+        match self.home(link) {
+            None => {}
+            Some(at) => self.clients[at].gets(count),
+        }
+    }
+
+    /// A message more of the client at this place was taken up. Takes no memory.
+    pub fn takes(&mut self, at: usize)
+        ensures { (setup : Service) (clients : List Client) (client : Client) → AreClients setup self.old clients → slice_get clients at ≡ Some client
+            → AreClients setup self.new (replaced (record client { taken = suc client.taken }) clients) }
+    {
+        if at < self.clients.len() {
+            self.clients[at].takes();
+        }
+    }
+}

@@ -1,0 +1,19 @@
+// Why a client isn't taken.
+use mx_base::OutOfMemory;
+
+/// Why a client that came isn't taken.
+#[derive(Clone, Copy)]
+pub enum Fault {
+    /// Memory was refused.
+    OutOfMemory,
+    /// Its link stands for another client, so that no wire tells this log.
+    LinkTwice,
+    /// More clients come than 64 bits count.
+    TooMany,
+}
+
+impl From<OutOfMemory> for Fault {
+    fn from(_: OutOfMemory) -> Self {
+        Fault::OutOfMemory
+    }
+}
