@@ -1,0 +1,141 @@
+-- A part of the walk leads the code from tale to tale.
+use Rattle.std.specs.Prelude.{◌≡◌, ℕ, Bool, true, false, is_some, List, [], ◌∷◌, ◌++◌, ◌||◌, if◌then◌else◌, Some, None}
+use Rattle.std.specs.List.{list_any}
+use Rattle.std.proofs.Common.{◌∙◌, refl, sym, ap, subst}
+use Rattle.std.proofs.lemmas.List.Folds.{list_any-append}
+use Rattle.mx_base.specs.declared.names.LinkId.{LinkId}
+use Rattle.mx_base.specs.declared.names.ServerId.{ServerId}
+use Rattle.mx_wire.specs.declared.entry.Entry.{Entry}
+use Rattle.private_model.specs.Commands.{Step}
+use Rattle.private_model.specs.Story.{is_link_id, put}
+use Rattle.private_model.specs.View.{Setup}
+use Rattle.log_story.specs.Plan.{Plan}
+use Rattle.log_story.specs.Telling.{told as told_by}
+use Rattle.log_story.specs.Tale.{Client, Tale, Wire, is_to_server, new_wire}
+use Rattle.told_clients.specs.Clients.{AreClients}
+use Rattle.told_clients.specs.Wires.{AreWires, IsWireAt, wire_at}
+use Rattle.told_clients.specs.declared.clients.Clients.{Clients}
+use Rattle.told_clients.specs.declared.wires.Wires.{Wires}
+use Rattle.told_clients.proofs.Homes.{same_link}
+use Rattle.told_clients.proofs.Wiring.{wires_on, wires_same, wires_stay}
+use Rattle.told_link.specs.Told.{IsWire}
+use Rattle.told_link.specs.declared.link.ToldLink.{ToldLink}
+use Rattle.told_story.specs.declared.told.Told.{Told}
+use Rattle.told_plan.specs.Plans.{plan_of}
+use Rattle.told_tale.specs.Standing.{IsTale, Leads}
+use Rattle.told_tale.specs.Steps.{IsLed, IsLedOn}
+use Rattle.told_tale.specs.declared.tale.ToldTale.{ToldTale}
+
+module _ {R : Type 0} (stored : R → List ℕ) (step : Step) (setup : Setup) (plan : Plan) (code : ToldTale R) (tale : Tale) (is : IsTale stored step setup plan code tale) where
+  -- the story alone goes on
+  pub tale_led : (told : Told R) (new : Tale) → IsLed stored step setup told tale new → IsTale stored step setup plan (record code { told = told }) new
+  tale_led told new led = subst (IsTale stored step setup plan (record code { told = told })) (sym led.same) (record {
+    planned = is.planned;
+    keys = is.keys;
+    moment = is.moment;
+    told = led.told;
+    clients = is.clients;
+    links = is.links;
+    wires = is.wires;
+    there = is.there;
+  })
+
+  -- clients alone go on
+  pub tale_of_clients : (clients : Clients) (these : List Client) → AreClients plan.service clients these → IsTale stored step setup plan (record code { clients = clients }) (record tale { clients = these })
+  tale_of_clients clients these are = record {
+    planned = is.planned;
+    keys = is.keys;
+    moment = is.moment;
+    told = is.told;
+    clients = are;
+    links = is.links;
+    wires = is.wires;
+    there = is.there;
+  }
+
+  -- a link that isn't there was asked for
+  module _ (link : LinkId) (mid : Wires) (others : (l : LinkId) → wire_at mid l ≡ put is_link_id (wire_at code.wires) link None l) (none : wire_at code.wires link ≡ None) where
+    pub no_server : is_to_server tale link ≡ false
+    no_server = is.there link ∙ ap is_some none
+
+    pub clients_heard : (clients : Clients) (these : List Client) → AreClients plan.service clients these
+        → IsTale stored step setup plan (record code { clients = clients; wires = mid }) (record tale { clients = these })
+    clients_heard clients these are = record {
+      planned = is.planned;
+      keys = is.keys;
+      moment = is.moment;
+      told = is.told;
+      clients = are;
+      links = is.links;
+      wires = wires_stay code.wires mid link others none tale.wires is.wires;
+      there = λ l. is.there l ∙ ap is_some (sym (wires_same code.wires mid link others none l));
+    }
+
+  -- a link was taken out, went on with the story, and was put back
+  module _ (link : LinkId) (old_wire there : ToldLink) (mid new : Wires) (others : (l : LinkId) → wire_at mid l ≡ put is_link_id (wire_at code.wires) link None l)
+      (had : wire_at code.wires link ≡ Some old_wire) (back : (l : LinkId) → wire_at new l ≡ put is_link_id (wire_at mid) link (Some there) l) where
+    pub is_server : is_to_server tale link ≡ true
+    is_server = is.there link ∙ ap is_some had
+
+    pub knew : IsWire old_wire (tale.wires link)
+    knew = subst (λ o. IsWireAt o (tale.wires link)) had (is.wires link)
+
+    stays : (l : LinkId) → is_some (wire_at code.wires l) ≡ is_some (wire_at new l)
+    stays l = go (is_link_id l link) refl
+      where
+        go : (b : Bool) → is_link_id l link ≡ b → is_some (wire_at code.wires l) ≡ is_some (wire_at new l)
+        go true same = ap (λ k. is_some (wire_at code.wires k)) (same_link l link same) ∙ ap is_some had
+            ∙ sym (ap is_some (back l ∙ ap (λ b. if b then Some there else wire_at mid l) same))
+        go false other = sym (ap is_some (back l ∙ ap (λ b. if b then Some there else wire_at mid l) other ∙ others l ∙ ap (λ b. if b then None else wire_at code.wires l) other))
+
+    pub tale_led_on : (told : Told R) (after : Tale) → IsLedOn stored step setup told link there tale after → IsTale stored step setup plan (record code { told = told; wires = new }) after
+    tale_led_on told after led = subst (IsTale stored step setup plan (record code { told = told; wires = new })) (sym led.same) (record {
+      planned = is.planned;
+      keys = is.keys;
+      moment = is.moment;
+      told = led.told;
+      clients = is.clients;
+      links = is.links;
+      wires = wires_on code.wires mid new link there others back tale.wires led.wire is.wires led.knows;
+      there = λ l. is.there l ∙ stays l;
+    })
+
+  -- a link is opened
+  module _ (link : LinkId) (server : ServerId) (fresh : ToldLink) (new : Wires) (put_there : (l : LinkId) → wire_at new l ≡ put is_link_id (wire_at code.wires) link (Some fresh) l)
+      (knows : IsWire fresh (new_wire server)) where
+    pub opened_wires : AreWires new (put is_link_id tale.wires link (new_wire server))
+    opened_wires l = go (is_link_id l link) refl
+      where
+        go : (b : Bool) → is_link_id l link ≡ b → IsWireAt (wire_at new l) (put is_link_id tale.wires link (new_wire server) l)
+        go true same = subst (λ (w : Wire). IsWireAt (wire_at new l) w) (sym (ap (λ b. if b then new_wire server else tale.wires l) same))
+            (subst (λ o. IsWireAt o (new_wire server)) (sym (put_there l ∙ ap (λ b. if b then Some fresh else wire_at code.wires l) same)) knows)
+        go false other = subst (λ (w : Wire). IsWireAt (wire_at new l) w) (sym (ap (λ b. if b then new_wire server else tale.wires l) other))
+            (subst (λ o. IsWireAt o (tale.wires l)) (sym (put_there l ∙ ap (λ b. if b then Some fresh else wire_at code.wires l) other)) (is.wires l))
+
+    pub among : (l : LinkId) → list_any (is_link_id l) (tale.links ++ link ∷ []) ≡ is_some (wire_at new l)
+    among l = go (is_link_id l link) refl
+      where
+        or_true : (b : Bool) → (b || (true || false)) ≡ true
+        or_true true = refl
+        or_true false = refl
+
+        or_false : (b : Bool) → (b || (false || false)) ≡ b
+        or_false true = refl
+        or_false false = refl
+
+        go : (b : Bool) → is_link_id l link ≡ b → list_any (is_link_id l) (tale.links ++ link ∷ []) ≡ is_some (wire_at new l)
+        go true same = list_any-append (is_link_id l) tale.links (link ∷ []) ∙ ap (λ b. is_to_server tale l || (b || false)) same ∙ or_true (is_to_server tale l)
+            ∙ sym (ap is_some (put_there l ∙ ap (λ b. if b then Some fresh else wire_at code.wires l) same))
+        go false other = list_any-append (is_link_id l) tale.links (link ∷ []) ∙ ap (λ b. is_to_server tale l || (b || false)) other ∙ or_false (is_to_server tale l) ∙ is.there l
+            ∙ sym (ap is_some (put_there l ∙ ap (λ b. if b then Some fresh else wire_at code.wires l) other))
+
+-- it is enough to lead it by its own plan
+module _ {R : Type 0} (stored : R → List ℕ) (step : Step) (old new : ToldTale R) (f : Setup → Plan → Tale → Tale) where
+  pub by_plan : ((setup : Setup) (tale : Tale) → IsTale stored step setup (plan_of old.plan) old tale → IsTale stored step setup (plan_of old.plan) new (f setup (plan_of old.plan) tale)) → Leads stored step old new f
+  by_plan leads setup plan tale is =
+      subst (λ p. IsTale stored step setup p new (f setup p tale)) is.planned (leads setup tale (subst (λ p. IsTale stored step setup p old tale) (sym is.planned) is))
+
+-- what an entry tells
+module _ {R : Type 0} (stored : R → List ℕ) (step : Step) (old new : ToldTale R) where
+  pub by_entry : (e it : Entry) → e ≡ it → Leads stored step old new (λ setup plan tale. told_by setup plan tale it) → Leads stored step old new (λ setup plan tale. told_by setup plan tale e)
+  by_entry e it is leads setup plan tale stands = subst (λ x. IsTale stored step setup plan new (told_by setup plan tale x)) (sym is) (leads setup plan tale stands)

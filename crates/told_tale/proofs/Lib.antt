@@ -1,0 +1,4 @@
+pub mod Folding
+pub mod Leading
+pub mod Replies
+pub mod Takes

@@ -1,0 +1,214 @@
+-- How messages are taken up.
+use Rattle.std.specs.Prelude.{◌≡◌, ◌+◌, ◌<◌, ◌≤◌, ℕ, zero, suc, min, Bool, true, false, not, is_some, ◌&&◌, ◌||◌, nat_eq, List, [], ◌∷◌, ◌++◌, drop, fold, length, slice_get, if◌then◌else◌, Option, Some, None}
+use Rattle.std.specs.Option.{option_map, option_map_or}
+use Rattle.std.proofs.lemmas.List.{drop_all}
+use Rattle.std.proofs.Common.{◌∙◌, refl, sym, ap, subst, arith}
+use Rattle.std.proofs.lemmas.Option.{none-some, same_Some, slice_get-map}
+use Rattle.mx_base.specs.declared.names.Hostgroup.{Hostgroup}
+use Rattle.packet_frame.specs.Packets.{Framed}
+use Rattle.session_state.specs.declared.names.MessageName.{MessageName}
+use Rattle.client_session.specs.Setups.{Setup as Service}
+use Rattle.private_model.specs.Commands.{Command, Step}
+use Rattle.private_model.specs.Story.{BecameDue, is_client}
+use Rattle.private_model.specs.View.{Setup, View, present}
+use Rattle.log_story.specs.Clients.{captures_first, copied, due_by, is_answered, next_taken, taken_by, taken_up}
+use Rattle.log_story.specs.Executes.{Request}
+use Rattle.log_story.specs.Owed.{has_room, messages, name_of}
+use Rattle.log_story.specs.Plan.{Plan, Route, own_at}
+use Rattle.log_story.specs.Servers.{tell_all}
+use Rattle.log_story.specs.Tale.{Client, Tale, tell, view_of, with_client}
+use Rattle.told_clients.specs.Clients.{AreClients, replaced}
+use Rattle.told_clients.specs.declared.clients.Clients.{Clients}
+use Rattle.told_clients.proofs.Homes.{leaves, replaces}
+use Rattle.told_question.specs.Due.{copy_told, due_told}
+use Rattle.told_story.specs.Tells.{IsTold}
+use Rattle.told_story.specs.declared.told.Told.{Told}
+use Rattle.told_tale.specs.Answers.{HasHeard, IsHeard}
+use Rattle.told_tale.specs.Standing.{IsTale}
+use Rattle.told_tale.specs.Taking.{GoesAt, IsGoing, IsNextTaken, IsTaking, IsTaken, IsTakenUp, behind, next_of}
+use Rattle.told_tale.specs.declared.answers.Heard.{Heard}
+use Rattle.told_tale.specs.declared.tale.ToldTale.{ToldTale}
+use Rattle.told_tale.proofs.Leading.{tale_led, tale_of_clients}
+
+pub some_copied : {B A : Type 0} (f : B → A) (o : Option B) → is_some (option_map f o) ≡ is_some o
+some_copied f None = refl
+some_copied f (Some x) = refl
+
+-- what is known by what was heard in a tale
+pub heard_in : (setup : Setup) (plan : Plan) (code : Heard) (tale : Tale) → HasHeard setup plan code tale
+    → IsHeard code (record { plan = plan; moment = tale.moment; replies = (view_of setup tale).replies })
+heard_in setup plan code tale has = record { planned = has.planned; moment = sym has.moment; setup = setup; view = view_of setup tale; is = has.is; replies = λ m. refl }
+
+pub answered_at : (plan : Plan) (tale : Tale) (view : View) (client : Client) (n : ℕ) → 0 < n
+    → is_answered plan tale view client n ≡ (is_some (own_at plan tale.moment (name_of client n)) || is_some (view.replies (name_of client n)))
+answered_at plan tale view client zero above = absurd (omega (arith, above))
+answered_at plan tale view client (suc n) above = refl
+
+-- a count that isn't at its end
+pub same_count : (n m : ℕ) → m ≡ min n 18446744073709551615 → m < 18446744073709551615 → m ≡ n
+same_count n m is below = omega (arith, is, below)
+
+-- What becomes due.
+
+copies : (message : MessageName) (command : Command) (mirror : Option Hostgroup) (tale : Tale) → copied message command mirror tale ≡ tell_all (copy_told message command mirror) tale
+copies message command None tale = refl
+copies message command (Some hostgroup) tale = refl
+
+module _ (setup : Setup) (client : Client) (ordinal : ℕ) (route : Route) (request : Request) (tale : Tale) where
+  abbrev captures : Bool
+  captures = captures_first ((view_of setup tale).held (present (view_of setup tale) client.number route.hostgroup))
+
+  append_told : (mirror : Option Hostgroup)
+      → tell_all (copy_told (name_of client ordinal) request.command mirror) (tell (BecameDue client.number route.hostgroup ordinal request.key request.command route.multiplex) tale)
+      ≡ tell_all (copy_told (name_of client ordinal) request.command mirror ++ (BecameDue client.number route.hostgroup ordinal request.key request.command route.multiplex ∷ [])) tale
+  append_told None = refl
+  append_told (Some hostgroup) = refl
+
+  pub due_there : captures ≡ false → due_by setup client ordinal route request tale ≡ Some (tell_all (due_told client.number ordinal route request) tale)
+  due_there isnt = ap (λ b. if b then None else Some (copied (name_of client ordinal) request.command route.mirror (tell (BecameDue client.number route.hostgroup ordinal request.key request.command route.multiplex) tale))) isnt
+      ∙ ap (λ t. Some t) (copies (name_of client ordinal) request.command route.mirror (tell (BecameDue client.number route.hostgroup ordinal request.key request.command route.multiplex) tale) ∙ append_told route.mirror)
+
+  pub due_waits : captures ≡ true → due_by setup client ordinal route request tale ≡ None
+  due_waits is = ap (λ b. if b then None else Some (copied (name_of client ordinal) request.command route.mirror (tell (BecameDue client.number route.hostgroup ordinal request.key request.command route.multiplex) tale))) is
+
+flipped : (b : Bool) → true ≡ not b → b ≡ false
+flipped true is = is
+flipped false is = refl
+
+flipped_back : (b : Bool) → false ≡ not b → b ≡ true
+flipped_back true is = refl
+flipped_back false is = is
+
+-- a message becomes due, or a capture is due first
+module _ {R : Type 0} (stored : R → List ℕ) (step : Step) (setup : Setup) (client : Client) (ordinal : ℕ) (route : Route) (request : Request) (tale : Tale) (old new : Told R) where
+  pub due_taken : (more : Bool) → (more ≡ true → IsTold stored step setup new (due_told client.number ordinal route request ++ tale.story)) → more ≡ not (captures setup client ordinal route request tale)
+      → (more ≡ false → new ≡ old) → IsTold stored step setup old tale.story → IsTaken stored step setup new more tale (due_by setup client ordinal route request tale)
+  due_taken true tells isnt same told = record {
+    new = tell_all (due_told client.number ordinal route request) tale;
+    is = due_there setup client ordinal route request tale (flipped (captures setup client ordinal route request tale) isnt);
+    led = record { same = refl; told = tells refl };
+  }
+  due_taken false tells is same told =
+      (due_waits setup client ordinal route request tale (flipped_back (captures setup client ordinal route request tale) is), subst (λ (code : Told R). IsTold stored step setup code tale.story) (sym (same refl)) told)
+
+-- The next message.
+
+module _ (setup : Setup) (plan : Plan) (client : Client) (tale : Tale) where
+  abbrev pub may : Bool
+  may = is_answered plan tale (view_of setup tale) client client.taken && has_room (view_of setup tale).replies plan tale.moment client
+
+  abbrev pub taken : Framed → Option Tale
+  taken message = taken_by setup plan client (suc client.taken) message (plan.routes (name_of client (suc client.taken))) tale
+
+  pub none_next : slice_get (messages plan client) client.taken ≡ None → next_of setup plan client tale ≡ None
+  none_next none = ap (λ o. next_taken setup plan client o tale) none
+
+  pub next_waits : (message : Framed) → slice_get (messages plan client) client.taken ≡ Some message → may ≡ false → next_of setup plan client tale ≡ None
+  next_waits message there isnt = ap (λ o. next_taken setup plan client o tale) there ∙ ap (λ b. if b then taken message else None) isnt
+
+  pub next_goes : (message : Framed) → slice_get (messages plan client) client.taken ≡ Some message → may ≡ true → next_of setup plan client tale ≡ taken message
+  next_goes message there is = ap (λ o. next_taken setup plan client o tale) there ∙ ap (λ b. if b then taken message else None) is
+
+-- Messages are taken up one after the other.
+
+pub take_one : (setup : Setup) (plan : Plan) (k : ℕ) (it : Client) (now other : Tale) → next_of setup plan it now ≡ Some other
+    → taken_up (suc k) setup plan it now ≡ taken_up k setup plan (behind it) (with_client (behind it) other)
+take_one setup plan k it now other is = ap (λ o. option_map_or (λ t. taken_up k setup plan (behind it) (with_client (behind it) t)) o now) is
+
+pub take_none : (setup : Setup) (plan : Plan) (k : ℕ) (it : Client) (now : Tale) → next_of setup plan it now ≡ None → taken_up k setup plan it now ≡ now
+take_none setup plan zero it now is = refl
+take_none setup plan (suc k) it now is = ap (λ o. option_map_or (λ t. taken_up k setup plan (behind it) (with_client (behind it) t)) o now) is
+
+-- who was replaced, and who stayed
+module _ (setup : Service) (code : Clients) (clients : List Client) (are : AreClients setup code clients) (at : ℕ) (it : Client) (here : slice_get clients at ≡ Some it) where
+  pub replaced_here : slice_get (replaced (behind it) clients) at ≡ Some (behind it)
+  replaced_here = slice_get-map _ clients at ∙ ap (option_map _) here ∙ ap (λ (c : Client). Some c) (replaces setup code clients are at it (behind it) here refl it here)
+
+  pub replaced_others : (j : ℕ) → nat_eq at j ≡ false → slice_get (replaced (behind it) clients) j ≡ slice_get clients j
+  replaced_others j other = slice_get-map _ clients j ∙ stays (slice_get clients j) refl
+    where
+      stays : (o : Option Client) → slice_get clients j ≡ o → option_map (λ (c : Client). if is_client c.number it.number then behind it else c) o ≡ o
+      stays None is = refl
+      stays (Some c) is = ap (λ (x : Client). Some x) (leaves setup code clients are at it (behind it) here refl j c is other)
+
+module _ {R : Type 0} (stored : R → List ℕ) (step : Step) (setup : Setup) (plan : Plan) where
+  -- a message is taken up, and counted
+  pub next_taken_up : (code : ToldTale R) (told : Told R) (clients : Clients) (tale : Tale) (client : Client) (message : Framed) → IsTale stored step setup plan code tale
+      → slice_get (messages plan client) client.taken ≡ Some message → may setup plan client tale ≡ true
+      → (up : IsTakenUp stored step setup told tale (taken setup plan client tale message))
+      → AreClients plan.service clients (replaced (behind client) tale.clients) → IsNextTaken stored step setup plan (record code { told = told; clients = clients }) client tale
+  next_taken_up code told clients tale client message is there may_be up are =
+      let same : up.new.clients ≡ tale.clients = ap (λ (t : Tale). t.clients) up.led.same in
+      record {
+        other = up.new;
+        is = next_goes setup plan client tale message there may_be ∙ up.is;
+        same = same;
+        stands = tale_of_clients stored step setup plan (record code { told = told }) up.new (tale_led stored step setup plan code tale is told up.new up.led) clients (replaced (behind client) up.new.clients)
+            (subst (λ all. AreClients plan.service clients (replaced (behind client) all)) (sym same) are);
+      }
+
+  pub taking_first : (code : ToldTale R) (at most : ℕ) (client : Client) (tale : Tale) → IsTale stored step setup plan code tale → slice_get tale.clients at ≡ Some client
+      → IsTaking stored step setup plan code at most most client tale
+  taking_first code at most client tale is here = record { now = tale; it = client; stands = is; here = here; rest = refl; others = λ j other. refl }
+
+  pub taking_more : (old new : ToldTale R) (at most left k : ℕ) (client : Client) (tale : Tale) → left ≡ suc k → (so_far : IsTaking stored step setup plan old at most left client tale)
+      → IsNextTaken stored step setup plan new so_far.it so_far.now → IsTaking stored step setup plan new at most k client tale
+  taking_more old new at most left k client tale one so_far next =
+      let are = so_far.stands.clients in
+      record {
+        now = with_client (behind so_far.it) next.other;
+        it = behind so_far.it;
+        stands = next.stands;
+        here = ap (λ all. slice_get (replaced (behind so_far.it) all) at) next.same ∙ replaced_here plan.service old.clients so_far.now.clients are at so_far.it so_far.here;
+        rest = so_far.rest ∙ ap (λ n. taken_up n setup plan so_far.it so_far.now) one ∙ take_one setup plan k so_far.it so_far.now next.other next.is;
+        others = λ j other. ap (λ all. slice_get (replaced (behind so_far.it) all) j) next.same
+            ∙ replaced_others plan.service old.clients so_far.now.clients are at so_far.it so_far.here j other ∙ so_far.others j other;
+      }
+
+  pub taking_stops : (old new : ToldTale R) (at most left : ℕ) (client : Client) (tale : Tale) (so_far : IsTaking stored step setup plan old at most left client tale)
+      → next_of setup plan so_far.it so_far.now ≡ None → IsTale stored step setup plan new so_far.now → GoesAt stored step setup plan new at tale (taken_up most setup plan client tale)
+  taking_stops old new at most left client tale so_far none stands =
+      subst (GoesAt stored step setup plan new at tale) (sym (so_far.rest ∙ take_none setup plan left so_far.it so_far.now none)) (record { stands = stands; others = so_far.others })
+
+  pub taking_done : (code : ToldTale R) (at most left : ℕ) (client : Client) (tale : Tale) → left ≡ 0 → (so_far : IsTaking stored step setup plan code at most left client tale)
+      → GoesAt stored step setup plan code at tale (taken_up most setup plan client tale)
+  taking_done code at most left client tale none so_far =
+      subst (GoesAt stored step setup plan code at tale) (sym (so_far.rest ∙ ap (λ n. taken_up n setup plan so_far.it so_far.now) none)) (record { stands = so_far.stands; others = so_far.others })
+
+-- Clients go on one after the other.
+
+pub drop_at : {X : Type 0} (xs : List X) (i : ℕ) (x : X) → slice_get xs i ≡ Some x → drop i xs ≡ x ∷ drop (i + 1) xs
+drop_at [] i x is = absurd (none-some x is)
+drop_at (y ∷ xs) zero x is = ap (λ z. z ∷ xs) (same_Some y x is)
+drop_at (y ∷ xs) (suc i) x is = drop_at xs i x is ∙ ap (λ k. x ∷ drop k (y ∷ xs)) (later i)
+  where
+    later : (i : ℕ) → suc (i + 1) ≡ suc i + 1
+    later i = omega arith
+
+apart_below : (i j : ℕ) → i + 1 ≤ j → nat_eq i j ≡ false
+apart_below i j below = grind arith
+
+pub record IsElement {X : Type 0} (xs : List X) (i : ℕ) : Type 0 where
+  pub it : X
+  pub here : slice_get xs i ≡ Some it
+
+pub element : {X : Type 0} (xs : List X) (i : ℕ) → i < length xs → IsElement xs i
+element [] i inside = absurd (omega (arith, inside))
+element (x ∷ xs) zero inside = record { it = x; here = refl }
+element (x ∷ xs) (suc i) inside = let rest = element xs i (omega (arith, inside)) in record { it = rest.it; here = rest.here }
+
+module _ {R : Type 0} (stored : R → List ℕ) (step : Step) (setup : Setup) (plan : Plan) (f : Tale → Client → Tale) (tale : Tale) where
+  pub going_first : (code : ToldTale R) → IsTale stored step setup plan code tale → IsGoing stored step setup plan code f 0 tale
+  going_first code is = record { now = tale; stands = is; rest = refl; later = λ j from. refl }
+
+  pub going_more : (old new : ToldTale R) (i : ℕ) (client : Client) (so_far : IsGoing stored step setup plan old f i tale) → slice_get tale.clients i ≡ Some client
+      → GoesAt stored step setup plan new i so_far.now (f so_far.now client) → IsGoing stored step setup plan new f (i + 1) tale
+  going_more old new i client so_far here goes = record {
+    now = f so_far.now client;
+    stands = goes.stands;
+    rest = so_far.rest ∙ ap (fold f so_far.now) (drop_at tale.clients i client here);
+    later = λ j from. goes.others j (apart_below i j from) ∙ so_far.later j (omega (arith, from));
+  }
+
+  pub going_done : (code : ToldTale R) (i : ℕ) → length tale.clients ≤ i → IsGoing stored step setup plan code f i tale → IsTale stored step setup plan code (fold f tale tale.clients)
+  going_done code i past so_far = subst (IsTale stored step setup plan code) (sym (so_far.rest ∙ ap (fold f so_far.now) (drop_all i tale.clients past))) so_far.stands

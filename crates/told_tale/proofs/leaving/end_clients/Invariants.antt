@@ -1,0 +1,16 @@
+use Rattle.std.proofs.Common.{◌≡◌}
+use Rattle.log_story.specs.Clients.{ended_if_now}
+use Rattle.log_story.specs.Tale.{Tale}
+use Rattle.private_model.specs.Commands.{runs}
+use Rattle.private_model.specs.View.{Setup}
+use Rattle.private_turns.specs.Kept.{IsSound}
+use Rattle.told_clients.specs.Clients.{AreTold}
+use Rattle.told_plan.specs.Plans.{plan_of}
+use Rattle.told_story.specs.Tells.{IsTold}
+use Rattle.told_tale.specs.Steps.{IsFolding}
+use Rattle.told_tale.proofs.leaving.end_clients.Given as goal
+
+abbrev pub invariant-loop-client : goal.invariant-loop-client
+invariant-loop-client g l = IsSound g.R.TameServer.tests g.R.TameServer.stored l.told.own
+    × ((setup : Setup) (tale : Tale) → IsTold g.R.TameServer.stored (runs g.R.TameServer.step) setup l.fn.told tale.story → tale.moment ≡ l.moment → AreTold (plan_of l.plan).service 0 l.clients tale.clients
+    → IsFolding g.R.TameServer.stored (runs g.R.TameServer.step) setup l.told (ended_if_now (plan_of l.plan)) tale.clients l.client-index tale)

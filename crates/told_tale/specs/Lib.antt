@@ -1,0 +1,6 @@
+pub mod Answers
+pub mod Concern
+pub mod Reading
+pub mod Standing
+pub mod Steps
+pub mod Taking

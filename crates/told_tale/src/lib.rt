@@ -1,0 +1,16 @@
+//! A walk through a log: its story as bytes tell it, entry by entry, and what each client is due by sessions of its own.
+#![tactic(auto)]
+
+mod answers;
+mod concern;
+mod due;
+mod fault;
+mod freeing;
+mod leaving;
+mod serving;
+mod taking;
+mod tale;
+mod telling;
+
+pub use fault::Stop;
+pub use tale::{ToldTale, oracle};

@@ -1,0 +1,270 @@
+// Messages that are taken up.
+ghost use Rattle.std.specs.Prelude.{◌≡◌, ◌<◌, ◌&&◌, ◌||◌, ℕ, suc, true, not, is_some, nat_eq, Some, None, IfOk, IfSome, OnOk, length, slice_get, slice_index_or};
+ghost use Rattle.private_model.specs.Commands.{runs};
+ghost use Rattle.private_model.specs.View.{Setup, View};
+ghost use Rattle.mx_wire.specs.declared.entry.Entry.{Entry};
+ghost use Rattle.client_due.specs.Known.{Known};
+ghost use Rattle.client_due.specs.Standing.{IsTold as IsClient};
+ghost use Rattle.log_story.specs.Clients.{client_goes_on, clients_go_on, is_answered, is_event_of, taken_by, taken_up};
+ghost use Rattle.log_story.specs.Owed.{has_room, messages, name_of};
+ghost use Rattle.log_story.specs.Plan as log;
+ghost use Rattle.log_story.specs.Plan.{com_reset, is_by_now, own_at};
+ghost use Rattle.log_story.specs.Tale.{Client, Tale, view_of};
+ghost use Rattle.private_turns.specs.Kept.{IsSound};
+ghost use Rattle.told_plan.specs.KeyTable.{AreKeys};
+ghost use Rattle.told_plan.specs.Plans.{plan_of};
+ghost use Rattle.told_story.specs.Tells.{IsTold};
+ghost use Rattle.told_tale.specs.Answers.{HasHeard, IsHeard};
+ghost use Rattle.told_tale.specs.Concern.{concerns_by};
+ghost use Rattle.told_tale.specs.Standing.{IsTale};
+ghost use Rattle.told_tale.specs.Taking.{GoesAt, IsNext, IsTaken};
+
+use crate::answers::Heard;
+use crate::concern::Concern;
+use crate::{Stop, ToldTale};
+use client_due::{Answers, Message, ToldClient};
+use mx_base::{ClientNo, OutOfMemory};
+use server_rule::TameServer;
+use session_state::MessageName;
+use std::alloc::Global;
+use story_view::{MessageKey, Party};
+use told_plan::{Keys, Plan};
+use told_question::becomes_due;
+use told_request::requested;
+use told_story::Told;
+
+/// The command of a COM_RESET_CONNECTION (client/server protocol, "COM_RESET_CONNECTION").
+const COM_RESET: u8 = 0x1F;
+
+/// By what messages are taken up.
+#[derive(Clone, Copy)]
+struct Taking<'a> {
+    alloc: Global,
+    plan: &'a Plan,
+    keys: &'a Keys,
+    moment: u64,
+}
+
+fn is_by_now(moment: u64, at: Option<u64>) -> bool
+    ensures { result ≡ is_by_now moment at }
+{
+    match at {
+        None => false,
+        Some(at) => at <= moment,
+    }
+}
+
+// The ordinal of the message behind so many, counted from 1.
+fn ordinal_behind(taken: usize) -> Option<u64>
+    ensures is { IfSome result (λ ordinal. ordinal ≡ suc taken) }
+    ensures below { IfSome result (λ ordinal. taken < 18446744073709551615) }
+{
+    if taken as u64 == u64::MAX {
+        return None;
+    }
+    Some(taken as u64 + 1)
+}
+
+// Whether a message is answered.
+fn has_answer(answers: &Heard<'_>, name: MessageName) -> bool
+    ensures { (known : Known) → IsHeard answers.now known → result ≡ (is_some (own_at known.plan known.moment name) || is_some (known.replies name)) }
+{
+    if answers.own(name).is_some() {
+        return true;
+    }
+    answers.reply(name).is_some()
+}
+
+// Whether the last message of a client that was taken up is answered.
+fn is_answered(answers: &Heard<'_>, client: &ToldClient) -> bool
+    ensures { (setup : Setup) (tale : Tale) (it : Client) (plan : log.Plan) → HasHeard setup plan answers.now tale → IsClient plan.service client.now it
+        → client.now.taken ≡ it.taken → result ≡ is_answered plan tale (view_of setup tale) it it.taken }
+{
+    let taken = client.taken();
+    if taken == 0 {
+        return true;
+    }
+    let name = MessageName {
+        client: client.number(),
+        ordinal: taken as u64,
+    };
+    has_answer(answers, name)
+}
+
+// Whether a client's next message is taken up.
+fn may_take(alloc: Global, answers: &Heard<'_>, client: &ToldClient) -> Result<bool, OutOfMemory>
+    ensures { IfOk result (λ may. (setup : Setup) (tale : Tale) (it : Client) (plan : log.Plan) → HasHeard setup plan answers.now tale → IsClient plan.service client.now it
+        → client.now.taken ≡ it.taken → may ≡ (is_answered plan tale (view_of setup tale) it it.taken && has_room (view_of setup tale).replies plan tale.moment it)) }
+{
+    if !is_answered(answers, client) {
+        return Ok(false);
+    }
+    Ok(client.unwritten(alloc, answers)? < answers.plan.room())
+}
+
+fn is_reset(payload: &[u8]) -> bool
+    ensures { result ≡ nat_eq (slice_index_or payload.now 0 0) com_reset }
+{
+    match payload {
+        [first, ..] => *first == COM_RESET,
+        [] => false,
+    }
+}
+
+// A message goes to no server: a COM_RESET_CONNECTION leaves the client's sessions.
+fn take_up_here<R: TameServer + Drop>(
+    alloc: Global,
+    told: &mut Told<R>,
+    client: ClientNo,
+    message: &Message,
+) -> Result<(), Stop>
+    requires { IsSound R.tests R.stored told.old.own }
+    ensures sound { OnOk result (IsSound R.tests R.stored told.new.own) }
+    ensures taken { OnOk result ((setup : Setup) (tale : Tale) (plan : log.Plan) (it : Client) (ordinal : ℕ) → IsTold R.stored (runs R.step) setup told.old tale.story → client ≡ it.number
+        → IsTaken R.stored (runs R.step) setup told.new true tale (taken_by setup plan it ordinal message.now None tale)) }
+{
+    if is_reset(message.payload.as_slice()) {
+        told.left(alloc, Party::accepted(client))?;
+    }
+    Ok(())
+}
+
+// A message is taken up, unless a capture is due before it.
+fn take_up<R: TameServer + Drop>(
+    told: &mut Told<R>,
+    by: &Taking<'_>,
+    client: &ToldClient,
+    ordinal: u64,
+    message: &Message,
+) -> Result<bool, Stop>
+    requires { IsSound R.tests R.stored told.old.own }
+    ensures sound { OnOk result (IsSound R.tests R.stored told.new.own) }
+    ensures taken { IfOk result (λ more. (setup : Setup) (tale : Tale) (it : Client) (plan : log.Plan) → plan_of by.now.plan.now ≡ plan → AreKeys setup by.now.keys.now → tale.moment ≡ by.now.moment
+        → IsTold R.stored (runs R.step) setup told.old tale.story → IsClient plan.service client.now it
+        → IsTaken R.stored (runs R.step) setup told.new more tale (taken_by setup plan it ordinal message.now (plan.routes (name_of it ordinal)) tale)) }
+{
+    let party = Party::accepted(client.number());
+    let Some(route) = by.plan.route(MessageKey { party, ordinal }) else {
+        take_up_here(by.alloc, told, client.number(), message)?;
+        return Ok(true);
+    };
+    let payload = message.payload.as_slice();
+    let view = told.view();
+    let asked = requested(
+        by.alloc, view, by.plan, by.keys, by.moment, client, ordinal, route, payload,
+    )?;
+    let number = client.number();
+    let more = becomes_due(
+        by.alloc,
+        told,
+        number,
+        ordinal,
+        route,
+        asked.command,
+        asked.key,
+    )?;
+    Ok(more)
+}
+
+impl<R: TameServer + Drop> ToldTale<R> {
+    // The next message of the client at a place is taken up; false where there is none that may be.
+    fn takes_next(&mut self, at: usize) -> Result<bool, Stop>
+        requires { IsSound R.tests R.stored self.old.told.own }
+        ensures sound { OnOk result (IsSound R.tests R.stored self.new.told.own) }
+        ensures next { IfOk result (λ more. (setup : Setup) (plan : log.Plan) (tale : Tale) (client : Client) → IsTale R.stored (runs R.step) setup plan self.old tale → slice_get tale.clients at ≡ Some client
+            → IsNext R.stored (runs R.step) setup plan self.new more client tale) }
+    {
+        let Some(client) = self.clients.get(at) else {
+            return Ok(false);
+        };
+        let Some(message) = client.next_message() else {
+            return Ok(false);
+        };
+        let Some(ordinal) = ordinal_behind(client.taken()) else {
+            return Err(Stop::TooMany);
+        };
+        let heard = Heard {
+            plan: &self.plan,
+            view: self.told.view(),
+            moment: self.moment,
+        };
+        if !may_take(self.alloc, &heard, client)? {
+            return Ok(false);
+        }
+        let by = Taking {
+            alloc: self.alloc,
+            plan: &self.plan,
+            keys: &self.keys,
+            moment: self.moment,
+        };
+        if !take_up(&mut self.told, &by, client, ordinal, message)? {
+            return Ok(false);
+        }
+        self.clients.takes(at);
+        Ok(true)
+    }
+
+    // How many messages of the client at a place became whole.
+    fn most(&self, at: usize) -> usize
+        ensures { (setup : Setup) (plan : log.Plan) (tale : Tale) (client : Client) → IsTale R.stored (runs R.step) setup plan self.now tale → slice_get tale.clients at ≡ Some client
+            → result ≡ length (messages plan client) }
+    {
+        match self.clients.get(at) {
+            None => 0,
+            Some(client) => client.messages().len(),
+        }
+    }
+
+    // Messages of the client at a place are taken up, as many as may be.
+    fn takes_up(&mut self, at: usize) -> Result<(), Stop>
+        requires { IsSound R.tests R.stored self.old.told.own }
+        ensures sound { OnOk result (IsSound R.tests R.stored self.new.told.own) }
+        ensures taken { OnOk result ((setup : Setup) (plan : log.Plan) (tale : Tale) (client : Client) → IsTale R.stored (runs R.step) setup plan self.old tale → slice_get tale.clients at ≡ Some client
+            → GoesAt R.stored (runs R.step) setup plan self.new at tale (taken_up (length (messages plan client)) setup plan client tale)) }
+    {
+        for _turn in 0..self.most(at) {
+            if !self.takes_next(at)? {
+                return Ok(());
+            }
+        }
+        Ok(())
+    }
+
+    // Whether the messages of the client at a place go on at an entry.
+    fn is_to_go_on(&self, at: usize, concern: Concern) -> bool
+        ensures { (setup : Setup) (plan : log.Plan) (tale : Tale) (client : Client) → IsTale R.stored (runs R.step) setup plan self.now tale → slice_get tale.clients at ≡ Some client
+            → result ≡ (concerns_by concern client && not (is_by_now tale.moment (plan.ends client.number))) }
+    {
+        let Some(client) = self.clients.get(at) else {
+            return false;
+        };
+        concern.is_of(client) && !is_by_now(self.moment, self.plan.end(client.number()))
+    }
+
+    // Messages of the client at a place are taken up, where the entry is an event of it and the router didn't end it.
+    fn goes_at(&mut self, at: usize, concern: Concern) -> Result<(), Stop>
+        requires { IsSound R.tests R.stored self.old.told.own }
+        ensures sound { OnOk result (IsSound R.tests R.stored self.new.told.own) }
+        ensures goes { OnOk result ((setup : Setup) (plan : log.Plan) (tale : Tale) (client : Client) (view : View) (e : Entry) → is_event_of view client e ≡ concerns_by concern client
+            → IsTale R.stored (runs R.step) setup plan self.old tale → slice_get tale.clients at ≡ Some client
+            → GoesAt R.stored (runs R.step) setup plan self.new at tale (client_goes_on setup plan view e tale client)) }
+    {
+        if self.is_to_go_on(at, concern) {
+            self.takes_up(at)?;
+        }
+        Ok(())
+    }
+
+    /// Messages of clients are taken up, as they are at an entry of this concern.
+    pub(crate) fn goes_on(&mut self, concern: Concern) -> Result<(), Stop>
+        requires { IsSound R.tests R.stored self.old.told.own }
+        ensures sound { OnOk result (IsSound R.tests R.stored self.new.told.own) }
+        ensures goes { OnOk result ((setup : Setup) (plan : log.Plan) (tale : Tale) (view : View) (e : Entry) → ((client : Client) → is_event_of view client e ≡ concerns_by concern client)
+            → IsTale R.stored (runs R.step) setup plan self.old tale → IsTale R.stored (runs R.step) setup plan self.new (clients_go_on setup plan view e tale)) }
+    {
+        for at in 0..self.clients.count() {
+            self.goes_at(at, concern)?;
+        }
+        Ok(())
+    }
+}

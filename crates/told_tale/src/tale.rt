@@ -1,0 +1,148 @@
+// A walk through a log.
+ghost use Rattle.std.specs.Prelude.{◌≡◌, ℕ, suc, fold, IfOk, IfSome, OnOk};
+ghost use Rattle.private_model.specs.Commands.{runs};
+ghost use Rattle.private_model.specs.View.{Setup};
+ghost use Rattle.log_story.specs.Clients.{clients_are_ended};
+ghost use Rattle.log_story.specs.Servers.{links_are_freed};
+ghost use Rattle.log_story.specs.Tale.{counted, first_tale};
+ghost use Rattle.log_story.specs.Telling.{tale_step};
+ghost use Rattle.private_turns.specs.Kept.{AreAccepted, IsSound};
+ghost use Rattle.told_plan.specs.Plans.{plan_of};
+ghost use Rattle.told_tale.specs.Standing.{IsSetUp, IsTale, Leads};
+
+use crate::Stop;
+use crate::concern::Concern;
+use crate::freeing::free_links;
+use crate::leaving::end_clients;
+use mx_base::LinkId;
+use mx_wire::Entry;
+use private_turns::{Accounts, Servers};
+use server_rule::TameServer;
+use std::alloc::Global;
+use story_view::Openings;
+use told_clients::{Clients, Wires};
+use told_plan::{Keys, Plan};
+use told_story::Told;
+
+/// What is kept of a log as it is read: its story as its bytes tell it, with what the router knows and the private world, its clients and
+/// its links to servers. Behind an error nothing is promised. An entry costs a look at each client and each link to a server.
+#[derive(Drop)]
+pub struct ToldTale<R: TameServer + Drop> {
+    pub(crate) alloc: Global,
+    pub(crate) plan: Plan,
+    pub(crate) keys: Keys,
+    pub(crate) moment: u64,
+    pub(crate) told: Told<R>,
+    pub(crate) clients: Clients,
+    pub(crate) links: Vec<LinkId>,
+    pub(crate) wires: Wires,
+}
+
+// One entry more.
+fn behind(moment: u64) -> Option<u64>
+    ensures { IfSome result (λ next. next ≡ suc moment) }
+{
+    moment.checked_add(1)
+}
+
+impl<R: TameServer + Drop> ToldTale<R> {
+    /// Nothing was read: what the router decided, the texts of keys, with what clients begin and log in, and servers with the data that
+    /// they bring. Takes no memory.
+    pub fn new(
+        alloc: Global,
+        plan: Plan,
+        keys: Keys,
+        openings: Openings,
+        accounts: Accounts,
+        servers: Servers<R>,
+    ) -> Self
+        requires { AreAccepted R.tests R.stored servers }
+        ensures sound { IsSound R.tests R.stored result.told.own }
+        ensures first { (setup : Setup) → IsSetUp R.stored setup keys openings accounts servers → IsTale R.stored (runs R.step) setup (plan_of plan) result first_tale }
+    {
+        ToldTale {
+            alloc,
+            plan,
+            keys,
+            moment: 0,
+            told: Told::new(alloc, openings, accounts, servers),
+            clients: Clients::new(alloc),
+            links: Vec::new(alloc),
+            wires: Wires::new(alloc),
+        }
+    }
+
+    /// The plan by which it is read.
+    pub fn plan(&self) -> &Plan
+        ensures { result.now ≡ self.now.plan }
+    {
+        &self.plan
+    }
+
+    // One entry more is counted.
+    fn counts(&mut self) -> Result<(), Stop>
+        requires { IsSound R.tests R.stored self.old.told.own }
+        ensures sound { OnOk result (IsSound R.tests R.stored self.new.told.own) }
+        ensures leads { OnOk result (Leads R.stored (runs R.step) self.old self.new (λ setup plan tale. counted tale)) }
+    {
+        let Some(moment) = behind(self.moment) else {
+            return Err(Stop::TooMany);
+        };
+        self.moment = moment;
+        Ok(())
+    }
+
+    // The router ends clients.
+    fn ends_clients(&mut self) -> Result<(), Stop>
+        requires { IsSound R.tests R.stored self.old.told.own }
+        ensures sound { OnOk result (IsSound R.tests R.stored self.new.told.own) }
+        ensures leads { OnOk result (Leads R.stored (runs R.step) self.old self.new (λ setup plan tale. clients_are_ended plan tale)) }
+    {
+        end_clients(
+            self.alloc,
+            &mut self.told,
+            &self.plan,
+            self.moment,
+            self.clients.as_slice(),
+        )
+    }
+
+    // Links are given back.
+    fn frees_links(&mut self) -> Result<(), Stop>
+        requires { IsSound R.tests R.stored self.old.told.own }
+        ensures sound { OnOk result (IsSound R.tests R.stored self.new.told.own) }
+        ensures leads { OnOk result (Leads R.stored (runs R.step) self.old self.new (λ setup plan tale. links_are_freed setup plan tale)) }
+    {
+        let links = self.links.as_slice();
+        free_links(&mut self.told, &self.plan, self.moment, links, &self.wires)
+    }
+
+    /// Reads an entry more of the log.
+    pub fn reads(&mut self, entry: &Entry) -> Result<(), Stop>
+        requires { IsSound R.tests R.stored self.old.told.own }
+        ensures sound { OnOk result (IsSound R.tests R.stored self.new.told.own) }
+        ensures leads { OnOk result (Leads R.stored (runs R.step) self.old self.new (λ setup plan tale. tale_step setup plan tale entry.now)) }
+    {
+        let concern = Concern::of(self.told.view(), entry);
+        self.tells(entry)?;
+        self.counts()?;
+        self.ends_clients()?;
+        self.frees_links()?;
+        self.goes_on(concern)?;
+        self.frees_links()
+    }
+}
+
+/// Walks through a log: the story that it tells, with the private world and what each client is due by it. Servers have to be tame. A Stop
+/// says why it isn't walked through.
+pub fn oracle<R: TameServer + Drop>(tale: ToldTale<R>, log: &[Entry]) -> Result<ToldTale<R>, Stop>
+    requires { IsSound R.tests R.stored tale.told.own }
+    ensures sound { IfOk result (λ read. IsSound R.tests R.stored read.told.own) }
+    ensures leads { IfOk result (λ read. Leads R.stored (runs R.step) tale read (λ setup plan first. fold (tale_step setup plan) first log.now)) }
+{
+    let mut read = tale;
+    for entry in log {
+        read.reads(entry)?;
+    }
+    Ok(read)
+}

@@ -1,0 +1,152 @@
+// What an entry tells.
+ghost use Rattle.std.specs.Prelude.{◌≡◌, ◌+◌, ◌∷◌, ◌++◌, [], length, OnOk, if◌then◌else◌};
+ghost use Rattle.private_model.specs.Commands.{runs};
+ghost use Rattle.private_model.specs.Story.{Dropped, Ran};
+ghost use Rattle.log_story.specs.Tale.{new_client, new_wire, tell, with_wire};
+ghost use Rattle.log_story.specs.Telling.{is_lost_or_left, told};
+ghost use Rattle.mx_wire.specs.declared.entry.Entry.TheVariants.{Got, Wrote};
+ghost use Rattle.private_turns.specs.Kept.{IsSound};
+ghost use Rattle.told_tale.specs.Standing.{Leads};
+
+use crate::leaving::leave_link;
+use crate::serving::{says, writes};
+use crate::{Stop, ToldTale};
+use mx_base::{LinkId, OutOfMemory, ServerId, Tag};
+use mx_wire::Entry;
+use server_rule::TameServer;
+use told_link::ToldLink;
+
+impl<R: TameServer + Drop> ToldTale<R> {
+    // A client comes.
+    fn accepts(&mut self, link: LinkId, salt: [u8; 20]) -> Result<(), Stop>
+        requires { IsSound R.tests R.stored self.old.told.own }
+        ensures sound { OnOk result (IsSound R.tests R.stored self.new.told.own) }
+        ensures leads { OnOk result (Leads R.stored (runs R.step) self.old self.new (λ setup plan tale. record tale { clients = tale.clients ++ new_client (length tale.clients + 1) link salt ∷ [] })) }
+    {
+        self.clients
+            .accept(self.alloc, self.plan.service(), link, salt)?;
+        Ok(())
+    }
+
+    // A link to a server is opened.
+    fn opens(&mut self, server: ServerId, link: LinkId) -> Result<(), OutOfMemory>
+        requires { IsSound R.tests R.stored self.old.told.own }
+        ensures sound { OnOk result (IsSound R.tests R.stored self.new.told.own) }
+        ensures leads { OnOk result (Leads R.stored (runs R.step) self.old self.new (λ setup plan tale. with_wire link (new_wire server) (record tale { links = tale.links ++ link ∷ [] }))) }
+    {
+        self.links.push(link)?;
+        self.wires.put(link, ToldLink::new(self.alloc, server))
+    }
+
+    // Bytes are read.
+    fn hears(&mut self, link: LinkId, bytes: &[u8]) -> Result<(), Stop>
+        requires { IsSound R.tests R.stored self.old.told.own }
+        ensures sound { OnOk result (IsSound R.tests R.stored self.new.told.own) }
+        ensures leads { OnOk result (Leads R.stored (runs R.step) self.old self.new (λ setup plan tale. told setup plan tale (Got link bytes.now))) }
+    {
+        let Some(mut wire) = self.wires.take(link) else {
+            self.clients
+                .hears(self.alloc, self.plan.service(), link, bytes)?;
+            return Ok(());
+        };
+        says(
+            self.alloc,
+            &mut self.told,
+            &self.plan,
+            link,
+            &mut wire,
+            bytes,
+        )?;
+        self.wires.put(link, wire)?;
+        Ok(())
+    }
+
+    // Bytes are written.
+    fn wrote(&mut self, link: LinkId, tag: Tag, bytes: &[u8]) -> Result<(), Stop>
+        requires { IsSound R.tests R.stored self.old.told.own }
+        ensures sound { OnOk result (IsSound R.tests R.stored self.new.told.own) }
+        ensures leads { OnOk result (Leads R.stored (runs R.step) self.old self.new (λ setup plan tale. told setup plan tale (Wrote link tag bytes.now))) }
+    {
+        let Some(mut wire) = self.wires.take(link) else {
+            let count = bytes.len();
+            self.clients.gets(link, count);
+            return Ok(());
+        };
+        writes(
+            self.alloc,
+            &mut self.told,
+            &self.plan,
+            &self.keys,
+            link,
+            tag,
+            &mut wire,
+            bytes,
+        )?;
+        self.wires.put(link, wire)?;
+        Ok(())
+    }
+
+    // A server runs what stands on a link; a QUIT ends it.
+    fn executes(&mut self, link: LinkId) -> Result<(), Stop>
+        requires { IsSound R.tests R.stored self.old.told.own }
+        ensures sound { OnOk result (IsSound R.tests R.stored self.new.told.own) }
+        ensures leads { OnOk result (Leads R.stored (runs R.step) self.old self.new (λ setup plan tale.
+            if (tale.wires link).entered then tell (if (tale.wires link).quits then Dropped link else Ran link) tale else tale)) }
+    {
+        let Some(wire) = self.wires.at(link) else {
+            return Ok(());
+        };
+        if !wire.entered() {
+            return Ok(());
+        }
+        if wire.quits() {
+            self.told.dropped(self.alloc, link)?;
+        } else {
+            self.told.ran(self.alloc, link)?;
+        }
+        Ok(())
+    }
+
+    // A server ends a link by itself.
+    fn drops(&mut self, link: LinkId) -> Result<(), Stop>
+        requires { IsSound R.tests R.stored self.old.told.own }
+        ensures sound { OnOk result (IsSound R.tests R.stored self.new.told.own) }
+        ensures leads { OnOk result (Leads R.stored (runs R.step) self.old self.new (λ setup plan tale. tell (Dropped link) tale)) }
+    {
+        self.told.dropped(self.alloc, link)?;
+        Ok(())
+    }
+
+    // A link to a server is lost or closed, or a client leaves.
+    fn loses(&mut self, link: LinkId) -> Result<(), Stop>
+        requires { IsSound R.tests R.stored self.old.told.own }
+        ensures sound { OnOk result (IsSound R.tests R.stored self.new.told.own) }
+        ensures leads { OnOk result (Leads R.stored (runs R.step) self.old self.new (λ setup plan tale. is_lost_or_left link tale)) }
+    {
+        match self.wires.at(link) {
+            None => leave_link(self.alloc, &mut self.told, link, self.clients.as_slice()),
+            Some(_) => Ok(self.told.gone(link)?),
+        }
+    }
+
+    /// What an entry tells.
+    pub(crate) fn tells(&mut self, entry: &Entry) -> Result<(), Stop>
+        requires { IsSound R.tests R.stored self.old.told.own }
+        ensures sound { OnOk result (IsSound R.tests R.stored self.new.told.own) }
+        ensures leads { OnOk result (Leads R.stored (runs R.step) self.old self.new (λ setup plan tale. told setup plan tale entry.now)) }
+    {
+        match entry {
+            Entry::Accepted { link, salt, .. } => self.accepts(*link, *salt),
+            Entry::Opened { server, link, .. } => Ok(self.opens(*server, *link)?),
+            Entry::Got { link, bytes } => self.hears(*link, bytes.as_slice()),
+            Entry::Wrote { link, tag, bytes } => self.wrote(*link, *tag, bytes.as_slice()),
+            Entry::Exec { link } => self.executes(*link),
+            Entry::Drop { link } => self.drops(*link),
+            Entry::Ended { link } => self.loses(*link),
+            Entry::ReadFailed { link } => self.loses(*link),
+            Entry::WriteFailed { link } => self.loses(*link),
+            Entry::Closed { link } => self.loses(*link),
+            _ => Ok(()),
+        }
+    }
+}
