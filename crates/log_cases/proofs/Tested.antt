@@ -176,7 +176,7 @@ params_of None = 0
 params_of (Some types) = length types / 2
 
 abbrev args_written : (there : ℕ) → (before : List Framed) → (payload : List ℕ) → Args → Args
-args_written there before payload args = args_in (params_of args.types) there (λ i. false) before payload
+args_written there before payload args = args_in (params_of args.types) there (λ i. false) 0 before payload
 
 abbrev executes : Option ℕ → (messages : List Framed) → (rest : List ℕ) → Args → Bool
 executes (Some there) (message ∷ others) rest args =

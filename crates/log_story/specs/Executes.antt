@@ -60,27 +60,31 @@ bound_by params number refused i [] bound = bound
 bound_by params number refused i (message ∷ others) bound =
     bound_by params number refused (suc i) others (bound_after params number (refused i) message.payload bound)
 
-abbrev pub args_in : (params number : ℕ) → (refused : ℕ → Bool) → (before : List Framed) → (payload : List ℕ) → Args
-args_in params number refused before payload =
+-- so many messages came before it could be executed, or long data could be sent for it; those bind nothing
+abbrev pub args_in : (params number : ℕ) → (refused : ℕ → Bool) → (unprepared : ℕ) → (before : List Framed) → (payload : List ℕ) → Args
+args_in params number refused unprepared before payload =
     let sent = given_in params payload in
-    let bound = bound_by params number refused 1 before (record { types = None; long = [] }) in
+    let bound = bound_by params number refused (suc unprepared) (drop unprepared before) (record { types = None; long = [] }) in
     record sent { types = option_or sent.types bound.types; long = bound.long }
 
--- The preparation of a number: the client's STMT_PREPARE, which was answered, and by whose answer the client knows it.
+-- The preparation of a number: the client's STMT_PREPARE, of this ordinal, which was answered, and by whose answer the client
+-- knows it.
 pub record Prepared : Type 0 where
   pub key : ℕ
   pub params : ℕ
+  pub ordinal : ℕ
 
-abbrev pub prepared_in : (number : ℕ) → (payload : List ℕ) → Option Route → Option Reply → Option Prepared
-prepared_in number payload (Some route) (Some reply) =
+abbrev pub prepared_in : (number ordinal : ℕ) → (payload : List ℕ) → Option Route → Option Reply → Option Prepared
+prepared_in number ordinal payload (Some route) (Some reply) =
     if nat_eq (slice_index_or payload 0 0) com_prepare
-    && (nat_eq route.number number && is_made reply) then Some (record { key = route.key; params = (end_of reply).params }) else None
-prepared_in number payload _ _ = None
+    && (nat_eq route.number number && is_made reply) then Some (record { key = route.key; params = (end_of reply).params; ordinal = ordinal })
+    else None
+prepared_in number ordinal payload _ _ = None
 
 abbrev pub prepared_by : View → Plan → Client → (number i : ℕ) → List Framed → Option Prepared
 prepared_by view plan client number i [] = None
 prepared_by view plan client number i (message ∷ others) =
-    option_or (prepared_in number message.payload (plan.routes (name_of client i)) (view.replies (name_of client i)))
+    option_or (prepared_in number i message.payload (plan.routes (name_of client i)) (view.replies (name_of client i)))
     (prepared_by view plan client number (suc i) others)
 
 -- a command, and the key of its preparation
@@ -95,7 +99,7 @@ run_of setup args key =
 abbrev pub executed_by : Setup → View → Plan → (moment : ℕ) → Client → (ordinal : ℕ) → (payload : List ℕ) → (number : ℕ) → Option Request
 executed_by setup view plan moment client ordinal payload number =
     let refused : ℕ → Bool = λ i. is_some (own_at plan moment (name_of client i)) in
-    option_map (λ prepared. run_of setup (args_in prepared.params number refused (take (ordinal - 1) (messages plan client)) payload) prepared.key)
+    option_map (λ prepared. run_of setup (args_in prepared.params number refused prepared.ordinal (take (ordinal - 1) (messages plan client)) payload) prepared.key)
     (prepared_by view plan client number 1 (messages plan client))
 
 abbrev pub text_asked : (byte : ℕ) → (rest : List ℕ) → Command

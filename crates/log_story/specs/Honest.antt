@@ -36,7 +36,7 @@ pub record IsExecute (number : Option ℕ) (args : Args) (written : List ℕ) : 
   pub whole : (written_in written).rest ≡ []
   pub executes : is_for com_execute there message.payload ≡ true
   pub params : ℕ
-  pub arguments : args_in params there (λ i. false) long_data message.payload ≡ args
+  pub arguments : args_in params there (λ i. false) 0 long_data message.payload ≡ args
 
 -- the bytes are this command, whole
 abbrev pub IsWritten : Command → (number : Option ℕ) → (written : List ℕ) → Type 0

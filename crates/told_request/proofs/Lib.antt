@@ -1,3 +1,4 @@
 mod Adding
+mod Binding
 mod Finding
 mod Requesting

@@ -33,11 +33,11 @@ module _ (setup : Setup) (view : View) (plan : Plan) (moment : ℕ) (client : Cl
   abbrev by : Option ℕ → Request
   by n = unwrap_or (option_and_then (executed_by setup view plan moment client ordinal payload) n) quits
 
-  abbrev args_by : (params : ℕ) → ClientNo → List Framed → Args
-  args_by params c before = args_in params number (refuses plan moment c) before payload
+  abbrev args_by : (params unprepared : ℕ) → ClientNo → List Framed → Args
+  args_by params unprepared c before = args_in params number (refuses plan moment c) unprepared before payload
 
   abbrev runs : Prepared → Request
-  runs prepared = run_of setup (args_by prepared.params client.number (take (ordinal - 1) (messages plan client))) prepared.key
+  runs prepared = run_of setup (args_by prepared.params prepared.ordinal client.number (take (ordinal - 1) (messages plan client))) prepared.key
 
   by-number : its_request ≡ by (Some number)
   by-number = ap (λ b. cond (nat_eq b com_execute) (by (number_at 4 1 payload)) its_text) executes ∙ ap by numbered
@@ -52,12 +52,12 @@ module _ (setup : Setup) (view : View) (plan : Plan) (moment : ℕ) (client : Cl
 
     pub asks-run : (prepared : Prepared) → found ≡ Some prepared → (text : Key) → setup.keys prepared.key ≡ text
         → (before : List Framed) → before ≡ take (ordinal - 1) these → (n : ClientNo) → n ≡ client.number
-        → (args : Args) → args ≡ args_by prepared.params n before → run_by text args prepared.key ≡ its_request
+        → (args : Args) → args ≡ args_by prepared.params prepared.ordinal n before → run_by text args prepared.key ≡ its_request
     asks-run prepared some text keyed before first n same args given =
         let run : Args → Request = λ these_args. run_of setup these_args prepared.key in
         ap (λ (k : Key). run_by k args prepared.key) (sym keyed)
         ∙ ap run (given
-        ∙ ap (args_by prepared.params n) (first ∙ ap (take (ordinal - 1)) told)
-        ∙ ap (λ (c : ClientNo). args_by prepared.params c (take (ordinal - 1) (messages plan client))) same)
+        ∙ ap (args_by prepared.params prepared.ordinal n) (first ∙ ap (take (ordinal - 1)) told)
+        ∙ ap (λ (c : ClientNo). args_by prepared.params prepared.ordinal c (take (ordinal - 1) (messages plan client))) same)
         ∙ sym (ap (λ o. unwrap_or (option_map runs o) quits) some)
         ∙ by-found

@@ -25,7 +25,7 @@ abbrev pub bound_of : Bound → log.Bound
 bound_of bound = record { types = bound.types; long = bound.long.items }
 
 abbrev pub prepared_of : Prepared → log.Prepared
-prepared_of prepared = record { key = prepared.key; params = prepared.params }
+prepared_of prepared = record { key = prepared.key; params = prepared.params; ordinal = prepared.ordinal }
 
 -- the router itself answered the message of this ordinal
 abbrev pub refused_by : Refusals → (ordinal : ℕ) → Bool
@@ -33,4 +33,4 @@ refused_by refusals i = is_some (own_at (plan_of refusals.plan.now) refusals.mom
 
 -- the preparation that a client's message of this ordinal is, where it is that of a number
 abbrev pub prepared_at : View → Plan → Client → (number ordinal : ℕ) → (payload : List ℕ) → Option log.Prepared
-prepared_at view plan client number ordinal payload = prepared_in number payload (plan.routes (name_of client ordinal)) (view.replies (name_of client ordinal))
+prepared_at view plan client number ordinal payload = prepared_in number ordinal payload (plan.routes (name_of client ordinal)) (view.replies (name_of client ordinal))

@@ -118,7 +118,7 @@ fn messages_before(messages: &[Message], ordinal: u64) -> &[Message]
 ///   reply says. NULLs, types and values are those of the payload, behind 10 bytes ("COM_STMT_EXECUTE"); where it sends no types, they
 ///   are those of the last execute of the number before `ordinal` that sent some. Long data are those that came for the number since its
 ///   last execute or COM_STMT_RESET ("COM_STMT_SEND_LONG_DATA", "COM_STMT_RESET"), one part for each parameter. An execute that the
-///   router itself had answered at `moment` binds nothing.
+///   router itself had answered at `moment` binds nothing, and nor does what came before the preparation.
 /// - Anything else, and an execute of what isn't prepared, asks for the connection's end.
 ///
 /// OutOfMemory where memory is refused.
@@ -153,6 +153,14 @@ pub fn requested(
         client: client.number(),
     };
     let before = messages_before(messages, ordinal);
-    let args = args_in(alloc, prepared.params, number, &refusals, before, payload)?;
+    let args = args_in(
+        alloc,
+        prepared.params,
+        number,
+        &refusals,
+        prepared.ordinal,
+        before,
+        payload,
+    )?;
     run_of(alloc, keys, prepared.key, args)
 }

@@ -1,5 +1,5 @@
 // What earlier messages bound to a prepared statement.
-ghost use Rattle.std.specs.Prelude.{◌≡◌, drop, option_copied, [], None, IfOk, OnOk};
+ghost use Rattle.std.specs.Prelude.{◌≡◌, drop, if◌then◌else◌, option_copied, suc, [], None, IfOk, OnOk};
 ghost use Rattle.std.specs.Option.{option_map_or, option_or};
 ghost use Rattle.mx_base.specs.Fields.{number_at};
 ghost use Rattle.log_story.specs.Executes.{args_in, bound_after, bound_by, given_in, with_long};
@@ -105,6 +105,24 @@ impl Bound {
         Ok(())
     }
 
+    // What a message binds, where it came behind the preparation.
+    fn take_behind(
+        &mut self,
+        alloc: Global,
+        is_behind: bool,
+        params: u16,
+        number: u32,
+        refused: bool,
+        payload: &[u8],
+    ) -> Result<(), OutOfMemory>
+        ensures { OnOk result (bound_of self.new ≡ (if is_behind then bound_after params number refused payload.now (bound_of self.old) else bound_of self.old)) }
+    {
+        if !is_behind {
+            return Ok(());
+        }
+        self.take(alloc, params, number, refused, payload)
+    }
+
     // The arguments of an execute that gives these itself.
     fn into_args(self, alloc: Global, given: Given) -> Result<Args, OutOfMemory>
         ensures { IfOk result (λ args. args_of args ≡ record (given_of given.entry) {
@@ -122,21 +140,23 @@ impl Bound {
     }
 }
 
-// What messages bind, in order.
+// What messages bind, in order, but for the first of them, so many.
 fn bound_by(
     alloc: Global,
     params: u16,
     number: u32,
     refusals: &Refusals,
+    unprepared: u64,
     messages: &[Message],
 ) -> Result<Bound, OutOfMemory>
     ensures { IfOk result (λ bound. bound_of bound
-        ≡ bound_by params number (refused_by refusals.now) 1 messages.now (record { types = None; long = [] })) }
+        ≡ bound_by params number (refused_by refusals.now) (suc unprepared) (drop unprepared messages.now) (record { types = None; long = [] })) }
 {
     let mut bound = Bound::new(alloc);
     for (i, message) in messages.iter().enumerate() {
-        let refused = refusals.has(i as u64 + 1);
-        bound.take(alloc, params, number, refused, message.payload.as_slice())?;
+        let (at, payload) = (i as u64, message.payload.as_slice());
+        let refused = refusals.has(at + 1);
+        bound.take_behind(alloc, at >= unprepared, params, number, refused, payload)?;
     }
     Ok(bound)
 }
@@ -147,10 +167,14 @@ pub(crate) fn args_in(
     params: u16,
     number: u32,
     refusals: &Refusals,
+    unprepared: u64,
     before: &[Message],
     payload: &[u8],
 ) -> Result<Args, OutOfMemory>
-    ensures { IfOk result (λ args. args_of args ≡ args_in params number (refused_by refusals.now) before.now payload.now) }
+    ensures { IfOk result (λ args. args_of args ≡ args_in params number (refused_by refusals.now) unprepared before.now payload.now) }
 {
-    bound_by(alloc, params, number, refusals, before)?.into_args(alloc, given_in(params, payload))
+    bound_by(alloc, params, number, refusals, unprepared, before)?.into_args(
+        alloc,
+        given_in(params, payload),
+    )
 }

@@ -16,22 +16,24 @@ use mx_base::ClientNo;
 use story_view::{Reply, StoryView};
 use told_plan::{Plan, Route};
 
-// What a client prepared: the key of its text, and how many parameters it has.
+// What a client prepared: the key of its text, how many parameters it has, and the ordinal of its message.
 #[derive(Clone, Copy)]
 pub(crate) struct Prepared {
     pub key: u64,
     pub params: u16,
+    pub ordinal: u64,
 }
 
 // The preparation that a message is, where it is that of this number and was answered by no error.
 fn prepared_in(
     number: u32,
+    ordinal: u64,
     payload: &[u8],
     route: Option<&Route>,
     reply: Option<&Reply>,
 ) -> Option<Prepared>
     ensures { option_map prepared_of result
-        ≡ prepared_in number payload.now (option_map route_of (option_copied route.entry)) (option_map reply_of (option_copied reply.entry)) }
+        ≡ prepared_in number ordinal payload.now (option_map route_of (option_copied route.entry)) (option_map reply_of (option_copied reply.entry)) }
 {
     let (route, reply) = (route?, reply?);
     let end = reply.end();
@@ -41,6 +43,7 @@ fn prepared_in(
     Some(Prepared {
         key: route.key,
         params: end.params,
+        ordinal,
     })
 }
 
@@ -57,7 +60,7 @@ fn prepared_at(
         → option_map prepared_of result ≡ prepared_at v (plan_of plan.now) c number ordinal payload.now) }
 {
     let key = message_key(client, ordinal);
-    prepared_in(number, payload, plan.route(key), view.reply(key))
+    prepared_in(number, ordinal, payload, plan.route(key), view.reply(key))
 }
 
 // The preparation of a number: the first one among a client's messages.

@@ -16,7 +16,7 @@ name_at ordinal client = record { client = client; ordinal = ordinal }
 pub returns : goal.returns
 returns c = λ setup v known d same.
     let plan = plan_of c.args.plan.now in
-    let prepared : Option Route → Option Reply → Option Prepared = prepared_in c.args.number c.args.payload.now in
+    let prepared : Option Route → Option Reply → Option Prepared = prepared_in c.args.number c.args.ordinal c.args.payload.now in
     c.prepared_in.ensures
     ∙ ap (λ route. prepared route (option_map reply_of (option_copied c.reply.result))) c.route.ensures
     ∙ ap (prepared (plan.routes (message_of c.message_key-key.result))) (c.reply.ensures setup v known)
