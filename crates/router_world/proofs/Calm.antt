@@ -1,12 +1,12 @@
 -- What an entry leaves of what is said of a link, and of a client's command.
-use Rattle.router_world.proofs.Names.{arith, common_steps, ◌≡◌, ℕ, Bool, true, false, ◌||◌, cond, List, [], ◌∷◌, ◌++◌, Option, Some, None, refl}
-use Rattle.router_world.proofs.Names.{option_and_then, cons_option, flat_map, filter_map, list_any, sym, ◌∙◌, ap, append-nil, filter_map-append}
-use Rattle.router_world.proofs.Names.{flat_map-append, list_any-append, LinkId, Log, link_of, is_link, got_bytes, read_of, written_of, is_open, reply_said}
-use Rattle.router_world.proofs.Names.{bytes-other, step-other, Entry, Account, is_loss, was_lost, was_broken, until_loss, heard_of, piece, pieces_of, carries}
-use Rattle.router_world.proofs.Names.{carrier_of, Answer, connection_refused, Turn, Service, user_on, refused_by, is_turn, is_refused, reply_on}
-use Rattle.router_world.proofs.Names.{reply_to, RefusedOrSent, refused-more, carrier-stays, carrier-more, replied, suc, is_some, Result, option_map, AllLawful}
-use Rattle.router_world.proofs.Names.{Framed, Meaning, parsed, CommandFault, Setup, Arrival, arrival_of, Talk, messages_of, query_by, no_server, talk_with}
-use Rattle.router_world.proofs.Names.{Work, answer, answer_by, first_without, work_in, work_of, IsLawful, in-work, arrival-stays, messages-grow, message-stays}
+use Rattle.router_world.proofs.Names.{arith, common_steps, ◌≡◌, ℕ, Bool, true, false, ◌||◌, cond, List, [], ◌∷◌, ◌++◌, Option, Some, None, option_and_then}
+use Rattle.router_world.proofs.Names.{cons_option, flat_map, filter_map, list_any, sym, ◌∙◌, ap, append-nil, filter_map-append, flat_map-append}
+use Rattle.router_world.proofs.Names.{list_any-append, LinkId, Log, link_of, is_link, got_bytes, read_of, written_of, is_open, reply_said, bytes-other}
+use Rattle.router_world.proofs.Names.{step-other, Entry, Account, is_loss, was_lost, was_broken, until_loss, heard_of, piece, pieces_of, carries, carrier_of}
+use Rattle.router_world.proofs.Names.{Answer, connection_refused, Turn, Service, user_on, refused_by, is_turn, is_refused, reply_on, reply_to, RefusedOrSent}
+use Rattle.router_world.proofs.Names.{refused-more, carrier-stays, carrier-more, replied, suc, is_some, option_map, AllLawful, Framed, parsed, Setup, Arrival}
+use Rattle.router_world.proofs.Names.{arrival_of, Talk, messages_of, no_server, talk_with, Work, answer, answer_by, first_without, work_in, work_of, IsLawful}
+use Rattle.router_world.proofs.Names.{in-work, arrival-stays, messages-grow, message-stays}
 use Rattle.std.proofs.lemmas.Bool.{false_from_ne_true}
 use Rattle.mx_wire.specs.Growth.{of_link-other}
 use Rattle.promises.proofs.InWork.{refused-stays, query-answer, asks-open}
@@ -14,6 +14,7 @@ use Rattle.promises.proofs.Staying.{user-on-stays, reply-stays, talk-more, answe
 use Rattle.promises.proofs.Causes.{then-of}
 use Rattle.promises.specs.Sends.{Asks}
 use Rattle.promises.proofs.Moments.{due-stays}
+use Rattle.promises.specs.Due.{answer_when, query_answer}
 
 -- What was read and written on a link is as before.
 pub record Leaves (link : LinkId) (log : Log) (e : Entry) : Type 0 where
@@ -30,7 +31,8 @@ pub leaves-other : (link : LinkId) (log : Log) (e : Entry) → is_link link (lin
 leaves-other link log e other = grind (arith, common_steps, bytes-other, of_link-other, piece, step-other)
 
 -- And one that neither reads nor writes, and loses no link.
-pub until-still : (log : Log) (e : Entry) → is_loss e ≡ false → until_loss (log ++ e ∷ []) ≡ cond (list_any is_loss log) (until_loss log) (until_loss log ++ e ∷ [])
+
+until-still : (log : Log) (e : Entry) → is_loss e ≡ false → until_loss (log ++ e ∷ []) ≡ cond (list_any is_loss log) (until_loss log) (until_loss log ++ e ∷ [])
 until-still [] e calm = ap (λ b. cond b [] (e ∷ [])) calm
 until-still (d ∷ log) e calm = grind (arith, common_steps, (until-still log e calm))
 
@@ -50,87 +52,79 @@ pub pieces-still : (log : Log) (e : Entry) → piece e ≡ None → filter_map p
 pieces-still log e none = filter_map-append piece log (e ∷ []) ∙ ap (λ o. filter_map piece log ++ cons_option o []) none ∙ append-nil (filter_map piece log)
 
 -- A command of which the entry writes nothing is where it was.
-
 pub carrier-same : (n i : ℕ) (log : Log) (e : Entry) → carries n i e ≡ None → carrier_of n i (log ++ e ∷ []) ≡ carrier_of n i log
 carrier-same n i log e none = grind (arith, common_steps, carrier-more)
-
--- One that the entry doesn't refuse isn't refused.
 
 abbrev pub Spares : Service → Log → Entry → (n i : ℕ) → Type 0
 Spares service log e n i = (turn : Turn) → refused_by service log e ≡ Some turn → is_turn n i turn ≡ false
 
-pub unrefused-more : (service : Service) (n i : ℕ) (log : Log) (e : Entry) → is_refused service n i log ≡ false → Spares service log e n i → is_refused service n i (log ++ e ∷ []) ≡ false
-unrefused-more service n i log e was spares = grind (arith, common_steps, refused-more, list_any-append)
-
--- A command that wasn't sent has no reply.
-pub unsent-unreplied : (service : Service) (n i : ℕ) (log : Log) → carrier_of n i log ≡ None → reply_to service n i log ≡ None
-unsent-unreplied service n i log none = ap (option_and_then (λ link. option_and_then (reply_on service.forms n i link log) (user_on service link log))) none
-
-pub unsent-still : (service : Service) (n i : ℕ) (log : Log) → carrier_of n i log ≡ None → is_refused service n i log ≡ false → replied service n i log ≡ None
-unsent-still service n i log none unrefused = ap (λ b. cond b (Some (connection_refused ∷ [])) (reply_to service n i log)) unrefused ∙ unsent-unreplied service n i log none
-
--- One that was sent wasn't refused.
-pub sent-unrefused : (service : Service) (n i : ℕ) (log : Log) (link : LinkId) → RefusedOrSent service log → carrier_of n i log ≡ Some link → is_refused service n i log ≡ false
-sent-unrefused service n i log link never at = false_from_ne_true (is_refused service n i log) (λ was. (let no : Some link ≡ None = sym at ∙ never n i was in cc))
-
--- One whose link is left has the reply that it had.
-pub reply-left : (service : Service) (n i : ℕ) (log : Log) (e : Entry) (link : LinkId) (user : Account) → carrier_of n i log ≡ Some link → user_on service link log ≡ Some user → Leaves link log e
-    → reply_to service n i (log ++ e ∷ []) ≡ reply_to service n i log
-reply-left service n i log e link user at is leaves =
-    ap (option_and_then (λ l. option_and_then (reply_on service.forms n i l (log ++ e ∷ [])) (user_on service l (log ++ e ∷ [])))) (carrier-stays n i log (e ∷ []) link at)
-    ∙ ap (option_and_then (reply_on service.forms n i link (log ++ e ∷ []))) (user-on-stays service link log (e ∷ []) user is)
-    ∙ (λ j. reply_said service.forms n i user (leaves.heard j) (leaves.pieces j) (leaves.lost j))
-    ∙ sym (ap (option_and_then (reply_on service.forms n i link log)) is)
-    ∙ sym (ap (option_and_then (λ l. option_and_then (reply_on service.forms n i l log) (user_on service l log))) at)
-
--- What came of a command stays.
-pub replied-stays : (service : Service) (n i : ℕ) (log more : Log) (answer : Answer) → RefusedOrSent service (log ++ more) → replied service n i log ≡ Some answer → replied service n i (log ++ more) ≡ Some answer
-replied-stays service n i log more answer never is = grind (arith, common_steps, reply-stays, then-of, carrier-stays, refused-stays)
-
--- A query that is in work stays so until something comes of it.
+-- what a query that asks has in place of an answer
+asks-served : (setup : Setup) (reply : Option Answer) → cond (is_some setup.target) reply (Some (no_server ∷ [])) ≡ None → (is_some setup.target ≡ true) × (reply ≡ None)
+asks-served setup reply none = by (is_some setup.target) none where
+  by : (b : Bool) → cond b reply (Some (no_server ∷ [])) ≡ None → (b ≡ true) × (reply ≡ None)
+  by b none = grind (arith, common_steps)
 
 -- the first message without an answer stays the first, where the answers stay and it has none yet
 first-still : (old new : ℕ → Option Answer) → ((i : ℕ) (reply : Answer) → old i ≡ Some reply → new i ≡ Some reply) → (i : ℕ) (messages later : List Framed) (work : Work) → first_without old i messages ≡ Some work → new work.ordinal ≡ None
     → first_without new i (messages ++ later) ≡ Some work
-first-still old new stay i [] later work is none = absurd (let no : None ≡ Some work = is in cc)
+first-still old new stay i [] later work is none = cc
 first-still old new stay i (message ∷ messages) later work is none = grind (arith, common_steps, (first-still old new stay (suc i) messages later work))
 
-pub work-stays : (service : Service) (n : ℕ) (log more : Log) (work : Work) → AllLawful (IsLawful service) (log ++ more) → work_of service n log ≡ Some work → answer service n work.ordinal (log ++ more) ≡ None → work_of service n (log ++ more) ≡ Some work
-work-stays service n log more work lawful is none = by (arrival_of n log) refl is where
-  by : (o : Option Arrival) → arrival_of n log ≡ o → work_in service n log (option_map (λ (came : Arrival). talk_with service n came log) o) ≡ Some work → work_of service n (log ++ more) ≡ Some work
-  by None at is = absurd (let no : None ≡ Some work = is in cc)
-  by (Some came) at is = (let grows = messages-grow (talk_with service n came log) (read_of came.link more) in
-      ap (λ (o : Option Arrival). work_in service n (log ++ more) (option_map (λ (came : Arrival). talk_with service n came (log ++ more)) o)) (arrival-stays n log more came at)
-      ∙ ap (λ (t : Talk). first_without (λ i. answer service n i (log ++ more)) 1 (messages_of t).messages) (talk-more service n came log more)
-      ∙ ap (first_without (λ i. answer service n i (log ++ more)) 1) grows.messages
-      ∙ first-still (λ i. answer service n i log) (λ i. answer service n i (log ++ more)) (λ i reply at. answer-stays service n i log more reply lawful at) 1 (messages_of (talk_with service n came log)).messages grows.later work is none)
+module _ (service : Service) (n i : ℕ) where
+  -- One that the entry doesn't refuse isn't refused.
+  pub unrefused-more : (log : Log) (e : Entry) → is_refused service n i log ≡ false → Spares service log e n i → is_refused service n i (log ++ e ∷ []) ≡ false
+  unrefused-more log e was spares = grind (arith, common_steps, refused-more, list_any-append)
 
--- what a query that asks has in place of an answer
-replied-none : (setup : Setup) (reply : Option Answer) (meaning : Result Meaning CommandFault) → is_some setup.target ≡ true → query_by meaning ≡ true → reply ≡ None → answer_by (cond (is_some setup.target) reply (Some (no_server ∷ []))) meaning ≡ None
-replied-none setup reply meaning has query none = query-answer (cond (is_some setup.target) reply (Some (no_server ∷ []))) meaning query ∙ ap (λ b. cond b reply (Some (no_server ∷ []))) has ∙ none
+  -- One that wasn't sent has no reply.
+  pub unsent-still : (log : Log) → carrier_of n i log ≡ None → is_refused service n i log ≡ false → replied service n i log ≡ None
+  unsent-still log none unrefused = ap (λ b. cond b (Some (connection_refused ∷ [])) (reply_to service n i log)) unrefused
+      ∙ ap (option_and_then (λ link. option_and_then (reply_on service.forms n i link log) (user_on service link log))) none
 
-pub asks-stay : (service : Service) (n i : ℕ) (message : Framed) (due log more : Log) → AllLawful (IsLawful service) (log ++ more) → is_some service.setup.target ≡ true → Asks service n i message due log → replied service n i (log ++ more) ≡ None
-    → Asks service n i message due (log ++ more)
-asks-stay service n i message due log more lawful has asks none = (let there : Rattle.promises.specs.Due.message_of service n i (log ++ more) ≡ Some message =
-    message-stays service n i log more message (in-work service n log (record { ordinal = i; message = message }) asks.work).0 in
-    let unanswered : answer service n i (log ++ more) ≡ None =
-    ap (λ d. Rattle.promises.specs.Due.answer_when service n i d (log ++ more)) (due-stays service n i log more due asks.is_due)
-    ∙ ap (option_and_then (λ (m : Framed). answer_by (Rattle.promises.specs.Due.query_answer service n i m due (log ++ more)) (parsed m.payload))) there
-    ∙ replied-none service.setup (replied service n i (log ++ more)) (parsed message.payload) has asks.query none in
-    record {
-      came = asks.came;
-      is_came = arrival-stays n log more asks.came asks.is_came;
-      served = asks.served;
-      work = work-stays service n log more (record { ordinal = i; message = message }) lawful asks.work unanswered;
-      query = asks.query;
-      is_due = due-stays service n i log more due asks.is_due;
-    })
+  -- One that was sent wasn't refused.
+  pub sent-unrefused : (log : Log) (link : LinkId) → RefusedOrSent service log → carrier_of n i log ≡ Some link → is_refused service n i log ≡ false
+  sent-unrefused log link never at = false_from_ne_true (is_refused service n i log) (λ was. cc (never n i was, at))
 
--- a query that asks goes to a server
-pub asks-server : (service : Service) (n i : ℕ) (message : Framed) (due log : Log) → Asks service n i message due log → is_some service.setup.target ≡ true
-asks-server service n i message due log asks = (let by : (b : Bool) → cond b (replied service n i log) (Some (no_server ∷ [])) ≡ None → b ≡ true = λ b none. grind (arith, common_steps) in
-    by (is_some service.setup.target) (asks-open service n i message due log asks))
+  -- One whose link is left has the reply that it had.
+  pub reply-left : (log : Log) (e : Entry) (link : LinkId) (user : Account) → carrier_of n i log ≡ Some link → user_on service link log ≡ Some user → Leaves link log e → reply_to service n i (log ++ e ∷ []) ≡ reply_to service n i log
+  reply-left log e link user at is leaves = there (log ++ e ∷ []) (carrier-stays n i log (e ∷ []) link at) (user-on-stays service link log (e ∷ []) user is)
+      ∙ (λ j. reply_said service.forms n i user (leaves.heard j) (leaves.pieces j) (leaves.lost j)) ∙ sym (there log at is) where
+        there : (l : Log) → carrier_of n i l ≡ Some link → user_on service link l ≡ Some user → reply_to service n i l ≡ reply_on service.forms n i link l user
+        there l at is = ap (option_and_then (λ k. option_and_then (reply_on service.forms n i k l) (user_on service k l))) at ∙ ap (option_and_then (reply_on service.forms n i link l)) is
 
--- nothing came of it yet
-pub asks-unreplied : (service : Service) (n i : ℕ) (message : Framed) (due log : Log) → Asks service n i message due log → replied service n i log ≡ None
-asks-unreplied service n i message due log asks = ap (λ b. cond b (replied service n i log) (Some (no_server ∷ []))) (sym (asks-server service n i message due log asks)) ∙ asks-open service n i message due log asks
+  -- What came of it stays.
+  pub replied-stays : (log more : Log) (answer : Answer) → RefusedOrSent service (log ++ more) → replied service n i log ≡ Some answer → replied service n i (log ++ more) ≡ Some answer
+  replied-stays log more answer never is = grind (arith, common_steps, reply-stays, then-of, carrier-stays, refused-stays)
+
+  -- A query that is in work stays so until something comes of it.
+
+  module _ (message : Framed) (due log : Log) where
+    -- it goes to a server, and nothing came of it yet
+    pub asks-server : Asks service n i message due log → is_some service.setup.target ≡ true
+    asks-server asks = (asks-served service.setup (replied service n i log) (asks-open service n i message due log asks)).0
+
+    pub asks-unreplied : Asks service n i message due log → replied service n i log ≡ None
+    asks-unreplied asks = (asks-served service.setup (replied service n i log) (asks-open service n i message due log asks)).1
+
+    work-stays : (came : Arrival) (more : Log) → arrival_of n log ≡ Some came → AllLawful (IsLawful service) (log ++ more) → work_of service n log ≡ Some (record { ordinal = i; message = message }) → answer service n i (log ++ more) ≡ None
+        → work_of service n (log ++ more) ≡ Some (record { ordinal = i; message = message })
+    work-stays came more at lawful is none = (let grows = messages-grow (talk_with service n came log) (read_of came.link more) in
+        ap (λ (o : Option Arrival). work_in service n (log ++ more) (option_map (λ (came : Arrival). talk_with service n came (log ++ more)) o)) (arrival-stays n log more came at)
+        ∙ ap (λ (t : Talk). first_without (λ k. answer service n k (log ++ more)) 1 (messages_of t).messages) (talk-more service n came log more)
+        ∙ ap (first_without (λ k. answer service n k (log ++ more)) 1) grows.messages
+        ∙ first-still (λ k. answer service n k log) (λ k. answer service n k (log ++ more)) (λ k reply at. answer-stays service n k log more reply lawful at) 1 (messages_of (talk_with service n came log)).messages grows.later (record { ordinal = i; message = message })
+        (sym (ap (λ (o : Option Arrival). work_in service n log (option_map (λ (came : Arrival). talk_with service n came log) o)) at) ∙ is) none)
+
+    pub asks-stay : (more : Log) → AllLawful (IsLawful service) (log ++ more) → is_some service.setup.target ≡ true → Asks service n i message due log → replied service n i (log ++ more) ≡ None → Asks service n i message due (log ++ more)
+    asks-stay more lawful has asks none = (let there = message-stays service n i log more message (in-work service n log (record { ordinal = i; message = message }) asks.work).0 in
+        let unanswered : answer service n i (log ++ more) ≡ None = ap (λ d. answer_when service n i d (log ++ more)) (due-stays service n i log more due asks.is_due)
+        ∙ ap (option_and_then (λ (m : Framed). answer_by (query_answer service n i m due (log ++ more)) (parsed m.payload))) there
+        ∙ query-answer (cond (is_some service.setup.target) (replied service n i (log ++ more)) (Some (no_server ∷ []))) (parsed message.payload) asks.query
+        ∙ ap (λ b. cond b (replied service n i (log ++ more)) (Some (no_server ∷ []))) has ∙ none in
+        record {
+          came = asks.came;
+          is_came = arrival-stays n log more asks.came asks.is_came;
+          served = asks.served;
+          work = work-stays asks.came more asks.is_came lawful asks.work unanswered;
+          query = asks.query;
+          is_due = due-stays service n i log more due asks.is_due;
+        })

@@ -1,232 +1,244 @@
 -- What the entries on a client's link make of what stands.
+use Rattle.router_world.proofs.Names.{list_any-append, ◌≡◌, ◌⊎◌, ◌<◌, ℕ, Bool, true, false, is_some, nat_eq, ◌||◌, ◌&&◌, List, [], ◌∷◌, ◌++◌, length, take}
+use Rattle.router_world.proofs.Names.{drop, Some, None, refl, list_any, sym, ◌∙◌, ap, subst, arith, append_assoc, take-append-drop, inl, inr, ClientNo}
+use Rattle.router_world.proofs.Names.{LinkId, Tag, Log, is_link, link_of, of_link, got_bytes, wrote_bytes, read_of, written_of, lawful-more, Fits}
+use Rattle.router_world.proofs.Names.{same_number, of_link-same, bytes-same, bytes-idle, Entry, Got, Wrote, Account, Arrival, arrival_of, is_traffic, Phase}
+use Rattle.router_world.proofs.Names.{Session, Turned, still, ended, said, taken, gone, is_loss, was_lost, was_broken, is_failure, Service, talk_with, due}
+use Rattle.router_world.proofs.Names.{arrival-stays, Seat, replied, SeatAt, Unanswered, Tables, without_seat, with_lends, Lent, some-same, ◌≢◌, carries}
 use Rattle.std.proofs.lemmas.Bool.{and_parts, or_right}
-use Rattle.router_world.proofs.Connecting.{open-kept}
-use Rattle.router_world.proofs.Names.{list_any-append, IsLawful, ◌≡◌, ◌⊎◌, ◌<◌, ◌≤◌, ℕ, Bool, true, false, is_some, nat_eq, ◌||◌, ◌&&◌, List, [], ◌∷◌, ◌++◌}
-use Rattle.router_world.proofs.Names.{length, take, drop, Some, None, refl, list_any, sym, ◌∙◌, ap, subst, arith, append_assoc, take-append-drop, inl, inr}
-use Rattle.router_world.proofs.Names.{ClientNo, LinkId, Tag, Log, is_link, link_of, of_link, got_bytes, wrote_bytes, read_of, written_of, is_open, AllLawful}
-use Rattle.router_world.proofs.Names.{lawful-more, Fits, same_number, of_link-same, bytes-same, bytes-idle, Entry, Got, Wrote, Account, Arrival, arrival_of}
-use Rattle.router_world.proofs.Names.{is_traffic, Phase, Session, Turned, still, ended, said, taken, Lends, gone, is_loss, was_lost, was_broken, is_failure}
-use Rattle.router_world.proofs.Names.{Service, talk_with, due, arrival-stays, Seat, replied, SeatAt, Unanswered, Tables, without_seat, with_lends}
-use Rattle.router_world.proofs.Stepping.{calm-client, rows-client, done, OnClient, client-step, lends-client, take-out}
+use Rattle.router_world.proofs.Connecting.{open-kept, counts-all}
 use Rattle.mx_wire.specs.declared.entry.Entry.TheVariants.{Ended}
 use Rattle.router_world.specs.World.{goes_on, breaks_off}
 use Rattle.router_world.proofs.Seats.{agree-seat, taken-seat}
-use Rattle.router_world.proofs.Calm.{any-still}
-use Rattle.router_world.proofs.Hearing.{read-short, Says, Coming, said-by}
+use Rattle.router_world.proofs.Hearing.{read-short, Says, said-by}
 use Rattle.router_world.proofs.Dues.{due-lost, due-loses, due-unlost}
 use Rattle.router_world.proofs.Frames.{Calm, busy-none, replies-agree, unanswered-calm, later-calm}
-use Rattle.router_world.proofs.Sound.{LendsSound, SeatStands, IsHeard, IsEnded, Done, Sound, Serves, Unsent}
-use Rattle.router_world.proofs.Apart.{Away, Went, set-same}
-use Rattle.router_world.proofs.Hands.{Next, Works, Rests, LogsIn, Ends, relend, Parted, part-with, free-gone, ends-so, finished-parted, lost-away}
+use Rattle.router_world.proofs.Sound.{LendsSound, SeatStands, IsHeard, IsEnded, Done, Sound, Serves, Unsent, Sits, Happens}
+use Rattle.router_world.proofs.Apart.{Away, Went, set-same, apart-numbers}
+use Rattle.router_world.proofs.Hands.{Next, Works, Rests, LogsIn, Ends, relend, part-with, free-gone, ends-so, finished-parted, lost-away, traces-self}
+use Rattle.router_world.proofs.Hands.{goes-on, apart-self}
 use Rattle.router_world.proofs.LinksGone.{gone-sound}
+use Rattle.router_world.proofs.Calm.{Leaves, leaves-other, or-none}
+use Rattle.router_world.proofs.Lawful.{unowned}
+use Rattle.router_world.proofs.Stepping.{IsQuiet, done, lends-still, client-spares, OnLink, taken-out}
+use Rattle.client_talk.specs.Events.{said_in}
 use Rattle.client_talk.specs.declared.session.Phase.TheVariants as phase
 
+-- An entry on the link of this client, which has this seat.
+pub record OnClient (service : Service) (log : Log) (e : Entry) (client : ClientNo) (link : LinkId) (seat : Seat) (tables : Tables) : Type 0 where
+  pub on : OnLink service log e link tables
+  pub writes : (n i : ℕ) → carries n i e ≡ None
+  pub number : tables.numbers link.0 ≡ Some client
+  pub is : tables.seats client.0 ≡ Some seat
+  pub same : seat.link ≡ link
+
 -- What a client is told next needs what came of its queries by then.
-pub record Replies (service : Service) (log : Log) (e : Entry) (n : ℕ) (came : Arrival) (session : Session) : Type 0 where
+record Replies (service : Service) (log : Log) (e : Entry) (n : ℕ) (came : Arrival) (session : Session) : Type 0 where
   pub seat : SeatAt (talk_with service n came log) (λ i. replied service n i (log ++ e ∷ [])) (written_of came.link log) session
   pub unanswered : Unanswered (λ i. replied service n i (log ++ e ∷ [])) session
   pub unsent : Unsent service n session.client.arrived (log ++ e ∷ [])
 
-pub replies-then : (service : Service) (log : Log) (e : Entry) (n : ℕ) (came : Arrival) (session : Session) → AllLawful (Rattle.promises.specs.Headline.IsLawful service) (log ++ e ∷ []) → IsHeard service log n came session → Calm service log e n
-    → ((user : Account) → session.phase ≡ phase.Working user → replied service n session.client.arrived (log ++ e ∷ []) ≡ None) → Replies service log e n came session
-replies-then service log e n came session lawful heard calm none = record {
-  seat = agree-seat (talk_with service n came log) (λ i. replied service n i log) (λ i. replied service n i (log ++ e ∷ [])) (written_of came.link log) session (replies-agree service log e n came session lawful heard none) heard.at;
-  unanswered = unanswered-calm service log e n session calm heard.unsent none;
-  unsent = later-calm service log e n session.client.arrived calm heard.unsent;
-}
+module _ {service : Service} {log : Log} {e : Entry} {client : ClientNo} {link : LinkId} {seat : Seat} {tables : Tables} (on : OnClient service log e client link seat tables) where
+  abbrev then : Log
+  then = log ++ e ∷ []
 
--- A seat that keeps its phase asks for nothing new.
-pub next-same : (service : Service) (log : Log) (n : ℕ) (seat : Seat) (lends : Lends) → LendsSound service log lends → lends.closing ≡ [] → (stands : SeatStands service log n seat) → (at : Phase) → seat.session.phase ≡ at → Serves at lends n seat.session.client.arrived → Next service log n lends at seat.session.client.arrived None
-next-same service log n seat lends sound none stands phase.LoggingIn is serves = LogsIn serves
-next-same service log n seat lends sound none stands (phase.Idle user) is serves = Rests user serves
-next-same service log n seat lends sound none stands (phase.Working user) is serves = Works user serves
-next-same service log n seat lends sound none stands phase.Ending is serves = Ends None (by stands.state) where
-  by : IsHeard service log n stands.came seat.session ⊎ IsEnded service log n stands.came seat.session → Went service log n lends (gone (record { 0 = n }) lends)
-  by (inl heard) = ends-so service log n stands.came (written_of stands.came.link log) seat.session lends sound (inl none) stands.is_came (free-gone lends n serves) is heard.at
-  by (inr lost) = gone-sound service log n lends sound (inl none) (Away (lost-away n stands.came log stands.is_came lost.lost))
+  happens : Happens service log e tables
+  happens = on.on.happens
 
--- What is known of a client's seat as an entry of its link comes.
-record Here (service : Service) (log : Log) (e : Entry) (client : ClientNo) (seat : Seat) (tables : Tables) : Type 0 where
-  pub was : SeatStands service log client.0 seat
-  pub came : arrival_of client.0 (log ++ e ∷ []) ≡ Some was.came
-  pub here : is_link was.came.link (link_of e) ≡ true
-  pub holds : (p : Entry → Bool) → p e ≡ true → list_any p (of_link was.came.link (log ++ e ∷ [])) ≡ true
-  pub keeps : (p : Entry → Bool) → p e ≡ false → list_any p (of_link was.came.link (log ++ e ∷ [])) ≡ list_any p (of_link was.came.link log)
-  pub lends : LendsSound service (log ++ e ∷ []) tables.lends
-  pub replies : IsHeard service log client.0 was.came seat.session → Replies service log e client.0 was.came seat.session
-  pub away : was_lost was.came.link (log ++ e ∷ []) ≡ true → Went service (log ++ e ∷ []) client.0 tables.lends (gone client tables.lends)
-  pub stands : is_failure e ≡ false → (session : Session) → IsHeard service (log ++ e ∷ []) client.0 was.came session ⊎ IsEnded service (log ++ e ∷ []) client.0 was.came session
-      → SeatStands service (log ++ e ∷ []) client.0 (record { link = seat.link; session = session })
+  sits : Sits service log tables.numbers tables.lends client.0 seat
+  sits = happens.sound.seats client.0 seat on.is
 
-here-of : (service : Service) (log : Log) (e : Entry) (client : ClientNo) (link : LinkId) (seat : Seat) (tables : Tables) → Sound service log None tables → OnClient service log e client link tables → tables.seats client.0 ≡ Some seat → seat.link ≡ link → Here service log e client seat tables
-here-of service log e client link seat tables sound on is same = (let sits = sound.seats client.0 seat is in
-    let was : SeatStands service log client.0 seat = sits.stands in
-    let came : arrival_of client.0 (log ++ e ∷ []) ≡ Some was.came = arrival-stays client.0 log (e ∷ []) was.came was.is_came in
-    let here : is_link was.came.link (link_of e) ≡ true = ap (is_link was.came.link) on.on.names ∙ ap (λ (l : LinkId). nat_eq l.0 link.0) (was.link ∙ same) ∙ same_number link.0 in
-    let keeps : (p : Entry → Bool) → p e ≡ false → list_any p (of_link was.came.link (log ++ e ∷ [])) ≡ list_any p (of_link was.came.link log) =
-    λ p none. ap (list_any p) (of_link-same was.came.link log e here) ∙ any-still p (of_link was.came.link log) e none in
-    let lends : LendsSound service (log ++ e ∷ []) tables.lends = lends-client service log e client link seat tables sound on is same in
-    let calm : Calm service log e client.0 = calm-client service log e client link seat tables sound on is same client.0 in
-    record {
-      was = was;
-      came = came;
-      here = here;
-      holds = λ p at. ap (list_any p) (of_link-same was.came.link log e here) ∙ list_any-append p (of_link was.came.link log) (e ∷ []) ∙ ap (λ b. list_any p (of_link was.came.link log) || (b || false)) at ∙ or_right (list_any p (of_link was.came.link log)) true refl;
-      keeps = keeps;
-      lends = lends;
-      replies = λ heard. replies-then service log e client.0 was.came seat.session on.on.happens.lawful heard calm
-          (λ user working. busy-none service log e tables.lends client.0 seat.session.client.arrived on.on.happens.lawful sound.lends calm (λ other lent owns row. rows-client service log e client link tables sound on other lent row)
-          (subst (λ (p : Phase). Serves p tables.lends client.0 seat.session.client.arrived) working sits.serves));
-      away = λ lost. gone-sound service (log ++ e ∷ []) client.0 tables.lends lends (inl (done service.setup tables on.on.acted).unclosed) (Away (lost-away client.0 was.came (log ++ e ∷ []) came lost));
-      stands = λ none session state. record {
-        came = was.came;
-        is_came = came;
-        link = was.link;
-        served = was.served;
-        opened = open-kept seat.link log e on.on.stays ∙ was.opened;
-        unbroken = ap (λ (l : LinkId). was_broken l (log ++ e ∷ [])) (sym was.link) ∙ keeps is_failure none ∙ ap (λ (l : LinkId). was_broken l log) was.link ∙ was.unbroken;
-        state = state;
-      };
-    })
+  quiet : IsQuiet tables
+  quiet = done service.setup tables on.on.acted
 
--- The end of a client is read.
-pub ended-client : (service : Service) (log : Log) (client : ClientNo) (link : LinkId) (seat : Seat) (tables : Tables) → Sound service log None tables → OnClient service log (Ended link) client link tables → tables.seats client.0 ≡ Some seat → seat.link ≡ link
+  abbrev came : Arrival
+  came = sits.stands.came
+
+  abbrev State : Session → Type 0
+  State session = IsHeard service log client.0 came session ⊎ IsEnded service log client.0 came session
+
+  abbrev StateThen : Session → Type 0
+  StateThen session = IsHeard service then client.0 came session ⊎ IsEnded service then client.0 came session
+
+  -- It leaves all other links, and all commands.
+
+  calm : (k : ℕ) → Calm service log e k
+  calm k = record { writes = on.writes k; spares = λ i. client-spares service log e link on.on.refuses (unowned log happens.told service client.0 came sits.stands.is_came (sits.stands.link ∙ on.same)) k i }
+
+  left : (other : LinkId) → other.0 ≢ link.0 → Leaves other log e
+  left other apart = leaves-other other log e (ap (is_link other) on.on.names ∙ apart-numbers other.0 link.0 apart)
+
+  rows : (other : LinkId) (lent : Lent) → tables.lends.links other.0 ≡ Some lent → Leaves other log e
+  rows other lent row = left other (λ at. cc (happens.sound.unlent link client on.number, at, row))
+
+  lends : LendsSound service then tables.lends
+  lends = lends-still service log e tables.lends happens.lawful happens.fits happens.sound.lends quiet.unclosed calm rows
+
+  -- its seat is taken out
+  out : Sound service then (Some (record { client = client.0; link = seat.link })) (without_seat client tables)
+  out = taken-out service log e client seat tables tables.lends happens.sound (record {
+    lawful = happens.lawful;
+    plain = on.on.plain;
+    calm = λ k apart. calm k;
+    seats = seats;
+    rows = λ other lent turn row of apart. rows other lent row;
+    served = happens.served;
+    unparted = quiet.unparted;
+    counts = counts-all then (lawful-more Fits log e happens.told happens.fits);
+  }) on.is lends (apart-self client.0 tables.lends) (traces-self tables.lends) (λ other opened. sym (open-kept other log e on.on.stays) ∙ opened) where
+    seats : (k : ℕ) (other : Seat) → nat_eq k client.0 ≡ false → tables.seats k ≡ Some other → Leaves other.link log e
+    seats k other apart there = left other.link (λ at. (let both : Some (record { 0 = k }) ≡ Some client = sym ((happens.sound.seats k other there).numbered) ∙ ap (λ m. tables.numbers m) at ∙ on.number in
+        let number : k ≡ client.0 = ap (λ (c : ClientNo). c.0) (some-same (record { 0 = k }) client both) in
+        cc (same_number client.0, ap (λ m. nat_eq m client.0) number, apart)))
+
+  -- What is known of its own link.
+
+  arrived : arrival_of client.0 then ≡ Some came
+  arrived = arrival-stays client.0 log (e ∷ []) came sits.stands.is_came
+
+  here : is_link came.link (link_of e) ≡ true
+  here = ap (is_link came.link) on.on.names ∙ ap (λ (l : LinkId). nat_eq l.0 link.0) (sits.stands.link ∙ on.same) ∙ same_number link.0
+
+  any-then : (p : Entry → Bool) → list_any p (of_link came.link then) ≡ (list_any p (of_link came.link log) || (p e || false))
+  any-then p = ap (list_any p) (of_link-same came.link log e here) ∙ list_any-append p (of_link came.link log) (e ∷ [])
+
+  holds : (p : Entry → Bool) → p e ≡ true → list_any p (of_link came.link then) ≡ true
+  holds p at = any-then p ∙ ap (λ b. list_any p (of_link came.link log) || (b || false)) at ∙ or_right (list_any p (of_link came.link log)) true refl
+
+  keeps : (p : Entry → Bool) → p e ≡ false → list_any p (of_link came.link then) ≡ list_any p (of_link came.link log)
+  keeps p none = any-then p ∙ ap (λ b. list_any p (of_link came.link log) || (b || false)) none ∙ or-none (list_any p (of_link came.link log))
+
+  replies : IsHeard service log client.0 came seat.session → Replies service log e client.0 came seat.session
+  replies heard = (let none : (user : Account) → seat.session.phase ≡ phase.Working user → replied service client.0 seat.session.client.arrived then ≡ None =
+      λ user working. busy-none service log e tables.lends client.0 seat.session.client.arrived happens.lawful happens.sound.lends (calm client.0) (λ other lent owns row. rows other lent row)
+      (subst (λ (p : Phase). Serves p tables.lends client.0 seat.session.client.arrived) working sits.serves) in
+      record {
+        seat = agree-seat (talk_with service client.0 came log) (λ i. replied service client.0 i log) (λ i. replied service client.0 i then) (written_of came.link log) seat.session
+            (replies-agree service log e client.0 came seat.session happens.lawful heard none) heard.at;
+        unanswered = unanswered-calm service log e client.0 seat.session (calm client.0) heard.unsent none;
+        unsent = later-calm service log e client.0 seat.session.client.arrived (calm client.0) heard.unsent;
+      })
+
+  away : was_lost came.link then ≡ true → Went service then client.0 tables.lends (gone client tables.lends)
+  away lost = gone-sound service then client.0 tables.lends lends (inl quiet.unclosed) (Away (lost-away client.0 came then arrived lost))
+
+  -- a client whose end was read before is due what it was
+  still-ended : IsEnded service log client.0 came seat.session → is_loss e ≡ false → (session : Session) → session.phase ≡ seat.session.phase → written_of came.link then ++ session.client.outgoing ≡ written_of came.link log ++ seat.session.client.outgoing → IsEnded service then client.0 came session
+  still-ended went none session same told = record {
+    lost = keeps is_loss none ∙ went.lost;
+    ends = same ∙ went.ends;
+    told = told ∙ went.told ∙ sym (due-lost service client.0 came log e sits.stands.is_came sits.stands.served went.lost);
+  }
+
+  -- and its session goes on
+  stands : is_failure e ≡ false → (session : Session) → StateThen session → SeatStands service then client.0 (record { link = seat.link; session = session })
+  stands none session state = record {
+    came = came;
+    is_came = arrived;
+    link = sits.stands.link;
+    served = sits.stands.served;
+    opened = open-kept seat.link log e on.on.stays ∙ sits.stands.opened;
+    unbroken = ap (λ (l : LinkId). was_broken l then) (sym sits.stands.link) ∙ keeps is_failure none ∙ ap (λ (l : LinkId). was_broken l log) sits.stands.link ∙ sits.stands.unbroken;
+    state = state;
+  }
+
+  goes : (turned : Turned) → is_failure e ≡ false → StateThen turned.session → Next service then client.0 tables.lends turned.session.phase turned.session.client.arrived turned.query → Sound service then None (goes_on client seat.link turned (without_seat client tables))
+  goes turned none state next = (let stands = stands none turned.session state in
+      goes-on service then client seat.link turned (without_seat client tables) out (set-same tables.seats client.0 None) (ap (λ (l : LinkId). tables.numbers l.0) on.same ∙ on.number) quiet.unparted stands next
+      (finished-parted service then client.0 (record { link = seat.link; session = turned.session }) stands))
+
+  -- Its link is broken.
+  pub broken-client : is_failure e ≡ true → is_loss e ≡ true → Sound service then None (breaks_off client link tables)
+  broken-client failure loss = (let went = away (holds is_loss loss) in
+      let taken : Sound service then (Some (record { client = client.0; link = link })) (without_seat client tables) =
+      subst (λ (l : LinkId). Sound service then (Some (record { client = client.0; link = l })) (without_seat client tables)) on.same out in
+      part-with service then client link (with_lends (gone client tables.lends) (without_seat client tables))
+      (relend service then client.0 link (without_seat client tables) (gone client tables.lends) taken (set-same tables.seats client.0 None) quiet.unparted went.sound went.apart went.traces)
+      (set-same tables.seats client.0 None) on.number went.gone quiet.unparted (record {
+        came = came;
+        is_came = arrived;
+        on = sits.stands.link ∙ on.same;
+        client = (and_parts (is_traffic came.port) _ sits.stands.served).0;
+        opened = open-kept link log e on.on.stays ∙ on.on.opened;
+        at = Done sits.stands.served (inl (holds is_failure failure));
+      }))
+
+-- Its end is read.
+pub ended-client : {service : Service} {log : Log} {client : ClientNo} {link : LinkId} {seat : Seat} {tables : Tables} → OnClient service log (Ended link) client link seat tables
     → Sound service (log ++ Ended link ∷ []) None (goes_on client seat.link (still (ended seat.session)) (without_seat client tables))
-ended-client service log client link seat tables sound on is same = (let stands : SeatStands service (log ++ Ended link ∷ []) client.0 (record { link = seat.link; session = ended seat.session }) =
-    now.stands refl (ended seat.session) (inr (record {
-      lost = lost;
-      ends = refl;
-      told = ap (λ bytes. bytes ++ seat.session.client.outgoing) (bytes-idle wrote_bytes was.came.link log (Ended link) refl) ∙ told was.state;
-    })) in
-    client-step service log (Ended link) client link seat (still (ended seat.session)) tables sound on is same stands
-    (λ lends. Ends None (now.away lost)) (finished-parted service (log ++ Ended link ∷ []) client.0 (record { link = seat.link; session = ended seat.session }) stands)) where
-      now : Here service log (Ended link) client seat tables
-      now = here-of service log (Ended link) client link seat tables sound on is same
+ended-client {service} {log} {client} {link} {seat} {tables} on = goes on (still (ended seat.session)) refl (inr (record {
+  lost = holds on is_loss refl;
+  ends = refl;
+  told = ap (λ bytes. bytes ++ seat.session.client.outgoing) (bytes-idle wrote_bytes (came on).link log (Ended link) refl) ∙ told (sits on).stands.state;
+})) (Ends None (away on (holds on is_loss refl))) where
+  told : State on seat.session → written_of (came on).link log ++ seat.session.client.outgoing ≡ due service client.0 (log ++ Ended link ∷ [])
+  told (inl heard) = heard.at.due ∙ sym (due-unlost service client.0 (came on) log (sits on).stands.is_came (sits on).stands.served heard.unlost)
+      ∙ sym (due-loses service client.0 (came on) log (Ended link) (sits on).stands.is_came (sits on).stands.served heard.unlost (ap (λ b. b && true) (here on)))
+  told (inr went) = went.told ∙ sym (due-lost service client.0 (came on) log (Ended link) (sits on).stands.is_came (sits on).stands.served went.lost)
 
-      was : SeatStands service log client.0 seat
-      was = now.was
+-- Bytes of it come.
+module _ {service : Service} {log : Log} {client : ClientNo} {link : LinkId} {bytes : List ℕ} {seat : Seat} {tables : Tables} (on : OnClient service log (Got link bytes) client link seat tables) where
+  abbrev told : Turned
+  told = said service.setup bytes seat.session
 
-      lost : was_lost was.came.link (log ++ Ended link ∷ []) ≡ true
-      lost = now.holds is_loss refl
+  unwritten : written_of (came on).link (then on) ≡ written_of (came on).link log
+  unwritten = bytes-idle wrote_bytes (came on).link log (Got link bytes) refl
 
-      told : IsHeard service log client.0 was.came seat.session ⊎ IsEnded service log client.0 was.came seat.session → written_of was.came.link log ++ seat.session.client.outgoing ≡ due service client.0 (log ++ Ended link ∷ [])
-      told (inl heard) = heard.at.due ∙ sym (due-unlost service client.0 was.came log was.is_came was.served heard.unlost)
-          ∙ sym (due-loses service client.0 was.came log (Ended link) was.is_came was.served heard.unlost (ap (λ b. b && true) now.here))
-      told (inr went) = went.told ∙ sym (due-lost service client.0 was.came log (Ended link) was.is_came was.served went.lost)
+  pub got-client : (is_some service.setup.target ≡ true → tables.lends.waiting ≡ []) → length (log ++ Got link bytes ∷ []) < 281474976710656 → Sound service (log ++ Got link bytes ∷ []) None (goes_on client seat.link told (without_seat client tables))
+  got-client idle few = by (sits on).stands.state where
+    read : read_of (came on).link (then on) ≡ read_of (came on).link log ++ bytes
+    read = bytes-same got_bytes (came on).link log (Got link bytes) (here on)
 
--- Bytes of a client come.
-pub got-client : (service : Service) (log : Log) (client : ClientNo) (link : LinkId) (bytes : List ℕ) (seat : Seat) (tables : Tables) → Sound service log None tables → OnClient service log (Got link bytes) client link tables → tables.seats client.0 ≡ Some seat → seat.link ≡ link
-    → (is_some service.setup.target ≡ true → tables.lends.waiting ≡ []) → length (log ++ Got link bytes ∷ []) < 281474976710656
-    → Sound service (log ++ Got link bytes ∷ []) None (goes_on client seat.link (said service.setup bytes seat.session) (without_seat client tables))
-got-client service log client link bytes seat tables sound on is same idle few = client-step service log (Got link bytes) client link seat turned tables sound on is same (stands was.state) (λ lends. next was.state)
-    (finished-parted service then client.0 (record { link = seat.link; session = turned.session }) (stands was.state)) where
-      then : Log
-      then = log ++ Got link bytes ∷ []
+    says : IsHeard service log client.0 (came on) seat.session → Says service (then on) client.0 (came on) (written_of (came on).link log) seat.session tables.lends told
+    says heard = (let then-heard = replies on heard in said-by service (then on) client.0 (came on) (talk_with service client.0 (came on) log) bytes (written_of (came on).link log) seat.session tables.lends (record {
+      now = ap (λ r. record { setup = service.setup; number = client.0; salt = (came on).salt; read = r }) read;
+      is = arrived on;
+      served = (sits on).stands.served;
+      few = (let short = read-short (came on).link (then on) (lawful-more Fits log (Got link bytes) (happens on).told (happens on).fits) few in subst (λ r. length r < 18446744073709551616) read short);
+      sound = lends on;
+      unclosed = (quiet on).unclosed;
+      idle = idle;
+      formed = (happens on).formed;
+    }) then-heard.seat then-heard.unanswered (λ i later. (then-heard.unsent i later).0) seat.session.phase refl (sits on).serves refl)
 
-      turned : Turned
-      turned = said service.setup bytes seat.session
+    by : State on seat.session → Sound service (then on) None (goes_on client seat.link told (without_seat client tables))
+    by (inl heard) = goes on told refl (inl (record {
+      unlost = keeps on is_loss refl ∙ heard.unlost;
+      at = subst (λ w. SeatAt (talk_with service client.0 (came on) (then on)) (λ i. replied service client.0 i (then on)) w told.session) (sym unwritten) (says heard).seat;
+      unsent = λ i later. (replies on heard).unsent i (let grows = (says heard).grows in omega arith);
+    })) (says heard).next
+    by (inr went) = subst (λ (t : Turned). Sound service (then on) None (goes_on client seat.link t (without_seat client tables))) (sym (ap (λ (p : Phase). said_in p service.setup bytes seat.session) went.ends))
+        (goes on (still seat.session) refl (inr (still-ended on went refl seat.session refl (ap (λ w. w ++ seat.session.client.outgoing) unwritten)))
+        (subst (λ (p : Phase). Next service (then on) client.0 tables.lends p seat.session.client.arrived None) (sym went.ends) (Ends None (away on (keeps on is_loss refl ∙ went.lost)))))
 
-      now : Here service log (Got link bytes) client seat tables
-      now = here-of service log (Got link bytes) client link seat tables sound on is same
+-- So many of the bytes for it were written.
+module _ {service : Service} {log : Log} {client : ClientNo} {link : LinkId} {tag : Tag} {bytes : List ℕ} {seat : Seat} {tables : Tables} (on : OnClient service log (Wrote link tag bytes) client link seat tables) where
+  abbrev rest : Session
+  rest = taken (length bytes) seat.session
 
-      was : SeatStands service log client.0 seat
-      was = now.was
+  -- a seat that keeps its phase asks for nothing new
+  next-same : (at : Phase) → seat.session.phase ≡ at → SeatStands service (then on) client.0 (record { link = seat.link; session = rest }) → Serves at tables.lends client.0 rest.client.arrived → Next service (then on) client.0 tables.lends at rest.client.arrived None
+  next-same phase.LoggingIn is stands serves = LogsIn serves
+  next-same (phase.Idle user) is stands serves = Rests user serves
+  next-same (phase.Working user) is stands serves = Works user serves
+  next-same phase.Ending is stands serves = Ends None (by stands.state) where
+    by : IsHeard service (then on) client.0 stands.came rest ⊎ IsEnded service (then on) client.0 stands.came rest → Went service (then on) client.0 tables.lends (gone client tables.lends)
+    by (inl heard) = ends-so service (then on) client.0 stands.came (written_of stands.came.link (then on)) rest tables.lends (lends on) (inl (quiet on).unclosed) stands.is_came (free-gone tables.lends client.0 serves) is heard.at
+    by (inr went) = gone-sound service (then on) client.0 tables.lends (lends on) (inl (quiet on).unclosed) (Away (lost-away client.0 stands.came (then on) stands.is_came went.lost))
 
-      written : written_of was.came.link then ≡ written_of was.came.link log
-      written = bytes-idle wrote_bytes was.came.link log (Got link bytes) refl
+  pub wrote-client : bytes ≡ take (length bytes) seat.session.client.outgoing → Sound service (log ++ Wrote link tag bytes ∷ []) None (goes_on client seat.link (still rest) (without_seat client tables))
+  wrote-client front = goes on (still rest) refl (by (sits on).stands.state) (next-same seat.session.phase refl (stands on refl rest (by (sits on).stands.state)) (sits on).serves) where
+    written : written_of (came on).link (then on) ≡ written_of (came on).link log ++ take (length bytes) seat.session.client.outgoing
+    written = bytes-same wrote_bytes (came on).link log (Wrote link tag bytes) (here on) ∙ ap (λ b. written_of (came on).link log ++ b) front
 
-      read : read_of was.came.link then ≡ read_of was.came.link log ++ bytes
-      read = bytes-same got_bytes was.came.link log (Got link bytes) now.here
-
-      coming : Coming service then client.0 was.came (talk_with service client.0 was.came log) bytes tables.lends
-      coming = record {
-        now = ap (λ r. record { setup = service.setup; number = client.0; salt = was.came.salt; read = r }) read;
-        is = now.came;
-        served = was.served;
-        few = (let short = read-short was.came.link then (lawful-more Fits log (Got link bytes) on.on.happens.told on.on.happens.fits) few in let size : length (read_of was.came.link then) ≡ length (read_of was.came.link log ++ bytes) = ap length read in omega arith);
-        sound = now.lends;
-        unclosed = (done service.setup tables on.on.acted).unclosed;
-        idle = idle;
-        formed = on.on.happens.formed;
-      }
-
-      says : IsHeard service log client.0 was.came seat.session → Says service then client.0 was.came (written_of was.came.link log) seat.session tables.lends turned
-      says heard = (let replies = now.replies heard in said-by service then client.0 was.came (talk_with service client.0 was.came log) bytes (written_of was.came.link log) seat.session tables.lends coming replies.seat replies.unanswered (λ i later. (replies.unsent i later).0) seat.session.phase refl
-          ((sound.seats client.0 seat is).serves) refl)
-
-      lost-still : IsEnded service log client.0 was.came seat.session → turned ≡ still seat.session
-      lost-still went = ap (λ (p : Phase). Rattle.client_talk.specs.Events.said_in p service.setup bytes seat.session) went.ends
-
-      stands : IsHeard service log client.0 was.came seat.session ⊎ IsEnded service log client.0 was.came seat.session → SeatStands service then client.0 (record { link = seat.link; session = turned.session })
-      stands (inl heard) = now.stands refl turned.session (inl (record {
-        unlost = now.keeps is_loss refl ∙ heard.unlost;
-        at = subst (λ w. SeatAt (talk_with service client.0 was.came then) (λ i. replied service client.0 i then) w turned.session) (sym written) (says heard).seat;
-        unsent = λ i later. (now.replies heard).unsent i (let grows : seat.session.client.arrived ≤ turned.session.client.arrived = (says heard).grows in omega arith);
-      }))
-      stands (inr went) = now.stands refl turned.session (inr (subst (λ (t : Turned). IsEnded service then client.0 was.came t.session) (sym (lost-still went)) (record {
-        lost = now.keeps is_loss refl ∙ went.lost;
-        ends = went.ends;
-        told = ap (λ w. w ++ seat.session.client.outgoing) written ∙ went.told ∙ sym (due-lost service client.0 was.came log (Got link bytes) was.is_came was.served went.lost);
-      })))
-
-      next : IsHeard service log client.0 was.came seat.session ⊎ IsEnded service log client.0 was.came seat.session → Next service then client.0 tables.lends turned.session.phase turned.session.client.arrived turned.query
-      next (inl heard) = (says heard).next
-      next (inr went) = subst (λ (t : Turned). Next service then client.0 tables.lends t.session.phase t.session.client.arrived t.query) (sym (lost-still went))
-          (subst (λ (p : Phase). Next service then client.0 tables.lends p seat.session.client.arrived None) (sym went.ends) (Ends None (now.away (now.keeps is_loss refl ∙ went.lost))))
-
--- So many of the bytes for a client were written.
-pub wrote-client : (service : Service) (log : Log) (client : ClientNo) (link : LinkId) (tag : Tag) (bytes : List ℕ) (seat : Seat) (tables : Tables) → Sound service log None tables → OnClient service log (Wrote link tag bytes) client link tables → tables.seats client.0 ≡ Some seat → seat.link ≡ link
-    → bytes ≡ take (length bytes) seat.session.client.outgoing → Sound service (log ++ Wrote link tag bytes ∷ []) None (goes_on client seat.link (still (taken (length bytes) seat.session)) (without_seat client tables))
-wrote-client service log client link tag bytes seat tables sound on is same front = client-step service log (Wrote link tag bytes) client link seat (still session) tables sound on is same (stands was.state)
-    (λ lends. next-same service then client.0 (record { link = seat.link; session = session }) tables.lends lends (done service.setup tables on.on.acted).unclosed (stands was.state) seat.session.phase refl ((sound.seats client.0 seat is).serves))
-    (finished-parted service then client.0 (record { link = seat.link; session = session }) (stands was.state)) where
-      then : Log
-      then = log ++ Wrote link tag bytes ∷ []
-
-      session : Session
-      session = taken (length bytes) seat.session
-
-      now : Here service log (Wrote link tag bytes) client seat tables
-      now = here-of service log (Wrote link tag bytes) client link seat tables sound on is same
-
-      was : SeatStands service log client.0 seat
-      was = now.was
-
-      written : written_of was.came.link then ≡ written_of was.came.link log ++ take (length bytes) seat.session.client.outgoing
-      written = bytes-same wrote_bytes was.came.link log (Wrote link tag bytes) now.here ∙ ap (λ b. written_of was.came.link log ++ b) front
-
-      stands : IsHeard service log client.0 was.came seat.session ⊎ IsEnded service log client.0 was.came seat.session → SeatStands service then client.0 (record { link = seat.link; session = session })
-      stands (inl heard) = (let replies = now.replies heard in now.stands refl session (inl (record {
-        unlost = now.keeps is_loss refl ∙ heard.unlost;
-        at = subst (λ r. SeatAt (record { setup = service.setup; number = client.0; salt = was.came.salt; read = r }) (λ i. replied service client.0 i then) (written_of was.came.link then) session) (sym (bytes-idle got_bytes was.came.link log (Wrote link tag bytes) refl))
-            (subst (λ w. SeatAt (talk_with service client.0 was.came log) (λ i. replied service client.0 i then) w session) (sym written)
-            (taken-seat (talk_with service client.0 was.came log) (λ i. replied service client.0 i then) (written_of was.came.link log) seat.session (length bytes) replies.seat));
-        unsent = replies.unsent;
-      })))
-      stands (inr went) = now.stands refl session (inr (record {
-        lost = now.keeps is_loss refl ∙ went.lost;
-        ends = went.ends;
-        told = ap (λ w. w ++ drop (length bytes) seat.session.client.outgoing) written
-            ∙ append_assoc (written_of was.came.link log) (take (length bytes) seat.session.client.outgoing) (drop (length bytes) seat.session.client.outgoing)
-            ∙ ap (λ w. written_of was.came.link log ++ w) (take-append-drop (length bytes) seat.session.client.outgoing)
-            ∙ went.told ∙ sym (due-lost service client.0 was.came log (Wrote link tag bytes) was.is_came was.served went.lost);
-      }))
-
--- A client's link is broken.
-pub broken-client : (service : Service) (log : Log) (e : Entry) (client : ClientNo) (link : LinkId) (seat : Seat) (tables : Tables) → Sound service log None tables → OnClient service log e client link tables → tables.seats client.0 ≡ Some seat → seat.link ≡ link → is_failure e ≡ true → is_loss e ≡ true
-    → Sound service (log ++ e ∷ []) None (breaks_off client link tables)
-broken-client service log e client link seat tables sound on is same failure loss = (let now : Here service log e client seat tables = here-of service log e client link seat tables sound on is same in
-    let went : Went service (log ++ e ∷ []) client.0 tables.lends (gone client tables.lends) = now.away (now.holds is_loss loss) in
-    let out : Sound service (log ++ e ∷ []) (Some (record { client = client.0; link = link })) (without_seat client tables) =
-    subst (λ (l : LinkId). Sound service (log ++ e ∷ []) (Some (record { client = client.0; link = l })) (without_seat client tables)) same (take-out service log e client link seat tables sound on is same) in
-    let parted : Parted service (log ++ e ∷ []) client.0 link = record {
-      came = now.was.came;
-      is_came = now.came;
-      on = now.was.link ∙ same;
-      client = (and_parts (is_traffic now.was.came.port) _ now.was.served).0;
-      opened = open-kept link log e on.on.stays ∙ ap (λ (l : LinkId). is_open l log) (sym same) ∙ now.was.opened;
-      at = Done now.was.served (inl (now.holds is_failure failure));
-    } in
-    part-with service (log ++ e ∷ []) client link (with_lends (gone client tables.lends) (without_seat client tables))
-    (relend service (log ++ e ∷ []) client.0 link (without_seat client tables) (gone client tables.lends) out (set-same tables.seats client.0 None) (done service.setup tables on.on.acted).unparted went.sound went.apart went.traces)
-    (set-same tables.seats client.0 None) on.number went.gone (done service.setup tables on.on.acted).unparted parted)
+    by : State on seat.session → StateThen on rest
+    by (inl heard) = inl (record {
+      unlost = keeps on is_loss refl ∙ heard.unlost;
+      at = subst (λ r. SeatAt (record { setup = service.setup; number = client.0; salt = (came on).salt; read = r }) (λ i. replied service client.0 i (then on)) (written_of (came on).link (then on)) rest) (sym (bytes-idle got_bytes (came on).link log (Wrote link tag bytes) refl))
+          (subst (λ w. SeatAt (talk_with service client.0 (came on) log) (λ i. replied service client.0 i (then on)) w rest) (sym written)
+          (taken-seat (talk_with service client.0 (came on) log) (λ i. replied service client.0 i (then on)) (written_of (came on).link log) seat.session (length bytes) (replies on heard).seat));
+      unsent = (replies on heard).unsent;
+    })
+    by (inr went) = inr (still-ended on went refl rest refl (ap (λ w. w ++ drop (length bytes) seat.session.client.outgoing) written
+        ∙ append_assoc (written_of (came on).link log) (take (length bytes) seat.session.client.outgoing) (drop (length bytes) seat.session.client.outgoing)
+        ∙ ap (λ w. written_of (came on).link log ++ w) (take-append-drop (length bytes) seat.session.client.outgoing)))

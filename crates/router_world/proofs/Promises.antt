@@ -1,120 +1,104 @@
 -- What the router does keeps the promises.
-use Rattle.router_world.proofs.Names.{◌≡◌, ◌≤◌, true, false, List, [], ◌∷◌, ◌++◌, Some, None, refl, sym, ◌∙◌, ap, subst, inl, inr, fold-append}
-use Rattle.router_world.proofs.Names.{LinkId, Log, AllLawful, MayFollow, Entry, Setup, most_command, Service, IsServed, Serves, some-same, Parting, Tables}
-use Rattle.router_world.proofs.Names.{no_tables, closed_by, tables_after, asks, awaits, first_closing, close_of, IsClosing, IsOurs}
+use Rattle.router_world.proofs.Names.{common_steps, arith, ◌≡◌, ◌≤◌, true, false, List, [], ◌∷◌, ◌++◌, Some, None, refl, sym, ◌∙◌, ap, subst, inl, inr, fold-append}
+use Rattle.router_world.proofs.Names.{LinkId, Log, AllLawful, MayFollow, Entry, Setup, most_command, Service, IsServed, Serves, some-same, Parting, Tables, Fits}
+use Rattle.router_world.proofs.Names.{no_tables, closed_by, tables_after, asks, awaits, IsClosing, IsOurs, length, LawfulAfter, append_assoc, append-nil, turns}
+use Rattle.router_world.proofs.Names.{open_tries, message_of, message-stays, lawful-more, Keeps, Target, turn_at, turn_for, oldest}
 use Rattle.mx_wire.specs.Moments.{moment-last}
 use Rattle.router_world.specs.World.{step}
 use Rattle.router_world.proofs.Connecting.{counts-all}
-use Rattle.router_world.proofs.Sound.{Sound, AtMostOne, Nobody, One, Covers, Happens}
+use Rattle.router_world.proofs.Sound.{Sound, Nobody, Covers, Happens, AreFormed}
 use Rattle.router_world.proofs.Stepping.{done, quiet-closes}
-use Rattle.router_world.proofs.Lawful.{awaits-so, opens-for}
+use Rattle.router_world.proofs.Lawful.{awaits-so, opens-for, counts-more, covers-front, ClosesNext, ClosesClient, ClosesServer, closes-next}
 use Rattle.router_world.proofs.Closing.{closed-client, closed-server}
 use Rattle.router_world.proofs.OpenEvents.{OnOpen, open-failed-step, opened-step}
 use Rattle.router_world.proofs.Arriving.{coming-step}
-use Rattle.router_world.proofs.Silences.{IsNothing, nothing-step}
+use Rattle.router_world.proofs.Silences.{nothing-step}
 use Rattle.router_world.proofs.Happenings.{got-step, ended-step, failed-step, written-step, offer-written, offer-failed}
-use Rattle.router_world.proofs.Keeping.{GoesOn, service-of, formed-so, keeps-none, stands-behind, keeps-all}
+use Rattle.router_world.proofs.Keeping.{service-of, form_by, keeps-none, keeps-more}
 use Rattle.mx_wire.specs.declared.entry.Entry.TheVariants as entry
 
--- A link closes.
-closed-step : (service : Service) (log : Log) (link : LinkId) (tables : Tables) → Happens service log (entry.Closed link) tables → IsClosing tables link log → Sound service (log ++ entry.Closed link ∷ []) None (closed_by tables.parting tables)
-closed-step service log link tables happens closing = by tables.parting refl happens.sound.one_parts closing.is_next where
-  then : Log
-  then = log ++ entry.Closed link ∷ []
-
-  servers : (links : List LinkId) → tables.lends.closing ≡ links → AtMostOne links → first_closing links ≡ Some link → tables.lends.closing ≡ link ∷ []
-  servers [] is Nobody next = absurd (let none : None ≡ Some link = next in cc)
-  servers (one ∷ two ∷ later) is most next = elim most [ ]
-  servers (one ∷ []) is (One other) next = is ∙ ap (λ (l : LinkId). l ∷ []) (some-same one link next)
-
-  by : (all : List Parting) → tables.parting ≡ all → AtMostOne all → close_of all tables.lends.closing ≡ Some link → Sound service then None (closed_by tables.parting tables)
-  by [] is Nobody next = subst (λ p. Sound service then None (closed_by p tables)) (sym is) (closed-server service log link tables happens.sound happens is (servers tables.lends.closing refl happens.sound.lends.one_closes next))
-  by (p ∷ q ∷ later) is one next = elim one [ ]
-  by (p ∷ []) is (One other) next = subst (λ all. Sound service then None (closed_by all tables)) (sym is) (closed-client service log link p tables happens.sound happens is (some-same p.link link next))
-
--- An open is tried.
-on-open : (service : Service) (log : Log) (e : Entry) (tables : Tables) (target : Rattle.ready_loop.specs.Machine.Target) → tables_after service.setup log ≡ tables → Happens service log e tables → Covers service (log ++ e ∷ []) → awaits service.setup tables ≡ Some target
-    → Rattle.router_world.specs.World.turn_at tables e ≡ Rattle.router_world.specs.World.turn_for (Rattle.lend_core.specs.Lends.oldest tables.lends.waiting) tables.lends.asks → OnOpen service log e tables
-on-open service log e tables target are happens covers awaited at = record {
-  happens = happens;
-  covers = covers;
-  quiet = quiet-closes tables (awaits-so service.setup tables target awaited).0;
-  are = are;
-  for = opens-for service log tables target e happens.sound awaited at;
-}
-
--- An entry of which nothing is made.
-nothing : (service : Service) (log : Log) (e : Entry) (tables : Tables) → Happens service log e tables → IsNothing e → Sound service (log ++ e ∷ []) None tables
-nothing service log e tables happens none = nothing-step service log e tables happens.sound happens.told happens.fits happens.lawful happens.served none
-
-entry-step : (service : Service) (log : Log) (e : Entry) (tables : Tables) → service.setup.limit ≤ most_command → tables_after service.setup log ≡ tables → Happens service log e tables → Covers service (log ++ e ∷ []) → IsOurs service.setup log e → Sound service (log ++ e ∷ []) None (step service.setup tables e)
-entry-step service log (entry.Accepted port link salt) tables short are happens covers ours = coming-step service log port link salt tables happens.sound (record {
-  happens = happens;
-  quiet = done service.setup tables (subst (λ (t : Tables). asks service.setup t ≡ false) are ours);
-}) short
-entry-step service log (entry.Opened server address link) tables short are happens covers ours = opened-step service log server address link tables happens.sound (on-open service log (entry.Opened server address link) tables _ are happens covers (subst (λ (t : Tables). awaits service.setup t ≡ Some (record { server = server; address = address })) are ours) refl)
-entry-step service log (entry.OpenFailed server address) tables short are happens covers ours = open-failed-step service log server address tables happens.sound (on-open service log (entry.OpenFailed server address) tables _ are happens covers (subst (λ (t : Tables). awaits service.setup t ≡ Some (record { server = server; address = address })) are ours) refl)
-entry-step service log (entry.Got link bytes) tables short are happens covers ours = got-step service log link bytes tables ours.1
-    (record { happens = happens; acted = subst (λ (t : Tables). asks service.setup t ≡ false) are ours.0; names = refl; opened = happens.fits.opened; plain = record { arrives = λ before. refl; stays = λ links. refl }; stays = λ was. refl; refuses = refl })
-entry-step service log (entry.Ended link) tables short are happens covers ours = ended-step service log link tables
-    (record { happens = happens; acted = subst (λ (t : Tables). asks service.setup t ≡ false) are ours; names = refl; opened = happens.fits; plain = record { arrives = λ before. refl; stays = λ links. refl }; stays = λ was. refl; refuses = refl })
-entry-step service log (entry.ReadFailed link) tables short are happens covers ours = failed-step service log (entry.ReadFailed link) link tables
-    (record { happens = happens; acted = subst (λ (t : Tables). asks service.setup t ≡ false) are ours; names = refl; opened = happens.fits; plain = record { arrives = λ before. refl; stays = λ links. refl }; stays = λ was. refl; refuses = refl }) refl refl (λ k i. refl)
-entry-step service log (entry.WriteFailed link) tables short are happens covers (inl ours) = failed-step service log (entry.WriteFailed link) link tables
-    (record { happens = happens; acted = subst (λ (t : Tables). asks service.setup t ≡ false) are ours; names = refl; opened = happens.fits; plain = record { arrives = λ before. refl; stays = λ links. refl }; stays = λ was. refl; refuses = refl }) refl refl (λ k i. refl)
-entry-step service log (entry.WriteFailed link) tables short are happens covers (inr ours) = offer-failed service log link tables happens (subst (λ (t : Tables). Rattle.router_world.specs.Acts.IsFarewell t link) are ours)
-entry-step service log (entry.Wrote link tag bytes) tables short are happens covers (inl ours) = written-step service log link tag bytes tables
-    (record { happens = happens; acted = subst (λ (t : Tables). asks service.setup t ≡ false) are ours.0; names = refl; opened = happens.fits.opened; plain = record { arrives = λ before. refl; stays = λ links. refl }; stays = λ was. refl; refuses = refl })
-    (subst (λ (t : Tables). Rattle.router_world.specs.Acts.IsFront (Rattle.router_world.specs.Acts.sends t link) tag bytes) are ours.1)
-entry-step service log (entry.Wrote link tag bytes) tables short are happens covers (inr ours) = offer-written service log link tag bytes tables happens (subst (λ (t : Tables). Rattle.router_world.specs.Acts.IsFarewell t link) are ours.0)
-    (subst (λ (t : Tables). Rattle.router_world.specs.Acts.IsFront (Rattle.router_world.specs.Acts.farewell_of t.parting) tag bytes) are ours.1)
-entry-step service log (entry.Closed link) tables short are happens covers ours = closed-step service log link tables happens (subst (λ (t : Tables). IsClosing t link log) are ours)
-entry-step service log e tables short are happens covers ours = nothing service log e tables happens
-    (record { mute = record { got = refl; wrote = refl; piece = refl; loss = refl; failure = refl }; stays = λ was. refl; try = refl; carries_none = λ n i. refl; refuses = λ s l. refl; breaks = λ u k l. refl; plain = record { arrives = λ before. refl; stays = λ links. refl } })
-
 -- Before the first entry nothing stands.
-pub starts : (service : Service) → Sound service [] None no_tables
-starts service = record {
-  came = refl;
-  here = refl;
-  counts = counts-all [] tt;
-  seats = λ n seat is. absurd (let none : None ≡ Some seat = is in cc);
-  numbers = λ link client is. absurd (let none : None ≡ Some client = is in cc);
-  unlent = λ link client is. absurd (let none : None ≡ Some client = is in cc);
-  unclosing = λ link is. absurd (let none : [] ≡ link ∷ [] = is in cc);
-  away = λ n is. inr (record { unasked = refl; unowned = refl });
-  lends = record {
-    rows = λ link lent is. absurd (let none : None ≡ Some lent = is in cc);
-    asks = λ k ask is. absurd (let none : None ≡ Some ask = is in cc);
-    owned = λ k link is. absurd (let none : None ≡ Some link = is in cc);
-    one_waits = Nobody;
-    waits = λ client is. absurd (let none : [] ≡ client ∷ [] = is in cc);
-    one_closes = Nobody;
-    closes = λ link is. absurd (let none : [] ≡ link ∷ [] = is in cc);
-  };
-  one_parts = Nobody;
-  parts = λ parting is. absurd (let none : [] ≡ parting ∷ [] = is in cc);
-  known = λ link opened. absurd (let none : false ≡ true = opened in cc);
-  served = moment-last (IsServed service) [] (keeps-none service).served;
-}
+starts : (service : Service) → Sound service [] None no_tables
+starts service = (let counts = counts-all [] tt in let served = moment-last (IsServed service) [] (keeps-none service).served in grind (arith, common_steps, Nobody))
 
-pub goes-on : (service : Service) → service.setup.limit ≤ most_command → GoesOn service
-goes-on service short log e stands follows ours covers formed keeps = subst (Sound service (log ++ e ∷ []) None) (sym (fold-append (step service.setup) no_tables log (e ∷ [])))
-    (entry-step service log e (tables_after service.setup log) short refl (record {
-      told = stands.told;
-      fits = follows.fits;
-      few = follows.bounded;
-      lawful = keeps.lawful;
-      served = moment-last (IsServed service) (log ++ e ∷ []) keeps.served;
-      formed = formed;
-      sound = stands.sound;
-    }) covers ours)
+-- What each entry makes of what stands.
+module _ (service : Service) (log : Log) where
+  abbrev now : Tables
+  now = tables_after service.setup log
+
+  -- an open is tried
+  on-open : (e : Entry) (target : Target) → Happens service log e now → Covers service (log ++ e ∷ []) → awaits service.setup now ≡ Some target → turn_at now e ≡ turn_for (oldest now.lends.waiting) now.lends.asks → OnOpen service log e now
+  on-open e target happens covers awaited at = record {
+    happens = happens;
+    covers = covers;
+    quiet = quiet-closes now (awaits-so service.setup now target awaited).0;
+    are = refl;
+    for = opens-for service log now target e happens.sound awaited at;
+  }
+
+  entry-step : (e : Entry) → service.setup.limit ≤ most_command → Happens service log e now → Covers service (log ++ e ∷ []) → IsOurs service.setup log e → Sound service (log ++ e ∷ []) None (step service.setup now e)
+  entry-step (entry.Accepted port link salt) short happens covers ours = coming-step (record { happens = happens; quiet = done service.setup now ours }) short
+  entry-step (entry.Opened server address link) short happens covers ours =
+      opened-step service log server address link now happens.sound (on-open (entry.Opened server address link) _ happens covers ours refl)
+  entry-step (entry.OpenFailed server address) short happens covers ours =
+      open-failed-step service log server address now happens.sound (on-open (entry.OpenFailed server address) _ happens covers ours refl)
+  entry-step (entry.Got link bytes) short happens covers ours = got-step {tables = now} ours.1 assumption
+  entry-step (entry.Ended link) short happens covers ours = ended-step {tables = now} assumption
+  entry-step (entry.ReadFailed link) short happens covers ours = failed-step {tables = now} (assumption) refl refl (λ k i. refl)
+  entry-step (entry.WriteFailed link) short happens covers (inl ours) = failed-step {tables = now} (assumption) refl refl (λ k i. refl)
+  entry-step (entry.WriteFailed link) short happens covers (inr ours) = offer-failed happens ours
+  entry-step (entry.Wrote link tag bytes) short happens covers (inl ours) = written-step {tables = now} (assumption) ours.1
+  entry-step (entry.Wrote link tag bytes) short happens covers (inr ours) = offer-written happens ours.0 ours.1
+  entry-step (entry.Closed link) short happens covers ours = elim (closes-next now link happens.sound.one_parts happens.sound.lends.one_closes ours.is_next) [
+    | ClosesServer none is ↦ rw none (closed-server service log link now happens.sound happens none is)
+    | ClosesClient p is on ↦ rw is (closed-client service log link p now happens.sound happens is on)
+  ]
+  entry-step e short happens covers ours = nothing-step happens assumption
+
+-- What stands for each beginning of a log whose entries are the router's.
+pub record StandsFor (service : Service) (log : Log) : Type 0 where
+  pub told : AllLawful Fits log
+  pub sound : Sound service log None (tables_after service.setup log)
+  pub counts : length (turns service.setup log) ≡ length (open_tries log)
+  pub keeps : Keeps service log
+
+module _ (setup : Setup) (all : Log) (short : setup.limit ≤ most_command) where
+  -- what the reply to a message is like goes by the whole log
+  formed : (log more : Log) → log ++ more ≡ all → AreFormed (service-of setup all) log
+  formed log more is n i message there = ap form_by (subst (λ (l : Log). message_of (service-of setup all) n i l ≡ Some message) is (message-stays (service-of setup all) n i log more message there))
+
+  one-more : (log more : Log) (e : Entry) → (log ++ e ∷ []) ++ more ≡ all → StandsFor (service-of setup all) log → MayFollow log e → IsOurs setup log e → StandsFor (service-of setup all) (log ++ e ∷ [])
+  one-more log more e is stands follows ours = (let counts = counts-more (service-of setup all) log e stands.sound ours stands.counts in
+      let covers = covers-front (service-of setup all) (log ++ e ∷ []) more (ap (turns setup) (sym is)) counts in
+      let keeps = keeps-more (service-of setup all) log e stands.told follows.fits stands.sound covers ours stands.keeps in
+      record {
+        told = lawful-more Fits log e stands.told follows.fits;
+        sound = subst (Sound (service-of setup all) (log ++ e ∷ []) None) (sym (fold-append (step setup) no_tables log (e ∷ []))) (entry-step (service-of setup all) log e short (record {
+          told = stands.told;
+          fits = follows.fits;
+          few = follows.bounded;
+          lawful = keeps.lawful;
+          served = moment-last (IsServed (service-of setup all)) (log ++ e ∷ []) keeps.served;
+          formed = formed (log ++ e ∷ []) more is;
+          sound = stands.sound;
+        }) covers ours);
+        counts = counts;
+        keeps = keeps;
+      })
+
+  behind : (log more : Log) → log ++ more ≡ all → StandsFor (service-of setup all) log → LawfulAfter MayFollow log more → LawfulAfter (IsOurs setup) log more
+      → LawfulAfter (λ l e. StandsFor (service-of setup all) l) log more × StandsFor (service-of setup all) all
+  behind log [] is stands follow ours = (tt, subst (StandsFor (service-of setup all)) (sym (append-nil log) ∙ is) stands)
+  behind log (e ∷ more) is stands follow ours = (let so : (log ++ e ∷ []) ++ more ≡ all = append_assoc log (e ∷ []) more ∙ is in
+      let rest = behind (log ++ e ∷ []) more so (one-more log more e so stands follow.0 ours.0) follow.1 ours.1 in ((stands, rest.0), rest.1))
+
+  pub stands-all : AllLawful MayFollow all → AllLawful (IsOurs setup) all → AllLawful (λ l e. StandsFor (service-of setup all) l) all × StandsFor (service-of setup all) all
+  stands-all follow ours = behind [] all refl (record { told = tt; sound = starts (service-of setup all); counts = refl; keeps = keeps-none (service-of setup all) }) follow ours
 
 -- What the router knows stands for each log of its own.
 pub sound-after : (setup : Setup) (log : Log) → setup.limit ≤ most_command → AllLawful MayFollow log → AllLawful (IsOurs setup) log → (service : Service) × Sound service log None (tables_after setup log)
-sound-after setup log short follow ours = (let service : Service = service-of setup log in
-    (service, (stands-behind service [] log (goes-on service short) refl (formed-so setup log) (record { told = tt; sound = starts service; counts = refl; keeps = keeps-none service }) follow ours).sound))
+sound-after setup log short follow ours = (service-of setup log, (stands-all setup log short follow ours).1.sound)
 
 -- A log whose entries are the router's keeps the promises.
 pub keeps : (setup : Setup) (log : Log) → setup.limit ≤ most_command → AllLawful MayFollow log → AllLawful (IsOurs setup) log → Serves setup log
-keeps setup log short follow ours = keeps-all setup log (λ service same. (goes-on service (subst (λ (s : Setup). s.limit ≤ most_command) (sym same) short), starts service)) follow ours
+keeps setup log short follow ours = record { opens = turns setup log; forms = (service-of setup log).forms; keeps = (stands-all setup log short follow ours).1.keeps }

@@ -1,10 +1,10 @@
 -- The answers of a client, up to the first that isn't there.
 use Rattle.router_world.proofs.Names.{common_steps, ◌≡◌, ◌≢◌, ◌≤◌, ◌<◌, ℕ, suc, ◌+◌, Bool, true, false, is_some, cond, List, [], ◌∷◌, ◌++◌, length, Option}
-use Rattle.router_world.proofs.Names.{Some, None, Result, refl, sym, ◌∙◌, ap, append-nil, append_assoc, arith, length-append, Framed, next_id, Meaning, parsed}
-use Rattle.router_world.proofs.Names.{CommandFault, Setup, query_by, is_query, is_quit, no_server, own_ok, payload_of, Asked, Answer, spelt}
-use Rattle.router_world.proofs.Names.{answer_by, answered, Work, answer_of, answers_by, first_open, ClientState, IsLoggingIn, Account, Talk, account, front}
-use Rattle.router_world.proofs.Names.{Phase, Session, Turned, still, left_to_say, due_said, over_said, IsTaken, SeatAt, Unanswered, Asks, drop, FrameFault}
-use Rattle.router_world.proofs.Names.{Split, split, with_front, message_size, Nothing, Whole, Faulty, first_message-empty, first_message-whole-more}
+use Rattle.router_world.proofs.Names.{Some, None, Result, refl, sym, ◌∙◌, ap, append-nil, append_assoc, arith, length-append, Framed, next_id, Meaning}
+use Rattle.router_world.proofs.Names.{parsed, CommandFault, Setup, query_by, is_query, is_quit, no_server, own_ok, payload_of, Asked, Answer, spelt}
+use Rattle.router_world.proofs.Names.{answer_by, Work, answer_of, answers_by, first_open, ClientState, IsLoggingIn, Account, Talk, account, front, Phase}
+use Rattle.router_world.proofs.Names.{Session, Turned, still, left_to_say, due_said, over_said, IsTaken, SeatAt, Unanswered, Asks, drop, FrameFault, Split}
+use Rattle.router_world.proofs.Names.{split, with_front, message_size, Nothing, Whole, Faulty, first_message-empty, first_message-whole-more}
 use Rattle.router_world.proofs.Names.{first_message-goes, Response, fed, counted, Opening, Says, opening-says-more, account_of, heard_more, opening_of}
 use Rattle.router_world.proofs.Names.{if_known, commands, messages_of, front_in, fault_answer, ends_by, work_said}
 use Rattle.promises.proofs.Staying.{by-stays}
@@ -25,7 +25,7 @@ use Rattle.client_talk.specs.declared.step.Turn.TheVariants as turn
 -- Of one message.
 
 -- where there is a server for queries, what comes of one there; else the error for it
-abbrev pub served : (has_server : Bool) → Option Answer → Option Answer
+abbrev served : (has_server : Bool) → Option Answer → Option Answer
 served has_server reply = cond has_server reply (Some (no_server ∷ []))
 
 -- the answer to a message by what it asks for
@@ -47,146 +47,128 @@ no-quit meaning is = grind (arith, common_steps)
 pub query-no-quit : (payload : List ℕ) → is_query payload ≡ true → is_quit payload ≡ false
 query-no-quit payload is = no-quit (parsed payload) is
 
--- a query without an answer is one for which there is a server, and to which no reply is there
-pub record IsOpen (setup : Setup) (reply : Option Answer) : Type 0 where
-  pub server : is_some setup.target ≡ true
-  pub none : reply ≡ None
-
-pub query-open : (setup : Setup) (reply : Option Answer) (payload : List ℕ) → is_query payload ≡ true → answer_of setup reply payload ≡ None → IsOpen setup reply
-query-open setup reply payload query none = grind (arith, common_steps, query-answer)
-
-pub query-served : (setup : Setup) (reply : Option Answer) (payload : List ℕ) → is_query payload ≡ true → is_some setup.target ≡ true → answer_of setup reply payload ≡ reply
-query-served setup reply payload query server = query-answer (served (is_some setup.target) reply) (parsed payload) query ∙ ap (λ b. served b reply) server
-
 served-stays : (has_server : Bool) (old new : Option Answer) (answer : Answer) → (old ≡ Some answer → new ≡ Some answer) → served has_server old ≡ Some answer → served has_server new ≡ Some answer
 served-stays has_server old new answer stays is = grind (arith, common_steps)
 
-answer-stays : (setup : Setup) (old new : Option Answer) (payload : List ℕ) (answer : Answer) → (old ≡ Some answer → new ≡ Some answer) → answer_of setup old payload ≡ Some answer → answer_of setup new payload ≡ Some answer
-answer-stays setup old new payload answer stays is = grind (arith, common_steps, by-stays, served-stays)
-
--- and one that isn't there comes only of a reply to a query
 answer-by-none : (old new : Option Answer) (meaning : Result Meaning CommandFault) → (query_by meaning ≡ true → new ≡ None) → answer_by old meaning ≡ None → answer_by new meaning ≡ None
 answer-by-none old new meaning stays is = grind (arith, common_steps)
 
 served-none : (has_server : Bool) (old new : Option Answer) → new ≡ None → served has_server old ≡ None → served has_server new ≡ None
 served-none has_server old new none is = grind (arith, common_steps)
 
-answer-none : (setup : Setup) (old new : Option Answer) (payload : List ℕ) → (is_query payload ≡ true → new ≡ None) → answer_of setup old payload ≡ None → answer_of setup new payload ≡ None
-answer-none setup old new payload stays is = grind (arith, common_steps, answer-by-none, served-none, query-answer)
-
--- The first message without an answer.
+-- a query without an answer is one for which there is a server, and to which no reply is there
+pub record IsOpen (setup : Setup) (reply : Option Answer) : Type 0 where
+  pub server : is_some setup.target ≡ true
+  pub none : reply ≡ None
 
 abbrev pub at_place : (ordinal : ℕ) → Framed → Work
 at_place ordinal message = record { ordinal = ordinal; message = message }
 
--- its place isn't before that of the first
-pub open-from : (setup : Setup) (reply : ℕ → Option Answer) (i : ℕ) (messages : List Framed) (work : Work) → first_open setup reply i messages ≡ Some work → i ≤ work.ordinal
-open-from setup reply i [] work is = absurd (let no : None ≡ Some work = is in cc)
-open-from setup reply i (m ∷ messages) work is = grind (arith, common_steps, some-same, (open-from setup reply (suc i) messages work))
+module _ (setup : Setup) where
+  pub query-open : (reply : Option Answer) (payload : List ℕ) → is_query payload ≡ true → answer_of setup reply payload ≡ None → IsOpen setup reply
+  query-open reply payload query none = grind (arith, common_steps, query-answer)
 
--- it has no answer
-pub open-none : (setup : Setup) (reply : ℕ → Option Answer) (i : ℕ) (messages : List Framed) (work : Work) → first_open setup reply i messages ≡ Some work → answer_of setup (reply work.ordinal) work.message.payload ≡ None
-open-none setup reply i [] work is = absurd (let no : None ≡ Some work = is in cc)
-open-none setup reply i (m ∷ messages) work is = (let by : (o : Option Answer) → answer_of setup (reply i) m.payload ≡ o → cond (is_some o) (first_open setup reply (suc i) messages) (Some (at_place i m)) ≡ Some work
-    → (first_open setup reply (suc i) messages ≡ Some work → answer_of setup (reply work.ordinal) work.message.payload ≡ None) → answer_of setup (reply work.ordinal) work.message.payload ≡ None =
-    λ o at here later. grind (arith, common_steps, some-same) in
-    by (answer_of setup (reply i) m.payload) refl is (open-none setup reply (suc i) messages work))
+  pub query-served : (reply : Option Answer) (payload : List ℕ) → is_query payload ≡ true → is_some setup.target ≡ true → answer_of setup reply payload ≡ reply
+  query-served reply payload query server = query-answer (served (is_some setup.target) reply) (parsed payload) query ∙ ap (λ b. served b reply) server
 
--- messages behind it change nothing of it, nor of what is due
-pub open-more : (setup : Setup) (reply : ℕ → Option Answer) (i : ℕ) (messages later : List Framed) (work : Work) → first_open setup reply i messages ≡ Some work → first_open setup reply i (messages ++ later) ≡ Some work
-open-more setup reply i [] later work is = absurd (let no : None ≡ Some work = is in cc)
-open-more setup reply i (m ∷ messages) later work is = grind (arith, common_steps, (open-more setup reply (suc i) messages later work))
+  -- an answer that is there stays, and one that isn't comes only of a reply to a query
+  answer-stays : (old new : Option Answer) (payload : List ℕ) (answer : Answer) → (old ≡ Some answer → new ≡ Some answer) → answer_of setup old payload ≡ Some answer → answer_of setup new payload ≡ Some answer
+  answer-stays old new payload answer stays is = grind (arith, common_steps, by-stays, served-stays)
 
-pub open-due : (setup : Setup) (reply : ℕ → Option Answer) (i : ℕ) (messages later : List Framed) (last now : List ℕ) (work : Work) → first_open setup reply i messages ≡ Some work
-    → answers_by setup reply i (messages ++ later) now ≡ answers_by setup reply i messages last
-open-due setup reply i [] later last now work is = absurd (let no : None ≡ Some work = is in cc)
-open-due setup reply i (m ∷ messages) later last now work is = grind (arith, common_steps, (open-due setup reply (suc i) messages later last now work))
+  answer-none : (old new : Option Answer) (payload : List ℕ) → (is_query payload ≡ true → new ≡ None) → answer_of setup old payload ≡ None → answer_of setup new payload ≡ None
+  answer-none old new payload stays is = grind (arith, common_steps, answer-by-none, served-none, query-answer)
 
 -- Messages that are all answered, and their answers joined: what comes behind them is what comes from there on.
-
 pub record AreDone (setup : Setup) (reply : ℕ → Option Answer) (past : List Framed) (said : List ℕ) : Type 0 where
   pub joins : (later : List Framed) (last : List ℕ) → answers_by setup reply 1 (past ++ later) last ≡ said ++ answers_by setup reply (suc (length past)) later last
   pub goes : (later : List Framed) → first_open setup reply 1 (past ++ later) ≡ first_open setup reply (suc (length past)) later
 
-pub done-none : (setup : Setup) (reply : ℕ → Option Answer) → AreDone setup reply [] []
-done-none setup reply = record { joins = λ later last. refl; goes = λ later. refl }
+module _ (setup : Setup) (reply : ℕ → Option Answer) where
+  -- The first message without an answer: its place isn't before that of the first, and it has none.
 
--- and one more
-pub done-one : (setup : Setup) (reply : ℕ → Option Answer) (past : List Framed) (said : List ℕ) (message : Framed) (answer : Answer) → AreDone setup reply past said → answer_of setup (reply (suc (length past))) message.payload ≡ Some answer
-    → AreDone setup reply (past ++ message ∷ []) (said ++ spelt (next_id message.last) answer)
-done-one setup reply past said message answer done is = grind (arith, common_steps, length-append)
+  pub open-from : (i : ℕ) (messages : List Framed) (work : Work) → first_open setup reply i messages ≡ Some work → i ≤ work.ordinal
+  open-from i [] work is = cc
+  open-from i (m ∷ messages) work is = grind (arith, common_steps, some-same, (open-from (suc i) messages work))
 
--- where none is without an answer
-joins-all : (setup : Setup) (reply : ℕ → Option Answer) (i : ℕ) (past later : List Framed) (last : List ℕ) → first_open setup reply i past ≡ None
-    → answers_by setup reply i (past ++ later) last ≡ answers_by setup reply i past [] ++ answers_by setup reply (i + length past) later last
-joins-all setup reply i [] later last all = ap (λ k. answers_by setup reply k later last) (let same : i ≡ i + 0 = omega arith in same)
-joins-all setup reply i (m ∷ past) later last all = grind (arith, common_steps, (joins-all setup reply (suc i) past later last))
+  pub open-none : (i : ℕ) (messages : List Framed) (work : Work) → first_open setup reply i messages ≡ Some work → answer_of setup (reply work.ordinal) work.message.payload ≡ None
+  open-none i [] work is = cc
+  open-none i (m ∷ messages) work is = (let by : (o : Option Answer) → answer_of setup (reply i) m.payload ≡ o → cond (is_some o) (first_open setup reply (suc i) messages) (Some (at_place i m)) ≡ Some work
+      → (first_open setup reply (suc i) messages ≡ Some work → answer_of setup (reply work.ordinal) work.message.payload ≡ None) → answer_of setup (reply work.ordinal) work.message.payload ≡ None =
+      λ o at here later. grind (arith, common_steps, some-same) in
+      by (answer_of setup (reply i) m.payload) refl is (open-none (suc i) messages work))
 
-pub goes-all : (setup : Setup) (reply : ℕ → Option Answer) (i : ℕ) (past later : List Framed) → first_open setup reply i past ≡ None → first_open setup reply i (past ++ later) ≡ first_open setup reply (i + length past) later
-goes-all setup reply i [] later all = ap (λ k. first_open setup reply k later) (let same : i ≡ i + 0 = omega arith in same)
-goes-all setup reply i (m ∷ past) later all = grind (arith, common_steps, (goes-all setup reply (suc i) past later))
+  -- messages behind it change nothing of it, nor of what is due
+  pub open-more : (i : ℕ) (messages later : List Framed) (work : Work) → first_open setup reply i messages ≡ Some work → first_open setup reply i (messages ++ later) ≡ Some work
+  open-more i [] later work is = cc
+  open-more i (m ∷ messages) later work is = grind (arith, common_steps, (open-more (suc i) messages later work))
 
-pub done-all : (setup : Setup) (reply : ℕ → Option Answer) (past : List Framed) → first_open setup reply 1 past ≡ None → AreDone setup reply past (answers_by setup reply 1 past [])
-done-all setup reply past all = grind (arith, common_steps, joins-all, goes-all)
+  pub open-due : (i : ℕ) (messages later : List Framed) (last now : List ℕ) (work : Work) → first_open setup reply i messages ≡ Some work → answers_by setup reply i (messages ++ later) now ≡ answers_by setup reply i messages last
+  open-due i [] later last now work is = cc
+  open-due i (m ∷ messages) later last now work is = grind (arith, common_steps, (open-due (suc i) messages later last now work))
 
--- the first one without an answer is among those at whose places it stands
-pub open-within : (setup : Setup) (reply : ℕ → Option Answer) (i : ℕ) (past later : List Framed) (work : Work) → first_open setup reply i (past ++ later) ≡ Some work → work.ordinal < i + length past → first_open setup reply i past ≡ Some work
-open-within setup reply i past later work is below = grind (arith, common_steps, open-from, goes-all, open-more)
+  -- where none is without an answer, the walk goes on behind
+  joins-all : (i : ℕ) (past later : List Framed) (last : List ℕ) → first_open setup reply i past ≡ None → answers_by setup reply i (past ++ later) last ≡ answers_by setup reply i past [] ++ answers_by setup reply (i + length past) later last
+  joins-all i [] later last all = ap (λ k. answers_by setup reply k later last) (let same : i ≡ i + 0 = omega arith in same)
+  joins-all i (m ∷ past) later last all = grind (arith, common_steps, (joins-all (suc i) past later last))
+
+  pub goes-all : (i : ℕ) (past later : List Framed) → first_open setup reply i past ≡ None → first_open setup reply i (past ++ later) ≡ first_open setup reply (i + length past) later
+  goes-all i [] later all = ap (λ k. first_open setup reply k later) (let same : i ≡ i + 0 = omega arith in same)
+  goes-all i (m ∷ past) later all = grind (arith, common_steps, (goes-all (suc i) past later))
+
+  -- the first one without an answer is among those at whose places it stands
+  pub open-within : (i : ℕ) (past later : List Framed) (work : Work) → first_open setup reply i (past ++ later) ≡ Some work → work.ordinal < i + length past → first_open setup reply i past ≡ Some work
+  open-within i past later work is below = grind (arith, common_steps, open-from, goes-all, open-more)
+
+  pub done-none : AreDone setup reply [] []
+  done-none = record { joins = λ later last. refl; goes = λ later. refl }
+
+  pub done-one : (past : List Framed) (said : List ℕ) (message : Framed) (answer : Answer) → AreDone setup reply past said → answer_of setup (reply (suc (length past))) message.payload ≡ Some answer
+      → AreDone setup reply (past ++ message ∷ []) (said ++ spelt (next_id message.last) answer)
+  done-one past said message answer done is = grind (arith, common_steps, length-append)
+
+  pub done-all : (past : List Framed) → first_open setup reply 1 past ≡ None → AreDone setup reply past (answers_by setup reply 1 past [])
+  done-all past all = grind (arith, common_steps, joins-all, goes-all)
 
 -- The last one, which had no answer, has one now.
-
 pub record NowDone (setup : Setup) (reply other : ℕ → Option Answer) (i : ℕ) (past : List Framed) (message : Framed) (answer : Answer) : Type 0 where
   pub all : first_open setup other i past ≡ None
   pub joins : answers_by setup other i past [] ≡ answers_by setup reply i past [] ++ spelt (next_id message.last) answer
 
-last-done : (setup : Setup) (reply other : ℕ → Option Answer) (i : ℕ) (m : Framed) (answer : Answer) → answer_of setup (reply i) m.payload ≡ None → answer_of setup (other i) m.payload ≡ Some answer → NowDone setup reply other i (m ∷ []) m answer
-last-done setup reply other i m answer was now = grind (arith, common_steps, append-nil)
-
-pub now-done : (setup : Setup) (reply other : ℕ → Option Answer) (i k : ℕ) (past : List Framed) (message : Framed) (answer : Answer) → first_open setup reply i past ≡ Some (at_place k message) → suc k ≡ i + length past
-    → ((j : ℕ) → j ≢ k → other j ≡ reply j) → answer_of setup (other k) message.payload ≡ Some answer → NowDone setup reply other i past message answer
-now-done setup reply other i k [] message answer is last same now = absurd (let no : None ≡ Some (at_place k message) = is in cc)
-now-done setup reply other i k (m ∷ past) message answer is last same now =
-    by (answer_of setup (reply i) m.payload) refl is (λ there. now-done setup reply other (suc i) k past message answer there (let more : suc k ≡ i + suc (length past) = last in omega arith) same now) where
-      work : Work
-      work = at_place k message
-
-      alone : (past : List Framed) → i ≡ k → m ≡ message → suc k ≡ i + suc (length past) → answer_of setup (reply i) m.payload ≡ None → NowDone setup reply other i (m ∷ past) message answer
-      alone past at is last was = grind (arith, common_steps, last-done)
-
-      by : (o : Option Answer) → answer_of setup (reply i) m.payload ≡ o → cond (is_some o) (first_open setup reply (suc i) past) (Some (at_place i m)) ≡ Some work
-          → (first_open setup reply (suc i) past ≡ Some work → NowDone setup reply other (suc i) past message answer) → NowDone setup reply other i (m ∷ past) message answer
-      by o at here others = grind (arith, common_steps, some-same, open-from)
-
 -- Replies that stay, where none came to the message in work, change nothing.
-
 pub record Agree (setup : Setup) (reply other : ℕ → Option Answer) (i : ℕ) (messages : List Framed) (last : List ℕ) : Type 0 where
   pub joins : answers_by setup other i messages last ≡ answers_by setup reply i messages last
   pub goes : first_open setup other i messages ≡ first_open setup reply i messages
 
-pub agree : (setup : Setup) (reply other : ℕ → Option Answer) (i : ℕ) (messages : List Framed) (last : List ℕ) → ((j : ℕ) (answer : Answer) → reply j ≡ Some answer → other j ≡ Some answer)
-    → ((work : Work) → first_open setup reply i messages ≡ Some work → is_query work.message.payload ≡ true → other work.ordinal ≡ None) → Agree setup reply other i messages last
-agree setup reply other i [] last stays none = record { joins = refl; goes = refl }
-agree setup reply other i (m ∷ messages) last stays none = by (answer_of setup (reply i) m.payload) refl none (agree setup reply other (suc i) messages last stays) where
-  by : (o : Option Answer) → answer_of setup (reply i) m.payload ≡ o
-      → ((work : Work) → cond (is_some o) (first_open setup reply (suc i) messages) (Some (at_place i m)) ≡ Some work → is_query work.message.payload ≡ true → other work.ordinal ≡ None)
-      → (((work : Work) → first_open setup reply (suc i) messages ≡ Some work → is_query work.message.payload ≡ true → other work.ordinal ≡ None) → Agree setup reply other (suc i) messages last)
-      → Agree setup reply other i (m ∷ messages) last
-  by None at none others = (
-      let now : answer_of setup (other i) m.payload ≡ None = answer-none setup (reply i) (other i) m.payload (none (at_place i m) refl) at in
-      record {
-        joins = ap (λ o. answered (next_id m.last) o (answers_by setup other (suc i) messages last)) now ∙ ap (λ o. answered (next_id m.last) o (answers_by setup reply (suc i) messages last)) (sym at);
-        goes = ap (λ o. cond (is_some o) (first_open setup other (suc i) messages) (Some (at_place i m))) now
-            ∙ ap (λ o. cond (is_some o) (first_open setup reply (suc i) messages) (Some (at_place i m))) (sym at);
-      })
-  by (Some answer) at none others = (
-      let now : answer_of setup (other i) m.payload ≡ Some answer = answer-stays setup (reply i) (other i) m.payload answer (stays i answer) at in
-      let done = others none in
-      record {
-        joins = ap (λ o. answered (next_id m.last) o (answers_by setup other (suc i) messages last)) now ∙ ap (λ l. spelt (next_id m.last) answer ++ l) done.joins
-            ∙ ap (λ o. answered (next_id m.last) o (answers_by setup reply (suc i) messages last)) (sym at);
-        goes = ap (λ o. cond (is_some o) (first_open setup other (suc i) messages) (Some (at_place i m))) now ∙ done.goes
-            ∙ ap (λ o. cond (is_some o) (first_open setup reply (suc i) messages) (Some (at_place i m))) (sym at);
-      })
+module _ (setup : Setup) (reply other : ℕ → Option Answer) where
+  last-done : (i : ℕ) (m : Framed) (answer : Answer) → answer_of setup (reply i) m.payload ≡ None → answer_of setup (other i) m.payload ≡ Some answer → NowDone setup reply other i (m ∷ []) m answer
+  last-done i m answer was now = grind (arith, common_steps, append-nil)
+
+  pub now-done : (i k : ℕ) (past : List Framed) (message : Framed) (answer : Answer) → first_open setup reply i past ≡ Some (at_place k message) → suc k ≡ i + length past
+      → ((j : ℕ) → j ≢ k → other j ≡ reply j) → answer_of setup (other k) message.payload ≡ Some answer → NowDone setup reply other i past message answer
+  now-done i k [] message answer is last same now = cc
+  now-done i k (m ∷ past) message answer is last same now =
+      by (answer_of setup (reply i) m.payload) refl is (λ there. now-done (suc i) k past message answer there (let more : suc k ≡ i + suc (length past) = last in omega arith) same now) where
+        alone : (past : List Framed) → i ≡ k → m ≡ message → suc k ≡ i + suc (length past) → answer_of setup (reply i) m.payload ≡ None → NowDone setup reply other i (m ∷ past) message answer
+        alone past at is last was = grind (arith, common_steps, last-done)
+
+        by : (o : Option Answer) → answer_of setup (reply i) m.payload ≡ o → cond (is_some o) (first_open setup reply (suc i) past) (Some (at_place i m)) ≡ Some (at_place k message)
+            → (first_open setup reply (suc i) past ≡ Some (at_place k message) → NowDone setup reply other (suc i) past message answer) → NowDone setup reply other i (m ∷ past) message answer
+        by o at here others = grind (arith, common_steps, some-same, open-from)
+
+  agree-at : (i : ℕ) (m : Framed) (messages : List Framed) (last : List ℕ) (o : Option Answer) → answer_of setup (reply i) m.payload ≡ o → answer_of setup (other i) m.payload ≡ o
+      → (is_some o ≡ true → Agree setup reply other (suc i) messages last) → Agree setup reply other i (m ∷ messages) last
+  agree-at i m messages last o was now later = grind (arith, common_steps)
+
+  pub agree : (i : ℕ) (messages : List Framed) (last : List ℕ) → ((j : ℕ) (answer : Answer) → reply j ≡ Some answer → other j ≡ Some answer)
+      → ((work : Work) → first_open setup reply i messages ≡ Some work → is_query work.message.payload ≡ true → other work.ordinal ≡ None) → Agree setup reply other i messages last
+  agree i [] last stays none = record { joins = refl; goes = refl }
+  agree i (m ∷ messages) last stays none = by (answer_of setup (reply i) m.payload) refl none (agree (suc i) messages last stays) where
+    by : (o : Option Answer) → answer_of setup (reply i) m.payload ≡ o
+        → ((work : Work) → cond (is_some o) (first_open setup reply (suc i) messages) (Some (at_place i m)) ≡ Some work → is_query work.message.payload ≡ true → other work.ordinal ≡ None)
+        → (((work : Work) → first_open setup reply (suc i) messages ≡ Some work → is_query work.message.payload ≡ true → other work.ordinal ≡ None) → Agree setup reply other (suc i) messages last)
+        → Agree setup reply other i (m ∷ messages) last
+    by None at none later = agree-at i m messages last None at (answer-none setup (reply i) (other i) m.payload (none (at_place i m) refl) at) (λ some. cc)
+    by (Some answer) at none later = agree-at i m messages last (Some answer) at (answer-stays setup (reply i) (other i) m.payload answer (stays i answer) at) (λ some. later none)
 
 -- How a client's session stands between the steps that it takes.
 
@@ -206,8 +188,7 @@ pub record IsGoing (talk : Talk) (reply : ℕ → Option Answer) (user : Account
 abbrev pub MayGo : Phase → Talk → (ℕ → Option Answer) → (bytes : List ℕ) → ClientState → Type 0
 MayGo phase.LoggingIn talk reply bytes client = IsComing talk bytes client
 MayGo (phase.Idle user) talk reply bytes client = IsGoing talk reply user bytes client
-MayGo (phase.Working user) talk reply bytes client = ⊥
-MayGo phase.Ending talk reply bytes client = ⊥
+MayGo _ talk reply bytes client = ⊥
 
 pub record GoesAt (talk : Talk) (reply : ℕ → Option Answer) (written : List ℕ) (session : Session) : Type 0 where
   pub mine : IsOf session.client.number.0 talk.number session.client.salt talk.salt session.client.framer.limit talk.setup.limit
@@ -237,25 +218,6 @@ ends-so talk reply written client mine later over due old = grind (arith, common
 
 -- What a client said, and what it is due by that.
 
--- Of a client that isn't logged in, or can't be, nothing is due behind the answer to its login.
-
-abbrev pub due_behind : (ℕ → Option Answer) → Talk → (messages : Split) → List ℕ
-due_behind reply talk messages = answers_by talk.setup reply 1 messages.messages (fault_answer talk.setup.limit messages.fault)
-
-abbrev due_by : (ℕ → Option Answer) → Talk → Opening → List ℕ
-due_by reply talk begun = front_in talk begun ++ due_behind reply talk (client_messages talk.setup.limit (commands_in talk begun))
-
-pub no-messages : (limit : ℕ) → client_messages limit [] ≡ record { messages = []; rest = []; fault = None }
-no-messages limit = split-nothing limit 0 [] (first_message-empty limit 0)
-
-pub due-alone : (reply : ℕ → Option Answer) (talk : Talk) (begun : Opening) → opening_of talk ≡ begun → commands_in talk begun ≡ [] → due_said reply talk ≡ front_in talk begun
-due-alone reply talk begun at none = grind (arith, common_steps, no-messages, append-nil)
-
-pub work-alone : (reply : ℕ → Option Answer) (talk : Talk) (begun : Opening) → opening_of talk ≡ begun → commands_in talk begun ≡ [] → work_said reply talk ≡ None
-work-alone reply talk begun at none = grind (arith, common_steps, no-messages)
-
--- A client that is logged in.
-
 pub record IsIn (talk : Talk) (user : Account) : Type 0 where
   pub switched : Bool
   pub response : Response
@@ -264,56 +226,85 @@ pub record IsIn (talk : Talk) (user : Account) : Type 0 where
   pub says : opening_of talk ≡ Says switched response id rest
   pub known : account_of talk.setup.users talk.salt response ≡ Some user
 
-pub is-in : (talk : Talk) (user : Account) → account talk ≡ Some user → IsIn talk user
-is-in talk user is = grind (arith, common_steps)
+no-messages : (limit : ℕ) → client_messages limit [] ≡ record { messages = []; rest = []; fault = None }
+no-messages limit = split-nothing limit 0 [] (first_message-empty limit 0)
 
-says-more : (talk : Talk) (more : List ℕ) (user : Account) (who : IsIn talk user) → opening_of (heard_more talk more) ≡ Says who.switched who.response who.id (who.rest ++ more)
-says-more talk more user who = opening-says-more talk.setup.limit talk.read more who.switched who.response who.id who.rest who.says
+module _ (reply : ℕ → Option Answer) (talk : Talk) where
+  abbrev pub due_behind : (messages : Split) → List ℕ
+  due_behind messages = answers_by talk.setup reply 1 messages.messages (fault_answer talk.setup.limit messages.fault)
 
-in-commands : (talk : Talk) (user : Account) (who : IsIn talk user) → commands talk ≡ who.rest
-in-commands talk user who = ap (commands_in talk) who.says ∙ ap (λ o. if_known o who.rest) who.known
+  -- of a client that isn't logged in, or can't be, nothing is due behind the answer to its login
+  pub due-alone : (begun : Opening) → opening_of talk ≡ begun → commands_in talk begun ≡ [] → due_said reply talk ≡ front_in talk begun
+  due-alone begun at none = grind (arith, common_steps, no-messages, append-nil)
 
-pub front-more : (talk : Talk) (more : List ℕ) (user : Account) → account talk ≡ Some user → front (heard_more talk more) ≡ front talk
-front-more talk more user is = (let who = is-in talk user is in ap (front_in (heard_more talk more)) (says-more talk more user who) ∙ sym (ap (front_in talk) who.says))
+  pub work-alone : (begun : Opening) → opening_of talk ≡ begun → commands_in talk begun ≡ [] → work_said reply talk ≡ None
+  work-alone begun at none = grind (arith, common_steps, no-messages)
 
-pub commands-more : (talk : Talk) (more : List ℕ) (user : Account) → account talk ≡ Some user → commands (heard_more talk more) ≡ commands talk ++ more
-commands-more talk more user is = (let who = is-in talk user is in
-    ap (commands_in (heard_more talk more)) (says-more talk more user who) ∙ ap (λ o. if_known o (who.rest ++ more)) who.known ∙ sym (ap (λ bytes. bytes ++ more) (in-commands talk user who)))
+-- A client that is logged in.
+module _ (talk : Talk) where
+  is-in : (user : Account) → account talk ≡ Some user → IsIn talk user
+  is-in user is = grind (arith, common_steps)
 
-pub commands-shorter : (talk : Talk) (user : Account) → account talk ≡ Some user → length (commands talk) ≤ length talk.read
-commands-shorter talk user is = grind (arith, common_steps, is-in, in-commands, opening-shorter)
+  in-commands : (user : Account) (who : IsIn talk user) → commands talk ≡ who.rest
+  in-commands user who = ap (commands_in talk) who.says ∙ ap (λ o. if_known o who.rest) who.known
+
+  says-more : (more : List ℕ) (user : Account) (who : IsIn talk user) → opening_of (heard_more talk more) ≡ Says who.switched who.response who.id (who.rest ++ more)
+  says-more more user who = opening-says-more talk.setup.limit talk.read more who.switched who.response who.id who.rest who.says
+
+  pub front-more : (more : List ℕ) (user : Account) → account talk ≡ Some user → front (heard_more talk more) ≡ front talk
+  front-more more user is = (let who = is-in user is in ap (front_in (heard_more talk more)) (says-more more user who) ∙ sym (ap (front_in talk) who.says))
+
+  pub commands-more : (more : List ℕ) (user : Account) → account talk ≡ Some user → commands (heard_more talk more) ≡ commands talk ++ more
+  commands-more more user is = (let who = is-in user is in
+      ap (commands_in (heard_more talk more)) (says-more more user who) ∙ ap (λ o. if_known o (who.rest ++ more)) who.known ∙ sym (ap (λ bytes. bytes ++ more) (in-commands user who)))
+
+  commands-shorter : (user : Account) → account talk ≡ Some user → length (commands talk) ≤ length talk.read
+  commands-shorter user is = grind (arith, common_steps, is-in, in-commands, opening-shorter)
+
+  -- The messages that were taken of it.
+  module _ (client : ClientState) where
+    pub taken-messages : (taken : IsTaken talk client) → messages_of talk ≡ with_front taken.past (split talk.setup.limit 0 client.framer.kept)
+    taken-messages taken = ap (split talk.setup.limit 0) (sym (append-nil (commands talk))) ∙ taken.whatever [] ∙ ap (λ bytes. with_front taken.past (split talk.setup.limit 0 bytes)) (append-nil client.framer.kept)
+
+    pub taken-nothing : (taken : IsTaken talk client) → first_message talk.setup.limit 0 client.framer.kept ≡ Nothing → messages_of talk ≡ record { messages = taken.past ++ []; rest = client.framer.kept; fault = None }
+    taken-nothing taken at = taken-messages taken ∙ ap (with_front taken.past) (split-nothing talk.setup.limit 0 client.framer.kept at)
+
+    pub taken-whole : (message : Framed) (rest : List ℕ) (taken : IsTaken talk client) → first_message talk.setup.limit 0 client.framer.kept ≡ Whole message rest → messages_of talk ≡ with_front taken.past (with_front (message ∷ []) (split talk.setup.limit 0 rest))
+    taken-whole message rest taken at = taken-messages taken ∙ ap (with_front taken.past) (split-whole talk.setup.limit 0 client.framer.kept message rest at)
+
+    pub taken-faulty : (fault : FrameFault) (taken : IsTaken talk client) → first_message talk.setup.limit 0 client.framer.kept ≡ Faulty fault → messages_of talk ≡ record { messages = taken.past ++ []; rest = client.framer.kept; fault = Some fault }
+    taken-faulty fault taken at = taken-messages taken ∙ ap (with_front taken.past) (split-faulty talk.setup.limit 0 client.framer.kept fault at)
+
+    -- there are no more of them than bytes
+    pub taken-few : (message : Framed) (rest : List ℕ) (user : Account) (taken : IsTaken talk client) → account talk ≡ Some user → first_message talk.setup.limit 0 client.framer.kept ≡ Whole message rest → suc (length taken.past) ≤ length talk.read
+    taken-few message rest user taken is at = (
+        let others = (split talk.setup.limit 0 rest).messages in
+        let all : length (messages_of talk).messages ≡ length taken.past + suc (length others) = ap (λ (s : Split). length s.messages) (taken-whole message rest taken at) ∙ length-append taken.past (message ∷ others) in
+        let count = split-count talk.setup.limit 0 (commands talk) in
+        let short = commands-shorter user is in
+        omega arith)
+
+    -- more bytes are kept
+    abbrev pub taken-fed : (bytes : List ℕ) (user : Account) → account talk ≡ Some user → IsTaken talk client → IsTaken (heard_more talk bytes) (fed client bytes)
+    taken-fed bytes user is taken = record {
+      stage = taken.stage;
+      framer = record { unfound = taken.framer.unfound; faultless = taken.framer.faultless };
+      past = taken.past;
+      arrived = taken.arrived;
+      whatever = λ more. ap (λ said. split talk.setup.limit 0 (said ++ more)) (commands-more bytes user is) ∙ ap (split talk.setup.limit 0) (append_assoc (commands talk) bytes more) ∙ taken.whatever (bytes ++ more)
+          ∙ ap (λ kept. with_front taken.past (split talk.setup.limit 0 kept)) (sym (append_assoc client.framer.kept bytes more));
+    }
+
+    pub past-whatever : (message : Framed) (rest : List ℕ) → (taken : IsTaken talk client) → first_message talk.setup.limit 0 client.framer.kept ≡ Whole message rest
+        → (more : List ℕ) → split talk.setup.limit 0 (commands talk ++ more) ≡ with_front (taken.past ++ message ∷ []) (split talk.setup.limit 0 (drop (message_size client.framer.kept) client.framer.kept ++ more))
+    past-whatever message rest taken at more = (let others = split talk.setup.limit 0 (rest ++ more) in taken.whatever more
+        ∙ ap (with_front taken.past) (split-whole talk.setup.limit 0 (client.framer.kept ++ more) message (rest ++ more) (first_message-whole-more talk.setup.limit 0 client.framer.kept more message rest at))
+        ∙ ap (λ (messages : List Framed). record { messages = messages; rest = others.rest; fault = others.fault }) (sym (append_assoc taken.past (message ∷ []) others.messages))
+        ∙ ap (λ bytes. with_front (taken.past ++ message ∷ []) (split talk.setup.limit 0 (bytes ++ more))) (first_message-goes talk.setup.limit 0 client.framer.kept message rest at))
 
 -- whether it is at its end
 pub over-in : (reply : ℕ → Option Answer) (talk : Talk) (user : Account) → account talk ≡ Some user → over_said reply talk ≡ ends_by (work_said reply talk) (is_some (messages_of talk).fault)
 over-in reply talk user is = grind (arith, common_steps, is-in)
-
--- The messages that were taken of it.
-
-pub taken-messages : (talk : Talk) (client : ClientState) (taken : IsTaken talk client) → messages_of talk ≡ with_front taken.past (split talk.setup.limit 0 client.framer.kept)
-taken-messages talk client taken =
-    ap (split talk.setup.limit 0) (sym (append-nil (commands talk))) ∙ taken.whatever [] ∙ ap (λ bytes. with_front taken.past (split talk.setup.limit 0 bytes)) (append-nil client.framer.kept)
-
-pub taken-nothing : (talk : Talk) (client : ClientState) (taken : IsTaken talk client) → first_message talk.setup.limit 0 client.framer.kept ≡ Nothing
-    → messages_of talk ≡ record { messages = taken.past ++ []; rest = client.framer.kept; fault = None }
-taken-nothing talk client taken at = taken-messages talk client taken ∙ ap (with_front taken.past) (split-nothing talk.setup.limit 0 client.framer.kept at)
-
-pub taken-whole : (talk : Talk) (client : ClientState) (message : Framed) (rest : List ℕ) (taken : IsTaken talk client) → first_message talk.setup.limit 0 client.framer.kept ≡ Whole message rest
-    → messages_of talk ≡ with_front taken.past (with_front (message ∷ []) (split talk.setup.limit 0 rest))
-taken-whole talk client message rest taken at = taken-messages talk client taken ∙ ap (with_front taken.past) (split-whole talk.setup.limit 0 client.framer.kept message rest at)
-
-pub taken-faulty : (talk : Talk) (client : ClientState) (fault : FrameFault) (taken : IsTaken talk client) → first_message talk.setup.limit 0 client.framer.kept ≡ Faulty fault
-    → messages_of talk ≡ record { messages = taken.past ++ []; rest = client.framer.kept; fault = Some fault }
-taken-faulty talk client fault taken at = taken-messages talk client taken ∙ ap (with_front taken.past) (split-faulty talk.setup.limit 0 client.framer.kept fault at)
-
--- there are no more of them than bytes
-pub taken-few : (talk : Talk) (client : ClientState) (message : Framed) (rest : List ℕ) (user : Account) (taken : IsTaken talk client) → account talk ≡ Some user → first_message talk.setup.limit 0 client.framer.kept ≡ Whole message rest
-    → suc (length taken.past) ≤ length talk.read
-taken-few talk client message rest user taken is at = (
-    let others = (split talk.setup.limit 0 rest).messages in
-    let all : length (messages_of talk).messages ≡ length taken.past + suc (length others) = ap (λ (s : Split). length s.messages) (taken-whole talk client message rest taken at) ∙ length-append taken.past (message ∷ others) in
-    let count : length (messages_of talk).messages ≤ length (commands talk) = split-count talk.setup.limit 0 (commands talk) in
-    let short : length (commands talk) ≤ length talk.read = commands-shorter talk user is in
-    omega arith)
 
 counted-one : (n : ℕ) → n < 18446744073709551615 → counted n ≡ n + 1
 counted-one n small = grind arith
@@ -321,35 +312,9 @@ counted-one n small = grind arith
 pub counted-suc : (n k : ℕ) → n ≡ k → suc k < 18446744073709551616 → counted n ≡ suc k
 counted-suc n k same few = (let more : counted n ≡ n + 1 = counted-one n (omega arith) in omega arith)
 
--- more bytes are kept
-abbrev pub taken-fed : (talk : Talk) (client : ClientState) (bytes : List ℕ) (user : Account) → account talk ≡ Some user → IsTaken talk client → IsTaken (heard_more talk bytes) (fed client bytes)
-taken-fed talk client bytes user is taken = record {
-  stage = taken.stage;
-  framer = record { unfound = taken.framer.unfound; faultless = taken.framer.faultless };
-  past = taken.past;
-  arrived = taken.arrived;
-  whatever = λ more.
-      ap (λ said. split talk.setup.limit 0 (said ++ more)) (commands-more talk bytes user is)
-      ∙ ap (split talk.setup.limit 0) (append_assoc (commands talk) bytes more)
-      ∙ taken.whatever (bytes ++ more)
-      ∙ ap (λ kept. with_front taken.past (split talk.setup.limit 0 kept)) (sym (append_assoc client.framer.kept bytes more));
-}
-
-pub past-count : (past : List Framed) (message : Framed) → suc (length past) ≡ length (past ++ message ∷ [])
-past-count past message = omega (arith, length-append past (message ∷ []))
-
 -- one message more is taken
 abbrev pub client_past : Framed → (outgoing : List ℕ) → ClientState → ClientState
 client_past message outgoing client = record client { framer = past_message message client.framer; arrived = counted client.arrived; outgoing = outgoing }
-
-pub past-whatever : (talk : Talk) (client : ClientState) (message : Framed) (rest : List ℕ) → (taken : IsTaken talk client) → first_message talk.setup.limit 0 client.framer.kept ≡ Whole message rest
-    → (more : List ℕ) → split talk.setup.limit 0 (commands talk ++ more) ≡ with_front (taken.past ++ message ∷ []) (split talk.setup.limit 0 (drop (message_size client.framer.kept) client.framer.kept ++ more))
-past-whatever talk client message rest taken at more = (
-    let others = split talk.setup.limit 0 (rest ++ more) in
-    taken.whatever more
-    ∙ ap (with_front taken.past) (split-whole talk.setup.limit 0 (client.framer.kept ++ more) message (rest ++ more) (first_message-whole-more talk.setup.limit 0 client.framer.kept more message rest at))
-    ∙ ap (λ (messages : List Framed). record { messages = messages; rest = others.rest; fault = others.fault }) (sym (append_assoc taken.past (message ∷ []) others.messages))
-    ∙ ap (λ bytes. with_front (taken.past ++ message ∷ []) (split talk.setup.limit 0 (bytes ++ more))) (first_message-goes talk.setup.limit 0 client.framer.kept message rest at))
 
 abbrev pub taken-one : (talk : Talk) (client : ClientState) (message : Framed) (rest outgoing : List ℕ) → (taken : IsTaken talk client) → first_message talk.setup.limit 0 client.framer.kept ≡ Whole message rest
     → suc (length taken.past) < 18446744073709551616 → IsTaken talk (client_past message outgoing client)
@@ -357,26 +322,24 @@ taken-one talk client message rest outgoing taken at few = record {
   stage = taken.stage;
   framer = record { unfound = refl; faultless = taken.framer.faultless };
   past = taken.past ++ message ∷ [];
-  arrived = counted-suc client.arrived (length taken.past) taken.arrived few ∙ past-count taken.past message;
+  arrived = counted-suc client.arrived (length taken.past) taken.arrived few ∙ (let sum : suc (length taken.past) ≡ length (taken.past ++ message ∷ []) = omega (arith, length-append taken.past (message ∷ [])) in sum);
   whatever = past-whatever talk client message rest taken at;
 }
 
--- What is due by them.
+-- What is due by them, where all are answered or the next one isn't.
 
 pub record IsAllDue (reply : ℕ → Option Answer) (talk : Talk) (bytes : List ℕ) : Type 0 where
   pub due : due_said reply talk ≡ bytes
   pub none : work_said reply talk ≡ None
 
--- where all are answered
-pub due-all : (reply : ℕ → Option Answer) (talk : Talk) (past : List Framed) (said rest : List ℕ) (fault : Option FrameFault) → AreDone talk.setup reply past said → messages_of talk ≡ record { messages = past ++ []; rest = rest; fault = fault }
-    → IsAllDue reply talk (front talk ++ (said ++ fault_answer talk.setup.limit fault))
-due-all reply talk past said rest fault done at = grind (arith, common_steps)
-
--- where the next one isn't
 pub record IsDueTo (reply : ℕ → Option Answer) (talk : Talk) (bytes : List ℕ) (work : Work) : Type 0 where
   pub due : due_said reply talk ≡ bytes
   pub first : work_said reply talk ≡ Some work
 
-pub due-open : (reply : ℕ → Option Answer) (talk : Talk) (past : List Framed) (said : List ℕ) (message : Framed) (others : Split) → AreDone talk.setup reply past said → messages_of talk ≡ with_front past (with_front (message ∷ []) others)
-    → answer_of talk.setup (reply (suc (length past))) message.payload ≡ None → IsDueTo reply talk (front talk ++ said) (at_place (suc (length past)) message)
-due-open reply talk past said message others done at none = grind (arith, common_steps, append-nil)
+module _ (reply : ℕ → Option Answer) (talk : Talk) (past : List Framed) (said : List ℕ) where
+  pub due-all : (rest : List ℕ) (fault : Option FrameFault) → AreDone talk.setup reply past said → messages_of talk ≡ record { messages = past ++ []; rest = rest; fault = fault } → IsAllDue reply talk (front talk ++ (said ++ fault_answer talk.setup.limit fault))
+  due-all rest fault done at = grind (arith, common_steps)
+
+  pub due-open : (message : Framed) (others : Split) → AreDone talk.setup reply past said → messages_of talk ≡ with_front past (with_front (message ∷ []) others) → answer_of talk.setup (reply (suc (length past))) message.payload ≡ None
+      → IsDueTo reply talk (front talk ++ said) (at_place (suc (length past)) message)
+  due-open message others done at none = grind (arith, common_steps, append-nil)
