@@ -134,7 +134,7 @@ module _ {service : Service} {log : Log} {e : Entry} {n : ℕ} {tables : Tables}
     others = λ k apart. refl;
     seat = λ seat is. (let was = sound.seats n seat is in record {
       stands = seat-stays service log e n seat from.happens.lawful was.stands (from.later seat is) (from.seats n seat is)
-          (λ user working. none seat.session.client.arrived (subst (λ (p : Phase). Serves p tables.lends n seat.session.client.arrived) working was.serves));
+          (λ user working. none seat.session.client.arrived (rw working at was.serves));
       serves = serves-quiet seat.session.phase tables.lends news.lends n seat.session.client.arrived busy free gone was.serves;
       unfinished = was.unfinished;
       numbered = was.numbered;
@@ -160,7 +160,7 @@ module _ {service : Service} {log : Log} {e : Entry} {n : ℕ} {tables : Tables}
     was = (sound.seats n seat is).stands
 
     leaves : Leaves was.came.link log e
-    leaves = subst (λ (l : LinkId). Leaves l log e) (sym was.link) (from.seats n seat is)
+    leaves = rw was.link (from.seats n seat is)
 
     came : arrival_of n then ≡ Some was.came
     came = arrival-stays n log (e ∷ []) was.came was.is_came
@@ -218,7 +218,7 @@ module _ {service : Service} {log : Log} {e : Entry} {n : ℕ} {tables : Tables}
             unbroken = (from.seats n seat is).broken ∙ was.unbroken;
             state = inl (record {
               unlost = leaves.lost ∙ heard.unlost;
-              at = subst (λ w. SeatAt (talk_with service n was.came then) (λ k. replied service n k then) w turned.session) (sym leaves.written) goes.seat;
+              at = rw leaves.written goes.seat;
               unsent = goes.unsent;
             });
           }

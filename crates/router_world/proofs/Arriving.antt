@@ -252,8 +252,8 @@ module _ {service : Service} {log : Log} {port : Port} {link : LinkId} {salt : L
       unbroken = ap (list_any is_failure) alone;
       state = inl (record {
         unlost = ap (list_any is_loss) alone;
-        at = subst (λ r. SeatAt (record { setup = service.setup; number = client.0; salt = salt; read = r }) (λ i. replied service client.0 i then) (written_of link then) session) (sym (ap (flat_map got_bytes) alone))
-            (subst (λ w. SeatAt (new_talk client salt service.setup) (λ i. replied service client.0 i then) w session) (sym (ap (flat_map wrote_bytes) alone)) (new-seat client salt service.setup (λ i. replied service client.0 i then) short));
+        at = rw (ap (flat_map got_bytes) alone)
+            (rw (ap (flat_map wrote_bytes) alone) (new-seat client salt service.setup (λ i. replied service client.0 i then) short));
         unsent = λ i later. (let was = unborn service log (lawful-last (IsLawful service) log e coming.happens.lawful).0 client.0 i unarrived in
             (carrier-same client.0 i log e refl ∙ was.0, unrefused-more service client.0 i log e was.1 ((bystands.calm client.0).spares i)));
       });

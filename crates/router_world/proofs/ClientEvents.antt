@@ -111,7 +111,7 @@ module _ {service : Service} {log : Log} {e : Entry} {client : ClientNo} {link :
   replies : IsHeard service log client.0 came seat.session → Replies service log e client.0 came seat.session
   replies heard = (let none : (user : Account) → seat.session.phase ≡ phase.Working user → replied service client.0 seat.session.client.arrived then ≡ None =
       λ user working. busy-none service log e tables.lends client.0 seat.session.client.arrived happens.lawful happens.sound.lends (calm client.0) (λ other lent owns row. rows other lent row)
-      (subst (λ (p : Phase). Serves p tables.lends client.0 seat.session.client.arrived) working sits.serves) in
+      (rw working at sits.serves) in
       record {
         seat = agree-seat (talk_with service client.0 came log) (λ i. replied service client.0 i log) (λ i. replied service client.0 i then) (written_of came.link log) seat.session
             (replies-agree service log e client.0 came seat.session happens.lawful heard none) heard.at;
@@ -151,7 +151,7 @@ module _ {service : Service} {log : Log} {e : Entry} {client : ClientNo} {link :
   pub broken-client : is_failure e ≡ true → is_loss e ≡ true → Sound service then None (breaks_off client link tables)
   broken-client failure loss = (let went = away (holds is_loss loss) in
       let taken : Sound service then (Some (record { client = client.0; link = link })) (without_seat client tables) =
-      subst (λ (l : LinkId). Sound service then (Some (record { client = client.0; link = l })) (without_seat client tables)) on.same out in
+      rw on.same at out in
       part-with service then client link (with_lends (gone client tables.lends) (without_seat client tables))
       (relend service then client.0 link (without_seat client tables) (gone client tables.lends) taken (set-same tables.seats client.0 None) quiet.unparted went.sound went.apart went.traces)
       (set-same tables.seats client.0 None) on.number went.gone quiet.unparted (record {
@@ -194,7 +194,7 @@ module _ {service : Service} {log : Log} {client : ClientNo} {link : LinkId} {by
       now = ap (λ r. record { setup = service.setup; number = client.0; salt = (came on).salt; read = r }) read;
       is = arrived on;
       served = (sits on).stands.served;
-      few = (let short = read-short (came on).link (then on) (lawful-more Fits log (Got link bytes) (happens on).told (happens on).fits) few in subst (λ r. length r < 18446744073709551616) read short);
+      few = (let short = read-short (came on).link (then on) (lawful-more Fits log (Got link bytes) (happens on).told (happens on).fits) few in rw read at short);
       sound = lends on;
       unclosed = (quiet on).unclosed;
       idle = idle;
@@ -204,12 +204,12 @@ module _ {service : Service} {log : Log} {client : ClientNo} {link : LinkId} {by
     by : State on seat.session → Sound service (then on) None (goes_on client seat.link told (without_seat client tables))
     by (inl heard) = goes on told refl (inl (record {
       unlost = keeps on is_loss refl ∙ heard.unlost;
-      at = subst (λ w. SeatAt (talk_with service client.0 (came on) (then on)) (λ i. replied service client.0 i (then on)) w told.session) (sym unwritten) (says heard).seat;
+      at = rw unwritten (says heard).seat;
       unsent = λ i later. (replies on heard).unsent i (let grows = (says heard).grows in omega arith);
     })) (says heard).next
-    by (inr went) = subst (λ (t : Turned). Sound service (then on) None (goes_on client seat.link t (without_seat client tables))) (sym (ap (λ (p : Phase). said_in p service.setup bytes seat.session) went.ends))
+    by (inr went) = rw (ap (λ (p : Phase). said_in p service.setup bytes seat.session) went.ends)
         (goes on (still seat.session) refl (inr (still-ended on went refl seat.session refl (ap (λ w. w ++ seat.session.client.outgoing) unwritten)))
-        (subst (λ (p : Phase). Next service (then on) client.0 tables.lends p seat.session.client.arrived None) (sym went.ends) (Ends None (away on (keeps on is_loss refl ∙ went.lost)))))
+        (rw went.ends (Ends None (away on (keeps on is_loss refl ∙ went.lost)))))
 
 -- So many of the bytes for it were written.
 module _ {service : Service} {log : Log} {client : ClientNo} {link : LinkId} {tag : Tag} {bytes : List ℕ} {seat : Seat} {tables : Tables} (on : OnClient service log (Wrote link tag bytes) client link seat tables) where
@@ -234,8 +234,8 @@ module _ {service : Service} {log : Log} {client : ClientNo} {link : LinkId} {ta
     by : State on seat.session → StateThen on rest
     by (inl heard) = inl (record {
       unlost = keeps on is_loss refl ∙ heard.unlost;
-      at = subst (λ r. SeatAt (record { setup = service.setup; number = client.0; salt = (came on).salt; read = r }) (λ i. replied service client.0 i (then on)) (written_of (came on).link (then on)) rest) (sym (bytes-idle got_bytes (came on).link log (Wrote link tag bytes) refl))
-          (subst (λ w. SeatAt (talk_with service client.0 (came on) log) (λ i. replied service client.0 i (then on)) w rest) (sym written)
+      at = rw (bytes-idle got_bytes (came on).link log (Wrote link tag bytes) refl)
+          (rw written
           (taken-seat (talk_with service client.0 (came on) log) (λ i. replied service client.0 i (then on)) (written_of (came on).link log) seat.session (length bytes) (replies on heard).seat));
       unsent = (replies on heard).unsent;
     })

@@ -34,9 +34,9 @@ module _ (service : Service) (n : ℕ) where
   same-from : (i : ℕ) (log : Log) (messages : List Framed) (last : List ℕ) → From i log messages → Same service.setup (λ k. answer service n k log) (λ k. replied service n k log) (suc i) messages last
   same-from i log [] last from = record { joins = refl; goes = refl }
   same-from i log (message ∷ messages) last from = same-more service.setup (λ k. answer service n k log) (λ k. replied service n k log) (suc i) message messages last
-      (answer-here service n i log message (subst (λ k. message_of service n (suc k) log ≡ Some message) (let same : i + 0 ≡ i = omega arith in same) (from.there 0 message refl)) from.done)
+      (answer-here service n i log message (rw (let same : i + 0 ≡ i = omega arith in same) at (from.there 0 message refl)) from.done)
       (λ some. same-from (suc i) log messages last (record {
-        there = λ k m is. subst (λ p. message_of service n (suc p) log ≡ Some m) (let same : i + suc k ≡ suc i + k = omega arith in same) (from.there (suc k) m is);
+        there = λ k m is. rw (let same : i + suc k ≡ suc i + k = omega arith in same) at (from.there (suc k) m is);
         done = some;
       }))
 

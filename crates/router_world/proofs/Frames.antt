@@ -119,8 +119,8 @@ module _ (service : Service) (log : Log) (e : Entry) where
     hostgroup = stands.hostgroup;
     user = user-stays service stands.turn.client log (e ∷ []) lent.backend.account stands.user;
     some = ap (list_all has_bytes) leaves.pieces ∙ stands.some;
-    at = subst (λ heard. LinkAt service.forms lent.backend.account heard (pieces_of link then) lent.backend) (sym leaves.heard)
-        (subst (λ pieces. LinkAt service.forms lent.backend.account (heard_of link log) pieces lent.backend) (sym leaves.pieces) stands.at);
+    at = rw leaves.heard
+        (rw leaves.pieces stands.at);
     command = λ command is. handed-calm stands.turn.client link lent.backend.account command lawful (user-there service link stands.turn lent.backend.account log stands.is_turn stands.user) (stands.command command is) calm leaves;
     enters = stands.enters;
     owned = owned stands.owned;
@@ -142,7 +142,7 @@ module _ (service : Service) (log : Log) (e : Entry) where
     by (Logs ask is same link lent owns at stage) = unbegun ask is same
     by (On unasked link lent command owns at stage has tag) = (let row = sound.rows link lent at in let owner = sound.owned n link owns in
         let mine = owner-turn service log lends link lent n row.turn.client row.owned (ap (λ (l : Lent). l.owner) (some-same lent owner.lent (sym at ∙ owner.there)) ∙ owner.owner) in
-        let stands : HandedStands service log n link command = subst (λ m. HandedStands service log m link command) mine (row.command command has) in
+        let stands : HandedStands service log n link command = rw mine at (row.command command has) in
         ap (λ k. replied service n k then) (same-ordinal n i stands.ordinal command.tag tag stands.tag)
         ∙ still-none n stands.ordinal command.bytes command.first (refused-or-sent service then lawful) stands.asked calm
         (handed-stays n link lent.backend.account command.sent stands.ordinal stands.carrier (user-there service link row.turn lent.backend.account log row.is_turn row.user) (leaves link lent owns at)))
@@ -174,8 +174,8 @@ module _ (service : Service) (log : Log) (e : Entry) where
     state = elim stands.state [
       | inl heard ↦ inl (record {
           unlost = here.lost ∙ heard.unlost;
-          at = subst (λ bytes. SeatAt (record { setup = service.setup; number = n; salt = stands.came.salt; read = bytes }) (λ i. replied service n i then) (written_of stands.came.link then) seat.session) (sym here.read)
-              (subst (λ bytes. SeatAt (talk_with service n stands.came log) (λ i. replied service n i then) bytes seat.session) (sym here.written)
+          at = rw here.read
+              (rw here.written
               (agree-seat (talk_with service n stands.came log) (λ i. replied service n i log) (λ i. replied service n i then) (written_of stands.came.link log) seat.session (replies-agree n stands.came seat.session lawful heard none) heard.at));
           unsent = later heard.unsent;
         })
@@ -187,7 +187,7 @@ module _ (service : Service) (log : Log) (e : Entry) where
     ];
   } where
     here : Leaves stands.came.link log e
-    here = subst (λ (l : LinkId). Leaves l log e) (sym stands.link) leaves
+    here = rw stands.link leaves
 
   pub seat-calm : (n : ℕ) (seat : Seat) → AllLawful (IsLawful service) then → SeatStands service log n seat → Calm service log e n → Leaves seat.link log e → ((user : Account) → seat.session.phase ≡ phase.Working user → replied service n seat.session.client.arrived then ≡ None)
       → SeatStands service then n seat

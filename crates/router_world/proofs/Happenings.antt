@@ -50,11 +50,11 @@ pub written-step : {service : Service} {log : Log} {link : LinkId} {tag : Tag} {
     → Sound service (log ++ Wrote link tag bytes ∷ []) None (wrote_on link (length bytes) (tables.numbers link.0) tables)
 written-step {service} {log} {link} {tag} {bytes} {tables} on front = elim (whose on) [
   | OfClient client seat number is at ↦ (
-      let reply = reply-front tag bytes seat.session.client.outgoing (subst (λ o. IsFront (seat_sends o) tag bytes) is (subst (λ o. IsFront (sends_by tables link o) tag bytes) number front)) in
+      let reply = reply-front tag bytes seat.session.client.outgoing (rw is at (rw number at front)) in
       rw (number, is) (wrote-client (record { on = on; writes = λ n i. ap (λ (t : Tag). cond (is_command n i t) (Some link) None) reply.0; number = number; is = is; same = at })
       (sym (front-size seat.session.client.outgoing bytes reply.1 reply.2).1)))
   | OfServer lent is ↦ rw (unnumbered on lent is, is) (wrote-step service log link tag bytes lent tables on.happens.sound (record { on = on; there = is })
-      (subst (λ o. IsFront (left_in o) tag bytes) is (subst (λ o. IsFront (sends_by tables link o) tag bytes) (unnumbered on lent is) front)))
+      (rw is at (rw (unnumbered on lent is) at front)))
 ]
 
 -- What is offered to a link before it closes: it is a client's that is to be closed, and has something to be told.
@@ -83,7 +83,7 @@ pub offer-written : {service : Service} {log : Log} {link : LinkId} {tag : Tag} 
     → Sound service (log ++ Wrote link tag bytes ∷ []) None (wrote_on link (length bytes) (tables.numbers link.0) tables)
 offer-written {service} {log} {link} {tag} {bytes} {tables} happens farewell front = (let p = (the happens farewell).parting in
     let here : nat_eq p.link.0 link.0 ≡ true = ap (λ (l : LinkId). nat_eq l.0 link.0) (the happens farewell).on ∙ same_number link.0 in
-    let reply = reply-front tag bytes p.bytes (subst (λ all. IsFront (farewell_of all) tag bytes) (the happens farewell).is front) in
+    let reply = reply-front tag bytes p.bytes (rw (the happens farewell).is at front) in
     let silent : (n i : ℕ) → carries n i (Wrote link tag bytes) ≡ None = λ n i. ap (λ (t : Tag). cond (is_command n i t) (Some link) None) reply.0 in
     let opens : (was : Bool) → open_step was (Wrote link tag bytes) ≡ was = λ was. refl in
     rw ((nobodys happens farewell).0, (nobodys happens farewell).1, (the happens farewell).is, here)
@@ -94,5 +94,5 @@ pub offer-failed : {service : Service} {log : Log} {link : LinkId} {tables : Tab
 offer-failed {service} {log} {link} {tables} happens farewell = (let p = (the happens farewell).parting in
     let silent : (n i : ℕ) → carries n i (WriteFailed link) ≡ None = λ n i. refl in
     let opens : (was : Bool) → open_step was (WriteFailed link) ≡ was = λ was. refl in
-    rw ((nobodys happens farewell).0, (nobodys happens farewell).1) (subst (λ all. Sound service (log ++ WriteFailed link ∷ []) None (record tables { parting = all })) (sym (the happens farewell).is)
+    rw ((nobodys happens farewell).0, (nobodys happens farewell).1) (rw (the happens farewell).is
     (offered-step service log (WriteFailed link) p p tables happens.sound (offer happens farewell refl refl silent refl (assumption) opens) refl refl (inr (refl, refl)))))

@@ -130,7 +130,7 @@ module _ {service : Service} {log : Log} {tables : Tables} (told : AllLawful Fit
 
   waits-on : {link : LinkId} {lent : Lent} {n i : ℕ} {bytes : List ℕ} {id : ℕ} (work : Work) (row : RowStands service log tables.lends link lent) → row.turn.client ≡ n → (asked : IsAsked service n i bytes id log) → work_of service n log ≡ Some work
       → Stays service.forms n i asked.message lent.backend.account link log → Waits service n work log
-  waits-on {link} {lent} {n} {i} work row mine asked is stays = subst (λ (w : Work). Waits service n w log) (some-same (record { ordinal = i; message = asked.message }) work (sym asked.asks.work ∙ is)) (record {
+  waits-on {link} {lent} {n} {i} work row mine asked is stays = rw (← (some-same (record { ordinal = i; message = asked.message }) work (sym asked.asks.work ∙ is))) (record {
     due = asked.due;
     is_due = asked.asks.is_due;
     link = link;
@@ -151,7 +151,7 @@ module _ {service : Service} {log : Log} {tables : Tables} (told : AllLawful Fit
   busy-waits n i work (Logs ask is same link lent owns at outside) working = (let asked = (sound.lends.asks n ask is).asked in let own = own-row n owns at in
       waits-on work own.0 own.1 asked working (logs-in at own.0 outside asked))
   busy-waits n i work (On unasked link lent command owns at inside has tag) working = (let own = own-row n owns at in
-      let stands : HandedStands service log n link command = subst (λ m. HandedStands service log m link command) own.1 (own.0.command command has) in
+      let stands : HandedStands service log n link command = rw own.1 at (own.0.command command has) in
       waits-on work own.0 own.1 stands.asked working (stays-on at own.0 has stands.tag stands.asked))
 
   -- Each client with a seat is answered.
@@ -196,8 +196,8 @@ module _ {service : Service} {log : Log} {tables : Tables} (told : AllLawful Fit
     seat-answered : IsAnswered service client.0 stands.came log
     seat-answered = (let same : link ≡ stands.came.link = sym (stands.link ∙ on) in record {
       served = stands.served;
-      told = subst (λ (l : LinkId). WasToldAll service client.0 stands.came log ⊎ (write_dry l log ≡ true)) same told-or-full;
-      lasts = subst (λ (l : LinkId). (has_ended service client.0 stands.came log ≡ false) ⊎ (write_dry l log ≡ true)) same lasts-or-full;
+      told = rw same at told-or-full;
+      lasts = rw same at lasts-or-full;
       waits = query-waits;
     })
 
@@ -221,7 +221,7 @@ module _ {service : Service} {log : Log} {tables : Tables} (told : AllLawful Fit
       let there = server-row sound link turn.0 told quiet opened turn.1 in
       let row = sound.lends.rows link there.0 there.1 in
       let mine : row.turn.client ≡ owner.client = ap (λ (t : Turn). t.client) (some-same row.turn turn.0 (sym row.is_turn ∙ turn.1)) ∙ ap (λ (o : Owner). o.client) turn.2 in
-      subst (λ (u : Account). IsKept service.forms owner u link log) (some-same there.0.backend.account user (sym (row-user row) ∙ known)) (record { sound = row-sound row; needed = kept there.0 there.1 row mine row.owned })) where
+      rw (← (some-same there.0.backend.account user (sym (row-user row) ∙ known))) (record { sound = row-sound row; needed = kept there.0 there.1 row mine row.owned })) where
         kept : (lent : Lent) → tables.lends.links link.0 ≡ Some lent → (row : RowStands service log tables.lends link lent) → row.turn.client ≡ owner.client → Owned service log tables.lends link row.turn.client lent
             → (is_here owner.client log ≡ true) ⊎ IsBusy service.forms lent.backend.account link log
         kept lent is row mine (Own own owns) = inl (ap (λ n. is_here n log) (sym mine) ∙ (own-live sound row.turn.client owns).here)
@@ -243,7 +243,7 @@ module _ {service : Service} {log : Log} {tables : Tables} (told : AllLawful Fit
     rest = drop k bytes;
     is = ap (λ xs. (xs ++ take k bytes) ++ drop k bytes) none ∙ take-append-drop k bytes ∙ sym (due-refused service n came log is refused ∙ ap turned_away port);
   }
-  farewell-due n came _ k is was _ = subst (λ xs. IsPrefix xs (due service n log)) (sym (ap (λ xs. written_of came.link log ++ xs) take-none ∙ append-nil (written_of came.link log))) was where
+  farewell-due n came _ k is was _ = rw (ap (λ xs. written_of came.link log ++ xs) take-none ∙ append-nil (written_of came.link log)) was where
     take-none : take {A = ℕ} k [] ≡ []
     take-none = grind (arith, common_steps)
 
@@ -261,11 +261,11 @@ module _ {service : Service} {log : Log} {tables : Tables} (told : AllLawful Fit
   -- a write on a client's link
   written-due : (n : ℕ) (came : Arrival) (link : LinkId) (tag : Tag) (bytes : List ℕ) → arrival_of n log ≡ Some came → came.link ≡ link → Writes tables link tag bytes → Goes bytes n came
   written-due n came link tag bytes is same (ToClient client seat at on reply k front) = (let stands = (sound.seats client.0 seat at).stands in
-      of-client log told (Goes bytes) stands.is_came is (stands.link ∙ on ∙ sym same) (subst (λ xs. Goes xs client.0 stands.came) (sym front) (seat-due client.0 seat stands k)))
+      of-client log told (Goes bytes) stands.is_came is (stands.link ∙ on ∙ sym same) (rw front (seat-due client.0 seat stands k)))
   written-due n came link tag bytes is same (ToServer lent l at left tagged k front) = cc (unowned log told service n came is same, (sound.lends.rows link lent at).is_turn)
   written-due n came link tag bytes is same (Farewell parting at on reply k front) = (let stands = sound.parts parting at in
       of-client log told (Goes bytes) stands.is_came is (stands.link ∙ on ∙ sym same)
-      (subst (λ xs. Goes xs stands.n stands.came) (sym front) (farewell-due stands.n stands.came parting.bytes k stands.is_came (sound.served stands.n stands.came stands.is_came) stands.at)))
+      (rw front (farewell-due stands.n stands.came parting.bytes k stands.is_came (sound.served stands.n stands.came stands.is_came) stands.at)))
 
 -- To one that comes nothing was written.
 none-new : (log : Log) (e : Entry) (came : Arrival) → arrival_in log e ≡ Some came → IsNew came.link log → written_of came.link (log ++ e ∷ []) ≡ []
@@ -277,7 +277,7 @@ served-more service log e told fits lawful sound ours n came is = by (comes-of l
   then = log ++ e ∷ []
 
   grows : (bytes : List ℕ) → written_of came.link then ≡ bytes → IsPrefix bytes (due service n log) → IsPrefix (written_of came.link then) (due service n then)
-  grows bytes at prefix = subst (λ xs. IsPrefix xs (due service n then)) (sym at) (prefix-trans bytes (due service n log) (due service n then) prefix (due-grows service n log (e ∷ []) lawful))
+  grows bytes at prefix = rw at (prefix-trans bytes (due service n log) (due service n then) prefix (due-grows service n log (e ∷ []) lawful))
 
   still : arrival_of n log ≡ Some came → written_of came.link then ≡ written_of came.link log → IsPrefix (written_of came.link then) (due service n then)
   still was same = grows (written_of came.link log) same (sound.served n came was)

@@ -61,7 +61,7 @@ module _ (log : Log) (e : Entry) (fits : Fits log e) where
 
   apart : (k : ℕ) (came other : Arrival) → slice_get (arrivals log) k ≡ Some came → arrival_in log e ≡ Some other → came.link ≡ other.link → ⊥
   apart k came other is new same =
-      named-none came.link (came_as came.link) log (came-names came.link) (subst (λ (l : LinkId). IsNew l log) (sym same) (new-link other new)) (arrival-as [] log k came is)
+      named-none came.link (came_as came.link) log (came-names came.link) (rw same (new-link other new)) (arrival-as [] log k came is)
 
   once-step : Once log → Once (log ++ e ∷ [])
   once-step before k j came other one two same = grind (arith, common_steps, apart, (arrived k came one), (arrived j other two))
@@ -81,7 +81,7 @@ module _ (log : Log) (told : AllLawful Fits log) where
   -- so what is said of the one is said of the other
   pub of-client : (P : ℕ → Arrival → Type 0) {n m : ℕ} {came other : Arrival} → arrival_of n log ≡ Some came → arrival_of m log ≡ Some other → came.link ≡ other.link → P n came → P m other
   of-client P {n} {m} {came} {other} one two same is = (let who : n ≡ m = same-client n m came other one two same in
-      subst (P m) (some-same came other (sym one ∙ ap (λ k. arrival_of k log) who ∙ two)) (subst (λ k. P k came) who is))
+      subst (P m) (some-same came other (sym one ∙ ap (λ k. arrival_of k log) who ∙ two)) (rw who at is))
 
   -- A client's link was opened for no command.
   pub unowned : (service : Service) {link : LinkId} (n : ℕ) (came : Arrival) → arrival_of n log ≡ Some came → came.link ≡ link → turn_of service link log ≡ None
@@ -108,7 +108,7 @@ module _ {service : Service} {log : Log} {tables : Tables} (sound : Sound servic
   live-here n live = elim (tables.seats n) as (λ o. tables.seats n ≡ o → IsLive log tables n) [
     | None ↦ λ at. absurd (live (away-gone tables.lends n (sound.away n at)))
     | Some seat ↦ λ at. (let sits = sound.seats n seat at in
-        let lasts : seat.session.phase ≢ phase.Ending = λ ends. live (subst (λ (p : Phase). Serves p tables.lends n seat.session.client.arrived) ends sits.serves) in
+        let lasts : seat.session.phase ≢ phase.Ending = λ ends. live (rw ends at sits.serves) in
         record { seat = seat; is = at; lasts = lasts; here = seat-here service log n seat sits.stands lasts })
   ] refl
 
@@ -172,7 +172,7 @@ module _ {service : Service} {log : Log} {lends : Lends} {link : LinkId} {lent :
     user = lent.backend.account;
     is_user = row-user;
     sound = row-sound;
-    front = subst (λ xs. IsPrefix (xs ++ take k lent.backend.own) (said_of (opening lent.backend.account (heard_of link log)))) (sym row-written)
+    front = rw row-written
         (said-at service.forms lent.backend.account (heard_of link log) (pieces_of link log) lent.backend k row.at some);
   }
 
@@ -310,7 +310,7 @@ module _ {service : Service} {log : Log} {tables : Tables} (sound : Sound servic
   farewell-so link tag bytes farewell front = by (closes-next tables link sound.one_parts sound.lends.one_closes farewell.is_next) where
     by : ClosesNext tables link → Writes tables link tag bytes
     by (ClosesServer none closing) = cc (ap farewell_of none, front.is)
-    by (ClosesClient p is on) = (let at = reply-front tag bytes p.bytes (subst (λ all. IsFront (farewell_of all) tag bytes) is front) in Farewell p is on at.0 at.1 at.2)
+    by (ClosesClient p is on) = (let at = reply-front tag bytes p.bytes (rw is at front) in Farewell p is on at.0 at.1 at.2)
 
 pub writes-so : {service : Service} {log : Log} (link : LinkId) (tag : Tag) (bytes : List ℕ) → Sound service log None (tables_after service.setup log) → IsOurs service.setup log (Wrote link tag bytes) → Writes (tables_after service.setup log) link tag bytes
 writes-so link tag bytes sound (inl ours) = sends-so sound link tag bytes ours.1
@@ -345,7 +345,7 @@ carried-there link sent other at = grind (arith, common_steps, some-same)
 
 module _ {service : Service} {log : Log} {tables : Tables} {link : LinkId} {lent : Lent} (sound : Sound service log None tables) (row : RowStands service log tables.lends link lent) where
   may-send : (command : Handed) (k : ℕ) → lent.backend.own ≡ [] → lent.backend.command ≡ Some command → command.sent < length command.bytes → IsLawful service log (Wrote link command.tag (take k (drop command.sent command.bytes)))
-  may-send command k none has less = subst (λ (t : Tag). IsLawful service log (Wrote link t bytes)) (sym stands.tag) (record {
+  may-send command k none has less = rw stands.tag (record {
     message = stands.asked.message;
     due = stands.asked.due;
     asks = stands.asked.asks;
@@ -395,10 +395,10 @@ some-sent bytes some = grind (arith, common_steps)
 -- a client's link, where what it is told was offered
 may-part : (service : Service) (log : Log) (n : ℕ) (came : Arrival) (bytes : List ℕ) → PartAt service log n came bytes → (is_some (reply_sent bytes) ≡ true → was_offered came.link log ≡ true) → came.port ≡ Traffic
     → MayPart (is_served service.setup came) service n came log
-may-part service log n came bytes (Done served done) offered traffic = subst (λ b. MayPart b service n came log) (sym served) done
+may-part service log n came bytes (Done served done) offered traffic = rw served done
 may-part service log n came bytes (Refused refused port none) offered traffic =
-    subst (λ b. MayPart b service n came log) (sym refused) (offered (some-sent (spelling 0 too_many_connections) (spelling-some 0 too_many_connections)))
-may-part service log n came bytes (Offered refused port was) offered traffic = subst (λ b. MayPart b service n came log) (sym refused) was
+    rw refused (offered (some-sent (spelling 0 too_many_connections) (spelling-some 0 too_many_connections)))
+may-part service log n came bytes (Offered refused port was) offered traffic = rw refused was
 may-part service log n came bytes (Strange admin) offered traffic = cc (traffic, admin)
 
 module _ {service : Service} {log : Log} {tables : Tables} (told : AllLawful Fits log) (sound : Sound service log None tables) where
@@ -415,7 +415,7 @@ module _ {service : Service} {log : Log} {tables : Tables} (told : AllLawful Fit
     client = λ n came is same port. cc (unowned log told service n came is same, stands.is_turn);
     server = λ owner user owned known. (let turn = owner-turn (turn_of service link log) owner owned in
         let same : stands.turn ≡ turn.0 = some-same stands.turn turn.0 (sym stands.is_turn ∙ turn.1) in
-        subst (λ (o : Owner). MayDrop service o user link log) (ap (λ (t : Turn). record { client = t.client; hostgroup = t.hostgroup }) same ∙ turn.2)
+        rw (ap (λ (t : Turn). record { client = t.client; hostgroup = t.hostgroup }) same ∙ turn.2) at
         (stands.may user (sym (ap (option_and_then (λ (t : Turn). user_of service t.client log)) stands.is_turn) ∙ known)));
   }
 
@@ -472,11 +472,11 @@ module _ {service : Service} {log : Log} (told : AllLawful Fits log) (sound : So
 
   written : (link : LinkId) (tag : Tag) (bytes : List ℕ) → Writes now link tag bytes → IsLawful service log (Wrote link tag bytes)
   written link tag bytes (ToClient client seat is on reply n front) = (let stands = (sound.seats client.0 seat is).stands in
-      subst (λ (t : Tag). IsLawful service log (Wrote link t bytes)) (sym reply) (client.0, stands.came, stands.is_came, stands.link ∙ on))
+      rw reply (client.0, stands.came, stands.is_came, stands.link ∙ on))
   written link tag bytes (Farewell parting is on reply n front) = (let stands = sound.parts parting is in
-      subst (λ (t : Tag). IsLawful service log (Wrote link t bytes)) (sym reply) (stands.n, stands.came, stands.is_came, stands.link ∙ on))
-  written link tag bytes (ToServer lent l is left same n front) = subst (λ (t : Tag). IsLawful service log (Wrote link t bytes)) (sym same)
-      (subst (λ bs. IsLawful service log (Wrote link l.tag bs)) (sym front) (may-write sound (sound.lends.rows link lent is) l n left))
+      rw reply (stands.n, stands.came, stands.is_came, stands.link ∙ on))
+  written link tag bytes (ToServer lent l is left same n front) = rw same
+      (rw front (may-write sound (sound.lends.rows link lent is) l n left))
 
   pub lawful-entry : (e : Entry) → Covers service (log ++ e ∷ []) → IsOurs service.setup log e → IsLawful service log e
   lawful-entry (Opened server address link) covers ours = may-open (Opened server address link) server address covers ours refl

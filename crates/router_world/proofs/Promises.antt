@@ -65,7 +65,7 @@ pub record StandsFor (service : Service) (log : Log) : Type 0 where
 module _ (setup : Setup) (all : Log) (short : setup.limit ≤ most_command) where
   -- what the reply to a message is like goes by the whole log
   formed : (log more : Log) → log ++ more ≡ all → AreFormed (service-of setup all) log
-  formed log more is n i message there = ap form_by (subst (λ (l : Log). message_of (service-of setup all) n i l ≡ Some message) is (message-stays (service-of setup all) n i log more message there))
+  formed log more is n i message there = ap form_by (rw is at (message-stays (service-of setup all) n i log more message there))
 
   one-more : (log more : Log) (e : Entry) → (log ++ e ∷ []) ++ more ≡ all → StandsFor (service-of setup all) log → MayFollow log e → IsOurs setup log e → StandsFor (service-of setup all) (log ++ e ∷ [])
   one-more log more e is stands follows ours = (let counts = counts-more (service-of setup all) log e stands.sound ours stands.counts in

@@ -116,7 +116,7 @@ module _ (service : Service) (log : Log) (e : Entry) where
       → Leaves seat.link log e → Sits service log numbers lends n seat → Sits service then numbers lends n seat
   sits-then numbers lends n seat lawful sound calm rows leaves was = record {
     stands = seat-calm service log e n seat lawful was.stands calm leaves (λ user working. busy-none service log e lends n seat.session.client.arrived lawful sound calm (λ link lent owns row. rows link lent row)
-        (subst (λ (p : Phase). Serves p lends n seat.session.client.arrived) working was.serves));
+        (rw working at was.serves));
     serves = was.serves;
     unfinished = was.unfinished;
     numbered = was.numbered;

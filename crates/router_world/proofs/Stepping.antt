@@ -88,7 +88,7 @@ moved service log e n hand tables seats lends sound others mine = record {
   sits : (k : ℕ) (seat : Seat) → nat_eq k n ≡ false → tables.seats k ≡ Some seat → Sits service (log ++ e ∷ []) tables.numbers lends k seat
   sits k seat at was = (let sits = sound.seats k seat was in record {
     stands = seat-calm service log e k seat others.lawful sits.stands (others.calm k at) (others.seats k seat at was) (λ user same. busy-none service log e tables.lends k seat.session.client.arrived others.lawful sound.lends
-        (others.calm k at) (leaves k at) (subst (λ (p : Phase). Serves p tables.lends k seat.session.client.arrived) same sits.serves));
+        (others.calm k at) (leaves k at) (rw same at sits.serves));
     serves = serves-apart seat.session.phase n k seat.session.client.arrived tables.lends lends mine.apart at sits.serves;
     unfinished = sits.unfinished;
     numbered = sits.numbered;
