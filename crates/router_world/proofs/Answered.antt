@@ -117,16 +117,7 @@ module _ {service : Service} {log : Log} {e : Entry} {n : ℕ} {tables : Tables}
   sound = from.happens.sound
 
   others : Others service log e n tables
-  others = record {
-    lawful = from.happens.lawful;
-    plain = from.plain;
-    calm = from.calm;
-    seats = λ k seat apart is. from.seats k seat is;
-    rows = from.rows;
-    served = from.happens.served;
-    unparted = from.quiet.unparted;
-    counts = counts-all then (lawful-more Fits log e from.happens.told from.happens.fits);
-  }
+  others = grind (arith, common_steps, counts-all, lawful-more)
 
   quiet-step : ((i : ℕ) → Busy tables.lends n i → Busy news.lends n i) → (Free tables.lends n → Free news.lends n) → (Gone tables.lends n → Gone news.lends n) → ((i : ℕ) → Busy tables.lends n i → replied service n i then ≡ None)
       → Sound service then None (with_lends news.lends tables)

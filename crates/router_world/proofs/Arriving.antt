@@ -37,14 +37,10 @@ module _ (service : Service) (log : Log) (e : Entry) (may : IsLawful service log
   cause-came turn _ (NotLoggedIn d breaks) may = arrived-user turn.client breaks.user breaks.is_user
 
   spares-none : (n i : ℕ) → arrival_of n (log ++ e ∷ []) ≡ None → Spares service log e n i
-  spares-none n i none turn is = false_from_ne_true (is_turn n i turn) (λ at. (let came = cause-came turn e (refusal-cause service log e turn is) may in
-      let mine : n ≡ turn.client = nat_eq-true n turn.client (and-true (nat_eq n turn.client) (nat_eq i turn.ordinal) at).0 in
-      never-here n came.0 none (ap (λ k. arrival_of k log) mine ∙ came.1)))
+  spares-none n i none turn is = grind (arith, common_steps, and-true, cause-came, nat_eq-true, never-here, refusal-cause)
 
   unborn-step : Unborn service log → Unborn service (log ++ e ∷ [])
-  unborn-step before n i none = (let by : (o : Option Arrival) → arrival_of n log ≡ o → (carrier_of n i (log ++ e ∷ []) ≡ None) × (is_refused service n i (log ++ e ∷ []) ≡ false) =
-      λ o at. grind (arith, common_steps, never-here, carrier-more, writes-none, unrefused-more, spares-none) in
-      by (arrival_of n log) refl)
+  unborn-step before n i none = grind (arith, common_steps, carrier-more, never-here, spares-none, unrefused-more, writes-none)
 
 unborn : (service : Service) (log : Log) → AllLawful (IsLawful service) log → Unborn service log
 unborn service log lawful = lawful-each (IsLawful service) (Unborn service) log (unborn-step service) (λ n i none. (refl, refl)) lawful
@@ -108,13 +104,13 @@ module _ {service : Service} {log : Log} {port : Port} {link : LinkId} {salt : L
   arrives-now = ap (λ l. slice_get l (length (arrivals log))) arrivals-now ∙ last-of (arrivals log) arrival
 
   number-now : counted tables.came ≡ number
-  number-now = (let came = sound.came in let few = coming.happens.few in let most = arrivals-few [] log in ap counted came ∙ counted-few (length (arrivals log)) (omega arith))
+  number-now = grind (arith, common_steps, arrivals-few, counted-few)
 
   came-now : number ≡ length (arrivals then)
   came-now = (let all = ap length arrivals-now in let one = length-append (arrivals log) (arrival ∷ []) in omega arith)
 
   here-now : port ≡ Traffic → counted tables.here ≡ length (connected then)
-  here-now traffic = (let here = sound.here in let few = coming.happens.few in let most = fold-few [] log in grind (arith, common_steps, connected-more, length-append, counted-few))
+  here-now traffic = grind (arith, common_steps, connected-more, counted-few, fold-few, length-append)
 
   -- nobody has the new link
   shut : (other : LinkId) → other ≡ link → IsOpen other log → ⊥
@@ -261,11 +257,7 @@ module _ {service : Service} {log : Log} {port : Port} {link : LinkId} {salt : L
 
   -- Its link is one of those of clients, where it came to the port of clients.
   among : is_among link (connected then) ≡ is_traffic port
-  among = by port where
-    by : (p : Port) → is_among link (connected (log ++ Accepted p link salt ∷ [])) ≡ is_traffic p
-    by Traffic = ap (is_among link) (connected-more log (Accepted Traffic link salt)) ∙ among-end link link (connected log) ∙ ap (λ b. is_among link (connected log) || b) (same_number link.0) ∙ or_right (is_among link (connected log)) true refl
-    by Admin = ap (is_among link) (connected-more log (Accepted Admin link salt)) ∙ sound.counts.among link ∙ ap (λ b. list_any (traffic_as link) log && b) (ap (fold open_step false) coming.happens.fits.fresh)
-        ∙ and_right (list_any (traffic_as link) log) false refl
+  among = grind (arith, common_steps, among-end, connected-more)
 
 pub coming-step : {service : Service} {log : Log} {port : Port} {link : LinkId} {salt : List ℕ} {tables : Tables} → IsComing service log port link salt tables → service.setup.limit ≤ most_command
     → Sound service (log ++ Accepted port link salt ∷ []) None (comes port service.setup link salt tables)

@@ -43,13 +43,13 @@ pub or-none : (b : Bool) → (b || false) ≡ b
 or-none b = grind (arith, common_steps)
 
 pub any-still : (p : Entry → Bool) (log : Log) (e : Entry) → p e ≡ false → list_any p (log ++ e ∷ []) ≡ list_any p log
-any-still p log e none = list_any-append p log (e ∷ []) ∙ ap (λ b. list_any p log || (b || false)) none ∙ or-none (list_any p log)
+any-still p log e none = grind (arith, common_steps, list_any-append, or-none)
 
 pub map-still : (log : Log) (e : Entry) → got_bytes e ≡ [] → flat_map got_bytes (log ++ e ∷ []) ≡ flat_map got_bytes log
-map-still log e none = flat_map-append got_bytes log (e ∷ []) ∙ ap (λ xs. flat_map got_bytes log ++ (xs ++ [])) none ∙ append-nil (flat_map got_bytes log)
+map-still log e none = grind (arith, common_steps, append-nil, flat_map-append)
 
 pub pieces-still : (log : Log) (e : Entry) → piece e ≡ None → filter_map piece (log ++ e ∷ []) ≡ filter_map piece log
-pieces-still log e none = filter_map-append piece log (e ∷ []) ∙ ap (λ o. filter_map piece log ++ cons_option o []) none ∙ append-nil (filter_map piece log)
+pieces-still log e none = grind (arith, common_steps, append-nil, filter_map-append)
 
 -- A command of which the entry writes nothing is where it was.
 pub carrier-same : (n i : ℕ) (log : Log) (e : Entry) → carries n i e ≡ None → carrier_of n i (log ++ e ∷ []) ≡ carrier_of n i log
@@ -60,9 +60,7 @@ Spares service log e n i = (turn : Turn) → refused_by service log e ≡ Some t
 
 -- what a query that asks has in place of an answer
 asks-served : (setup : Setup) (reply : Option Answer) → cond (is_some setup.target) reply (Some (no_server ∷ [])) ≡ None → (is_some setup.target ≡ true) × (reply ≡ None)
-asks-served setup reply none = by (is_some setup.target) none where
-  by : (b : Bool) → cond b reply (Some (no_server ∷ [])) ≡ None → (b ≡ true) × (reply ≡ None)
-  by b none = grind (arith, common_steps)
+asks-served setup reply none = grind (arith, common_steps)
 
 -- the first message without an answer stays the first, where the answers stay and it has none yet
 first-still : (old new : ℕ → Option Answer) → ((i : ℕ) (reply : Answer) → old i ≡ Some reply → new i ≡ Some reply) → (i : ℕ) (messages later : List Framed) (work : Work) → first_without old i messages ≡ Some work → new work.ordinal ≡ None
@@ -77,8 +75,7 @@ module _ (service : Service) (n i : ℕ) where
 
   -- One that wasn't sent has no reply.
   pub unsent-still : (log : Log) → carrier_of n i log ≡ None → is_refused service n i log ≡ false → replied service n i log ≡ None
-  unsent-still log none unrefused = ap (λ b. cond b (Some (connection_refused ∷ [])) (reply_to service n i log)) unrefused
-      ∙ ap (option_and_then (λ link. option_and_then (reply_on service.forms n i link log) (user_on service link log))) none
+  unsent-still log none unrefused = grind (arith, common_steps)
 
   -- One that was sent wasn't refused.
   pub sent-unrefused : (log : Log) (link : LinkId) → RefusedOrSent service log → carrier_of n i log ≡ Some link → is_refused service n i log ≡ false

@@ -69,23 +69,21 @@ before-once link (e ∷ log) more lost = grind (arith, common_steps, lost-first,
 module _ (service : Service) (n : ℕ) (came : Arrival) (log : Log) where
   -- of a client that is served
   due-came : (log : Log) → arrival_of n log ≡ Some came → is_served service.setup came ≡ true → due service n log ≡ due_then service n came (before_loss came.link log)
-  due-came log is served = ap (λ o. due_of service n o log) is ∙ ap (λ b. cond b (due_then service n came (before_loss came.link log)) (turned_away came.port)) served
+  due-came log is served = grind (arith, common_steps)
 
   pub due-unlost : arrival_of n log ≡ Some came → is_served service.setup came ≡ true → was_lost came.link log ≡ false → due service n log ≡ due_said (λ i. replied service n i log) (talk_with service n came log)
-  due-unlost is served unlost = due-came log is served ∙ ap (due_then service n came) (before-none came.link log unlost)
-      ∙ ap (λ bytes. front (talk_with service n came log) ++ bytes)
-      (same-from service n 0 log (messages_of (talk_with service n came log)).messages (fault_answer service.setup.limit (messages_of (talk_with service n came log)).fault) (came-from service n came log is)).joins
+  due-unlost is served unlost = grind (arith, common_steps, before-none, came-from, due-came, same-from)
 
   -- what it is due stays once its link is lost, and doesn't change as it is
   due-still : (e : Entry) → arrival_of n log ≡ Some came → is_served service.setup came ≡ true → before_loss came.link (log ++ e ∷ []) ≡ before_loss came.link log → due service n (log ++ e ∷ []) ≡ due service n log
-  due-still e is served same = due-came (log ++ e ∷ []) (arrival-stays n log (e ∷ []) came is) served ∙ ap (due_then service n came) same ∙ sym (due-came log is served)
+  due-still e is served same = grind (arith, common_steps, arrival-stays, due-came)
 
   pub due-lost : (e : Entry) → arrival_of n log ≡ Some came → is_served service.setup came ≡ true → was_lost came.link log ≡ true → due service n (log ++ e ∷ []) ≡ due service n log
   due-lost e is served lost = due-still e is served (before-once came.link log (e ∷ []) lost)
 
   pub due-loses : (e : Entry) → arrival_of n log ≡ Some came → is_served service.setup came ≡ true → was_lost came.link log ≡ false → loses came.link e ≡ true → due service n (log ++ e ∷ []) ≡ due service n log
-  due-loses e is served unlost at = due-still e is served (before-all came.link log (e ∷ []) unlost ∙ ap (λ b. log ++ cond b [] (e ∷ [])) at ∙ append-nil log ∙ sym (before-none came.link log unlost))
+  due-loses e is served unlost at = grind (arith, common_steps, append-nil, before-all, before-none, due-still)
 
   -- of one that isn't
   pub due-refused : arrival_of n log ≡ Some came → is_served service.setup came ≡ false → due service n log ≡ turned_away came.port
-  due-refused is refused = ap (λ o. due_of service n o log) is ∙ ap (λ b. cond b (due_then service n came (before_loss came.link log)) (turned_away came.port)) refused
+  due-refused is refused = grind (arith, common_steps)

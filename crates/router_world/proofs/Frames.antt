@@ -64,9 +64,7 @@ none-at at talk reply other arrived waits none work is query = grind (arith, com
 
 -- nothing comes of messages that are still to be taken, and of the one in work
 unanswered-at : (at : Phase) (reply : ℕ → Option Answer) (arrived : ℕ) → ((i : ℕ) → arrived < i → reply i ≡ None) → ((user : Account) → at ≡ phase.Working user → reply arrived ≡ None) → (i : ℕ) → unanswered_from at arrived ≤ i → reply i ≡ None
-unanswered-at at reply arrived later none i from = by (nat_eq i arrived) refl where
-  by : (b : Bool) → nat_eq i arrived ≡ b → reply i ≡ None
-  by b is = grind (arith, common_steps, nat_eq-true, nat_eq-false)
+unanswered-at at reply arrived later none i from = grind (arith, common_steps, nat_eq-false, nat_eq-true)
 
 -- What an entry leaves.
 module _ (service : Service) (log : Log) (e : Entry) where
@@ -148,7 +146,7 @@ module _ (service : Service) (log : Log) (e : Entry) where
         (handed-stays n link lent.backend.account command.sent stands.ordinal stands.carrier (user-there service link row.turn lent.backend.account log row.is_turn row.user) (leaves link lent owns at)))
 
   pub later-calm : (n arrived : ℕ) → Calm service log e n → Unsent service n arrived log → Unsent service n arrived then
-  later-calm n arrived calm unsent i later = (carrier-same n i log e (calm.writes i) ∙ (unsent i later).0, unrefused-more service n i log e (unsent i later).1 (calm.spares i))
+  later-calm n arrived calm unsent i later = grind (arith, common_steps, carrier-same, unrefused-more)
 
   pub replies-agree : (n : ℕ) (came : Arrival) (session : Session) → AllLawful (IsLawful service) then → IsHeard service log n came session → ((user : Account) → session.phase ≡ phase.Working user → replied service n session.client.arrived then ≡ None)
       → Agrees (talk_with service n came log) (λ i. replied service n i log) (λ i. replied service n i then)

@@ -66,10 +66,7 @@ record Offers (tables : Tables) (link : LinkId) : Type 0 where
 
 module _ {service : Service} {log : Log} {e : Entry} {link : LinkId} {tables : Tables} (happens : Happens service log e tables) (farewell : IsFarewell tables link) where
   the : Offers tables link
-  the = elim (closes-next tables link happens.sound.one_parts happens.sound.lends.one_closes farewell.is_next) [
-    | ClosesServer none closing ↦ cc (ap farewell_of none, farewell.some)
-    | ClosesClient p is on ↦ record { parting = p; is = is; on = on; some = λ empty. cc (ap farewell_of is, ap reply_sent empty, farewell.some) }
-  ]
+  the = grind (arith, common_steps, closes-next)
 
   nobodys : (tables.numbers link.0 ≡ None) × (tables.lends.links link.0 ≡ None)
   nobodys = (let stands = happens.sound.parts the.parting the.is in

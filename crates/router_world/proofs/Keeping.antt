@@ -70,10 +70,7 @@ module _ {service : Service} {log : Log} {tables : Tables} (told : AllLawful Fit
   full link sent opened some = waits.drained.written link opened (ap is_some some)
 
   seat-full : {link : LinkId} (client : ClientNo) (seat : Seat) → IsOpen link log → tables.numbers link.0 ≡ Some client → tables.seats client.0 ≡ Some seat → (seat.session.client.outgoing ≡ []) ⊎ (write_dry link log ≡ true)
-  seat-full {link} client seat opened number is = by seat.session.client.outgoing refl where
-    by : (bytes : List ℕ) → seat.session.client.outgoing ≡ bytes → (seat.session.client.outgoing ≡ []) ⊎ (write_dry link log ≡ true)
-    by [] none = inl none
-    by (byte ∷ bytes) some = inr (full link (record { tag = Reply; bytes = byte ∷ bytes }) opened (ap (sends_by tables link) number ∙ ap seat_sends is ∙ ap reply_sent some))
+  seat-full client seat opened number is = grind (arith, common_steps)
 
   -- as there are for a client at its end
   ending-full : {link : LinkId} (client : ClientNo) (seat : Seat) → IsOpen link log → tables.numbers link.0 ≡ Some client → tables.seats client.0 ≡ Some seat → seat.session.phase ≡ phase.Ending → write_dry link log ≡ true
@@ -85,7 +82,7 @@ module _ {service : Service} {log : Log} {tables : Tables} (told : AllLawful Fit
   unnumbered {link} lent is = none-if (tables.numbers link.0) (λ client number. cc (sound.unlent link client number, is))
 
   row-full : {link : LinkId} (lent : Lent) (l : ToSend) → IsOpen link log → tables.lends.links link.0 ≡ Some lent → left lent.backend ≡ Some l → write_dry link log ≡ true
-  row-full {link} lent l opened is some = full link l opened (ap (sends_by tables link) (unnumbered lent is) ∙ ap left_in is ∙ some)
+  row-full lent l opened is some = grind (arith, common_steps)
 
   -- Each open link is read dry, but that of a client at its end.
   all-read : (link : LinkId) → IsOpen link log → (read_dry link log ≡ true) ⊎ IsEnding service link log

@@ -54,7 +54,7 @@ pub data Comes (log : Log) (e : Entry) (n : ℕ) (came : Arrival) : Type 0 where
 
 module _ (log : Log) (e : Entry) (fits : Fits log e) where
   arrived : (k : ℕ) (came : Arrival) → slice_get (arrivals (log ++ e ∷ [])) k ≡ Some came → Place (arrivals log) (arrival_in log e) k came
-  arrived k came is = place-of (arrivals log) (arrival_in log e) k came (ap (λ all. slice_get all k) (sym (arrivals-more [] log (e ∷ []))) ∙ is)
+  arrived k came is = grind (arith, common_steps, arrivals-more, place-of)
 
   new-link : (came : Arrival) → arrival_in log e ≡ Some came → IsNew came.link log
   new-link came is = grind (arith, common_steps, some-same)
@@ -147,7 +147,7 @@ module _ {service : Service} {log : Log} {lends : Lends} {link : LinkId} {lent :
   row_standing = standing_on service.forms lent.backend.account link log
 
   pub row-standing : row_standing ≡ standing_said service.forms lent.backend.account (heard_of link log) (pieces_of link log)
-  row-standing = ap (λ b. cond b Spoilt (standing_said service.forms lent.backend.account (heard_of link log) (pieces_of link log))) row.unlost
+  row-standing = grind (arith, common_steps)
 
   pub row-written : written_of link log ≡ bytes_in (pieces_of link log)
   row-written = pieces-bytes (of_link link log) ∙ ap (λ l. flat_map piece_bytes (filter_map piece l)) (sym (before-loss (of_link link log) [] row.unlost).0)
@@ -164,8 +164,7 @@ module _ {service : Service} {log : Log} {lends : Lends} {link : LinkId} {lent :
 
   -- while the login goes on there
   pub row-enters : lent.backend.stage ≢ In → row_standing ≡ Enters
-  row-enters outside = row-standing ∙ standing-entering service.forms lent.backend.account (heard_of link log) (pieces_of link log) lent.backend
-      (entering-at service.forms lent.backend.account (heard_of link log) (pieces_of link log) lent.backend row.at outside)
+  row-enters outside = grind (arith, common_steps, entering-at, row-standing, standing-entering)
 
   pub may-say : (k : ℕ) → 0 < length lent.backend.own → MaySay service link (take k lent.backend.own) log
   may-say k some = record {
@@ -188,7 +187,7 @@ module _ {service : Service} {log : Log} {lends : Lends} {link : LinkId} {lent :
     row-message = subst (IsHanded service.forms) has row-inside.command
 
     pub row-clean : command.sent ≡ 0 → row_standing ≡ Clean
-    row-clean unsent = row-standing ∙ standing-clean service.forms lent.backend.account (heard_of link log) (pieces_of link log) lent.backend row-inside (ap begun has ∙ ap (λ sent. begun_by sent command) unsent)
+    row-clean unsent = grind (arith, common_steps, row-inside, row-standing, standing-clean)
 
     pub row-sends : 0 < command.sent → command.sent < length command.bytes → row_standing ≡ Sends
     row-sends some less = row-standing ∙ standing-sends service.forms lent.backend.account (heard_of link log) (pieces_of link log) lent.backend command (record { inside = row-inside; is = has; some = some }) less
@@ -197,7 +196,7 @@ module _ {service : Service} {log : Log} {lends : Lends} {link : LinkId} {lent :
     row-runs all = row-standing ∙ standing-runs service.forms lent.backend.account (heard_of link log) (pieces_of link log) lent.backend command row-inside has all
 
     pub row-commands : 0 < command.sent → commands_on lent.backend.account link log ≡ row-inside.others ++ record { tag = command.tag; bytes = take command.sent command.bytes } ∷ []
-    row-commands some = commands-inside service.forms lent.backend.account (heard_of link log) (pieces_of link log) lent.backend row-inside ∙ ap (λ cs. row-inside.others ++ cs) (ap begun has ∙ begun-some command some)
+    row-commands some = grind (arith, common_steps, begun-some, commands-inside, row-inside)
 
 -- The commands of the opens of a log, one entry at a time.
 
@@ -207,26 +206,24 @@ behind-both setup before (x ∷ log) more = grind (arith, common_steps, turns, (
 
 -- The commands of a longer log cover the log.
 pub covers-front : (service : Service) (log more : Log) → service.opens ≡ turns service.setup (log ++ more) → length (turns service.setup log) ≡ length (open_tries log) → Covers service log
-covers-front service log more is counts = record { rest = turns_behind service.setup log more; is = is ∙ behind-both service.setup [] log more; counts = counts }
+covers-front service log more is counts = grind (arith, common_steps, behind-both)
 
 abbrev tries_at : Entry → ℕ
 tries_at e = length (cons_option (open_try e) [])
 
 tries-one : (tables : Tables) (turn : Turn) (e : Entry) → turn_at tables e ≡ turn ∷ [] → tries_at e ≡ 1
-tries-one tables turn (Opened server address link) at = refl
-tries-one tables turn (OpenFailed server address) at = refl
-tries-one tables turn _ at = cc
+tries-one tables turn w3 at = grind (arith, common_steps)
 
 module _ (service : Service) (log : Log) (e : Entry) where
   abbrev before : Tables
   before = tables_after service.setup log
 
   turns-more : turns service.setup (log ++ e ∷ []) ≡ turns service.setup log ++ turn_at before e
-  turns-more = behind-both service.setup [] log (e ∷ []) ∙ ap (λ now. turns service.setup log ++ now) (append-nil (turn_at before e))
+  turns-more = grind (arith, common_steps, append-nil, behind-both)
 
   -- as many more as opens are tried
   counts-both : (length (turns service.setup (log ++ e ∷ [])) ≡ length (turns service.setup log) + length (turn_at before e)) × (length (open_tries (log ++ e ∷ [])) ≡ length (open_tries log) + tries_at e)
-  counts-both = (ap length turns-more ∙ length-append (turns service.setup log) (turn_at before e), ap length (tries-more log e) ∙ length-append (open_tries log) (cons_option (open_try e) []))
+  counts-both = grind (arith, common_steps, length-append, tries-more, turns-more)
 
   -- The command of an open is the next of the service.
   pub next-turn : (turn : Turn) → turn_at before e ≡ turn ∷ [] → Covers service (log ++ e ∷ []) → next_turn service log ≡ Some turn
@@ -248,9 +245,7 @@ pub record IsFor (service : Service) (log : Log) (tables : Tables) (e : Entry) :
 
 -- nothing is to be closed then, somebody waits, and it is at the server that queries go to
 pub awaits-so : (setup : Setup) (tables : Tables) (target : Target) → awaits setup tables ≡ Some target → (closes tables ≡ false) × (is_waiting tables.lends.waiting ≡ true) × (target_of setup.target ≡ Some target)
-awaits-so setup tables target is = by (closes tables) (is_waiting tables.lends.waiting) is where
-  by : (closes waits : Bool) → awaited_if closes waits setup ≡ Some target → (closes ≡ false) × (waits ≡ true) × (target_of setup.target ≡ Some target)
-  by closes waits is = grind (arith, common_steps)
+awaits-so setup tables target is = grind (arith, common_steps)
 
 at-target : (o : Option ServerAt) (server : ServerId) (address : Address) → target_of o ≡ Some (record { server = server; address = address }) → o ≡ Some (record { server = server; address = address })
 at-target o server address is = grind (arith, common_steps, some-same)
@@ -271,9 +266,7 @@ pub data Writes (tables : Tables) (link : LinkId) (tag : Tag) (bytes : List ℕ)
   Farewell : (parting : Parting) → tables.parting ≡ parting ∷ [] → parting.link ≡ link → tag ≡ Reply → (n : ℕ) → bytes ≡ take n parting.bytes → Writes tables link tag bytes
 
 pub reply-front : (tag : Tag) (bytes whole : List ℕ) → IsFront (reply_sent whole) tag bytes → (tag ≡ Reply) × (n : ℕ) × (bytes ≡ take n whole)
-reply-front tag bytes whole front = (let the = by whole front.is in (front.same_tag ∙ ap (λ (s : Sent). s.tag) (sym the), front.n, front.front ∙ ap (λ (s : Sent). take front.n s.bytes) (sym the))) where
-  by : (whole : List ℕ) → reply_sent whole ≡ Some front.sent → record { tag = Reply; bytes = whole } ≡ front.sent
-  by whole is = grind (arith, common_steps, some-same)
+reply-front tag bytes whole front = grind (arith, common_steps, some-same)
 
 seat-front : (o : Option Seat) (tag : Tag) (bytes : List ℕ) → IsFront (seat_sends o) tag bytes → (seat : Seat) × (o ≡ Some seat) × (tag ≡ Reply) × (n : ℕ) × (bytes ≡ take n seat.session.client.outgoing)
 seat-front o tag bytes front = grind (arith, common_steps, reply-front)
@@ -338,7 +331,7 @@ left-at backend l is = by backend.own refl is where
 -- What the router writes there is lawful.
 
 front-of : (bytes : List ℕ) (sent k : ℕ) → (take sent bytes ++ take k (drop sent bytes)) ++ drop k (drop sent bytes) ≡ bytes
-front-of bytes sent k = append_assoc (take sent bytes) (take k (drop sent bytes)) (drop k (drop sent bytes)) ∙ ap (λ xs. take sent bytes ++ xs) (take-append-drop k (drop sent bytes)) ∙ take-append-drop sent bytes
+front-of bytes sent k = grind (arith, common_steps, take-append-drop)
 
 carried-there : (link : LinkId) (sent : ℕ) (other : LinkId) → carried_by link sent ≡ Some other → other ≡ link
 carried-there link sent other at = grind (arith, common_steps, some-same)

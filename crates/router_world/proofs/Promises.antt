@@ -28,13 +28,7 @@ module _ (service : Service) (log : Log) where
 
   -- an open is tried
   on-open : (e : Entry) (target : Target) → Happens service log e now → Covers service (log ++ e ∷ []) → awaits service.setup now ≡ Some target → turn_at now e ≡ turn_for (oldest now.lends.waiting) now.lends.asks → OnOpen service log e now
-  on-open e target happens covers awaited at = record {
-    happens = happens;
-    covers = covers;
-    quiet = quiet-closes now (awaits-so service.setup now target awaited).0;
-    are = refl;
-    for = opens-for service log now target e happens.sound awaited at;
-  }
+  on-open e target happens covers awaited at = grind (arith, common_steps, awaits-so, opens-for, quiet-closes)
 
   entry-step : (e : Entry) → service.setup.limit ≤ most_command → Happens service log e now → Covers service (log ++ e ∷ []) → IsOurs service.setup log e → Sound service (log ++ e ∷ []) None (step service.setup now e)
   entry-step (entry.Accepted port link salt) short happens covers ours = coming-step (record { happens = happens; quiet = done service.setup now ours }) short

@@ -34,7 +34,7 @@ new-seat number salt setup reply short = record {
 -- So many bytes are written to it.
 
 written-on : (n : ℕ) (written outgoing : List ℕ) → written ++ outgoing ≡ (written ++ take n outgoing) ++ drop n outgoing
-written-on n written outgoing = ap (λ l. written ++ l) (sym (take-append-drop n outgoing)) ∙ sym (append_assoc written (take n outgoing) (drop n outgoing))
+written-on n written outgoing = grind (arith, common_steps, take-append-drop)
 
 -- a client of which only what is to be written is another
 abbrev with_outgoing : (outgoing : List ℕ) → ClientState → ClientState
@@ -68,11 +68,7 @@ module _ (talk : Talk) (reply other : ℕ → Option Answer) where
   agree-work agrees = (agree-both agrees).goes
 
   pub agree-seat : (written : List ℕ) (session : Session) → Agrees talk reply other → SeatAt talk reply written session → SeatAt talk other written session
-  agree-seat written session agrees seat = record {
-    mine = seat.mine;
-    due = seat.due ∙ ap (λ l. front talk ++ l) (sym (agree-both agrees).joins);
-    at = phase-agrees session.phase (written ++ session.client.outgoing) session.client (agree-both agrees).goes seat.at;
-  }
+  agree-seat written session agrees seat = grind (arith, common_steps, agree-both, phase-agrees)
 
 -- Bytes of it come.
 
@@ -205,4 +201,4 @@ waits-at : (at : Phase) (talk : Talk) (reply : ℕ → Option Answer) (bytes : L
 waits-at at talk reply bytes client h5 = grind (arith, common_steps, work-alone, over-in, query-no-quit)
 
 pub work-here : (talk : Talk) (reply : ℕ → Option Answer) (written : List ℕ) (session : Session) → SeatAt talk reply written session → WaitsFor session.phase talk reply session.client.arrived
-work-here talk reply written session seat = waits-at session.phase talk reply (written ++ session.client.outgoing) session.client seat.at
+work-here talk reply written session seat = grind (arith, common_steps, waits-at)

@@ -69,7 +69,7 @@ module _ (setup : Setup) where
   query-open reply payload query none = grind (arith, common_steps, query-answer)
 
   pub query-served : (reply : Option Answer) (payload : List ℕ) → is_query payload ≡ true → is_some setup.target ≡ true → answer_of setup reply payload ≡ reply
-  query-served reply payload query server = query-answer (served (is_some setup.target) reply) (parsed payload) query ∙ ap (λ b. served b reply) server
+  query-served reply payload query server = grind (arith, common_steps, query-answer)
 
   -- an answer that is there stays, and one that isn't comes only of a reply to a query
   answer-stays : (old new : Option Answer) (payload : List ℕ) (answer : Answer) → (old ≡ Some answer → new ≡ Some answer) → answer_of setup old payload ≡ Some answer → answer_of setup new payload ≡ Some answer
@@ -270,10 +270,10 @@ module _ (talk : Talk) where
     taken-nothing taken at = taken-messages taken ∙ ap (with_front taken.past) (split-nothing talk.setup.limit 0 client.framer.kept at)
 
     pub taken-whole : (message : Framed) (rest : List ℕ) (taken : IsTaken talk client) → first_message talk.setup.limit 0 client.framer.kept ≡ Whole message rest → messages_of talk ≡ with_front taken.past (with_front (message ∷ []) (split talk.setup.limit 0 rest))
-    taken-whole message rest taken at = taken-messages taken ∙ ap (with_front taken.past) (split-whole talk.setup.limit 0 client.framer.kept message rest at)
+    taken-whole message rest taken at = grind (arith, common_steps, split-whole, taken-messages)
 
     pub taken-faulty : (fault : FrameFault) (taken : IsTaken talk client) → first_message talk.setup.limit 0 client.framer.kept ≡ Faulty fault → messages_of talk ≡ record { messages = taken.past ++ []; rest = client.framer.kept; fault = Some fault }
-    taken-faulty fault taken at = taken-messages taken ∙ ap (with_front taken.past) (split-faulty talk.setup.limit 0 client.framer.kept fault at)
+    taken-faulty fault taken at = grind (arith, common_steps, split-faulty, taken-messages)
 
     -- there are no more of them than bytes
     pub taken-few : (message : Framed) (rest : List ℕ) (user : Account) (taken : IsTaken talk client) → account talk ≡ Some user → first_message talk.setup.limit 0 client.framer.kept ≡ Whole message rest → suc (length taken.past) ≤ length talk.read

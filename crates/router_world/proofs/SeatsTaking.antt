@@ -105,7 +105,7 @@ module _ (talk : Talk) (reply : ℕ → Option Answer) (written : List ℕ) wher
   module _ {left : ℕ} {client : ClientState} (next : IsNext left client) where
     -- it was told no more than the greeting, and to switch
     told-greeted : (switched : Bool) → said_to client talk.setup.version switched ≡ greeted talk switched
-    told-greeted switched = ap (λ n. said n client.salt talk.setup.version switched) next.mine.number_is ∙ ap (λ salt. said talk.number salt talk.setup.version switched) next.mine.salt_is
+    told-greeted switched = grind (arith, common_steps)
 
     -- it waits for more
     coming-waits : HasStepped says.Nothing client talk.setup.limit talk.setup.version talk.read (written ++ client.outgoing) → (old : Session) → SeatTurned talk reply written old (still (entering client))

@@ -97,15 +97,14 @@ pub record IsNothing (e : Entry) : Type 0 where
   pub plain : IsPlain e
 
 offered-stays : (link : LinkId) (log more : Log) → was_offered link log ≡ true → was_offered link (log ++ more) ≡ true
-offered-stays link log more is =
-    ap (list_any is_write) (of-link-more link log more) ∙ list_any-append is_write (of_link link log) (of_link link more) ∙ or-inl (list_any is_write (of_link link log)) (list_any is_write (of_link link more)) is
+offered-stays link log more is = grind (arith, common_steps, list_any-append, of-link-more, or-inl)
 
 module _ (service : Service) (log : Log) (e : Entry) where
   abbrev then : Log
   then = log ++ e ∷ []
 
   pub silent-calm : IsSilent e → (n : ℕ) → Calm service log e n
-  silent-calm silent n = record { writes = silent.carries_none n; spares = λ i turn is. cc (silent.refuses_none service log, is) }
+  silent-calm silent n = grind (arith, common_steps)
 
   -- an entry that breaks off no login refuses nothing
   pub refuses-none : refused_by service log e ≡ option_and_then (refused_on service log e) (link_of e) → ((user : Account) (link : LinkId) → breaks_off user link log e ≡ false) → refused_by service log e ≡ None
@@ -139,23 +138,22 @@ module _ (service : Service) (log : Log) (e : Entry) where
   -- What came of commands stays as nothing is said, and so does why links may close.
   module _ (silence : Silence log e) where
     turn-same : (link : LinkId) → turn_of service link then ≡ turn_of service link log
-    turn-same link = ap (λ l. turn_by link l service.opens)
-        (filter_map-append open_try log (e ∷ []) ∙ ap (λ (o : Option (Option LinkId)). open_tries log ++ cons_option o []) silence.silent.try ∙ append-nil (open_tries log))
+    turn-same link = grind (arith, common_steps, append-nil, filter_map-append)
 
     arrival-same : (n : ℕ) → arrival_of n then ≡ arrival_of n log
     arrival-same n = (let arrives = silence.arrives in grind (arith, common_steps, arrivals-plain))
 
     talk-same : (n : ℕ) (came : Arrival) → talk_with service n came then ≡ talk_with service n came log
-    talk-same n came = ap (λ r. record { setup = service.setup; number = n; salt = came.salt; read = r }) (silence.sounds.read came.link)
+    talk-same n came = grind (arith, common_steps)
 
     talk-of-same : (n : ℕ) → talk_of service n then ≡ talk_of service n log
     talk-of-same n = λ j. option_map (λ (came : Arrival). talk-same n came j) (arrival-same n j)
 
     user-on-same : (link : LinkId) → user_on service link then ≡ user_on service link log
-    user-on-same link = λ j. option_and_then (λ (turn : Turn). option_and_then account (talk-of-same turn.client j)) (turn-same link j)
+    user-on-same link = grind (arith, common_steps, talk-of-same, turn-same)
 
     reply-same : (n i : ℕ) (link : LinkId) → option_and_then (reply_on service.forms n i link then) (user_on service link then) ≡ option_and_then (reply_on service.forms n i link log) (user_on service link log)
-    reply-same n i link = λ j. option_and_then (λ user. reply_said service.forms n i user (silence.sounds.heard link j) (silence.sounds.pieces link j) (silence.sounds.lost link j)) (user-on-same link j)
+    reply-same n i link = grind (arith, common_steps, user-on-same)
 
     replied-still : (n i : ℕ) → replied service n i then ≡ replied service n i log
     replied-still n i = ap (λ (turns : List Turn). cond (list_any (is_turn n i) turns) (Some (connection_refused ∷ [])) (reply_to service n i then))
@@ -178,7 +176,7 @@ module _ (service : Service) (log : Log) (e : Entry) where
         ∙ (λ j. silence.sounds.lost came.link j || ends_in (opening_of (talk_with service n came log)) (account (talk_with service n came log)) (ends_by (work-same n j) (is_some (messages_of (talk_with service n came log)).fault)))
 
     standing-same : (user : Account) (link : LinkId) → standing_on service.forms user link then ≡ standing_on service.forms user link log
-    standing-same user link = λ j. cond (silence.sounds.lost link j) Spoilt (standing_said service.forms user (silence.sounds.heard link j) (silence.sounds.pieces link j))
+    standing-same user link = grind (arith, common_steps)
 
     drop-same : (owner : Owner) (user known : Account) (link : LinkId) → Fits log e → user_of service owner.client log ≡ Some known → MayDrop service owner user link log → MayDrop service owner user link then
     drop-same owner user known link fits is (IsSpoilt spoilt) = IsSpoilt (standing-same user link ∙ spoilt)

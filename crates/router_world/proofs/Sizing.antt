@@ -135,11 +135,7 @@ module _ {service : Service} {log : Log} {tables : Tables} (told : AllLawful Fit
     by None at whole = (let one = left-whole (tables.lends.links link.0) piece whole in one.4 ∙ owed-row one.2 (sound.lends.rows link one.0 one.1) one.3)
 
   farewell-owed : (link : LinkId) (piece : List ℕ) → IsFarewell tables link → IsWhole (farewell_of tables.parting) piece → piece ≡ owed service link log
-  farewell-owed link piece farewell whole = by (closes-next tables link sound.one_parts sound.lends.one_closes farewell.is_next) where
-    by : ClosesNext tables link → piece ≡ owed service link log
-    by (ClosesServer none closing) = cc (ap farewell_of none, farewell.some)
-    by (ClosesClient p is on) = (let reply = reply-whole p.bytes whole.sent (sym (ap farewell_of is) ∙ whole.is) in
-        whole.bytes ∙ reply.0 ∙ owed-farewell p (sound.parts p is) reply.1 ∙ ap (λ (l : LinkId). owed service l log) on)
+  farewell-owed link piece farewell whole = grind (arith, common_steps, closes-next, owed-farewell, reply-whole)
 
 -- Reads and writes of a replay take as much as they can: the wire gives all that is there, and takes what there is room for of all that is owed.
 module _ (service : Service) (recording : List RecordEntry) where
@@ -156,9 +152,4 @@ module _ (service : Service) (recording : List RecordEntry) where
   sized-behind log (e ∷ more) stands play offers = (sized-entry log e stands.0 play.0 offers.0, sized-behind (log ++ e ∷ []) more stands.1 play.1 offers.1)
 
 pub keeps-sized : (setup : Setup) (recording : List RecordEntry) (log : Log) → setup.limit ≤ most_command → AllLawful MayFollow log → AllLawful (IsOurs setup) log → IsPlay recording log → AllLawful (Offers (lends setup) (takes recording)) log → KeepsSized setup recording log
-keeps-sized setup recording log short follow ours play offers = (let stands = stands-all setup log short follow ours in record {
-  opens = turns setup log;
-  forms = (service-of setup log).forms;
-  keeps = stands.1.keeps;
-  sized = sized-behind (service-of setup log) recording [] log stands.0 play offers;
-})
+keeps-sized setup recording log short follow ours play offers = grind (arith, common_steps, service-of, sized-behind, stands-all)

@@ -23,7 +23,7 @@ pub record IsPlain (e : Entry) : Type 0 where
   pub stays : (links : List LinkId) → connected_step links e ≡ links
 
 pub arrivals-plain : (log : Log) (e : Entry) → ((before : Log) → arrival_in before e ≡ None) → arrivals (log ++ e ∷ []) ≡ arrivals log
-arrivals-plain log e arrives = arrivals-more [] log (e ∷ []) ∙ ap (λ (o : Option Arrival). arrivals log ++ cons_option o []) (arrives log) ∙ append-nil (arrivals log)
+arrivals-plain log e arrives = grind (arith, common_steps, append-nil, arrivals-more)
 
 pub connected-plain : (log : Log) (e : Entry) → IsPlain e → connected (log ++ e ∷ []) ≡ connected log
 connected-plain log e plain = fold-append connected_step [] log (e ∷ []) ∙ plain.stays (connected log)
@@ -110,7 +110,7 @@ has-none : {X : Type 0} (xs : List X) → has_some xs ≡ false → xs ≡ []
 has-none xs is = grind (arith, common_steps)
 
 pub quiet-closes : (tables : Tables) → closes tables ≡ false → IsQuiet tables
-quiet-closes tables closing = (let both = or_parts (has_some tables.parting) (has_some tables.lends.closing) closing in record { unparted = has-none tables.parting both.0; unclosed = has-none tables.lends.closing both.1 })
+quiet-closes tables closing = grind (arith, common_steps, has-none)
 
 pub done : (setup : Setup) (tables : Tables) → asks setup tables ≡ false → IsQuiet tables
 done setup tables is = quiet-closes tables (or_parts (closes tables) (opens setup tables) is).0
@@ -133,7 +133,7 @@ lends-framed service log e lends lawful fits sound calm leaves closes = record {
 
 pub lends-still : (service : Service) (log : Log) (e : Entry) (lends : Lends) → AllLawful (IsLawful service) (log ++ e ∷ []) → Fits log e → LendsSound service log lends → lends.closing ≡ [] → ((k : ℕ) → Calm service log e k)
     → ((link : LinkId) (lent : Lent) → lends.links link.0 ≡ Some lent → Leaves link log e) → LendsSound service (log ++ e ∷ []) lends
-lends-still service log e lends lawful fits sound none calm leaves = lends-framed service log e lends lawful fits sound calm leaves (λ link is. cc (none, is))
+lends-still service log e lends lawful fits sound none calm leaves = grind (arith, common_steps, lends-framed)
 
 -- An entry on a client's link refuses nothing.
 pub client-spares : (service : Service) (log : Log) (e : Entry) (link : LinkId) → refused_by service log e ≡ option_and_then (refused_on service log e) (Some link) → turn_of service link log ≡ None → (n i : ℕ) → Spares service log e n i
