@@ -106,7 +106,7 @@ module _ (service : Service) (log : Log) (n : ℕ) (came : Arrival) (written : L
     later : (q : Option Query) → q ≢ None → Asks q talk reply (record { client = client; phase = phase.Idle user }) turned.session → client.arrived < turned.session.client.arrived
     later None some asks = absurd (some refl)
     later (Some query) some asks = (let more = later-work talk reply seat.at.taken.past (split talk.setup.limit 0 client.framer.kept).messages (record { ordinal = turned.session.client.arrived; message = asks.1.message })
-        (ap (λ (s : Split). s.messages) (taken-messages talk client seat.at.taken)) (working-done seat.at reply answer now same).all asks.1.work in
+        (ap (λ (s : Split). s.messages) (taken-messages seat.at.taken)) (working-done seat.at reply answer now same).all asks.1.work in
         let count = seat.at.taken.arrived in omega arith)
 
 module _ {service : Service} {log : Log} {e : Entry} {n : ℕ} {tables : Tables} {news : Told} (from : FromServer service log e n tables news) where
@@ -184,14 +184,14 @@ module _ {service : Service} {log : Log} {e : Entry} {n : ℕ} {tables : Tables}
         (answered-goes service then n was.came (written_of was.came.link log) seat.session.client user answer (spelt (next_id message.last) answer) news.lends came was.served
         (subst (λ r. SeatAt (record { setup = service.setup; number = n; salt = was.came.salt; read = r }) other (written_of was.came.link log) (record { client = seat.session.client; phase = phase.Working user })) (sym leaves.read)
         (subst (λ (p : Phase). SeatAt (talk_with service n was.came log) other (written_of was.came.link log) (record { client = seat.session.client; phase = p })) works
-        (agree-seat (talk_with service n was.came log) (λ k. replied service n k log) other (written_of was.came.link log) seat.session agrees heard.at)))
+        (agree-seat agrees heard.at)))
         (from.later seat is heard.unsent) now (λ m work. ap (λ (f : Framed). spelt (next_id f.last) answer) (same-message m work))
         (subst (λ r. length r < 18446744073709551616) (sym leaves.read) (read-short was.came.link log from.happens.told (let few = from.happens.few in omega arith))) from.came.sound free idle closable from.happens.formed) where
           agrees : Agrees (talk_with service n was.came log) (λ k. replied service n k log) other
           agrees = seat-agrees heard
 
           same-message : (m : Framed) → work_said other (talk_with service n was.came then) ≡ Some (at_place place m) → message ≡ m
-          same-message m work = (let was_work : work_of service n log ≡ Some (at_place place m) = work-is service n was.came log was.is_came ∙ sym (agree-work (talk_with service n was.came log) (λ k. replied service n k log) other agrees)
+          same-message m work = (let was_work : work_of service n log ≡ Some (at_place place m) = work-is service n was.came log was.is_came ∙ sym (agree-work agrees)
               ∙ ap (λ r. work_said other (record { setup = service.setup; number = n; salt = was.came.salt; read = r })) (sym leaves.read) ∙ work in
               some-same message m (sym there ∙ message-stays service n place log (e ∷ []) m (in-work service n log (at_place place m) was_work).0))
 

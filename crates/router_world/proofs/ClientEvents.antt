@@ -113,8 +113,7 @@ module _ {service : Service} {log : Log} {e : Entry} {client : ClientNo} {link :
       λ user working. busy-none service log e tables.lends client.0 seat.session.client.arrived happens.lawful happens.sound.lends (calm client.0) (λ other lent owns row. rows other lent row)
       (rw working at sits.serves) in
       record {
-        seat = agree-seat (talk_with service client.0 came log) (λ i. replied service client.0 i log) (λ i. replied service client.0 i then) (written_of came.link log) seat.session
-            (replies-agree service log e client.0 came seat.session happens.lawful heard none) heard.at;
+        seat = agree-seat (replies-agree service log e client.0 came seat.session happens.lawful heard none) heard.at;
         unanswered = unanswered-calm service log e client.0 seat.session (calm client.0) heard.unsent none;
         unsent = later-calm service log e client.0 seat.session.client.arrived (calm client.0) heard.unsent;
       })
@@ -236,7 +235,7 @@ module _ {service : Service} {log : Log} {client : ClientNo} {link : LinkId} {ta
       unlost = keeps on is_loss refl ∙ heard.unlost;
       at = rw (bytes-idle got_bytes (came on).link log (Wrote link tag bytes) refl)
           (rw written
-          (taken-seat (talk_with service client.0 (came on) log) (λ i. replied service client.0 i (then on)) (written_of (came on).link log) seat.session (length bytes) (replies on heard).seat));
+          (taken-seat (length bytes) (replies on heard).seat));
       unsent = (replies on heard).unsent;
     })
     by (inr went) = inr (still-ended on went refl rest refl (ap (λ w. w ++ drop (length bytes) seat.session.client.outgoing) written

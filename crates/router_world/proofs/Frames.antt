@@ -153,7 +153,7 @@ module _ (service : Service) (log : Log) (e : Entry) where
   replies-agree n came session lawful heard none = record {
     stays = λ i answer is. replied-stays service n i log (e ∷ []) answer (refused-or-sent service then lawful) is;
     none = none-at session.phase (talk_with service n came log) (λ i. replied service n i log) (λ i. replied service n i then) session.client.arrived
-        (work-here (talk_with service n came log) (λ i. replied service n i log) (written_of came.link log) session heard.at) none;
+        (work-here heard.at) none;
   }
 
   pub unanswered-calm : (n : ℕ) (session : Session) → Calm service log e n → Unsent service n session.client.arrived log → ((user : Account) → session.phase ≡ phase.Working user → replied service n session.client.arrived then ≡ None) → Unanswered (λ i. replied service n i then) session
@@ -174,7 +174,7 @@ module _ (service : Service) (log : Log) (e : Entry) where
           unlost = here.lost ∙ heard.unlost;
           at = rw here.read
               (rw here.written
-              (agree-seat (talk_with service n stands.came log) (λ i. replied service n i log) (λ i. replied service n i then) (written_of stands.came.link log) seat.session (replies-agree n stands.came seat.session lawful heard none) heard.at));
+              (agree-seat (replies-agree n stands.came seat.session lawful heard none) heard.at));
           unsent = later heard.unsent;
         })
       | inr ended ↦ inr (record {

@@ -91,7 +91,7 @@ later-query : (talk : Talk) (reply : ℕ → Option Answer) (written bytes : Lis
 later-query talk reply written bytes session old user next idle at some = (let work = work-of-query (heard_more talk bytes) reply written old next at some in
     let messages : (messages_of (heard_more talk bytes)).messages ≡ idle.taken.past ++ (split talk.setup.limit 0 (session.client.framer.kept ++ bytes)).messages =
     ap (λ c. (split talk.setup.limit 0 c).messages) (commands-more talk bytes user idle.account) ∙ ap (λ (s : Split). s.messages) (idle.taken.whatever bytes) in
-    let all : first_open talk.setup reply 1 idle.taken.past ≡ None = ap (first_open talk.setup reply 1) (sym (append-nil idle.taken.past)) ∙ sym (ap (λ (s : Split). first_open talk.setup reply 1 s.messages) (taken-nothing talk session.client idle.taken idle.none)) ∙ idle.all in
+    let all : first_open talk.setup reply 1 idle.taken.past ≡ None = ap (first_open talk.setup reply 1) (sym (append-nil idle.taken.past)) ∙ sym (ap (λ (s : Split). first_open talk.setup reply 1 s.messages) (taken-nothing idle.taken idle.none)) ∙ idle.all in
     let more : length idle.taken.past < next.session.client.arrived = later-work (heard_more talk bytes) reply idle.taken.past (split talk.setup.limit 0 (session.client.framer.kept ++ bytes)).messages (record { ordinal = next.session.client.arrived; message = work.message }) messages all work.work in
     let count : session.client.arrived ≡ length idle.taken.past = idle.taken.arrived in omega arith)
 

@@ -187,7 +187,7 @@ module _ {service : Service} {log : Log} {tables : Tables} (told : AllLawful Fit
       in-phase phase.Ending over serves = absurd (over-no-query reply talk work over said query)
 
       by : IsHeard service log client.0 stands.came seat.session ⊎ IsEnded service log client.0 stands.came seat.session → Waits service client.0 work log
-      by (inl heard) = in-phase seat.session.phase (work-here talk reply (written_of stands.came.link log) seat.session heard.at) ((sound.seats client.0 seat is).serves)
+      by (inl heard) = in-phase seat.session.phase (work-here heard.at) ((sound.seats client.0 seat is).serves)
       by (inr ended) = cc (lost-away client.0 stands.came log stands.is_came ended.lost, here)
 
     seat-answered : IsAnswered service client.0 stands.came log

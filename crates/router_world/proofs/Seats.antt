@@ -49,26 +49,26 @@ taken-outgoing talk client outgoing taken = record { stage = taken.stage; framer
 phase-outgoing : (at : Phase) (talk : Talk) (reply : ℕ → Option Answer) (bytes outgoing : List ℕ) (client : ClientState) → PhaseAt at talk reply bytes client → PhaseAt at talk reply bytes (with_outgoing outgoing client)
 phase-outgoing at talk reply bytes outgoing client h6 = grind (arith, common_steps, login-outgoing)
 
-pub taken-seat : (talk : Talk) (reply : ℕ → Option Answer) (written : List ℕ) (session : Session) (n : ℕ) → SeatAt talk reply written session → SeatAt talk reply (written ++ take n session.client.outgoing) (taken n session)
-taken-seat talk reply written session n seat = grind (arith, common_steps, written-on, phase-outgoing)
+pub taken-seat : {talk : Talk} {reply : ℕ → Option Answer} {written : List ℕ} {session : Session} (n : ℕ) → SeatAt talk reply written session → SeatAt talk reply (written ++ take n session.client.outgoing) (taken n session)
+taken-seat n seat = grind (arith, common_steps, written-on, phase-outgoing)
 
 -- Other replies come of its queries, which agree with those before: those that were there stay, and none came to the query in work.
 pub record Agrees (talk : Talk) (reply other : ℕ → Option Answer) : Type 0 where
   pub stays : (i : ℕ) (answer : Answer) → reply i ≡ Some answer → other i ≡ Some answer
   pub none : (work : Work) → work_said reply talk ≡ Some work → is_query work.message.payload ≡ true → other work.ordinal ≡ None
 
-module _ (talk : Talk) (reply other : ℕ → Option Answer) where
-  phase-agrees : (at : Phase) (bytes : List ℕ) (client : ClientState) → work_said other talk ≡ work_said reply talk → PhaseAt at talk reply bytes client → PhaseAt at talk other bytes client
-  phase-agrees at bytes client same h7 = grind (arith, common_steps)
+phase-agrees : (at : Phase) (talk : Talk) (reply other : ℕ → Option Answer) (bytes : List ℕ) (client : ClientState) → work_said other talk ≡ work_said reply talk → PhaseAt at talk reply bytes client → PhaseAt at talk other bytes client
+phase-agrees at talk reply other bytes client same h7 = grind (arith, common_steps)
 
-  agree-both : Agrees talk reply other → Agree talk.setup reply other 1 (messages_of talk).messages (fault_answer talk.setup.limit (messages_of talk).fault)
-  agree-both agrees = agree talk.setup reply other 1 (messages_of talk).messages (fault_answer talk.setup.limit (messages_of talk).fault) agrees.stays agrees.none
+module _ {talk : Talk} {reply other : ℕ → Option Answer} (agrees : Agrees talk reply other) where
+  agree-both : Agree talk.setup reply other 1 (messages_of talk).messages (fault_answer talk.setup.limit (messages_of talk).fault)
+  agree-both = agree talk.setup reply other 1 (messages_of talk).messages (fault_answer talk.setup.limit (messages_of talk).fault) agrees.stays agrees.none
 
-  pub agree-work : Agrees talk reply other → work_said other talk ≡ work_said reply talk
-  agree-work agrees = (agree-both agrees).goes
+  pub agree-work : work_said other talk ≡ work_said reply talk
+  agree-work = agree-both.goes
 
-  pub agree-seat : (written : List ℕ) (session : Session) → Agrees talk reply other → SeatAt talk reply written session → SeatAt talk other written session
-  agree-seat written session agrees seat = grind (arith, common_steps, agree-both, phase-agrees)
+  pub agree-seat : {written : List ℕ} {session : Session} → SeatAt talk reply written session → SeatAt talk other written session
+  agree-seat seat = grind (arith, common_steps, agree-both, phase-agrees)
 
 -- Bytes of it come.
 
@@ -82,14 +82,14 @@ module _ (talk : Talk) (reply : ℕ → Option Answer) (written bytes : List ℕ
   now = heard_more talk bytes
 
   idle-answered : (user : Account) (client : ClientState) (at : IsIdle talk reply user client) → IsAnswered talk reply at.taken.past
-  idle-answered user client at = (let messages = taken-nothing talk client at.taken at.none in record {
+  idle-answered user client at = (let messages = taken-nothing at.taken at.none in record {
     all = ap (first_open talk.setup reply 1) (sym (append-nil at.taken.past)) ∙ sym (ap (λ (s : Split). first_open talk.setup reply 1 s.messages) messages) ∙ at.all;
     due = ap (λ (s : Split). front talk ++ due_behind reply talk s) messages ∙ ap (λ ms. front talk ++ answers_by talk.setup reply 1 ms []) (append-nil at.taken.past);
   })
 
   idle-fed : (user : Account) (client : ClientState) → SeatAt talk reply written (record { client = client; phase = phase.Idle user }) → IsGoing now reply user (written ++ client.outgoing) (fed client bytes)
   idle-fed user client seat = (let answered = idle-answered user client seat.at in record {
-    taken = taken-fed talk client bytes user seat.at.account seat.at.taken;
+    taken = taken-fed seat.at.taken bytes user seat.at.account;
     account = account-more talk bytes user seat.at.account;
     said = answers_by talk.setup reply 1 seat.at.taken.past [];
     done = done-all talk.setup reply seat.at.taken.past answered.all;
@@ -104,7 +104,7 @@ module _ (talk : Talk) (reply : ℕ → Option Answer) (written bytes : List ℕ
         due = seat.due ∙ ap (λ l. l ++ answers_by talk.setup reply 1 (messages_of talk).messages old) (sym (front-more talk bytes user seat.at.account))
             ∙ ap (λ l. front now ++ l) (sym (open-due talk.setup reply 1 (messages_of talk).messages grown.later old new work seat.at.work)) ∙ ap (λ ms. front now ++ answers_by talk.setup reply 1 ms new) (sym grown.messages);
         at = record {
-          taken = taken-fed talk client bytes user seat.at.account seat.at.taken;
+          taken = taken-fed seat.at.taken bytes user seat.at.account;
           account = account-more talk bytes user seat.at.account;
           message = seat.at.message;
           work = ap (first_open talk.setup reply 1) grown.messages ∙ open-more talk.setup reply 1 (messages_of talk).messages grown.later work seat.at.work;
@@ -143,7 +143,7 @@ module _ {talk : Talk} {reply : ℕ → Option Answer} {user : Account} {client 
   work = at_place client.arrived working.message
 
   messages : messages_of talk ≡ with_front past behind
-  messages = taken-messages talk client working.taken
+  messages = taken-messages working.taken
 
   within : first_open talk.setup reply 1 past ≡ Some work
   within = (let count = working.taken.arrived in
@@ -200,5 +200,5 @@ WaitsFor _ talk reply arrived = IsFree talk reply
 waits-at : (at : Phase) (talk : Talk) (reply : ℕ → Option Answer) (bytes : List ℕ) (client : ClientState) → PhaseAt at talk reply bytes client → WaitsFor at talk reply client.arrived
 waits-at at talk reply bytes client h5 = grind (arith, common_steps, work-alone, over-in, query-no-quit)
 
-pub work-here : (talk : Talk) (reply : ℕ → Option Answer) (written : List ℕ) (session : Session) → SeatAt talk reply written session → WaitsFor session.phase talk reply session.client.arrived
-work-here talk reply written session seat = grind (arith, common_steps, waits-at)
+pub work-here : {talk : Talk} {reply : ℕ → Option Answer} {written : List ℕ} {session : Session} → SeatAt talk reply written session → WaitsFor session.phase talk reply session.client.arrived
+work-here seat = grind (arith, common_steps, waits-at)

@@ -4,7 +4,7 @@ use Rattle.router_world.proofs.Names.{Some, None, Result, refl, sym, ◌∙◌, 
 use Rattle.router_world.proofs.Names.{parsed, CommandFault, Setup, query_by, is_query, is_quit, no_server, own_ok, payload_of, Asked, Answer, spelt}
 use Rattle.router_world.proofs.Names.{answer_by, Work, answer_of, answers_by, first_open, ClientState, IsLoggingIn, Account, Talk, account, front, Phase}
 use Rattle.router_world.proofs.Names.{Session, Turned, still, left_to_say, due_said, over_said, IsTaken, SeatAt, Unanswered, Asks, drop, FrameFault, Split}
-use Rattle.router_world.proofs.Names.{split, with_front, message_size, Nothing, Whole, Faulty, first_message-empty, first_message-whole-more}
+use Rattle.router_world.proofs.Names.{split, with_front, message_size, Nothing, Whole, Faulty, first_message-empty, first_message-whole-more, Found}
 use Rattle.router_world.proofs.Names.{first_message-goes, Response, fed, counted, Opening, Says, opening-says-more, account_of, heard_more, opening_of}
 use Rattle.router_world.proofs.Names.{if_known, commands, messages_of, front_in, fault_answer, ends_by, work_said}
 use Rattle.promises.proofs.Staying.{by-stays}
@@ -261,47 +261,6 @@ module _ (talk : Talk) where
   commands-shorter : (user : Account) → account talk ≡ Some user → length (commands talk) ≤ length talk.read
   commands-shorter user is = grind (arith, common_steps, is-in, in-commands, opening-shorter)
 
-  -- The messages that were taken of it.
-  module _ (client : ClientState) where
-    pub taken-messages : (taken : IsTaken talk client) → messages_of talk ≡ with_front taken.past (split talk.setup.limit 0 client.framer.kept)
-    taken-messages taken = ap (split talk.setup.limit 0) (sym (append-nil (commands talk))) ∙ taken.whatever [] ∙ ap (λ bytes. with_front taken.past (split talk.setup.limit 0 bytes)) (append-nil client.framer.kept)
-
-    pub taken-nothing : (taken : IsTaken talk client) → first_message talk.setup.limit 0 client.framer.kept ≡ Nothing → messages_of talk ≡ record { messages = taken.past ++ []; rest = client.framer.kept; fault = None }
-    taken-nothing taken at = taken-messages taken ∙ ap (with_front taken.past) (split-nothing talk.setup.limit 0 client.framer.kept at)
-
-    pub taken-whole : (message : Framed) (rest : List ℕ) (taken : IsTaken talk client) → first_message talk.setup.limit 0 client.framer.kept ≡ Whole message rest → messages_of talk ≡ with_front taken.past (with_front (message ∷ []) (split talk.setup.limit 0 rest))
-    taken-whole message rest taken at = grind (arith, common_steps, split-whole, taken-messages)
-
-    pub taken-faulty : (fault : FrameFault) (taken : IsTaken talk client) → first_message talk.setup.limit 0 client.framer.kept ≡ Faulty fault → messages_of talk ≡ record { messages = taken.past ++ []; rest = client.framer.kept; fault = Some fault }
-    taken-faulty fault taken at = grind (arith, common_steps, split-faulty, taken-messages)
-
-    -- there are no more of them than bytes
-    pub taken-few : (message : Framed) (rest : List ℕ) (user : Account) (taken : IsTaken talk client) → account talk ≡ Some user → first_message talk.setup.limit 0 client.framer.kept ≡ Whole message rest → suc (length taken.past) ≤ length talk.read
-    taken-few message rest user taken is at = (
-        let others = (split talk.setup.limit 0 rest).messages in
-        let all : length (messages_of talk).messages ≡ length taken.past + suc (length others) = ap (λ (s : Split). length s.messages) (taken-whole message rest taken at) ∙ length-append taken.past (message ∷ others) in
-        let count = split-count talk.setup.limit 0 (commands talk) in
-        let short = commands-shorter user is in
-        omega arith)
-
-    -- more bytes are kept
-    abbrev pub taken-fed : (bytes : List ℕ) (user : Account) → account talk ≡ Some user → IsTaken talk client → IsTaken (heard_more talk bytes) (fed client bytes)
-    taken-fed bytes user is taken = record {
-      stage = taken.stage;
-      framer = record { unfound = taken.framer.unfound; faultless = taken.framer.faultless };
-      past = taken.past;
-      arrived = taken.arrived;
-      whatever = λ more. ap (λ said. split talk.setup.limit 0 (said ++ more)) (commands-more bytes user is) ∙ ap (split talk.setup.limit 0) (append_assoc (commands talk) bytes more) ∙ taken.whatever (bytes ++ more)
-          ∙ ap (λ kept. with_front taken.past (split talk.setup.limit 0 kept)) (sym (append_assoc client.framer.kept bytes more));
-    }
-
-    pub past-whatever : (message : Framed) (rest : List ℕ) → (taken : IsTaken talk client) → first_message talk.setup.limit 0 client.framer.kept ≡ Whole message rest
-        → (more : List ℕ) → split talk.setup.limit 0 (commands talk ++ more) ≡ with_front (taken.past ++ message ∷ []) (split talk.setup.limit 0 (drop (message_size client.framer.kept) client.framer.kept ++ more))
-    past-whatever message rest taken at more = (let others = split talk.setup.limit 0 (rest ++ more) in taken.whatever more
-        ∙ ap (with_front taken.past) (split-whole talk.setup.limit 0 (client.framer.kept ++ more) message (rest ++ more) (first_message-whole-more talk.setup.limit 0 client.framer.kept more message rest at))
-        ∙ ap (λ (messages : List Framed). record { messages = messages; rest = others.rest; fault = others.fault }) (sym (append_assoc taken.past (message ∷ []) others.messages))
-        ∙ ap (λ bytes. with_front (taken.past ++ message ∷ []) (split talk.setup.limit 0 (bytes ++ more))) (first_message-goes talk.setup.limit 0 client.framer.kept message rest at))
-
 -- whether it is at its end
 pub over-in : (reply : ℕ → Option Answer) (talk : Talk) (user : Account) → account talk ≡ Some user → over_said reply talk ≡ ends_by (work_said reply talk) (is_some (messages_of talk).fault)
 over-in reply talk user is = grind (arith, common_steps, is-in)
@@ -316,15 +275,65 @@ counted-suc n k same few = (let more : counted n ≡ n + 1 = counted-one n (omeg
 abbrev pub client_past : Framed → (outgoing : List ℕ) → ClientState → ClientState
 client_past message outgoing client = record client { framer = past_message message client.framer; arrived = counted client.arrived; outgoing = outgoing }
 
-abbrev pub taken-one : (talk : Talk) (client : ClientState) (message : Framed) (rest outgoing : List ℕ) → (taken : IsTaken talk client) → first_message talk.setup.limit 0 client.framer.kept ≡ Whole message rest
-    → suc (length taken.past) < 18446744073709551616 → IsTaken talk (client_past message outgoing client)
-taken-one talk client message rest outgoing taken at few = record {
-  stage = taken.stage;
-  framer = record { unfound = refl; faultless = taken.framer.faultless };
-  past = taken.past ++ message ∷ [];
-  arrived = counted-suc client.arrived (length taken.past) taken.arrived few ∙ (let sum : suc (length taken.past) ≡ length (taken.past ++ message ∷ []) = omega (arith, length-append taken.past (message ∷ [])) in sum);
-  whatever = past-whatever talk client message rest taken at;
-}
+-- The messages that were taken of it.
+module _ {talk : Talk} {client : ClientState} (taken : IsTaken talk client) where
+  abbrev found : Found
+  found = first_message talk.setup.limit 0 client.framer.kept
+
+  pub taken-messages : messages_of talk ≡ with_front taken.past (split talk.setup.limit 0 client.framer.kept)
+  taken-messages = ap (split talk.setup.limit 0) (sym (append-nil (commands talk))) ∙ taken.whatever []
+      ∙ ap (λ bytes. with_front taken.past (split talk.setup.limit 0 bytes)) (append-nil client.framer.kept)
+
+  pub taken-nothing : found ≡ Nothing → messages_of talk ≡ record { messages = taken.past ++ []; rest = client.framer.kept; fault = None }
+  taken-nothing at = taken-messages ∙ ap (with_front taken.past) (split-nothing talk.setup.limit 0 client.framer.kept at)
+
+  pub taken-faulty : {fault : FrameFault} → found ≡ Faulty fault → messages_of talk ≡ record { messages = taken.past ++ []; rest = client.framer.kept; fault = Some fault }
+  taken-faulty at = grind (arith, common_steps, split-faulty, taken-messages)
+
+  -- more bytes are kept
+  abbrev pub taken-fed : (bytes : List ℕ) (user : Account) → account talk ≡ Some user → IsTaken (heard_more talk bytes) (fed client bytes)
+  taken-fed bytes user is = record {
+    stage = taken.stage;
+    framer = record { unfound = taken.framer.unfound; faultless = taken.framer.faultless };
+    past = taken.past;
+    arrived = taken.arrived;
+    whatever = λ more. ap (λ said. split talk.setup.limit 0 (said ++ more)) (commands-more talk bytes user is)
+        ∙ ap (split talk.setup.limit 0) (append_assoc (commands talk) bytes more) ∙ taken.whatever (bytes ++ more)
+        ∙ ap (λ kept. with_front taken.past (split talk.setup.limit 0 kept)) (sym (append_assoc client.framer.kept bytes more));
+  }
+
+  -- one more of them is whole
+  module _ {message : Framed} {rest : List ℕ} (at : found ≡ Whole message rest) where
+    pub taken-whole : messages_of talk ≡ with_front taken.past (with_front (message ∷ []) (split talk.setup.limit 0 rest))
+    taken-whole = grind (arith, common_steps, split-whole, taken-messages)
+
+    -- there are no more of them than bytes
+    pub taken-few : (user : Account) → account talk ≡ Some user → suc (length taken.past) ≤ length talk.read
+    taken-few user is = (
+        let others = (split talk.setup.limit 0 rest).messages in
+        let all : length (messages_of talk).messages ≡ length taken.past + suc (length others) =
+        ap (λ (s : Split). length s.messages) taken-whole ∙ length-append taken.past (message ∷ others) in
+        let count = split-count talk.setup.limit 0 (commands talk) in
+        let short = commands-shorter talk user is in
+        omega arith)
+
+    pub past-whatever : (more : List ℕ) → split talk.setup.limit 0 (commands talk ++ more)
+        ≡ with_front (taken.past ++ message ∷ []) (split talk.setup.limit 0 (drop (message_size client.framer.kept) client.framer.kept ++ more))
+    past-whatever more = (let limit = talk.setup.limit in let kept = client.framer.kept in let others = split limit 0 (rest ++ more) in taken.whatever more
+        ∙ ap (with_front taken.past) (split-whole limit 0 (kept ++ more) message (rest ++ more) (first_message-whole-more limit 0 kept more message rest at))
+        ∙ ap (λ (messages : List Framed). record { messages = messages; rest = others.rest; fault = others.fault }) (sym (append_assoc taken.past (message ∷ []) others.messages))
+        ∙ ap (λ bytes. with_front (taken.past ++ message ∷ []) (split limit 0 (bytes ++ more))) (first_message-goes limit 0 kept message rest at))
+
+    -- and it is taken
+    abbrev pub taken-one : (outgoing : List ℕ) → suc (length taken.past) < 18446744073709551616 → IsTaken talk (client_past message outgoing client)
+    taken-one outgoing few = record {
+      stage = taken.stage;
+      framer = record { unfound = refl; faultless = taken.framer.faultless };
+      past = taken.past ++ message ∷ [];
+      arrived = counted-suc client.arrived (length taken.past) taken.arrived few
+          ∙ (let sum : suc (length taken.past) ≡ length (taken.past ++ message ∷ []) = omega (arith, length-append taken.past (message ∷ [])) in sum);
+      whatever = past-whatever;
+    }
 
 -- What is due by them, where all are answered or the next one isn't.
 

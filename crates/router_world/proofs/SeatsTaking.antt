@@ -191,7 +191,7 @@ module _ (talk : Talk) (reply : ℕ → Option Answer) (written : List ℕ) wher
 
     -- nothing whole is left
     idle-rests : first_message talk.setup.limit 0 client.framer.kept ≡ Nothing → (old : Session) → SeatTurned talk reply written old (still (idle user (looked client Nothing)))
-    idle-rests at old = (let messages = taken-nothing talk client goes.at.taken at in
+    idle-rests at old = (let messages = taken-nothing goes.at.taken at in
         let all = due-all reply talk past goes.at.said client.framer.kept None goes.at.done messages in
         record {
           seat = record {
@@ -213,7 +213,7 @@ module _ (talk : Talk) (reply : ℕ → Option Answer) (written : List ℕ) wher
     idle-refused : (fault : FrameFault) → first_message talk.setup.limit 0 client.framer.kept ≡ Faulty fault
         → (old : Session) → SeatTurned talk reply written old (still (refused talk.setup.limit (Frame fault) (fault_id 0 fault) (idle user (looked client (Faulty fault)))))
     idle-refused fault at old = (let error = fault_answer talk.setup.limit (Some fault) in
-        let messages = taken-faulty talk client fault goes.at.taken at in
+        let messages = taken-faulty goes.at.taken at in
         let all = due-all reply talk past goes.at.said client.framer.kept (Some fault) goes.at.done messages in
         ends-so talk reply written (record (looked client (Faulty fault)) { outgoing = client.outgoing ++ error }) goes.mine goes.later
         (over-in reply talk user goes.at.account ∙ ap (λ w. ends_by w (is_some (messages_of talk).fault)) all.none ∙ ap (λ (s : Split). is_some s.fault) messages)
@@ -234,7 +234,7 @@ module _ (talk : Talk) (reply : ℕ → Option Answer) (written : List ℕ) wher
     whole-at message rest at = (
         let one = message-framed talk.setup.limit client.framer.kept message rest at in
         let all = goes.few in
-        let least = taken-few talk client message rest user goes.at.taken goes.at.account at in
+        let least = taken-few goes.at.taken at user goes.at.account in
         let few : suc (length past) < 18446744073709551616 = omega arith in
         let shorter = first_message-shorter talk.setup.limit 0 client.framer.kept message rest at in
         let left = ap length (first_message-goes talk.setup.limit 0 client.framer.kept message rest at) in
@@ -245,7 +245,7 @@ module _ (talk : Talk) (reply : ℕ → Option Answer) (written : List ℕ) wher
           fewer = omega arith;
           few = few;
           counts = counted-suc client.arrived (length past) goes.at.taken.arrived few;
-          messages = taken-whole talk client message rest goes.at.taken at;
+          messages = taken-whole goes.at.taken at;
         })
 
     -- what comes later comes of messages behind it
@@ -267,7 +267,7 @@ module _ (talk : Talk) (reply : ℕ → Option Answer) (written : List ℕ) wher
           few = goes.few;
           later = λ i from. later-from (counted client.arrived) i whole.counts (omega arith);
           at = record {
-            taken = taken-one talk client message rest (client.outgoing ++ told) goes.at.taken whole.at whole.few;
+            taken = taken-one goes.at.taken whole.at (client.outgoing ++ told) whole.few;
             account = goes.at.account;
             said = goes.at.said ++ spelt (next_id message.last) (payload ∷ []);
             done = done-one talk.setup reply past goes.at.said message (payload ∷ []) goes.at.done is;
@@ -282,7 +282,7 @@ module _ (talk : Talk) (reply : ℕ → Option Answer) (written : List ℕ) wher
           → SeatTurned talk reply written old (record { session = started message taken; query = Some (record { ordinal = counted client.arrived; first = next_id message.last; packets = spelling 0 message.payload }) })
       idle-works query is old = (let to = due-open reply talk past goes.at.said message (split talk.setup.limit 0 rest) goes.at.done whole.messages (is ∙ later-from (suc (length past)) (suc (length past)) refl (omega arith)) in
           let working : IsWorking talk reply user (client_past message client.outgoing client) = record {
-            taken = taken-one talk client message rest client.outgoing goes.at.taken whole.at whole.few;
+            taken = taken-one goes.at.taken whole.at client.outgoing whole.few;
             account = goes.at.account;
             message = message;
             work = to.first ∙ ap (λ k. Some (at_place k message)) (sym whole.counts);
