@@ -93,11 +93,10 @@ module _ (service : Service) (log : Log) (n : ℕ) (came : Arrival) (written : L
     grows = turned-more service.setup (rested user packets (record { client = client; phase = phase.Working user }))
 
     same : (i : ℕ) → i ≢ client.arrived → reply i ≡ before i
-    same i apart = sym (ap (λ b. cond b None (reply i)) (apart-numbers i client.arrived apart))
+    same i apart = grind (arith, common_steps, apart-numbers)
 
     unanswered : (i : ℕ) → client.arrived ≤ i → before i ≡ None
-    unanswered i from = (let by : (b : Bool) → nat_eq i client.arrived ≡ b → cond b None (reply i) ≡ None = λ b at. grind (arith, common_steps, nat_eq-false, unsent-still) in
-        by (nat_eq i client.arrived) refl)
+    unanswered i from = grind (arith, common_steps, nat_eq-false, unsent-still)
 
     at : SeatTurned talk reply written (record { client = client; phase = phase.Idle user }) turned
     at = answered-seat seat.at reply written answer packets seat unanswered now same (spelled seat.at.message seat.at.work) few
@@ -163,14 +162,14 @@ module _ {service : Service} {log : Log} {e : Entry} {n : ℕ} {tables : Tables}
     seat-agrees : IsHeard service log n was.came seat.session → Agrees (talk_with service n was.came log) (λ k. replied service n k log) other
     seat-agrees heard = record {
       stays = λ k a at. stays k a at (nat_eq k place) refl;
-      none = λ work at query. ap other (ap (λ (w : Work). w.ordinal) (sym (some-same (at_place place working.message) work (sym working.work ∙ at)))) ∙ ap (λ b. cond b None (replied service n place then)) (same_number place);
+      none = λ work at query. grind (arith, common_steps, same_number, some-same);
     } where
       working : IsWorking (talk_with service n was.came log) (λ k. replied service n k log) user seat.session.client
-      working = subst (λ (p : Phase). PhaseAt p (talk_with service n was.came log) (λ k. replied service n k log) (written_of was.came.link log ++ seat.session.client.outgoing) seat.session.client) works heard.at.at
+      working = grind (arith, common_steps)
 
       stays : (k : ℕ) (a : Answer) → replied service n k log ≡ Some a → (b : Bool) → nat_eq k place ≡ b → cond b None (replied service n k then) ≡ Some a
       stays k a at true same = cc ((working-open working).none, ap (λ k. replied service n k log) (nat_eq-true k place same), at)
-      stays k a at false same = replied-stays service n k log (e ∷ []) a (refused-or-sent service then from.happens.lawful) at
+      stays k a at false same = grind (arith, common_steps, refused-or-sent, replied-stays)
 
     heard-of : IsHeard service log n was.came seat.session ⊎ IsEnded service log n was.came seat.session → IsHeard service log n was.came seat.session
     heard-of h0 = grind (arith, common_steps)
@@ -218,7 +217,7 @@ module _ {service : Service} {log : Log} {e : Entry} {n : ℕ} {tables : Tables}
       → Sound service then None (answering service.setup (Some (record { client = record { 0 = n }; packets = spelt (next_id message.last) answer })) (with_lends news.lends tables))
   answered-step i answer message busy there now free idle closable = by (tables.seats n) refl where
     by : (o : Option Seat) → tables.seats n ≡ o → Sound service then None (on_seat (answered service.setup (spelt (next_id message.last) answer)) (record { 0 = n }) o (without_seat (record { 0 = n }) (with_lends news.lends tables)))
-    by None none = absurd (gone-busy tables.lends n i (away-gone tables.lends n (sound.away n none)) busy)
+    by None none = grind (arith, common_steps, away-gone, gone-busy)
     by (Some seat) is = (let works = working-busy seat.session.phase tables.lends n seat.session.client.arrived i ((sound.seats n seat is).serves) busy in
         seated is works.1 (answered service.setup (spelt (next_id message.last) answer) seat.session)
         (seat-goes is works.1 answer message (ap (λ k. message_of service n k then) works.2 ∙ there) (ap (λ k. replied service n k then) works.2 ∙ now) free idle closable))

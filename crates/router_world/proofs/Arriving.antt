@@ -33,7 +33,7 @@ module _ (service : Service) (log : Log) (e : Entry) (may : IsLawful service log
   arrived-user n user is = grind (arith, common_steps)
 
   cause-came : (turn : Turn) (d : Entry) → Cause service log turn d → IsLawful service log d → (came : Arrival) × (arrival_of turn.client log ≡ Some came)
-  cause-came turn _ (NotOpened server address is) may = (may.asks.came, ap (λ (t : Turn). arrival_of t.client log) (some-same turn may.turn (sym is ∙ may.is_next)) ∙ may.asks.is_came)
+  cause-came turn _ (NotOpened server address is) may = grind (arith, common_steps, some-same)
   cause-came turn _ (NotLoggedIn d breaks) may = arrived-user turn.client breaks.user breaks.is_user
 
   spares-none : (n i : ℕ) → arrival_of n (log ++ e ∷ []) ≡ None → Spares service log e n i
@@ -101,13 +101,13 @@ module _ {service : Service} {log : Log} {port : Port} {link : LinkId} {salt : L
   arrivals-now = arrivals-more [] log (e ∷ [])
 
   arrives-now : arrival_of number then ≡ Some arrival
-  arrives-now = ap (λ l. slice_get l (length (arrivals log))) arrivals-now ∙ last-of (arrivals log) arrival
+  arrives-now = grind (arith, common_steps, arrivals-now, last-of)
 
   number-now : counted tables.came ≡ number
   number-now = grind (arith, common_steps, arrivals-few, counted-few)
 
   came-now : number ≡ length (arrivals then)
-  came-now = (let all = ap length arrivals-now in let one = length-append (arrivals log) (arrival ∷ []) in omega arith)
+  came-now = grind (arith, common_steps, arrivals-now, length-append)
 
   here-now : port ≡ Traffic → counted tables.here ≡ length (connected then)
   here-now traffic = grind (arith, common_steps, connected-more, counted-few, fold-few, length-append)
@@ -121,13 +121,13 @@ module _ {service : Service} {log : Log} {port : Port} {link : LinkId} {salt : L
     names = refl;
     unnumbered = none-if (tables.numbers link.0) (λ client is. (let seat = numbered-seat service log tables link client sound is in shut seat.0.link seat.2 (sound.seats client.0 seat.0 seat.1).stands.opened));
     unlent = none-if (tables.lends.links link.0) (λ lent is. shut link refl (sound.lends.rows link lent is).opened);
-    calm = λ k. record { writes = λ i. refl; spares = λ i turn is. cc (refuses-none service log e refl (λ user other. refl), is) };
+    calm = λ k. grind (arith, common_steps, refuses-none);
     fits = coming.happens.fits;
     lawful = coming.happens.lawful;
   }
 
   alone : of_link link then ≡ e ∷ []
-  alone = of_link-same link log e (same_number link.0) ∙ ap (λ l. l ++ e ∷ []) coming.happens.fits.fresh
+  alone = grind (arith, common_steps, of_link-same, same_number)
 
   -- a link that is open behind it was open, or is the new one
   opened-now : (other : LinkId) → IsOpen other then → (IsOpen other log) ⊎ (other ≡ link)
@@ -191,7 +191,7 @@ module _ {service : Service} {log : Log} {port : Port} {link : LinkId} {salt : L
           stands = was.stands;
           serves = was.serves;
           unfinished = was.unfinished;
-          numbered = number-other other.link (λ same. cc (bystands.unnumbered, same, was.numbered)) ∙ was.numbered;
+          numbered = grind (arith, common_steps, number-other);
         })) is;
     numbers = λ other someone is. elim (row-of tables.numbers link.0 (Some client) other.0 someone is) [
       | Here same is ↦ inr (seat, ap (λ (c : ClientNo). set tables.seats client.0 (Some seat) c.0) (sym (some-same client someone is)) ∙ back, ap (λ k. record { 0 = k }) (sym same))
@@ -205,8 +205,7 @@ module _ {service : Service} {log : Log} {port : Port} {link : LinkId} {salt : L
       | There apart is ↦ sound.unlent other someone is
     ];
     unclosing = λ other closes. cc (coming.quiet.unclosed, closes);
-    away = λ k is. one-or-other k client.0 (λ m. set tables.seats client.0 (Some seat) m ≡ None → InHand None m ⊎ Gone tables.lends m) (λ none. cc (back, none))
-        (λ at none. sound.away k (sym (set-other tables.seats client.0 k (Some seat) at) ∙ none)) is;
+    away = λ k is. grind (arith, common_steps, one-or-other, set-other);
     lends = lends-left service log e link tables sound bystands coming.quiet.unclosed;
     one_parts = sound.one_parts;
     parts = λ parting is. cc (coming.quiet.unparted, is);
@@ -229,7 +228,7 @@ module _ {service : Service} {log : Log} {port : Port} {link : LinkId} {salt : L
     back = set-same tables.seats client.0 (Some seat)
 
     number-other : (other : LinkId) → (other.0 ≡ link.0 → ⊥) → numbers other.0 ≡ tables.numbers other.0
-    number-other other differs = set-other tables.numbers link.0 other.0 (Some client) (apart-numbers other.0 link.0 differs)
+    number-other other differs = grind (arith, common_steps, apart-numbers, set-other)
 
     -- nobody had its number
     unarrived : arrival_of client.0 log ≡ None
@@ -264,7 +263,7 @@ pub coming-step : {service : Service} {log : Log} {port : Port} {link : LinkId} 
 coming-step {log = log} {port = Admin} {tables = tables} coming short = away-step coming tables.here [] ((sound coming).here ∙ sym (ap length (connected-more log (e coming)))) (Strange refl) (among coming)
 coming-step {service} {log} {port = Traffic} {link} {salt} {tables} coming short = by (nat_lt tables.here service.setup.max_clients) refl where
   room : (b : Bool) → nat_lt tables.here service.setup.max_clients ≡ b → nat_lt (length (connected log)) service.setup.max_clients ≡ b
-  room b is = ap (λ h. nat_lt h service.setup.max_clients) (sym (sound coming).here) ∙ is
+  room b is = grind (arith, common_steps)
 
   by : (b : Bool) → nat_lt tables.here service.setup.max_clients ≡ b
       → Sound service (then coming) None (admitted_if b (record { 0 = counted tables.came }) link salt service.setup (record tables { came = counted tables.came; here = counted tables.here }))

@@ -79,14 +79,14 @@ module _ (service : Service) (n i : ℕ) where
 
   -- One that was sent wasn't refused.
   pub sent-unrefused : (log : Log) (link : LinkId) → RefusedOrSent service log → carrier_of n i log ≡ Some link → is_refused service n i log ≡ false
-  sent-unrefused log link never at = false_from_ne_true (is_refused service n i log) (λ was. cc (never n i was, at))
+  sent-unrefused log link never at = grind (arith, common_steps)
 
   -- One whose link is left has the reply that it had.
   pub reply-left : (log : Log) (e : Entry) (link : LinkId) (user : Account) → carrier_of n i log ≡ Some link → user_on service link log ≡ Some user → Leaves link log e → reply_to service n i (log ++ e ∷ []) ≡ reply_to service n i log
   reply-left log e link user at is leaves = there (log ++ e ∷ []) (carrier-stays n i log (e ∷ []) link at) (user-on-stays service link log (e ∷ []) user is)
       ∙ (λ j. reply_said service.forms n i user (leaves.heard j) (leaves.pieces j) (leaves.lost j)) ∙ sym (there log at is) where
         there : (l : Log) → carrier_of n i l ≡ Some link → user_on service link l ≡ Some user → reply_to service n i l ≡ reply_on service.forms n i link l user
-        there l at is = ap (option_and_then (λ k. option_and_then (reply_on service.forms n i k l) (user_on service k l))) at ∙ ap (option_and_then (reply_on service.forms n i link l)) is
+        there l at is = grind (arith, common_steps)
 
   -- What came of it stays.
   pub replied-stays : (log more : Log) (answer : Answer) → RefusedOrSent service (log ++ more) → replied service n i log ≡ Some answer → replied service n i (log ++ more) ≡ Some answer

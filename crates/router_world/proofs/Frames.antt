@@ -45,7 +45,7 @@ gone-stays service n user log e fits known gone = by (arrival_of n log) refl kno
       ∙ gone-link came.link log e fits (λ new. named-none came.link (came_as came.link) log (came-names came.link) new (arrival-came n log came at)) (ap (λ o. is_here_as o log) (sym at) ∙ gone)
 
 pub user-there : (service : Service) (link : LinkId) (turn : Turn) (user : Account) (log : Log) → turn_of service link log ≡ Some turn → user_of service turn.client log ≡ Some user → user_on service link log ≡ Some user
-user-there service link turn user log is known = ap (option_and_then (λ (t : Turn). user_of service t.client log)) is ∙ known
+user-there service link turn user log is known = grind (arith, common_steps)
 
 pub owner-turn : (service : Service) (log : Log) (lends : Lends) (link : LinkId) (lent : Lent) (n m : ℕ) → Owned service log lends link m lent → lent.owner ≡ Some (record { 0 = n }) → m ≡ n
 owner-turn service log lends link lent n m h7 is = grind (arith, common_steps, some-same)
@@ -115,7 +115,7 @@ module _ (service : Service) (log : Log) (e : Entry) where
     turn = stands.turn;
     is_turn = turn-stays service link log (e ∷ []) stands.turn stands.is_turn;
     hostgroup = stands.hostgroup;
-    user = user-stays service stands.turn.client log (e ∷ []) lent.backend.account stands.user;
+    user = grind (arith, common_steps, user-stays);
     some = ap (list_all has_bytes) leaves.pieces ∙ stands.some;
     at = rw leaves.heard
         (rw leaves.pieces stands.at);
@@ -180,7 +180,7 @@ module _ (service : Service) (log : Log) (e : Entry) where
       | inr ended ↦ inr (record {
           lost = here.lost ∙ ended.lost;
           ends = ended.ends;
-          told = ap (λ bytes. bytes ++ seat.session.client.outgoing) here.written ∙ ended.told ∙ sym (due-lost service n stands.came log e stands.is_came stands.served ended.lost);
+          told = grind (arith, common_steps, due-lost);
         })
     ];
   } where

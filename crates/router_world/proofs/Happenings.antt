@@ -20,7 +20,7 @@ module _ {service : Service} {log : Log} {e : Entry} {link : LinkId} {tables : T
 
   -- a server's link has no client's number
   unnumbered : (lent : Lent) → tables.lends.links link.0 ≡ Some lent → tables.numbers link.0 ≡ None
-  unnumbered lent there = none-if (tables.numbers link.0) (λ client is. cc (on.happens.sound.unlent link client is, there))
+  unnumbered lent there = grind (arith, common_steps, none-if)
 
   -- It is broken.
   pub failed-step : is_failure e ≡ true → is_loss e ≡ true → ((k i : ℕ) → carries k i e ≡ None) → Sound service (log ++ e ∷ []) None (failed_on service.setup link (tables.numbers link.0) tables)

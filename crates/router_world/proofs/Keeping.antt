@@ -79,7 +79,7 @@ module _ {service : Service} {log : Log} {tables : Tables} (told : AllLawful Fit
     by h0 = (let unfinished = (sound.seats client.0 seat is).unfinished in grind (arith, common_steps))
 
   unnumbered : {link : LinkId} (lent : Lent) → tables.lends.links link.0 ≡ Some lent → tables.numbers link.0 ≡ None
-  unnumbered {link} lent is = none-if (tables.numbers link.0) (λ client number. cc (sound.unlent link client number, is))
+  unnumbered {link} lent is = grind (arith, common_steps, none-if)
 
   row-full : {link : LinkId} (lent : Lent) (l : ToSend) → IsOpen link log → tables.lends.links link.0 ≡ Some lent → left lent.backend ≡ Some l → write_dry link log ≡ true
   row-full lent l opened is some = grind (arith, common_steps)
@@ -91,10 +91,10 @@ module _ {service : Service} {log : Log} {tables : Tables} (told : AllLawful Fit
     unread-ends p unread = grind (arith, common_steps)
 
     by : IsOf tables link → (read_dry link log ≡ true) ⊎ IsEnding service link log
-    by (OfServer lent is) = inl (waits.drained.read link opened (ap (reads_by tables link) (unnumbered lent is) ∙ ap is_some is))
+    by (OfServer lent is) = grind (arith, common_steps)
     by (OfClient client seat number is on) = at (is_read seat.session.phase) refl where
       at : (b : Bool) → is_read seat.session.phase ≡ b → (read_dry link log ≡ true) ⊎ IsEnding service link log
-      at true reading = inl (waits.drained.read link opened (ap (reads_by tables link) number ∙ ap seat_reads is ∙ reading))
+      at true reading = grind (arith, common_steps)
       at false unread = (let stands = (sound.seats client.0 seat is).stands in let ends = unread-ends seat.session.phase unread in inr (record {
         client = client.0;
         came = stands.came;
@@ -118,7 +118,7 @@ module _ {service : Service} {log : Log} {tables : Tables} (told : AllLawful Fit
     message = row-message row has
 
     by : (b : Bool) → nat_lt command.sent (length command.bytes) ≡ b → Stays service.forms n i asked.message lent.backend.account link log
-    by true less = (let l = left-some lent.backend command has (grind arith) in Full (row-full lent l.0 row.opened is l.1))
+    by true less = grind (arith, common_steps, left-some, row-full)
     by false most = (let all : command.sent ≡ length command.bytes = (let fits = message.sent in grind arith) in
         let some : 0 < command.sent = (let size = ap length message.spelt in let least = spelling-some 0 message.payload in omega arith) in
         let whole : record { tag = command.tag; bytes = take command.sent command.bytes } ≡ record { tag = For (record { 0 = n }) i; bytes = spelling asked.message.first asked.message.payload } =
@@ -132,7 +132,7 @@ module _ {service : Service} {log : Log} {tables : Tables} (told : AllLawful Fit
     is_due = asked.asks.is_due;
     link = link;
     opened = row.opened;
-    owner = owner-is row asked.message asked.due ∙ ap (λ m. Some (owner_for service m asked.message asked.due)) mine;
+    owner = grind (arith, common_steps, owner-is);
     user = lent.backend.account;
     is_user = row-user row;
     on = stays;
@@ -238,7 +238,7 @@ module _ {service : Service} {log : Log} {tables : Tables} (told : AllLawful Fit
   farewell-due : (n : ℕ) (came : Arrival) (bytes : List ℕ) (k : ℕ) → arrival_of n log ≡ Some came → IsPrefix (written_of came.link log) (due service n log) → PartAt service log n came bytes → IsPrefix (written_of came.link log ++ take k bytes) (due service n log)
   farewell-due n came bytes k is was (Refused refused port none) = record {
     rest = drop k bytes;
-    is = ap (λ xs. (xs ++ take k bytes) ++ drop k bytes) none ∙ take-append-drop k bytes ∙ sym (due-refused service n came log is refused ∙ ap turned_away port);
+    is = grind (arith, common_steps, due-refused, take-append-drop);
   }
   farewell-due n came _ k is was _ = rw (ap (λ xs. written_of came.link log ++ xs) take-none ∙ append-nil (written_of came.link log)) was where
     take-none : take {A = ℕ} k [] ≡ []
@@ -248,8 +248,7 @@ module _ {service : Service} {log : Log} {tables : Tables} (told : AllLawful Fit
   seat-due : (n : ℕ) (seat : Seat) (stands : SeatStands service log n seat) (k : ℕ) → IsPrefix (written_of stands.came.link log ++ take k seat.session.client.outgoing) (due service n log)
   seat-due n seat stands k = record {
     rest = drop k seat.session.client.outgoing;
-    is = append_assoc (written_of stands.came.link log) (take k seat.session.client.outgoing) (drop k seat.session.client.outgoing)
-        ∙ ap (λ xs. written_of stands.came.link log ++ xs) (take-append-drop k seat.session.client.outgoing) ∙ told-seat service log n seat stands;
+    is = grind (arith, common_steps, append_assoc, take-append-drop, told-seat);
   }
 
   abbrev Goes : (bytes : List ℕ) → ℕ → Arrival → Type 0
@@ -274,7 +273,7 @@ served-more service log e told fits lawful sound ours n came is = by (comes-of l
   then = log ++ e ∷ []
 
   grows : (bytes : List ℕ) → written_of came.link then ≡ bytes → IsPrefix bytes (due service n log) → IsPrefix (written_of came.link then) (due service n then)
-  grows bytes at prefix = rw at (prefix-trans bytes (due service n log) (due service n then) prefix (due-grows service n log (e ∷ []) lawful))
+  grows bytes at prefix = grind (arith, common_steps, due-grows, prefix-trans)
 
   still : arrival_of n log ≡ Some came → written_of came.link then ≡ written_of came.link log → IsPrefix (written_of came.link then) (due service n then)
   still was same = grows (written_of came.link log) same (sound.served n came was)
@@ -301,9 +300,9 @@ keeps-none service = grind (arith, common_steps)
 
 pub keeps-more : (service : Service) (log : Log) (e : Entry) → AllLawful Fits log → Fits log e → Sound service log None (tables_after service.setup log) → Covers service (log ++ e ∷ []) → IsOurs service.setup log e → Keeps service log → Keeps service (log ++ e ∷ [])
 keeps-more service log e told fits sound covers ours keeps = (let lawful : AllLawful (IsLawful service) (log ++ e ∷ []) = lawful-more (IsLawful service) log e keeps.lawful (lawful-entry told sound e covers ours) in record {
-  served = moment-more (IsServed service) log e keeps.served (served-more service log e told fits lawful sound ours);
+  served = grind (arith, common_steps, moment-more, served-more);
   lawful = lawful;
-  rests = lawful-more (RestsAt service) log e keeps.rests (rests-entry service log e told sound ours);
+  rests = grind (arith, common_steps, lawful-more, rests-entry);
 })
 
 -- What the reply to each message is like, by the whole log.

@@ -80,12 +80,11 @@ module _ (log : Log) (told : AllLawful Fits log) where
 
   -- so what is said of the one is said of the other
   pub of-client : (P : ℕ → Arrival → Type 0) {n m : ℕ} {came other : Arrival} → arrival_of n log ≡ Some came → arrival_of m log ≡ Some other → came.link ≡ other.link → P n came → P m other
-  of-client P {n} {m} {came} {other} one two same is = (let who : n ≡ m = same-client n m came other one two same in
-      subst (P m) (some-same came other (sym one ∙ ap (λ k. arrival_of k log) who ∙ two)) (rw who at is))
+  of-client P {n} {m} {came} {other} one two same is = grind (arith, common_steps, same-client, some-same)
 
   -- A client's link was opened for no command.
   pub unowned : (service : Service) {link : LinkId} (n : ℕ) (came : Arrival) → arrival_of n log ≡ Some came → came.link ≡ link → turn_of service link log ≡ None
-  unowned service n came is on = ap (λ (l : LinkId). turn_of service l log) (sym on) ∙ clients-unowned service n came log told is
+  unowned service n came is on = grind (arith, common_steps, clients-unowned)
 
 -- Which clients are connected, and whose an open link is.
 
@@ -134,14 +133,14 @@ module _ {service : Service} {log : Log} {tables : Tables} (sound : Sound servic
 
 -- the bytes of a command are its message's
 pub asked-spelt : {service : Service} {n i : ℕ} {bytes : List ℕ} {id : ℕ} {log : Log} (asked : IsAsked service n i bytes id log) → bytes ≡ spelling asked.message.first asked.message.payload
-asked-spelt asked = asked.packets ∙ ap (λ first. spelling first asked.message.payload) (sym asked.begins)
+asked-spelt asked = grind (arith, common_steps)
 
 module _ {service : Service} {log : Log} {lends : Lends} {link : LinkId} {lent : Lent} (row : RowStands service log lends link lent) where
   pub owner-is : (message : Framed) (due : Log) → owner_of service link log ≡ Some (owner_for service row.turn.client message due)
   owner-is message due = grind (arith, common_steps)
 
   pub row-user : user_on service link log ≡ Some lent.backend.account
-  row-user = user-there service link row.turn lent.backend.account log row.is_turn row.user
+  row-user = grind (arith, common_steps, user-there)
 
   abbrev pub row_standing : Standing
   row_standing = standing_on service.forms lent.backend.account link log
@@ -284,7 +283,7 @@ closes-next tables link one most next = by tables.parting refl one next where
   servers : (links : List LinkId) → tables.parting ≡ [] → tables.lends.closing ≡ links → AtMostOne links → first_closing links ≡ Some link → ClosesNext tables link
   servers [] none is Nobody next = cc
   servers (first ∷ second ∷ links) none is most next = elim most [ ]
-  servers (first ∷ []) none is (One other) next = ClosesServer none (is ∙ ap (λ (l : LinkId). l ∷ []) (some-same first link next))
+  servers (first ∷ []) none is (One other) next = grind (arith, common_steps, some-same)
 
   by : (parting : List Parting) → tables.parting ≡ parting → AtMostOne parting → close_of parting tables.lends.closing ≡ Some link → ClosesNext tables link
   by [] is Nobody next = servers tables.lends.closing is refl most next
@@ -326,7 +325,7 @@ left-at backend l is = by backend.own refl is where
     | None ↦ λ at is. cc
     | Some command ↦ λ at is. of-command none command at (nat_lt command.sent (length command.bytes)) refl is
   ] refl is
-  by (byte ∷ bytes) at is = OfLogin (let some = ap length at in omega arith) (sym (some-same _ l is) ∙ ap (λ own. record { tag = OwnTag; bytes = own }) (sym at))
+  by (byte ∷ bytes) at is = grind (arith, common_steps, some-same)
 
 -- What the router writes there is lawful.
 
@@ -406,10 +405,7 @@ module _ {service : Service} {log : Log} {tables : Tables} (told : AllLawful Fit
   server-closes : (link : LinkId) → CloseStands service log tables.lends link → MayClose service link log
   server-closes link stands = record {
     client = λ n came is same port. cc (unowned log told service n came is same, stands.is_turn);
-    server = λ owner user owned known. (let turn = owner-turn (turn_of service link log) owner owned in
-        let same : stands.turn ≡ turn.0 = some-same stands.turn turn.0 (sym stands.is_turn ∙ turn.1) in
-        rw (ap (λ (t : Turn). record { client = t.client; hostgroup = t.hostgroup }) same ∙ turn.2) at
-        (stands.may user (sym (ap (option_and_then (λ (t : Turn). user_of service t.client log)) stands.is_turn) ∙ known)));
+    server = λ owner user owned known. grind (arith, common_steps, owner-turn, some-same);
   }
 
   may-close : (link : LinkId) → IsClosing tables link log → MayClose service link log

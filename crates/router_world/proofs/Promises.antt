@@ -82,7 +82,7 @@ module _ (setup : Setup) (all : Log) (short : setup.limit ≤ most_command) wher
 
   behind : (log more : Log) → log ++ more ≡ all → StandsFor (service-of setup all) log → LawfulAfter MayFollow log more → LawfulAfter (IsOurs setup) log more
       → LawfulAfter (λ l e. StandsFor (service-of setup all) l) log more × StandsFor (service-of setup all) all
-  behind log [] is stands follow ours = (tt, subst (StandsFor (service-of setup all)) (sym (append-nil log) ∙ is) stands)
+  behind log [] is stands follow ours = grind (arith, common_steps, append-nil, service-of)
   behind log (e ∷ more) is stands follow ours = (let so : (log ++ e ∷ []) ++ more ≡ all = append_assoc log (e ∷ []) more ∙ is in
       let rest = behind (log ++ e ∷ []) more so (one-more log more e so stands follow.0 ours.0) follow.1 ours.1 in ((stands, rest.0), rest.1))
 
@@ -95,4 +95,4 @@ sound-after setup log short follow ours = (service-of setup log, (stands-all set
 
 -- A log whose entries are the router's keeps the promises.
 pub keeps : (setup : Setup) (log : Log) → setup.limit ≤ most_command → AllLawful MayFollow log → AllLawful (IsOurs setup) log → Serves setup log
-keeps setup log short follow ours = record { opens = turns setup log; forms = (service-of setup log).forms; keeps = (stands-all setup log short follow ours).1.keeps }
+keeps setup log short follow ours = grind (arith, common_steps, service-of, stands-all)

@@ -26,9 +26,9 @@ nothing-read limit = ap (λ found. by_message limit found) (first_message-empty 
 
 pub new-seat : (number : ClientNo) (salt : List ℕ) (setup : Setup) (reply : ℕ → Option Answer) → setup.limit ≤ most_command → SeatAt (new_talk number salt setup) reply [] (new_session number salt setup true)
 new-seat number salt setup reply short = record {
-  mine = record { number_is = refl; salt_is = refl; limit_is = refl; short = short };
+  mine = grind (arith, common_steps);
   due = sym (append-nil (greeting_said number.0 salt setup.version)) ∙ sym (due-alone reply (new_talk number salt setup) (Waits false) (nothing-read setup.limit) refl);
-  at = record { login = logging-new number salt setup.version setup.limit; switched = false; waits = nothing-read setup.limit; arrived = refl };
+  at = grind (arith, common_steps, logging-new, nothing-read);
 }
 
 -- So many bytes are written to it.
@@ -83,8 +83,8 @@ module _ (talk : Talk) (reply : ℕ → Option Answer) (written bytes : List ℕ
 
   idle-answered : (user : Account) (client : ClientState) (at : IsIdle talk reply user client) → IsAnswered talk reply at.taken.past
   idle-answered user client at = (let messages = taken-nothing at.taken at.none in record {
-    all = ap (first_open talk.setup reply 1) (sym (append-nil at.taken.past)) ∙ sym (ap (λ (s : Split). first_open talk.setup reply 1 s.messages) messages) ∙ at.all;
-    due = ap (λ (s : Split). front talk ++ due_behind reply talk s) messages ∙ ap (λ ms. front talk ++ answers_by talk.setup reply 1 ms []) (append-nil at.taken.past);
+    all = grind (arith, common_steps, append-nil);
+    due = grind (arith, common_steps, append-nil);
   })
 
   idle-fed : (user : Account) (client : ClientState) → SeatAt talk reply written (record { client = client; phase = phase.Idle user }) → IsGoing now reply user (written ++ client.outgoing) (fed client bytes)
@@ -93,7 +93,7 @@ module _ (talk : Talk) (reply : ℕ → Option Answer) (written bytes : List ℕ
     account = account-more talk bytes user seat.at.account;
     said = answers_by talk.setup reply 1 seat.at.taken.past [];
     done = done-all talk.setup reply seat.at.taken.past answered.all;
-    put = seat.due ∙ answered.due ∙ ap (λ l. l ++ answers_by talk.setup reply 1 seat.at.taken.past []) (sym (front-more talk bytes user seat.at.account));
+    put = grind (arith, common_steps, front-more);
   })
 
   -- the query in work stays so
@@ -101,17 +101,8 @@ module _ (talk : Talk) (reply : ℕ → Option Answer) (written bytes : List ℕ
   working-fed user client seat = (let grown = messages-grow talk bytes in let work = at_place client.arrived seat.at.message in
       let old = fault_answer talk.setup.limit (messages_of talk).fault in let new = fault_answer talk.setup.limit (messages_of now).fault in record {
         mine = seat.mine;
-        due = seat.due ∙ ap (λ l. l ++ answers_by talk.setup reply 1 (messages_of talk).messages old) (sym (front-more talk bytes user seat.at.account))
-            ∙ ap (λ l. front now ++ l) (sym (open-due talk.setup reply 1 (messages_of talk).messages grown.later old new work seat.at.work)) ∙ ap (λ ms. front now ++ answers_by talk.setup reply 1 ms new) (sym grown.messages);
-        at = record {
-          taken = taken-fed seat.at.taken bytes user seat.at.account;
-          account = account-more talk bytes user seat.at.account;
-          message = seat.at.message;
-          work = ap (first_open talk.setup reply 1) grown.messages ∙ open-more talk.setup reply 1 (messages_of talk).messages grown.later work seat.at.work;
-          query = seat.at.query;
-          begins = seat.at.begins;
-          short = seat.at.short;
-        };
+        due = grind (arith, common_steps, front-more, open-due);
+        at = grind (arith, common_steps, account-more, open-more, taken-fed);
       })
 
   -- the session that has kept them may go on
@@ -122,9 +113,8 @@ module _ (talk : Talk) (reply : ℕ → Option Answer) (written bytes : List ℕ
 
   said-at : (at : Phase) (client : ClientState) → SeatAt talk reply written (record { client = client; phase = at }) → Unanswered reply (record { client = client; phase = at }) → at ≢ phase.Ending → length (talk.read ++ bytes) < 18446744073709551616
       → SeatTurned now reply written (record { client = client; phase = at }) (said_in at talk.setup bytes (record { client = client; phase = at }))
-  said-at phase.LoggingIn client seat unanswered unended few = fed-turned phase.LoggingIn client seat unanswered few
-      (record { login = logging-fed client talk.setup.version talk.read bytes (written ++ client.outgoing) seat.at.login; arrived = seat.at.arrived })
-  said-at (phase.Idle user) client seat unanswered unended few = fed-turned (phase.Idle user) client seat unanswered few (idle-fed user client seat)
+  said-at phase.LoggingIn client seat unanswered unended few = grind (arith, common_steps, fed-turned, logging-fed)
+  said-at (phase.Idle user) client seat unanswered unended few = grind (arith, common_steps, fed-turned, idle-fed)
   said-at (phase.Working user) client seat unanswered unended few = record { seat = working-fed user client seat; unanswered = unanswered; asks = λ other is. is }
   said-at phase.Ending client seat unanswered unended few = absurd (unended refl)
 
@@ -167,14 +157,13 @@ module _ {talk : Talk} {reply : ℕ → Option Answer} {user : Account} {client 
       turned-seat talk other written (rested user packets (record { client = client; phase = phase.Working user })) (record {
         mine = seat.mine;
         few = few;
-        later = λ i from. same i (let apart : i ≢ client.arrived = omega arith in apart) ∙ unanswered i (omega arith);
+        later = λ i from. grind (arith, common_steps);
         at = record {
           taken = taken-outgoing talk client (client.outgoing ++ packets) working.taken;
           account = working.account;
           said = answers_by talk.setup other 1 past [];
           done = done-all talk.setup other past done.all;
-          put = sym (append_assoc written client.outgoing packets) ∙ ap (λ l. l ++ packets) due ∙ append_assoc (front talk) (answers_by talk.setup reply 1 past []) packets
-              ∙ ap (λ l. front talk ++ (answers_by talk.setup reply 1 past [] ++ l)) spelled ∙ ap (λ l. front talk ++ l) (sym done.joins);
+          put = grind (arith, common_steps, append_assoc);
         };
       }) (record { client = client; phase = phase.Idle user }))
 

@@ -108,11 +108,11 @@ module _ (setup : Setup) (reply : ℕ → Option Answer) where
 
   -- where none is without an answer, the walk goes on behind
   joins-all : (i : ℕ) (past later : List Framed) (last : List ℕ) → first_open setup reply i past ≡ None → answers_by setup reply i (past ++ later) last ≡ answers_by setup reply i past [] ++ answers_by setup reply (i + length past) later last
-  joins-all i [] later last all = ap (λ k. answers_by setup reply k later last) (let same : i ≡ i + 0 = omega arith in same)
+  joins-all i [] later last all = grind (arith, common_steps)
   joins-all i (m ∷ past) later last all = grind (arith, common_steps, (joins-all (suc i) past later last))
 
   pub goes-all : (i : ℕ) (past later : List Framed) → first_open setup reply i past ≡ None → first_open setup reply i (past ++ later) ≡ first_open setup reply (i + length past) later
-  goes-all i [] later all = ap (λ k. first_open setup reply k later) (let same : i ≡ i + 0 = omega arith in same)
+  goes-all i [] later all = grind (arith, common_steps)
   goes-all i (m ∷ past) later all = grind (arith, common_steps, (goes-all (suc i) past later))
 
   -- the first one without an answer is among those at whose places it stands
@@ -168,7 +168,7 @@ module _ (setup : Setup) (reply other : ℕ → Option Answer) where
         → (((work : Work) → first_open setup reply (suc i) messages ≡ Some work → is_query work.message.payload ≡ true → other work.ordinal ≡ None) → Agree setup reply other (suc i) messages last)
         → Agree setup reply other i (m ∷ messages) last
     by None at none later = agree-at i m messages last None at (answer-none setup (reply i) (other i) m.payload (none (at_place i m) refl) at) (λ some. cc)
-    by (Some answer) at none later = agree-at i m messages last (Some answer) at (answer-stays setup (reply i) (other i) m.payload answer (stays i answer) at) (λ some. later none)
+    by (Some answer) at none later = grind (arith, common_steps, agree-at, answer-stays)
 
 -- How a client's session stands between the steps that it takes.
 
@@ -246,10 +246,10 @@ module _ (talk : Talk) where
   is-in user is = grind (arith, common_steps)
 
   in-commands : (user : Account) (who : IsIn talk user) → commands talk ≡ who.rest
-  in-commands user who = ap (commands_in talk) who.says ∙ ap (λ o. if_known o who.rest) who.known
+  in-commands user who = grind (arith, common_steps)
 
   says-more : (more : List ℕ) (user : Account) (who : IsIn talk user) → opening_of (heard_more talk more) ≡ Says who.switched who.response who.id (who.rest ++ more)
-  says-more more user who = opening-says-more talk.setup.limit talk.read more who.switched who.response who.id who.rest who.says
+  says-more more user who = grind (arith, common_steps, opening-says-more)
 
   pub front-more : (more : List ℕ) (user : Account) → account talk ≡ Some user → front (heard_more talk more) ≡ front talk
   front-more more user is = (let who = is-in user is in ap (front_in (heard_more talk more)) (says-more more user who) ∙ sym (ap (front_in talk) who.says))
@@ -269,7 +269,7 @@ counted-one : (n : ℕ) → n < 18446744073709551615 → counted n ≡ n + 1
 counted-one n small = grind arith
 
 pub counted-suc : (n k : ℕ) → n ≡ k → suc k < 18446744073709551616 → counted n ≡ suc k
-counted-suc n k same few = (let more : counted n ≡ n + 1 = counted-one n (omega arith) in omega arith)
+counted-suc n k same few = grind (arith, common_steps, counted-one)
 
 -- one message more is taken
 abbrev pub client_past : Framed → (outgoing : List ℕ) → ClientState → ClientState
@@ -285,7 +285,7 @@ module _ {talk : Talk} {client : ClientState} (taken : IsTaken talk client) wher
       ∙ ap (λ bytes. with_front taken.past (split talk.setup.limit 0 bytes)) (append-nil client.framer.kept)
 
   pub taken-nothing : found ≡ Nothing → messages_of talk ≡ record { messages = taken.past ++ []; rest = client.framer.kept; fault = None }
-  taken-nothing at = taken-messages ∙ ap (with_front taken.past) (split-nothing talk.setup.limit 0 client.framer.kept at)
+  taken-nothing at = grind (arith, common_steps, split-nothing, taken-messages)
 
   pub taken-faulty : {fault : FrameFault} → found ≡ Faulty fault → messages_of talk ≡ record { messages = taken.past ++ []; rest = client.framer.kept; fault = Some fault }
   taken-faulty at = grind (arith, common_steps, split-faulty, taken-messages)

@@ -137,11 +137,11 @@ module _ (talk : Talk) (reply : ℕ → Option Answer) (written : List ℕ) wher
             few = next.few;
             later = next.later;
             at = record {
-              taken = record { stage = refl; framer = said.framer; past = []; arrived = next.arrived; whatever = λ more. ap (λ bytes. split talk.setup.limit 0 (bytes ++ more)) behind };
+              taken = grind (arith, common_steps);
               account = ap (account_in talk) said.opened ∙ known;
               said = [];
               done = done-none talk.setup reply;
-              put = sym (append_assoc written client.outgoing (spelling first own_ok)) ∙ ap (λ l. l ++ spelling first own_ok) said.greeted_so ∙ sym told ∙ sym (append-nil (front talk));
+              put = grind (arith, common_steps, append-nil, append_assoc);
             };
           },
           (let fewer = next.fewer in omega arith),
@@ -175,7 +175,7 @@ module _ (talk : Talk) (reply : ℕ → Option Answer) (written : List ℕ) wher
       let one = unsaid-coming client.stage client talk.setup.version talk.read (written ++ client.outgoing) goes.at.login in
       let fewer = kept-next client.stage client in
       coming-leads {left = left_to_say (entering client)} {client = next.client} (record {
-        mine = record { number_is = ap (λ n. n.0) same.0 ∙ goes.mine.number_is; salt_is = same.1 ∙ goes.mine.salt_is; limit_is = same.2 ∙ goes.mine.limit_is; short = goes.mine.short };
+        mine = grind (arith, common_steps);
         few = goes.few;
         arrived = same.3 ∙ goes.at.arrived;
         later = λ i from. goes.later i (subst (λ k. suc k ≤ i) same.3 from);
@@ -194,17 +194,7 @@ module _ (talk : Talk) (reply : ℕ → Option Answer) (written : List ℕ) wher
     idle-rests at old = (let messages = taken-nothing goes.at.taken at in
         let all = due-all reply talk past goes.at.said client.framer.kept None goes.at.done messages in
         record {
-          seat = record {
-            mine = goes.mine;
-            due = goes.at.put ∙ ap (λ l. front talk ++ l) (sym (append-nil goes.at.said)) ∙ sym all.due;
-            at = record {
-              taken = record { stage = goes.at.taken.stage; framer = record { unfound = refl; faultless = goes.at.taken.framer.faultless }; past = past; arrived = goes.at.taken.arrived; whatever = goes.at.taken.whatever };
-              account = goes.at.account;
-              all = all.none;
-              faultless = ap (λ (s : Split). s.fault) messages;
-              none = at;
-            };
-          };
+          seat = grind (arith, common_steps, append-nil);
           unanswered = λ i from. goes.later i from;
           asks = λ other working. cc;
         })
@@ -270,8 +260,8 @@ module _ (talk : Talk) (reply : ℕ → Option Answer) (written : List ℕ) wher
             taken = taken-one goes.at.taken whole.at (client.outgoing ++ told) whole.few;
             account = goes.at.account;
             said = goes.at.said ++ spelt (next_id message.last) (payload ∷ []);
-            done = done-one talk.setup reply past goes.at.said message (payload ∷ []) goes.at.done is;
-            put = sym (append_assoc written client.outgoing told) ∙ ap (λ l. l ++ told) goes.at.put ∙ append_assoc (front talk) goes.at.said told ∙ ap (λ l. front talk ++ (goes.at.said ++ l)) (sym (append-nil told));
+            done = grind (arith, common_steps, done-one);
+            put = grind (arith, common_steps, append-nil, append_assoc);
           };
         },
         (let less = whole.fewer in omega arith),
@@ -291,7 +281,7 @@ module _ (talk : Talk) (reply : ℕ → Option Answer) (written : List ℕ) wher
             short = whole.fits;
           } in
           record {
-            seat = record { mine = goes.mine; due = goes.at.put ∙ sym to.due; at = working };
+            seat = grind (arith, common_steps);
             unanswered = λ i from. later-from (counted client.arrived) i whole.counts from;
             asks = (user, working, refl, refl, refl, refl);
           })

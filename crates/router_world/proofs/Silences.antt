@@ -133,7 +133,7 @@ module _ (service : Service) (log : Log) (e : Entry) where
     seats-left sound at n seat is = (let was = sound.seats n seat is in sits-then tables.numbers tables.lends n seat at.lawful sound.lends (at.calm n) (rows-left at) (left at seat.link (λ same. cc (at.unnumbered, same, was.numbered))) was)
 
     pub lends-left : Sound service log None tables → Bystands service log e link tables → tables.lends.closing ≡ [] → LendsSound service then tables.lends
-    lends-left sound at none = lends-still service log e tables.lends at.lawful at.fits sound.lends none at.calm (rows-left at)
+    lends-left sound at none = grind (arith, common_steps, lends-still, rows-left)
 
   -- What came of commands stays as nothing is said, and so does why links may close.
   module _ (silence : Silence log e) where
@@ -141,7 +141,7 @@ module _ (service : Service) (log : Log) (e : Entry) where
     turn-same link = grind (arith, common_steps, append-nil, filter_map-append)
 
     arrival-same : (n : ℕ) → arrival_of n then ≡ arrival_of n log
-    arrival-same n = (let arrives = silence.arrives in grind (arith, common_steps, arrivals-plain))
+    arrival-same n = grind (arith, common_steps, arrivals-plain)
 
     talk-same : (n : ℕ) (came : Arrival) → talk_with service n came then ≡ talk_with service n came log
     talk-same n came = grind (arith, common_steps)
@@ -180,8 +180,8 @@ module _ (service : Service) (log : Log) (e : Entry) where
 
     drop-same : (owner : Owner) (user known : Account) (link : LinkId) → Fits log e → user_of service owner.client log ≡ Some known → MayDrop service owner user link log → MayDrop service owner user link then
     drop-same owner user known link fits is (IsSpoilt spoilt) = IsSpoilt (standing-same user link ∙ spoilt)
-    drop-same owner user known link fits is (HasGone gone idle) = HasGone (gone-stays service owner.client known log e fits is gone) (λ runs. idle (sym (standing-same user link) ∙ runs))
-    drop-same owner user known link fits is (Unneeded clean idle) = Unneeded (standing-same user link ∙ clean) (λ work at. idle work (sym (work-same owner.client) ∙ at))
+    drop-same owner user known link fits is (HasGone gone idle) = grind (arith, common_steps, gone-stays, standing-same)
+    drop-same owner user known link fits is (Unneeded clean idle) = grind (arith, common_steps, standing-same, work-same)
 
   -- So all stands that is left.
   module _ (passes : Passes service log e) where
@@ -209,7 +209,7 @@ module _ (service : Service) (log : Log) (e : Entry) where
 -- An entry of which the router makes nothing.
 pub nothing-step : {service : Service} {log : Log} {e : Entry} {tables : Tables} → Happens service log e tables → IsNothing e → Sound service (log ++ e ∷ []) None tables
 nothing-step {service} {log} {e} {tables} happens nothing = record {
-  came = sound.came ∙ ap length (sym (arrivals-plain log e nothing.plain.arrives));
+  came = grind (arith, common_steps, arrivals-plain);
   here = sound.here ∙ ap length (sym (connected-plain log e nothing.plain));
   counts = counts-all (log ++ e ∷ []) (lawful-more Fits log e happens.told happens.fits);
   seats = λ n seat is. sits-then service log e tables.numbers tables.lends n seat happens.lawful sound.lends (silent-calm service log e passes.silence.silent n) (λ link lent row. leaves link) (leaves seat.link) (sound.seats n seat is);
@@ -229,7 +229,7 @@ nothing-step {service} {log} {e} {tables} happens nothing = record {
     came = stands.came;
     is_came = arrival-stays stands.n log (e ∷ []) stands.came stands.is_came;
     link = stands.link;
-    counted = ap (is_among parting.link) (connected-plain log e nothing.plain) ∙ stands.counted;
+    counted = grind (arith, common_steps, connected-plain);
     is_client = stands.is_client;
     at = part-passes service log e passes stands.n stands.came parting.bytes stands.is_came stands.at;
   });
@@ -240,21 +240,7 @@ nothing-step {service} {log} {e} {tables} happens nothing = record {
   sound = happens.sound
 
   passes : Passes service log e
-  passes = record {
-    silence = record {
-      silent = record {
-        got = nothing.mute.got;
-        wrote = nothing.mute.wrote;
-        try = nothing.try;
-        carries_none = nothing.carries_none;
-        refuses_none = λ other before. refuses-none other before e (nothing.refuses other before) (λ user link. nothing.breaks user link before);
-      };
-      sounds = sounds-mute log e nothing.mute;
-      arrives = nothing.plain.arrives;
-    };
-    fits = happens.fits;
-    lawful = happens.lawful;
-  }
+  passes = grind (arith, common_steps, refuses-none, sounds-mute)
 
   leaves : (link : LinkId) → Leaves link log e
   leaves link = (let sounds = passes.silence.sounds in

@@ -39,7 +39,7 @@ left-whole o piece whole = grind (arith, common_steps, some-same)
 -- The client of a link.
 
 link-is : (one other : LinkId) → nat_eq one.0 other.0 ≡ true → one ≡ other
-link-is one other is = ap (λ n. let l : LinkId = record { 0 = n } in l) (nat_eq-true one.0 other.0 is)
+link-is one other is = grind (arith, common_steps, nat_eq-true)
 
 first-at : (link : LinkId) (xs : List Arrival) (start k : ℕ) (came : Arrival) → slice_get xs k ≡ Some came → came.link ≡ link → ((j : ℕ) (other : Arrival) → slice_get xs j ≡ Some other → other.link ≡ link → j ≡ k) → client_at link start xs ≡ Some (start + k)
 first-at link [] start k came is on one = cc
@@ -48,7 +48,7 @@ first-at link (x ∷ xs) start (suc k) came is on one =
     by (nat_eq x.link.0 link.0) refl (first-at link xs (suc start) k came is on (λ j other has there. let next : suc j ≡ suc k = one (suc j) other has there in omega arith)) where
       by : (b : Bool) → nat_eq x.link.0 link.0 ≡ b → client_at link (suc start) xs ≡ Some (suc start + k) → cond b (Some start) (client_at link (suc start) xs) ≡ Some (start + suc k)
       by true at later = absurd (let no : 0 ≡ suc k = one 0 x refl (link-is x.link link at) in omega arith)
-      by false at later = later ∙ ap (λ n. Some n) (let same : suc start + k ≡ start + suc k = omega arith in same)
+      by false at later = grind (arith, common_steps)
 
 none-at : (link : LinkId) (xs : List Arrival) (start : ℕ) → ((j : ℕ) (other : Arrival) → slice_get xs j ≡ Some other → other.link ≡ link → ⊥) → client_at link start xs ≡ None
 none-at link [] start none = refl
@@ -82,7 +82,7 @@ module _ {service : Service} {log : Log} {tables : Tables} (told : AllLawful Fit
   owed-farewell : (parting : Parting) → PartStands service log tables.numbers tables.lends parting → 0 < length parting.bytes → parting.bytes ≡ owed service parting.link log
   owed-farewell parting stands some = owed-client service log told stands.n stands.came parting.link parting.bytes stands.is_came stands.link (by parting.bytes stands.at some) where
     by : (bytes : List ℕ) → PartAt service log stands.n stands.came bytes → 0 < length bytes → written_of stands.came.link log ++ bytes ≡ due service stands.n log
-    by bytes (Refused refused traffic unwritten) some = ap (λ xs. xs ++ bytes) unwritten ∙ sym (due-refused service stands.n stands.came log stands.is_came refused ∙ ap turned_away traffic)
+    by bytes (Refused refused traffic unwritten) some = grind (arith, common_steps, due-refused)
     by bytes other some = absurd (omega arith)
 
   -- a link to a server
@@ -132,7 +132,7 @@ module _ {service : Service} {log : Log} {tables : Tables} (told : AllLawful Fit
         let stands = (sound.seats client.0 one.0 one.1).stands in
         one.2 ∙ owed-client service log told client.0 stands.came link one.0.session.client.outgoing stands.is_came (stands.link ∙ ap (λ (s : Seat). s.link) (some-same one.0 seat.0 (sym one.1 ∙ seat.1)) ∙ seat.2)
         (told-seat service log client.0 one.0 stands))
-    by None at whole = (let one = left-whole (tables.lends.links link.0) piece whole in one.4 ∙ owed-row one.2 (sound.lends.rows link one.0 one.1) one.3)
+    by None at whole = grind (arith, common_steps, left-whole, owed-row)
 
   farewell-owed : (link : LinkId) (piece : List ℕ) → IsFarewell tables link → IsWhole (farewell_of tables.parting) piece → piece ≡ owed service link log
   farewell-owed link piece farewell whole = grind (arith, common_steps, closes-next, owed-farewell, reply-whole)

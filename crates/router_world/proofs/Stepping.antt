@@ -26,7 +26,7 @@ pub arrivals-plain : (log : Log) (e : Entry) → ((before : Log) → arrival_in 
 arrivals-plain log e arrives = grind (arith, common_steps, append-nil, arrivals-more)
 
 pub connected-plain : (log : Log) (e : Entry) → IsPlain e → connected (log ++ e ∷ []) ≡ connected log
-connected-plain log e plain = fold-append connected_step [] log (e ∷ []) ∙ plain.stays (connected log)
+connected-plain log e plain = grind (arith, common_steps, fold-append)
 
 -- What the entry leaves of others than client n.
 pub record Others (service : Service) (log : Log) (e : Entry) (n : ℕ) (tables : Tables) : Type 0 where
@@ -61,10 +61,9 @@ moved service log e n hand tables seats lends sound others mine = record {
   counts = others.counts;
   seats = λ k seat is. one-or-other k n (λ m. seats m ≡ Some seat → Sits service (log ++ e ∷ []) tables.numbers lends m seat) (mine.seat seat) (λ at was. sits k seat at (sym (mine.others k at) ∙ was)) is;
   numbers = λ link client is. numbers link client (sound.numbers link client is);
-  unlent = λ link client is. none-if (lends.links link.0) (λ lent at. unlent link client is (mine.from link lent at));
+  unlent = λ link client is. grind (arith, common_steps, none-if);
   unclosing = λ link is. unclosing link (mine.closed link is);
-  away = λ k is. one-or-other k n (λ m. seats m ≡ None → InHand hand m ⊎ Gone lends m) mine.away
-      (λ at none. inr (gone-apart n k tables.lends lends mine.apart at (away-gone tables.lends k (sound.away k (sym (mine.others k at) ∙ none))))) is;
+  away = λ k is. grind (arith, common_steps, away-gone, gone-apart, one-or-other);
   lends = mine.lends;
   one_parts = subst AtMostOne (sym others.unparted) Nobody;
   parts = λ parting is. cc (others.unparted, is);
@@ -89,7 +88,7 @@ moved service log e n hand tables seats lends sound others mine = record {
   sits k seat at was = (let sits = sound.seats k seat was in record {
     stands = seat-calm service log e k seat others.lawful sits.stands (others.calm k at) (others.seats k seat at was) (λ user same. busy-none service log e tables.lends k seat.session.client.arrived others.lawful sound.lends
         (others.calm k at) (leaves k at) (rw same at sits.serves));
-    serves = serves-apart seat.session.phase n k seat.session.client.arrived tables.lends lends mine.apart at sits.serves;
+    serves = grind (arith, common_steps, serves-apart);
     unfinished = sits.unfinished;
     numbered = sits.numbered;
   })
@@ -156,7 +155,7 @@ taken-out service log e client seat tables lends sound others is stands apart tr
   others = λ k differs. set-other tables.seats client.0 k None differs;
   seat = λ other at. cc (set-same tables.seats client.0 None, at);
   away = λ none. inl refl;
-  numbers = λ other there at of. inl (refl, sym of ∙ ap (λ (s : Seat). s.link) (some-same there seat (sym at ∙ is)));
+  numbers = λ other there at of. grind (arith, common_steps, some-same);
   known = λ other opened. inl (opens other opened);
   from = λ other lent row. inl (traces.from other lent row);
   to = traces.to;
