@@ -184,7 +184,16 @@ module _ {service : Service} {log : Log} {client : ClientNo} {link : LinkId} {by
   unwritten = bytes-idle wrote_bytes (came on).link log (Got link bytes) refl
 
   pub got-client : (is_some service.setup.target ≡ true → tables.lends.waiting ≡ []) → length (log ++ Got link bytes ∷ []) < 281474976710656 → Sound service (log ++ Got link bytes ∷ []) None (goes_on client seat.link told (without_seat client tables))
-  got-client idle few = by (sits on).stands.state where
+  got-client idle few = elim (sits on).stands.state [
+    | inl heard ↦ goes on told refl (inl (record {
+      unlost = keeps on is_loss refl ∙ heard.unlost;
+      at = rw unwritten (says heard).seat;
+      unsent = λ i later. (replies on heard).unsent i (let grows = (says heard).grows in omega arith);
+    })) (says heard).next
+    | inr went ↦ rw (ap (λ (p : Phase). said_in p service.setup bytes seat.session) went.ends)
+        (goes on (still seat.session) refl (inr (still-ended on went refl seat.session refl (ap (λ w. w ++ seat.session.client.outgoing) unwritten)))
+        (rw went.ends (Ends None (away on (keeps on is_loss refl ∙ went.lost)))))
+  ] where
     read : read_of (came on).link (then on) ≡ read_of (came on).link log ++ bytes
     read = bytes-same got_bytes (came on).link log (Got link bytes) (here on)
 
@@ -199,16 +208,6 @@ module _ {service : Service} {log : Log} {client : ClientNo} {link : LinkId} {by
       idle = idle;
       formed = (happens on).formed;
     }) then-heard.seat then-heard.unanswered (λ i later. (then-heard.unsent i later).0) seat.session.phase refl (sits on).serves refl)
-
-    by : State on seat.session → Sound service (then on) None (goes_on client seat.link told (without_seat client tables))
-    by (inl heard) = goes on told refl (inl (record {
-      unlost = keeps on is_loss refl ∙ heard.unlost;
-      at = rw unwritten (says heard).seat;
-      unsent = λ i later. (replies on heard).unsent i (let grows = (says heard).grows in omega arith);
-    })) (says heard).next
-    by (inr went) = rw (ap (λ (p : Phase). said_in p service.setup bytes seat.session) went.ends)
-        (goes on (still seat.session) refl (inr (still-ended on went refl seat.session refl (ap (λ w. w ++ seat.session.client.outgoing) unwritten)))
-        (rw went.ends (Ends None (away on (keeps on is_loss refl ∙ went.lost)))))
 
 -- So many of the bytes for it were written.
 module _ {service : Service} {log : Log} {client : ClientNo} {link : LinkId} {tag : Tag} {bytes : List ℕ} {seat : Seat} {tables : Tables} (on : OnClient service log (Wrote link tag bytes) client link seat tables) where

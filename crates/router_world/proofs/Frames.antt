@@ -130,20 +130,19 @@ module _ (service : Service) (log : Log) (e : Entry) where
 
   pub busy-none : (lends : Lends) (n i : ℕ) → AllLawful (IsLawful service) then → LendsSound service log lends → Calm service log e n → ((link : LinkId) (lent : Lent) → lends.owned n ≡ Some link → lends.links link.0 ≡ Some lent → Leaves link log e) → Busy lends n i
       → replied service n i then ≡ None
-  busy-none lends n i lawful sound calm leaves busy = by busy where
-    unbegun : (ask : Ask) → lends.asks n ≡ Some ask → ask.ordinal ≡ i → replied service n i then ≡ None
-    unbegun ask is same = (let stands = sound.asks n ask is in
-        ap (λ k. replied service n k then) (sym same) ∙ still-none n ask.ordinal ask.packets ask.first (refused-or-sent service then lawful) stands.asked calm (Unbegun stands.unsent))
-
-    by : Busy lends n i → replied service n i then ≡ None
-    by (Waits ask is same unowned waits) = unbegun ask is same
-    by (Logs ask is same link lent owns at stage) = unbegun ask is same
-    by (On unasked link lent command owns at stage has tag) = (let row = sound.rows link lent at in let owner = sound.owned n link owns in
+  busy-none lends n i lawful sound calm leaves busy = elim busy [
+    | Waits ask is same unowned waits ↦ unbegun ask is same
+    | Logs ask is same link lent owns at stage ↦ unbegun ask is same
+    | On unasked link lent command owns at stage has tag ↦ (let row = sound.rows link lent at in let owner = sound.owned n link owns in
         let mine = owner-turn service log lends link lent n row.turn.client row.owned (ap (λ (l : Lent). l.owner) (some-same lent owner.lent (sym at ∙ owner.there)) ∙ owner.owner) in
         let stands : HandedStands service log n link command = rw mine at (row.command command has) in
         ap (λ k. replied service n k then) (same-ordinal n i stands.ordinal command.tag tag stands.tag)
         ∙ still-none n stands.ordinal command.bytes command.first (refused-or-sent service then lawful) stands.asked calm
         (handed-stays n link lent.backend.account command.sent stands.ordinal stands.carrier (user-there service link row.turn lent.backend.account log row.is_turn row.user) (leaves link lent owns at)))
+  ] where
+    unbegun : (ask : Ask) → lends.asks n ≡ Some ask → ask.ordinal ≡ i → replied service n i then ≡ None
+    unbegun ask is same = (let stands = sound.asks n ask is in
+        ap (λ k. replied service n k then) (sym same) ∙ still-none n ask.ordinal ask.packets ask.first (refused-or-sent service then lawful) stands.asked calm (Unbegun stands.unsent))
 
   pub later-calm : (n arrived : ℕ) → Calm service log e n → Unsent service n arrived log → Unsent service n arrived then
   later-calm n arrived calm unsent i later = grind (arith, common_steps, carrier-same, unrefused-more)

@@ -74,9 +74,7 @@ module _ {service : Service} {log : Log} {tables : Tables} (told : AllLawful Fit
 
   -- as there are for a client at its end
   ending-full : {link : LinkId} (client : ClientNo) (seat : Seat) → IsOpen link log → tables.numbers link.0 ≡ Some client → tables.seats client.0 ≡ Some seat → seat.session.phase ≡ phase.Ending → write_dry link log ≡ true
-  ending-full {link} client seat opened number is ends = by (seat-full client seat opened number is) where
-    by : (seat.session.client.outgoing ≡ []) ⊎ (write_dry link log ≡ true) → write_dry link log ≡ true
-    by h0 = (let unfinished = (sound.seats client.0 seat is).unfinished in grind (arith, common_steps))
+  ending-full client seat opened number is ends = (let unfinished = (sound.seats client.0 seat is).unfinished in grind (arith, common_steps, (seat-full client seat opened number is)))
 
   unnumbered : {link : LinkId} (lent : Lent) → tables.lends.links link.0 ≡ Some lent → tables.numbers link.0 ≡ None
   unnumbered {link} lent is = grind (arith, common_steps, none-if)
@@ -170,7 +168,10 @@ module _ {service : Service} {log : Log} {tables : Tables} (told : AllLawful Fit
 
     -- a query in work is the one that its session waits for
     query-waits : is_here client.0 log ≡ true → (work : Work) → work_of service client.0 log ≡ Some work → is_query work.message.payload ≡ true → Waits service client.0 work log
-    query-waits here work at query = by stands.state where
+    query-waits here work at query = elim stands.state [
+      | inl heard ↦ in-phase seat.session.phase (work-here heard.at) ((sound.seats client.0 seat is).serves)
+      | inr ended ↦ cc (lost-away client.0 stands.came log stands.is_came ended.lost, here)
+    ] where
       reply : ℕ → Option Answer
       reply i = replied service client.0 i log
 
@@ -186,10 +187,6 @@ module _ {service : Service} {log : Log} {tables : Tables} (told : AllLawful Fit
       in-phase (phase.Working user) busy serves = busy-waits client.0 seat.session.client.arrived work serves at
       in-phase phase.Ending over serves = absurd (over-no-query reply talk work over said query)
 
-      by : IsHeard service log client.0 stands.came seat.session ⊎ IsEnded service log client.0 stands.came seat.session → Waits service client.0 work log
-      by (inl heard) = in-phase seat.session.phase (work-here heard.at) ((sound.seats client.0 seat is).serves)
-      by (inr ended) = cc (lost-away client.0 stands.came log stands.is_came ended.lost, here)
-
     seat-answered : IsAnswered service client.0 stands.came log
     seat-answered = (let same : link ≡ stands.came.link = sym (stands.link ∙ on) in record {
       served = stands.served;
@@ -199,11 +196,11 @@ module _ {service : Service} {log : Log} {tables : Tables} (told : AllLawful Fit
     })
 
   client-answered : (n : ℕ) (came : Arrival) → arrival_of n log ≡ Some came → IsOpen came.link log → IsAnswered service n came log
-  client-answered n came is opened = by (is-of sound came.link quiet opened) where
-    by : IsOf tables came.link → IsAnswered service n came log
-    by (OfServer lent at) = cc (unowned log told service n came is refl, (sound.lends.rows came.link lent at).is_turn)
-    by (OfClient client seat number at on) = (let stands = (sound.seats client.0 seat at).stands in
+  client-answered n came is opened = elim (is-of sound came.link quiet opened) [
+    | OfServer lent at ↦ cc (unowned log told service n came is refl, (sound.lends.rows came.link lent at).is_turn)
+    | OfClient client seat number at on ↦ (let stands = (sound.seats client.0 seat at).stands in
         of-client log told (λ m (c : Arrival). IsAnswered service m c log) stands.is_came is (stands.link ∙ on) (seat-answered opened client seat number at on))
+  ]
 
   -- Each open link to a server is its client's, which is connected, or busy.
 
@@ -268,7 +265,10 @@ none-new : (log : Log) (e : Entry) (came : Arrival) → arrival_in log e ≡ Som
 none-new log e came is fresh = grind (arith, common_steps, bytes-idle)
 
 served-more : (service : Service) (log : Log) (e : Entry) → AllLawful Fits log → Fits log e → AllLawful (IsLawful service) (log ++ e ∷ []) → Sound service log None (tables_after service.setup log) → IsOurs service.setup log e → IsServed service (log ++ e ∷ [])
-served-more service log e told fits lawful sound ours n came is = by (comes-of log e fits n came is) where
+served-more service log e told fits lawful sound ours n came is = elim (comes-of log e fits n came is) [
+  | Now new fresh ↦ record { rest = due service n then; is = ap (λ xs. xs ++ due service n then) (none-new log e came new fresh) }
+  | Was was ↦ entry e refl ours was
+] where
   then : Log
   then = log ++ e ∷ []
 
@@ -288,10 +288,6 @@ served-more service log e told fits lawful sound ours n came is = by (comes-of l
     at (inl here) = grows (written_of came.link log ++ bytes) (now ∙ bytes-same wrote_bytes came.link log (Wrote link tag bytes) here)
         (written-due told sound n came link tag bytes was (same-link came.link link here) (writes-so link tag bytes sound ours))
   entry _ same ours was = still was (bytes-idle wrote_bytes came.link log e (ap wrote_bytes same))
-
-  by : Comes log e n came → IsPrefix (written_of came.link then) (due service n then)
-  by (Now new fresh) = record { rest = due service n then; is = ap (λ xs. xs ++ due service n then) (none-new log e came new fresh) }
-  by (Was was) = entry e refl ours was
 
 -- Each entry of the router's keeps the promises.
 

@@ -116,18 +116,18 @@ module _ {service : Service} {log : Log} {tables : Tables} (sound : Sound servic
   own-live n owns = live-here n (λ gone. cc (gone.unowned, owns))
 
   pub is-of : (link : LinkId) → IsQuiet tables → IsOpen link log → IsOf tables link
-  is-of link quiet opened = by (sound.known link opened) where
-    by : Known tables.numbers tables.lends tables.parting link → IsOf tables link
-    by (Clients client is) = (let seat = numbered-seat service log tables link client sound is in OfClient client seat.0 is seat.1 seat.2)
-    by (Servers lent is) = OfServer lent is
-    by (Parts parting is on) = cc (quiet.unparted, is)
-    by (Closes is) = cc (quiet.unclosed, is)
+  is-of link quiet opened = elim (sound.known link opened) [
+    | Clients client is ↦ (let seat = numbered-seat service log tables link client sound is in OfClient client seat.0 is seat.1 seat.2)
+    | Servers lent is ↦ OfServer lent is
+    | Parts parting is on ↦ cc (quiet.unparted, is)
+    | Closes is ↦ cc (quiet.unclosed, is)
+  ]
 
   pub server-row : (link : LinkId) (turn : Turn) → AllLawful Fits log → IsQuiet tables → IsOpen link log → turn_of service link log ≡ Some turn → (lent : Lent) × (tables.lends.links link.0 ≡ Some lent)
-  server-row link turn told quiet opened is = by (is-of link quiet opened) where
-    by : IsOf tables link → (lent : Lent) × (tables.lends.links link.0 ≡ Some lent)
-    by (OfServer lent at) = (lent, at)
-    by (OfClient client seat number at on) = (let stands = (sound.seats client.0 seat at).stands in cc (unowned log told service client.0 stands.came stands.is_came (stands.link ∙ on), is))
+  server-row link turn told quiet opened is = elim (is-of link quiet opened) [
+    | OfServer lent at ↦ (lent, at)
+    | OfClient client seat number at on ↦ (let stands = (sound.seats client.0 seat at).stands in cc (unowned log told service client.0 stands.came stands.is_came (stands.link ∙ on), is))
+  ]
 
 -- A link to a server: its owner, how it stands, and what was written there.
 
@@ -153,13 +153,12 @@ module _ {service : Service} {log : Log} {lends : Lends} {link : LinkId} {lent :
 
   -- it can be used
   pub row-sound : row_standing ≢ Spoilt
-  row-sound is = by row.at where
+  row-sound is = elim row.at [
+    | Entering at ↦ cc (row-standing, is, standing-entering service.forms lent.backend.account (heard_of link log) (pieces_of link log) lent.backend at)
+    | Inside at ↦ unspoilt lent.backend.command (sym (row-standing ∙ standing-inside service.forms lent.backend.account (heard_of link log) (pieces_of link log) lent.backend at) ∙ is)
+  ] where
     unspoilt : (command : Option Handed) → standing_by command ≢ Spoilt
     unspoilt command is = grind (arith, common_steps)
-
-    by : LinkAt service.forms lent.backend.account (heard_of link log) (pieces_of link log) lent.backend → ⊥
-    by (Entering at) = cc (row-standing, is, standing-entering service.forms lent.backend.account (heard_of link log) (pieces_of link log) lent.backend at)
-    by (Inside at) = unspoilt lent.backend.command (sym (row-standing ∙ standing-inside service.forms lent.backend.account (heard_of link log) (pieces_of link log) lent.backend at) ∙ is)
 
   -- while the login goes on there
   pub row-enters : lent.backend.stage ≢ In → row_standing ≡ Enters
@@ -299,10 +298,10 @@ module _ {service : Service} {log : Log} {tables : Tables} (sound : Sound servic
     by None at front = (let row = lent-left (tables.lends.links link.0) front.sent front.is in ToServer row.0 front.sent row.1 row.2 front.same_tag front.n front.front)
 
   farewell-so : (link : LinkId) (tag : Tag) (bytes : List ℕ) → IsFarewell tables link → IsFront (farewell_of tables.parting) tag bytes → Writes tables link tag bytes
-  farewell-so link tag bytes farewell front = by (closes-next tables link sound.one_parts sound.lends.one_closes farewell.is_next) where
-    by : ClosesNext tables link → Writes tables link tag bytes
-    by (ClosesServer none closing) = cc (ap farewell_of none, front.is)
-    by (ClosesClient p is on) = (let at = reply-front tag bytes p.bytes (rw is at front) in Farewell p is on at.0 at.1 at.2)
+  farewell-so link tag bytes farewell front = elim (closes-next tables link sound.one_parts sound.lends.one_closes farewell.is_next) [
+    | ClosesServer none closing ↦ cc (ap farewell_of none, front.is)
+    | ClosesClient p is on ↦ (let at = reply-front tag bytes p.bytes (rw is at front) in Farewell p is on at.0 at.1 at.2)
+  ]
 
 pub writes-so : {service : Service} {log : Log} (link : LinkId) (tag : Tag) (bytes : List ℕ) → Sound service log None (tables_after service.setup log) → IsOurs service.setup log (Wrote link tag bytes) → Writes (tables_after service.setup log) link tag bytes
 writes-so link tag bytes sound (inl ours) = sends-so sound link tag bytes ours.1
@@ -409,10 +408,10 @@ module _ {service : Service} {log : Log} {tables : Tables} (told : AllLawful Fit
   }
 
   may-close : (link : LinkId) → IsClosing tables link log → MayClose service link log
-  may-close link closing = by (closes-next tables link sound.one_parts sound.lends.one_closes closing.is_next) where
-    by : ClosesNext tables link → MayClose service link log
-    by (ClosesServer none is) = server-closes link (sound.lends.closes link is)
-    by (ClosesClient p is on) = part-closes p link (sound.parts p is) on (λ some. closing.offered (ap (λ all. is_some (farewell_of all)) is ∙ some))
+  may-close link closing = elim (closes-next tables link sound.one_parts sound.lends.one_closes closing.is_next) [
+    | ClosesServer none is ↦ server-closes link (sound.lends.closes link is)
+    | ClosesClient p is on ↦ part-closes p link (sound.parts p is) on (λ some. closing.offered (ap (λ all. is_some (farewell_of all)) is ∙ some))
+  ]
 
 -- What the router does is lawful.
 
