@@ -15,7 +15,7 @@ use Rattle.router_world.specs.World.{goes_on, answering}
 use Rattle.router_world.proofs.Calm.{Leaves, unsent-still, replied-stays}
 use Rattle.router_world.proofs.Frames.{Calm, same-ordinal, seat-stays}
 use Rattle.router_world.proofs.SeatsAnswers.{at_place, taken-messages, SeatTurned}
-use Rattle.router_world.proofs.Seats.{Agrees, agree-work, agree-seat, working-open, working-done, answered-seat}
+use Rattle.router_world.proofs.Seats.{working-done, answered-seat}
 use Rattle.router_world.proofs.Hearing.{turned-more, read-short}
 use Rattle.client_talk.specs.declared.session.Phase.TheVariants as phase
 
@@ -56,58 +56,6 @@ serves-quiet phase.Ending lends other n arrived busy free gone serves = gone ser
 never-enters : (talk : Talk) (reply : ℕ → Option Answer) (written : List ℕ) (session : Session) (user : Account) → account talk ≡ Some user → SeatAt talk reply written session → session.phase ≡ phase.LoggingIn → ⊥
 never-enters talk reply written session user known seat is = grind (arith, common_steps)
 
--- What comes of a client's queries, but for the one in work.
-abbrev but_work : (ℕ → Option Answer) → (arrived : ℕ) → ℕ → Option Answer
-but_work reply arrived i = cond (nat_eq i arrived) None (reply i)
-
--- The query in work of a client is answered, and its session goes on: the session behind the answer, and what is next for it.
-record Goes (service : Service) (log : Log) (n : ℕ) (came : Arrival) (written : List ℕ) (lends : Lends) (turned : Turned) : Type 0 where
-  seat : SeatAt (talk_with service n came log) (λ i. replied service n i log) written turned.session
-  unsent : Unsent service n turned.session.client.arrived log
-  next : Next service log n lends turned.session.phase turned.session.client.arrived turned.query
-
-module _ (service : Service) (log : Log) (n : ℕ) (came : Arrival) (written : List ℕ) (client : ClientState) (user : Account) (answer : Answer) where
-  abbrev talk : Talk
-  talk = talk_with service n came log
-
-  abbrev reply : ℕ → Option Answer
-  reply i = replied service n i log
-
-  abbrev before : ℕ → Option Answer
-  before = but_work reply client.arrived
-
-  answered-goes : (packets : List ℕ) (lends : Lends) → arrival_of n log ≡ Some came → is_served service.setup came ≡ true → SeatAt talk before written (record { client = client; phase = phase.Working user }) → Unsent service n client.arrived log
-      → reply client.arrived ≡ Some answer → ((message : Framed) → work_said before talk ≡ Some (at_place client.arrived message) → packets ≡ spelt (next_id message.last) answer)
-      → length (read_of came.link log) < 18446744073709551616 → LendsSound service log lends → Free lends n → lends.waiting ≡ [] → (lends.closing ≡ []) ⊎ (lends.owned n ≡ None) → AreFormed service log
-      → Goes service log n came written lends (answered service.setup packets (record { client = client; phase = phase.Working user }))
-  answered-goes packets lends is served seat unsent now spelled few sound free idle closable formed = record {
-    seat = at.seat;
-    unsent = λ i later. unsent i (let more = grows in omega arith);
-    next = next-turned service log n came written (record { client = client; phase = phase.Idle user }) turned lends sound closable (λ has. idle) is served free
-        (λ enters. absurd (never-enters talk reply written turned.session user seat.at.account at.seat enters)) (λ other same. cc) (λ some. (unsent turned.session.client.arrived (later turned.query some at.asks)).0) formed at;
-  } where
-    turned : Turned
-    turned = answered service.setup packets (record { client = client; phase = phase.Working user })
-
-    grows : client.arrived ≤ turned.session.client.arrived
-    grows = turned-more service.setup (rested user packets (record { client = client; phase = phase.Working user }))
-
-    same : (i : ℕ) → i ≢ client.arrived → reply i ≡ before i
-    same i apart = grind (arith, common_steps, apart-numbers)
-
-    unanswered : (i : ℕ) → client.arrived ≤ i → before i ≡ None
-    unanswered i from = grind (arith, common_steps, nat_eq-false, unsent-still)
-
-    at : SeatTurned talk reply written (record { client = client; phase = phase.Idle user }) turned
-    at = answered-seat seat.at reply written answer packets seat unanswered now same (spelled seat.at.message seat.at.work) few
-
-    -- behind the answer all messages that were taken are answered, so a query that comes up is a later one
-    later : (q : Option Query) → q ≢ None → Asks q talk reply (record { client = client; phase = phase.Idle user }) turned.session → client.arrived < turned.session.client.arrived
-    later None some asks = absurd (some refl)
-    later (Some query) some asks = (let more = later-work talk reply seat.at.taken.past (split talk.setup.limit 0 client.framer.kept).messages (record { ordinal = turned.session.client.arrived; message = asks.1.message })
-        (ap (λ (s : Split). s.messages) (taken-messages seat.at.taken)) (working-done seat.at reply answer now same).all asks.1.work in
-        let count = seat.at.taken.arrived in omega arith)
-
 module _ {service : Service} {log : Log} {e : Entry} {n : ℕ} {tables : Tables} {news : Told} (from : FromServer service log e n tables news) where
   abbrev then : Log
   then = log ++ e ∷ []
@@ -143,11 +91,20 @@ module _ {service : Service} {log : Log} {e : Entry} {n : ℕ} {tables : Tables}
   -- A command is answered, and its client's session goes on.
 
   module _ {seat : Seat} {user : Account} (is : tables.seats n ≡ Some seat) (works : seat.session.phase ≡ phase.Working user) where
-    abbrev place : ℕ
-    place = seat.session.client.arrived
+    abbrev client : ClientState
+    client = seat.session.client
+
+    abbrev reply : Log → ℕ → Option Answer
+    reply l i = replied service n i l
+
+    abbrev old : Session
+    old = record { client = client; phase = phase.Idle user }
 
     was : SeatStands service log n seat
     was = (sound.seats n seat is).stands
+
+    abbrev written : List ℕ
+    written = written_of was.came.link log
 
     leaves : Leaves was.came.link log e
     leaves = rw was.link (from.seats n seat is)
@@ -155,49 +112,57 @@ module _ {service : Service} {log : Log} {e : Entry} {n : ℕ} {tables : Tables}
     came : arrival_of n then ≡ Some was.came
     came = arrival-stays n log (e ∷ []) was.came was.is_came
 
-    -- what came of its other queries agrees with what came of them before
-    abbrev other : ℕ → Option Answer
-    other = but_work (λ k. replied service n k then) place
-
-    seat-agrees : IsHeard service log n was.came seat.session → Agrees (talk_with service n was.came log) (λ k. replied service n k log) other
-    seat-agrees heard = record {
-      stays = λ k a at. stays k a at (nat_eq k place) refl;
-      none = λ work at query. grind (arith, common_steps, same_number, some-same);
-    } where
-      working : IsWorking (talk_with service n was.came log) (λ k. replied service n k log) user seat.session.client
-      working = grind (arith, common_steps)
-
-      stays : (k : ℕ) (a : Answer) → replied service n k log ≡ Some a → (b : Bool) → nat_eq k place ≡ b → cond b None (replied service n k then) ≡ Some a
-      stays k a at true same = cc ((working-open working).none, ap (λ k. replied service n k log) (nat_eq-true k place same), at)
-      stays k a at false same = grind (arith, common_steps, refused-or-sent, replied-stays)
-
     heard-of : IsHeard service log n was.came seat.session ⊎ IsEnded service log n was.came seat.session → IsHeard service log n was.came seat.session
     heard-of h0 = grind (arith, common_steps)
 
-    heard : IsHeard service log n was.came seat.session
-    heard = heard-of was.state
+    unsent : Unsent service n client.arrived then
+    unsent = from.later seat is (heard-of was.state).unsent
 
-    seat-goes : (answer : Answer) (message : Framed) → message_of service n place then ≡ Some message → replied service n place then ≡ Some answer → Free news.lends n → news.lends.waiting ≡ [] → (news.lends.closing ≡ []) ⊎ (news.lends.owned n ≡ None)
-        → Goes service then n was.came (written_of was.came.link log) news.lends (answered service.setup (spelt (next_id message.last) answer) seat.session)
-    seat-goes answer message there now free idle closable = subst (λ (p : Phase). Goes service then n was.came (written_of was.came.link log) news.lends (answered service.setup (spelt (next_id message.last) answer) (record { client = seat.session.client; phase = p }))) (sym works)
-        (answered-goes service then n was.came (written_of was.came.link log) seat.session.client user answer (spelt (next_id message.last) answer) news.lends came was.served
-        (subst (λ r. SeatAt (record { setup = service.setup; number = n; salt = was.came.salt; read = r }) other (written_of was.came.link log) (record { client = seat.session.client; phase = phase.Working user })) (sym leaves.read)
-        (subst (λ (p : Phase). SeatAt (talk_with service n was.came log) other (written_of was.came.link log) (record { client = seat.session.client; phase = p })) works
-        (agree-seat agrees heard.at)))
-        (from.later seat is heard.unsent) now (λ m work. ap (λ (f : Framed). spelt (next_id f.last) answer) (same-message m work))
-        (subst (λ r. length r < 18446744073709551616) (sym leaves.read) (read-short was.came.link log from.happens.told (let few = from.happens.few in omega arith))) from.came.sound free idle closable from.happens.formed) where
-          agrees : Agrees (talk_with service n was.came log) (λ k. replied service n k log) other
-          agrees = seat-agrees heard
+    now-seat : SeatAt (talk_with service n was.came log) (reply log) written (record { client = client; phase = phase.Working user })
+    now-seat = subst (λ (p : Phase). SeatAt (talk_with service n was.came log) (reply log) written (record { client = client; phase = p })) works (heard-of was.state).at
 
-          same-message : (m : Framed) → work_said other (talk_with service n was.came then) ≡ Some (at_place place m) → message ≡ m
-          same-message m work = (let was_work : work_of service n log ≡ Some (at_place place m) = work-is service n was.came log was.is_came ∙ sym (agree-work agrees)
-              ∙ ap (λ r. work_said other (record { setup = service.setup; number = n; salt = was.came.salt; read = r })) (sym leaves.read) ∙ work in
-              some-same message m (sym there ∙ message-stays service n place log (e ∷ []) m (in-work service n log (at_place place m) was_work).0))
+    working : IsWorking (talk_with service n was.came log) (reply log) user client
+    working = now-seat.at
 
-    seated : (turned : Turned) → Goes service then n was.came (written_of was.came.link log) news.lends turned → Sound service then None (goes_on (record { 0 = n }) seat.link turned (without_seat (record { 0 = n }) (with_lends news.lends tables)))
-    seated turned goes = goes-on service then (record { 0 = n }) seat.link turned (without_seat (record { 0 = n }) (with_lends news.lends tables))
-        (taken-out service log e (record { 0 = n }) seat tables news.lends sound others is from.came.sound from.came.apart from.came.traces from.opens) (set-same tables.seats n None) ((sound.seats n seat is).numbered) from.quiet.unparted stands goes.next
-        (finished-parted service then n (record { link = seat.link; session = turned.session }) stands) where
+    seated : (answer : Answer) (message : Framed) → message_of service n client.arrived then ≡ Some message → replied service n client.arrived then ≡ Some answer → Free news.lends n → news.lends.waiting ≡ []
+        → (news.lends.closing ≡ []) ⊎ (news.lends.owned n ≡ None)
+        → Sound service then None (goes_on (record { 0 = n }) seat.link (answered service.setup (spelt (next_id message.last) answer) seat.session) (without_seat (record { 0 = n }) (with_lends news.lends tables)))
+    seated answer message there now free idle closable =
+        subst (λ (p : Phase). Sound service then None (goes_on (record { 0 = n }) seat.link (answered service.setup packets (record { client = client; phase = p })) (without_seat (record { 0 = n }) (with_lends news.lends tables)))) (sym works)
+        (goes-on service then (record { 0 = n }) seat.link turned (without_seat (record { 0 = n }) (with_lends news.lends tables))
+        (taken-out service log e (record { 0 = n }) seat tables news.lends sound others is from.came.sound from.came.apart from.came.traces from.opens) (set-same tables.seats n None) ((sound.seats n seat is).numbered) from.quiet.unparted stands
+        (next-turned service then n was.came written old turned news.lends from.came.sound closable (λ has. idle) came was.served free
+        (λ enters. absurd (never-enters (talk_with service n was.came log) (reply then) written turned.session user working.account at.seat enters)) (λ other same. cc)
+        (λ some. (unsent turned.session.client.arrived (behind turned.query some at.asks)).0) from.happens.formed at-then)
+        (finished-parted service then n (record { link = seat.link; session = turned.session }) stands)) where
+          packets : List ℕ
+          packets = spelt (next_id message.last) answer
+
+          turned : Turned
+          turned = answered service.setup packets (record { client = client; phase = phase.Working user })
+
+          stays : (i : ℕ) (a : Answer) → replied service n i log ≡ Some a → replied service n i then ≡ Some a
+          stays i a at = replied-stays service n i log (e ∷ []) a (refused-or-sent service then from.happens.lawful) at
+
+          -- the message is the one in work
+          same : message ≡ working.message
+          same = some-same message working.message (sym there ∙ message-stays service n client.arrived log (e ∷ []) working.message
+              (in-work service n log (at_place client.arrived working.message) (work-is service n was.came log was.is_came ∙ working.work)).0)
+
+          at : SeatTurned (talk_with service n was.came log) (reply then) written old turned
+          at = answered-seat working (reply then) written answer packets now-seat now stays (λ i less. unsent-still service n i then (unsent i less).0 (unsent i less).1)
+              (ap (λ (m : Framed). spelt (next_id m.last) answer) same) (read-short was.came.link log from.happens.told (let few = from.happens.few in omega arith))
+
+          at-then : SeatTurned (talk_with service n was.came then) (reply then) written old turned
+          at-then = subst (λ r. SeatTurned (record { setup = service.setup; number = n; salt = was.came.salt; read = r }) (reply then) written old turned) (sym leaves.read) at
+
+          -- behind the answer all messages that were taken are answered, so a query that comes up is a later one
+          behind : (q : Option Query) → q ≢ None → Asks q (talk_with service n was.came log) (reply then) old turned.session → client.arrived < turned.session.client.arrived
+          behind None some asks = absurd (some refl)
+          behind (Some query) some asks = (let more = later-work (talk_with service n was.came log) (reply then) working.taken.past (split service.setup.limit 0 client.framer.kept).messages
+              (record { ordinal = turned.session.client.arrived; message = asks.1.message }) (ap (λ (s : Split). s.messages) (taken-messages working.taken)) (working-done working (reply then) answer now stays).all asks.1.work in
+              let count = working.taken.arrived in omega arith)
+
           stands : SeatStands service then n (record { link = seat.link; session = turned.session })
           stands = record {
             came = was.came;
@@ -207,9 +172,9 @@ module _ {service : Service} {log : Log} {e : Entry} {n : ℕ} {tables : Tables}
             opened = (from.seats n seat is).opened ∙ was.opened;
             unbroken = (from.seats n seat is).broken ∙ was.unbroken;
             state = inl (record {
-              unlost = leaves.lost ∙ heard.unlost;
-              at = rw leaves.written goes.seat;
-              unsent = goes.unsent;
+              unlost = leaves.lost ∙ (heard-of was.state).unlost;
+              at = rw leaves.written at-then.seat;
+              unsent = λ i later. unsent i (let more = turned-more service.setup (rested user packets (record { client = client; phase = phase.Working user })) in omega arith);
             });
           }
 
@@ -219,8 +184,7 @@ module _ {service : Service} {log : Log} {e : Entry} {n : ℕ} {tables : Tables}
     by : (o : Option Seat) → tables.seats n ≡ o → Sound service then None (on_seat (answered service.setup (spelt (next_id message.last) answer)) (record { 0 = n }) o (without_seat (record { 0 = n }) (with_lends news.lends tables)))
     by None none = grind (arith, common_steps, away-gone, gone-busy)
     by (Some seat) is = (let works = working-busy seat.session.phase tables.lends n seat.session.client.arrived i ((sound.seats n seat is).serves) busy in
-        seated is works.1 (answered service.setup (spelt (next_id message.last) answer) seat.session)
-        (seat-goes is works.1 answer message (ap (λ k. message_of service n k then) works.2 ∙ there) (ap (λ k. replied service n k then) works.2 ∙ now) free idle closable))
+        seated is works.1 answer message (ap (λ k. message_of service n k then) works.2 ∙ there) (ap (λ k. replied service n k then) works.2 ∙ now) free idle closable)
 
 -- What an entry of a server makes of what stands.
 pub server-step : (service : Service) (log : Log) (e : Entry) (n : ℕ) (tables : Tables) (news : Told) → Sound service log None tables → FromServer service log e n tables news → Sound service (log ++ e ∷ []) None (told service.setup news tables)

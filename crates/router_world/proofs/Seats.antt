@@ -140,24 +140,24 @@ module _ {talk : Talk} {reply : ℕ → Option Answer} {user : Account} {client 
       open-within talk.setup reply 1 past behind.messages work (sym (ap (λ (s : Split). first_open talk.setup reply 1 s.messages) messages) ∙ working.work) (omega arith))
 
   -- no reply is there
-  pub working-open : IsOpen talk.setup (reply client.arrived)
+  working-open : IsOpen talk.setup (reply client.arrived)
   working-open = query-open talk.setup (reply client.arrived) working.message.payload working.query (open-none talk.setup reply 1 (messages_of talk).messages work working.work)
 
   -- all messages that were taken are answered then
-  pub working-done : (other : ℕ → Option Answer) (answer : Answer) → other client.arrived ≡ Some answer → ((i : ℕ) → i ≢ client.arrived → other i ≡ reply i) → NowDone talk.setup reply other 1 past working.message answer
-  working-done other answer now same = (let count = working.taken.arrived in now-done talk.setup reply other 1 client.arrived past working.message answer within (omega arith) same
+  pub working-done : (other : ℕ → Option Answer) (answer : Answer) → other client.arrived ≡ Some answer → ((i : ℕ) (answer : Answer) → reply i ≡ Some answer → other i ≡ Some answer) → NowDone talk.setup reply other 1 past working.message answer
+  working-done other answer now stays = (let count = working.taken.arrived in now-done talk.setup reply other 1 client.arrived past working.message answer within (omega arith) stays
       (query-served talk.setup (other client.arrived) working.message.payload working.query working-open.server ∙ now))
 
-  pub answered-seat : (other : ℕ → Option Answer) (written : List ℕ) (answer : Answer) (packets : List ℕ) → SeatAt talk reply written (record { client = client; phase = phase.Working user }) → Unanswered reply (record { client = client; phase = phase.Working user })
-      → other client.arrived ≡ Some answer → ((i : ℕ) → i ≢ client.arrived → other i ≡ reply i) → packets ≡ spelt (next_id working.message.last) answer → length talk.read < 18446744073709551616
+  pub answered-seat : (other : ℕ → Option Answer) (written : List ℕ) (answer : Answer) (packets : List ℕ) → SeatAt talk reply written (record { client = client; phase = phase.Working user }) → other client.arrived ≡ Some answer
+      → ((i : ℕ) (answer : Answer) → reply i ≡ Some answer → other i ≡ Some answer) → ((i : ℕ) → client.arrived < i → other i ≡ None) → packets ≡ spelt (next_id working.message.last) answer → length talk.read < 18446744073709551616
       → SeatTurned talk other written (record { client = client; phase = phase.Idle user }) (answered talk.setup packets (record { client = client; phase = phase.Working user }))
-  answered-seat other written answer packets seat unanswered now same spelled few = (let done = working-done other answer now same in
+  answered-seat other written answer packets seat now stays later spelled few = (let done = working-done other answer now stays in
       let due : written ++ client.outgoing ≡ front talk ++ answers_by talk.setup reply 1 past [] = seat.due ∙ ap (λ (s : Split). front talk ++ due_behind reply talk s) messages
       ∙ ap (λ l. front talk ++ l) (open-due talk.setup reply 1 past behind.messages [] (fault_answer talk.setup.limit behind.fault) work within) in
       turned-seat talk other written (rested user packets (record { client = client; phase = phase.Working user })) (record {
         mine = seat.mine;
         few = few;
-        later = λ i from. grind (arith, common_steps);
+        later = later;
         at = record {
           taken = taken-outgoing talk client (client.outgoing ++ packets) working.taken;
           account = working.account;

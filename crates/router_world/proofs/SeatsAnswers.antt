@@ -144,16 +144,20 @@ module _ (setup : Setup) (reply other : ℕ → Option Answer) where
   last-done i m answer was now = grind (arith, common_steps, append-nil)
 
   pub now-done : (i k : ℕ) (past : List Framed) (message : Framed) (answer : Answer) → first_open setup reply i past ≡ Some (at_place k message) → suc k ≡ i + length past
-      → ((j : ℕ) → j ≢ k → other j ≡ reply j) → answer_of setup (other k) message.payload ≡ Some answer → NowDone setup reply other i past message answer
-  now-done i k [] message answer is last same now = cc
-  now-done i k (m ∷ past) message answer is last same now =
-      by (answer_of setup (reply i) m.payload) refl is (λ there. now-done (suc i) k past message answer there (let more : suc k ≡ i + suc (length past) = last in omega arith) same now) where
+      → ((j : ℕ) (answer : Answer) → reply j ≡ Some answer → other j ≡ Some answer) → answer_of setup (other k) message.payload ≡ Some answer → NowDone setup reply other i past message answer
+  now-done i k [] message answer is last stays now = cc
+  now-done i k (m ∷ past) message answer is last stays now =
+      by (answer_of setup (reply i) m.payload) refl is (λ there. now-done (suc i) k past message answer there (let more : suc k ≡ i + suc (length past) = last in omega arith) stays now) where
         alone : (past : List Framed) → i ≡ k → m ≡ message → suc k ≡ i + suc (length past) → answer_of setup (reply i) m.payload ≡ None → NowDone setup reply other i (m ∷ past) message answer
         alone past at is last was = grind (arith, common_steps, last-done)
 
+        more : (a : Answer) → answer_of setup (reply i) m.payload ≡ Some a → answer_of setup (other i) m.payload ≡ Some a → NowDone setup reply other (suc i) past message answer → NowDone setup reply other i (m ∷ past) message answer
+        more a was now rest = grind (arith, common_steps)
+
         by : (o : Option Answer) → answer_of setup (reply i) m.payload ≡ o → cond (is_some o) (first_open setup reply (suc i) past) (Some (at_place i m)) ≡ Some (at_place k message)
             → (first_open setup reply (suc i) past ≡ Some (at_place k message) → NowDone setup reply other (suc i) past message answer) → NowDone setup reply other i (m ∷ past) message answer
-        by o at here others = grind (arith, common_steps, some-same, open-from)
+        by None at here others = (let one = some-same (at_place i m) (at_place k message) here in alone past (ap (λ (w : Work). w.ordinal) one) (ap (λ (w : Work). w.message) one) last at)
+        by (Some a) at here others = more a at (answer-stays setup (reply i) (other i) m.payload a (stays i a) at) (others here)
 
   agree-at : (i : ℕ) (m : Framed) (messages : List Framed) (last : List ℕ) (o : Option Answer) → answer_of setup (reply i) m.payload ≡ o → answer_of setup (other i) m.payload ≡ o
       → (is_some o ≡ true → Agree setup reply other (suc i) messages last) → Agree setup reply other i (m ∷ messages) last
