@@ -64,9 +64,6 @@ module _ {talk : Talk} {reply other : ℕ → Option Answer} (agrees : Agrees ta
   agree-both : Agree talk.setup reply other 1 (messages_of talk).messages (fault_answer talk.setup.limit (messages_of talk).fault)
   agree-both = agree talk.setup reply other 1 (messages_of talk).messages (fault_answer talk.setup.limit (messages_of talk).fault) agrees.stays agrees.none
 
-  pub agree-work : work_said other talk ≡ work_said reply talk
-  agree-work = agree-both.goes
-
   pub agree-seat : {written : List ℕ} {session : Session} → SeatAt talk reply written session → SeatAt talk other written session
   agree-seat seat = grind (arith, common_steps, agree-both, phase-agrees)
 

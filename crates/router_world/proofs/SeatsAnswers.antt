@@ -206,10 +206,13 @@ pub record SeatTurned (talk : Talk) (reply : ℕ → Option Answer) (written : L
   pub unanswered : Unanswered reply turned.session
   pub asks : Asks turned.query talk reply old turned.session
 
+abbrev pub Turns : Talk → (ℕ → Option Answer) → (written : List ℕ) → Turned → Type 0
+Turns talk reply written turned = (old : Session) → SeatTurned talk reply written old turned
+
 abbrev pub LeadsTo : Turn → (left : ℕ) → Talk → (ℕ → Option Answer) → (written : List ℕ) → Session → Type 0
 LeadsTo turn.More left talk reply written new = GoesAt talk reply written new × (left_to_say new < left)
-LeadsTo (turn.Work query) left talk reply written new = (old : Session) → SeatTurned talk reply written old (record { session = new; query = Some query })
-LeadsTo turn.Rests left talk reply written new = (old : Session) → SeatTurned talk reply written old (still new)
+LeadsTo (turn.Work query) left talk reply written new = Turns talk reply written (record { session = new; query = Some query })
+LeadsTo turn.Rests left talk reply written new = Turns talk reply written (still new)
 
 abbrev pub Leads : (left : ℕ) → Talk → (ℕ → Option Answer) → (written : List ℕ) → Step → Type 0
 Leads left talk reply written next = LeadsTo next.turn left talk reply written next.session
@@ -217,7 +220,7 @@ Leads left talk reply written next = LeadsTo next.turn left talk reply written n
 -- A session that ends is asked for nothing.
 pub ends-so : (talk : Talk) (reply : ℕ → Option Answer) (written : List ℕ) (client : ClientState) → IsOf client.number.0 talk.number client.salt talk.salt client.framer.limit talk.setup.limit
     → ((i : ℕ) → suc client.arrived ≤ i → reply i ≡ None) → over_said reply talk ≡ true → written ++ client.outgoing ≡ due_said reply talk
-    → (old : Session) → SeatTurned talk reply written old (still (record { client = client; phase = phase.Ending }))
+    → Turns talk reply written (still (record { client = client; phase = phase.Ending }))
 ends-so talk reply written client mine later over due old = grind (arith, common_steps)
 
 -- What a client said, and what it is due by that.

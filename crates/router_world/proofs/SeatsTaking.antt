@@ -22,7 +22,7 @@ use Rattle.client_talk.specs.Going.{unsaid, goes_on}
 use Rattle.packet_frame.specs.Laws.{first_message-shorter}
 use Rattle.client_side.specs.declared.step.ClientFault.TheVariants.{Frame}
 use Rattle.client_talk.specs.declared.step.Turn.{Turn}
-use Rattle.router_world.proofs.SeatsAnswers.{Means, means-asked, at_place, done-none, done-one, GoesAt, SeatTurned, LeadsTo, Leads, ends-so, due-alone}
+use Rattle.router_world.proofs.SeatsAnswers.{Means, means-asked, at_place, done-none, done-one, GoesAt, Turns, LeadsTo, Leads, ends-so, due-alone}
 use Rattle.router_world.proofs.SeatsAnswers.{taken-nothing, taken-whole, taken-faulty, taken-few, over-in, counted-suc, client_past, taken-one, due-all}
 use Rattle.router_world.proofs.SeatsAnswers.{due-open}
 use Rattle.client_side.specs.declared.stage.Stage.TheVariants as stage
@@ -108,12 +108,12 @@ module _ (talk : Talk) (reply : ℕ → Option Answer) (written : List ℕ) wher
     told-greeted switched = grind (arith, common_steps)
 
     -- it waits for more
-    coming-waits : HasStepped says.Nothing client talk.setup.limit talk.setup.version talk.read (written ++ client.outgoing) → (old : Session) → SeatTurned talk reply written old (still (entering client))
+    coming-waits : HasStepped says.Nothing client talk.setup.limit talk.setup.version talk.read (written ++ client.outgoing) → Turns talk reply written (still (entering client))
     coming-waits h6 old = grind (arith, common_steps, told-greeted, due-alone)
 
     -- what can't be is refused
     coming-refused : (first : ℕ) (fault : ClientFault) → HasStepped (says.Refused first fault) client talk.setup.limit talk.setup.version talk.read (written ++ client.outgoing)
-        → (old : Session) → SeatTurned talk reply written old (still (refused talk.setup.limit fault first (entering client)))
+        → Turns talk reply written (still (refused talk.setup.limit fault first (entering client)))
     coming-refused first fault (switched, fails, bytes) old = (let error = spelling first (fault_error talk.setup.limit fault) in
         let at : opening_of talk ≡ Fails switched fault first = ap (opening talk.setup.limit) (sym (append-nil talk.read)) ∙ fails [] in
         ends-so talk reply written (record client { outgoing = client.outgoing ++ error }) next.mine next.later
@@ -148,7 +148,7 @@ module _ (talk : Talk) (reply : ℕ → Option Answer) (written : List ℕ) wher
         ))
 
     -- it isn't known
-    coming-denied : (switched : Bool) (response : Response) (first : ℕ) → IsSaid client switched response first → account_of talk.setup.users talk.salt response ≡ None → (old : Session) → SeatTurned talk reply written old (still (denied response first (entering client)))
+    coming-denied : (switched : Bool) (response : Response) (first : ℕ) → IsSaid client switched response first → account_of talk.setup.users talk.salt response ≡ None → Turns talk reply written (still (denied response first (entering client)))
     coming-denied switched response first said unknown old = grind (arith, common_steps, ends-so, due-alone)
 
     -- whatever it says
@@ -190,7 +190,7 @@ module _ (talk : Talk) (reply : ℕ → Option Answer) (written : List ℕ) wher
     past = goes.at.taken.past
 
     -- nothing whole is left
-    idle-rests : first_message talk.setup.limit 0 client.framer.kept ≡ Nothing → (old : Session) → SeatTurned talk reply written old (still (idle user (looked client Nothing)))
+    idle-rests : first_message talk.setup.limit 0 client.framer.kept ≡ Nothing → Turns talk reply written (still (idle user (looked client Nothing)))
     idle-rests at old = (let messages = taken-nothing goes.at.taken at in
         let all = due-all reply talk past goes.at.said client.framer.kept None goes.at.done messages in
         record {
@@ -201,7 +201,7 @@ module _ (talk : Talk) (reply : ℕ → Option Answer) (written : List ℕ) wher
 
     -- what follows can't be
     idle-refused : (fault : FrameFault) → first_message talk.setup.limit 0 client.framer.kept ≡ Faulty fault
-        → (old : Session) → SeatTurned talk reply written old (still (refused talk.setup.limit (Frame fault) (fault_id 0 fault) (idle user (looked client (Faulty fault)))))
+        → Turns talk reply written (still (refused talk.setup.limit (Frame fault) (fault_id 0 fault) (idle user (looked client (Faulty fault)))))
     idle-refused fault at old = (let error = fault_answer talk.setup.limit (Some fault) in
         let messages = taken-faulty goes.at.taken at in
         let all = due-all reply talk past goes.at.said client.framer.kept (Some fault) goes.at.done messages in
@@ -268,8 +268,7 @@ module _ (talk : Talk) (reply : ℕ → Option Answer) (written : List ℕ) wher
       ))
 
       -- it is a query
-      idle-works : is_query message.payload ≡ true → answer ≡ reply (suc (length past)) → (old : Session)
-          → SeatTurned talk reply written old (record { session = started message taken; query = Some (record { ordinal = counted client.arrived; first = next_id message.last; packets = spelling 0 message.payload }) })
+      idle-works : is_query message.payload ≡ true → answer ≡ reply (suc (length past)) → Turns talk reply written (record { session = started message taken; query = Some (record { ordinal = counted client.arrived; first = next_id message.last; packets = spelling 0 message.payload }) })
       idle-works query is old = (let to = due-open reply talk past goes.at.said message (split talk.setup.limit 0 rest) goes.at.done whole.messages (is ∙ later-from (suc (length past)) (suc (length past)) refl (omega arith)) in
           let working : IsWorking talk reply user (client_past message client.outgoing client) = record {
             taken = taken-one goes.at.taken whole.at client.outgoing whole.few;
@@ -287,7 +286,7 @@ module _ (talk : Talk) (reply : ℕ → Option Answer) (written : List ℕ) wher
           })
 
       -- it quits
-      idle-quits : is_quit message.payload ≡ true → answer ≡ None → (old : Session) → SeatTurned talk reply written old (still (ended taken))
+      idle-quits : is_quit message.payload ≡ true → answer ≡ None → Turns talk reply written (still (ended taken))
       idle-quits quits none old = grind (arith, common_steps, said, due-open, over-in, ends-so)
 
       -- whatever it asks for
@@ -312,18 +311,18 @@ module _ (talk : Talk) (reply : ℕ → Option Answer) (written : List ℕ) wher
   phase-steps at client goes = grind (arith, common_steps, coming-steps, idle-steps)
 
   turned-to : (n left : ℕ) (t : Turn) (next : Session) → left ≤ n → LeadsTo t left talk reply written next
-      → ((session : Session) → left_to_say session < n → GoesAt talk reply written session → (old : Session) → SeatTurned talk reply written old (goes_on n talk.setup session))
-      → (old : Session) → SeatTurned talk reply written old (turned_by t next (goes_on n talk.setup))
+      → ((session : Session) → left_to_say session < n → GoesAt talk reply written session → Turns talk reply written (goes_on n talk.setup session))
+      → Turns talk reply written (turned_by t next (goes_on n talk.setup))
   turned-to n left turn.More next enough leads others old = others next (let less = leads.1 in omega arith) leads.0 old
   turned-to n left (turn.Work query) next enough leads others old = leads old
   turned-to n left turn.Rests next enough leads others old = leads old
 
-  goes-turned : (n : ℕ) (session : Session) → left_to_say session < n → GoesAt talk reply written session → (old : Session) → SeatTurned talk reply written old (goes_on n talk.setup session)
+  goes-turned : (n : ℕ) (session : Session) → left_to_say session < n → GoesAt talk reply written session → Turns talk reply written (goes_on n talk.setup session)
   unfolding goes_on
   goes-turned zero session enough goes old = absurd (omega arith)
   goes-turned (suc n) session enough goes old =
       turned-to n (left_to_say session) (step talk.setup session).turn (step talk.setup session).session (omega arith) (phase-steps session.phase session.client goes) (goes-turned n) old
 
   -- What is whole is taken: the session stands then by all that was said.
-  pub turned-seat : (session : Session) → GoesAt talk reply written session → (old : Session) → SeatTurned talk reply written old (turned talk.setup session)
+  pub turned-seat : (session : Session) → GoesAt talk reply written session → Turns talk reply written (turned talk.setup session)
   turned-seat session goes old = goes-turned (suc (left_to_say session)) session (omega arith) goes old
