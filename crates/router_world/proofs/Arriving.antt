@@ -171,7 +171,7 @@ module _ {service : Service} {log : Log} {port : Port} {link : LinkId} {salt : L
     mine = record { link = link; bytes = bytes; is_client = is_traffic port }
 
     the : tables.parting ++ mine ∷ [] ≡ mine ∷ []
-    the = ap (λ p. p ++ mine ∷ []) coming.quiet.unparted
+    the = cc (coming.quiet.unparted)
 
   -- It has a seat.
   seated-step : (client : ClientNo) (here : ℕ) → client.0 ≡ number → port ≡ Traffic → here ≡ length (connected then) → service.setup.limit ≤ most_command → is_served service.setup arrival ≡ true
@@ -232,7 +232,7 @@ module _ {service : Service} {log : Log} {port : Port} {link : LinkId} {salt : L
 
     -- nobody had its number
     unarrived : arrival_of client.0 log ≡ None
-    unarrived = ap (λ k. arrival_of k log) mine ∙ beyond (arrivals log)
+    unarrived = cc (mine, beyond (arrivals log))
 
     vacant : tables.seats client.0 ≡ None
     vacant = none-if (tables.seats client.0) (λ other is. cc (unarrived, (sound.seats client.0 other is).stands.is_came))
@@ -240,13 +240,13 @@ module _ {service : Service} {log : Log} {port : Port} {link : LinkId} {salt : L
     stands : SeatStands service then client.0 seat
     stands = record {
       came = arrival;
-      is_came = ap (λ k. arrival_of k then) mine ∙ arrives-now;
+      is_came = cc (mine, arrives-now);
       link = refl;
       served = room;
       opened = step-same open_step false link log e (same_number link.0);
-      unbroken = ap (list_any is_failure) alone;
+      unbroken = cc (alone);
       state = inl (record {
-        unlost = ap (list_any is_loss) alone;
+        unlost = cc (alone);
         at = rw (ap (flat_map got_bytes) alone)
             (rw (ap (flat_map wrote_bytes) alone) (new-seat client salt service.setup (λ i. replied service client.0 i then) short));
         unsent = λ i later. (let was = unborn service log (lawful-last (IsLawful service) log e coming.happens.lawful).0 client.0 i unarrived in

@@ -33,7 +33,7 @@ leaves-other link log e other = grind (arith, common_steps, bytes-other, of_link
 -- And one that neither reads nor writes, and loses no link.
 
 until-still : (log : Log) (e : Entry) → is_loss e ≡ false → until_loss (log ++ e ∷ []) ≡ cond (list_any is_loss log) (until_loss log) (until_loss log ++ e ∷ [])
-until-still [] e calm = ap (λ b. cond b [] (e ∷ [])) calm
+until-still [] e calm = cc (calm)
 until-still (d ∷ log) e calm = grind (arith, common_steps, (until-still log e calm))
 
 pub sound-still : {X : Type 0} (f : Log → List X) (log : Log) (e : Entry) → is_loss e ≡ false → ((l : Log) → f (l ++ e ∷ []) ≡ f l) → f (until_loss (log ++ e ∷ [])) ≡ f (until_loss log)

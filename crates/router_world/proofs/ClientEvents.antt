@@ -97,16 +97,16 @@ module _ {service : Service} {log : Log} {e : Entry} {client : ClientNo} {link :
   arrived = arrival-stays client.0 log (e ∷ []) came sits.stands.is_came
 
   here : is_link came.link (link_of e) ≡ true
-  here = ap (is_link came.link) on.on.names ∙ ap (λ (l : LinkId). nat_eq l.0 link.0) (sits.stands.link ∙ on.same) ∙ same_number link.0
+  here = cc (on.on.names, sits.stands.link, on.same, same_number link.0)
 
   any-then : (p : Entry → Bool) → list_any p (of_link came.link then) ≡ (list_any p (of_link came.link log) || (p e || false))
-  any-then p = ap (list_any p) (of_link-same came.link log e here) ∙ list_any-append p (of_link came.link log) (e ∷ [])
+  any-then p = cc (of_link-same came.link log e here, list_any-append p (of_link came.link log) (e ∷ []))
 
   holds : (p : Entry → Bool) → p e ≡ true → list_any p (of_link came.link then) ≡ true
-  holds p at = any-then p ∙ ap (λ b. list_any p (of_link came.link log) || (b || false)) at ∙ or_right (list_any p (of_link came.link log)) true refl
+  holds p at = cc (any-then p, at, or_right (list_any p (of_link came.link log)) true refl)
 
   keeps : (p : Entry → Bool) → p e ≡ false → list_any p (of_link came.link then) ≡ list_any p (of_link came.link log)
-  keeps p none = any-then p ∙ ap (λ b. list_any p (of_link came.link log) || (b || false)) none ∙ or-none (list_any p (of_link came.link log))
+  keeps p none = cc (any-then p, none, or-none (list_any p (of_link came.link log)))
 
   replies : IsHeard service log client.0 came seat.session → Replies service log e client.0 came seat.session
   replies heard = (let none : (user : Account) → seat.session.phase ≡ phase.Working user → replied service client.0 seat.session.client.arrived then ≡ None =
@@ -137,7 +137,7 @@ module _ {service : Service} {log : Log} {e : Entry} {client : ClientNo} {link :
     link = sits.stands.link;
     served = sits.stands.served;
     opened = open-kept seat.link log e on.on.stays ∙ sits.stands.opened;
-    unbroken = ap (λ (l : LinkId). was_broken l then) (sym sits.stands.link) ∙ keeps is_failure none ∙ ap (λ (l : LinkId). was_broken l log) sits.stands.link ∙ sits.stands.unbroken;
+    unbroken = cc (sits.stands.link, keeps is_failure none, sits.stands.unbroken);
     state = state;
   }
 
@@ -168,11 +168,10 @@ pub ended-client : {service : Service} {log : Log} {client : ClientNo} {link : L
 ended-client {service} {log} {client} {link} {seat} {tables} on = goes on (still (ended seat.session)) refl (inr (record {
   lost = holds on is_loss refl;
   ends = refl;
-  told = ap (λ bytes. bytes ++ seat.session.client.outgoing) (bytes-idle wrote_bytes (came on).link log (Ended link) refl) ∙ told (sits on).stands.state;
+  told = cc (bytes-idle wrote_bytes (came on).link log (Ended link) refl, told (sits on).stands.state);
 })) (Ends None (away on (holds on is_loss refl))) where
   told : State on seat.session → written_of (came on).link log ++ seat.session.client.outgoing ≡ due service client.0 (log ++ Ended link ∷ [])
-  told (inl heard) = heard.at.due ∙ sym (due-unlost service client.0 (came on) log (sits on).stands.is_came (sits on).stands.served heard.unlost)
-      ∙ sym (due-loses service client.0 (came on) log (Ended link) (sits on).stands.is_came (sits on).stands.served heard.unlost (ap (λ b. b && true) (here on)))
+  told (inl heard) = cc (heard.at.due, due-unlost service client.0 (came on) log (sits on).stands.is_came (sits on).stands.served heard.unlost, due-loses service client.0 (came on) log (Ended link) (sits on).stands.is_came (sits on).stands.served heard.unlost (ap (λ b. b && true) (here on)))
   told (inr went) = went.told ∙ sym (due-lost service client.0 (came on) log (Ended link) (sits on).stands.is_came (sits on).stands.served went.lost)
 
 -- Bytes of it come.
@@ -227,7 +226,7 @@ module _ {service : Service} {log : Log} {client : ClientNo} {link : LinkId} {ta
   pub wrote-client : bytes ≡ take (length bytes) seat.session.client.outgoing → Sound service (log ++ Wrote link tag bytes ∷ []) None (goes_on client seat.link (still rest) (without_seat client tables))
   wrote-client front = goes on (still rest) refl (by (sits on).stands.state) (next-same seat.session.phase refl (stands on refl rest (by (sits on).stands.state)) (sits on).serves) where
     written : written_of (came on).link (then on) ≡ written_of (came on).link log ++ take (length bytes) seat.session.client.outgoing
-    written = bytes-same wrote_bytes (came on).link log (Wrote link tag bytes) (here on) ∙ ap (λ b. written_of (came on).link log ++ b) front
+    written = cc (bytes-same wrote_bytes (came on).link log (Wrote link tag bytes) (here on), front)
 
     by : State on seat.session → StateThen on rest
     by (inl heard) = inl (record {

@@ -60,7 +60,7 @@ before-all link (e ∷ log) more unlost = (let parts = or_parts (loses link e) (
     ap (λ b. cond b [] (e ∷ before_loss link (log ++ more))) parts.0 ∙ ap (λ (l : Log). e ∷ l) (before-all link log more parts.1))
 
 before-none : (link : LinkId) (log : Log) → was_lost link log ≡ false → before_loss link log ≡ log
-before-none link log unlost = ap (before_loss link) (sym (append-nil log)) ∙ before-all link log [] unlost ∙ append-nil log
+before-none link log unlost = cc (append-nil log, before-all link log [] unlost)
 
 before-once : (link : LinkId) (log more : Log) → was_lost link log ≡ true → before_loss link (log ++ more) ≡ before_loss link log
 before-once link [] more lost = cc

@@ -41,8 +41,7 @@ pub gone-stays : (service : Service) (n : ℕ) (user : Account) (log : Log) (e :
 gone-stays service n user log e fits known gone = by (arrival_of n log) refl known where
   by : (o : Option Arrival) → arrival_of n log ≡ o → option_and_then account (option_map (λ (came : Arrival). talk_with service n came log) o) ≡ Some user → is_here n (log ++ e ∷ []) ≡ false
   by None at known = cc
-  by (Some came) at known = ap (λ o. is_here_as o (log ++ e ∷ [])) (arrival-stays n log (e ∷ []) came at)
-      ∙ gone-link came.link log e fits (λ new. named-none came.link (came_as came.link) log (came-names came.link) new (arrival-came n log came at)) (ap (λ o. is_here_as o log) (sym at) ∙ gone)
+  by (Some came) at known = cc (arrival-stays n log (e ∷ []) came at, gone-link came.link log e fits (λ new. named-none came.link (came_as came.link) log (came-names came.link) new (arrival-came n log came at)) (ap (λ o. is_here_as o log) (sym at) ∙ gone))
 
 pub user-there : (service : Service) (link : LinkId) (turn : Turn) (user : Account) (log : Log) → turn_of service link log ≡ Some turn → user_of service turn.client log ≡ Some user → user_on service link log ≡ Some user
 user-there service link turn user log is known = grind (arith, common_steps)
@@ -116,7 +115,7 @@ module _ (service : Service) (log : Log) (e : Entry) where
     is_turn = turn-stays service link log (e ∷ []) stands.turn stands.is_turn;
     hostgroup = stands.hostgroup;
     user = grind (arith, common_steps, user-stays);
-    some = ap (list_all has_bytes) leaves.pieces ∙ stands.some;
+    some = cc (leaves.pieces, stands.some);
     at = rw leaves.heard
         (rw leaves.pieces stands.at);
     command = λ command is. handed-calm stands.turn.client link lent.backend.account command lawful (user-there service link stands.turn lent.backend.account log stands.is_turn stands.user) (stands.command command is) calm leaves;

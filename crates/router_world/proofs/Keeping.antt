@@ -281,7 +281,7 @@ served-more service log e told fits lawful sound ours n came is = elim (comes-of
   entry : (d : Entry) → e ≡ d → IsOurs service.setup log d → arrival_of n log ≡ Some came → IsPrefix (written_of came.link then) (due service n then)
   entry (Wrote link tag bytes) same ours was = at (bool_cases (is_link came.link (Some link))) where
     now : written_of came.link then ≡ written_of came.link (log ++ Wrote link tag bytes ∷ [])
-    now = ap (λ d. written_of came.link (log ++ d ∷ [])) same
+    now = cc (same)
 
     at : (is_link came.link (Some link) ≡ true) ⊎ (is_link came.link (Some link) ≡ false) → IsPrefix (written_of came.link then) (due service n then)
     at (inr other) = still was (now ∙ bytes-other wrote_bytes came.link log (Wrote link tag bytes) other)

@@ -149,7 +149,7 @@ module _ {service : Service} {log : Log} {lends : Lends} {link : LinkId} {lent :
   row-standing = grind (arith, common_steps)
 
   pub row-written : written_of link log ≡ bytes_in (pieces_of link log)
-  row-written = pieces-bytes (of_link link log) ∙ ap (λ l. flat_map piece_bytes (filter_map piece l)) (sym (before-loss (of_link link log) [] row.unlost).0)
+  row-written = cc (pieces-bytes (of_link link log), (before-loss (of_link link log) [] row.unlost).0)
 
   -- it can be used
   pub row-sound : row_standing ≢ Spoilt
@@ -199,7 +199,7 @@ module _ {service : Service} {log : Log} {lends : Lends} {link : LinkId} {lent :
 -- The commands of the opens of a log, one entry at a time.
 
 behind-both : (setup : Setup) (before log more : Log) → turns_behind setup before (log ++ more) ≡ turns_behind setup before log ++ turns_behind setup (before ++ log) more
-behind-both setup before [] more = ap (λ (l : Log). turns_behind setup l more) (sym (append-nil before))
+behind-both setup before [] more = cc (append-nil before)
 behind-both setup before (x ∷ log) more = grind (arith, common_steps, turns, (behind-both setup (before ++ x ∷ []) log more))
 
 -- The commands of a longer log cover the log.
@@ -429,7 +429,7 @@ module _ {service : Service} {log : Log} (told : AllLawful Fits log) (sound : So
     due = stands.asked.due;
     asks = stands.asked.asks;
     here = live.here;
-    unsent = ap (λ (o : Option LinkId). not (is_some o)) stands.unsent;
+    unsent = cc (stands.unsent);
     goes = refl;
     target = at-target service.setup.target server address so.2;
     none = λ link owned. none link owned (is_open link log) refl;

@@ -22,7 +22,7 @@ new_talk number salt setup = record { setup = setup; number = number.0; salt = s
 
 nothing-read : (limit : ℕ) → opening limit [] ≡ Waits false
 unfolding opening
-nothing-read limit = ap (λ found. by_message limit found) (first_message-empty limit 1)
+nothing-read limit = cc (first_message-empty limit 1)
 
 pub new-seat : (number : ClientNo) (salt : List ℕ) (setup : Setup) (reply : ℕ → Option Answer) → setup.limit ≤ most_command → SeatAt (new_talk number salt setup) reply [] (new_session number salt setup true)
 new-seat number salt setup reply short = record {

@@ -288,8 +288,7 @@ module _ {talk : Talk} {client : ClientState} (taken : IsTaken talk client) wher
   found = first_message talk.setup.limit 0 client.framer.kept
 
   pub taken-messages : messages_of talk ≡ with_front taken.past (split talk.setup.limit 0 client.framer.kept)
-  taken-messages = ap (split talk.setup.limit 0) (sym (append-nil (commands talk))) ∙ taken.whatever []
-      ∙ ap (λ bytes. with_front taken.past (split talk.setup.limit 0 bytes)) (append-nil client.framer.kept)
+  taken-messages = cc (append-nil (commands talk), taken.whatever [], append-nil client.framer.kept)
 
   pub taken-nothing : found ≡ Nothing → messages_of talk ≡ record { messages = taken.past ++ []; rest = client.framer.kept; fault = None }
   taken-nothing at = grind (arith, common_steps, split-nothing, taken-messages)

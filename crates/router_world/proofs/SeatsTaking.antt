@@ -123,7 +123,7 @@ module _ (talk : Talk) (reply : ℕ → Option Answer) (written : List ℕ) wher
     said-now : (response : Response) (first : ℕ) → IsLoggingIn (stage.Login response first) client talk.setup.version talk.read (written ++ client.outgoing) → (switched : Bool) × IsSaid client switched response first
     said-now response first (switched, framer, whatever, is) = (switched, record {
       framer = framer;
-      opened = ap (opening talk.setup.limit) (sym (append-nil talk.read)) ∙ ap (λ limit. opening limit (talk.read ++ [])) (sym next.mine.limit_is) ∙ whatever.whatever [] ∙ ap (Says switched response first) (append-nil client.framer.kept);
+      opened = cc (append-nil talk.read, next.mine.limit_is, whatever.whatever [], append-nil client.framer.kept);
       greeted_so = is ∙ told-greeted switched;
     })
 
@@ -138,7 +138,7 @@ module _ (talk : Talk) (reply : ℕ → Option Answer) (written : List ℕ) wher
             later = next.later;
             at = record {
               taken = grind (arith, common_steps);
-              account = ap (account_in talk) said.opened ∙ known;
+              account = cc (said.opened, known);
               said = [];
               done = done-none talk.setup reply;
               put = grind (arith, common_steps, append-nil, append_assoc);
@@ -274,7 +274,7 @@ module _ (talk : Talk) (reply : ℕ → Option Answer) (written : List ℕ) wher
             taken = taken-one goes.at.taken whole.at client.outgoing whole.few;
             account = goes.at.account;
             message = message;
-            work = to.first ∙ ap (λ k. Some (at_place k message)) (sym whole.counts);
+            work = cc (to.first, whole.counts);
             query = query;
             begins = whole.begins;
             short = whole.fits;

@@ -210,7 +210,7 @@ module _ (service : Service) (log : Log) (e : Entry) where
 pub nothing-step : {service : Service} {log : Log} {e : Entry} {tables : Tables} → Happens service log e tables → IsNothing e → Sound service (log ++ e ∷ []) None tables
 nothing-step {service} {log} {e} {tables} happens nothing = record {
   came = grind (arith, common_steps, arrivals-plain);
-  here = sound.here ∙ ap length (sym (connected-plain log e nothing.plain));
+  here = cc (sound.here, connected-plain log e nothing.plain);
   counts = counts-all (log ++ e ∷ []) (lawful-more Fits log e happens.told happens.fits);
   seats = λ n seat is. sits-then service log e tables.numbers tables.lends n seat happens.lawful sound.lends (silent-calm service log e passes.silence.silent n) (λ link lent row. leaves link) (leaves seat.link) (sound.seats n seat is);
   numbers = sound.numbers;

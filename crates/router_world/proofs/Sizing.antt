@@ -71,8 +71,7 @@ said-left forms user heard pieces backend h5 = grind (arith, common_steps, drop-
 module _ (service : Service) (log : Log) (told : AllLawful Fits log) where
   client-at : (n : ℕ) (came : Arrival) (link : LinkId) → arrival_of n log ≡ Some came → came.link ≡ link → client_at link 1 (arrivals log) ≡ Some n
   client-at zero came link is on = cc
-  client-at (suc k) came link is on = first-at link (arrivals log) 1 k came is on (λ j other has there. let same : suc j ≡ suc k = same-client log told (suc j) (suc k) other came has is (there ∙ sym on) in omega arith)
-      ∙ ap (λ n. Some n) (let same : 1 + k ≡ suc k = omega arith in same)
+  client-at (suc k) came link is on = cc (first-at link (arrivals log) 1 k came is on (λ j other has there. let same : suc j ≡ suc k = same-client log told (suc j) (suc k) other came has is (there ∙ sym on) in omega arith), let same : 1 + k ≡ suc k = omega arith in same)
 
   owed-client : (n : ℕ) (came : Arrival) (link : LinkId) (bytes : List ℕ) → arrival_of n log ≡ Some came → came.link ≡ link → written_of came.link log ++ bytes ≡ due service n log → bytes ≡ owed service link log
   owed-client n came link bytes is on all = grind (arith, common_steps, drop-append_seam, client-at)
@@ -98,25 +97,22 @@ module _ {service : Service} {log : Log} {tables : Tables} (told : AllLawful Fit
     rest = owed_standing (row_standing row) (commands_on lent.backend.account link log) query
 
     own : unwritten link log (said_of (opening lent.backend.account (heard_of link log))) ≡ lent.backend.own
-    own = ap (λ bytes. drop (length bytes) (said_of (opening lent.backend.account (heard_of link log)))) (row-written row) ∙ said-left service.forms lent.backend.account (heard_of link log) (pieces_of link log) lent.backend row.at
+    own = cc (row-written row, said-left service.forms lent.backend.account (heard_of link log) (pieces_of link log) lent.backend row.at)
 
     whole : owed service link log ≡ login_first lent.backend.own rest
-    whole = ap (owed_by service link log) (none-at link (arrivals log) 1 (λ j other has there. cc (unowned log told service (suc j) other has there, row.is_turn)))
-        ∙ ap (λ o. owed_as service link log o (user_on service link log)) row.is_turn
-        ∙ ap (owed_as service link log (Some row.turn)) (row-user row)
-        ∙ ap (λ bytes. login_first bytes rest) own
+    whole = cc (none-at link (arrivals log) 1 (λ j other has there. cc (unowned log told service (suc j) other has there, row.is_turn)), row.is_turn, row-user row, own)
 
     by : LeftAt lent.backend l → l.bytes ≡ owed service link log
-    by (OfLogin some same) = ap (λ (l : Sent). l.bytes) same ∙ sym (whole ∙ first-some lent.backend.own rest some)
+    by (OfLogin some same) = cc (same, whole, first-some lent.backend.own rest some)
     by (OfCommand command none has less same) = ap (λ (l : Sent). l.bytes) same ∙ sym (whole ∙ ap (λ bytes. login_first bytes rest) none ∙ behind command.sent refl) where
       asked : IsAsked service n (row.command command has).ordinal command.bytes command.first log
       asked = (row.command command has).asked
 
       the-query : query ≡ command.bytes
-      the-query = ap query_in asked.asks.work ∙ ap (λ b. cond b (spelling asked.message.first asked.message.payload) []) asked.asks.query ∙ sym (asked-spelt asked)
+      the-query = cc (asked.asks.work, asked.asks.query, asked-spelt asked)
 
       behind : (sent : ℕ) → command.sent ≡ sent → rest ≡ drop command.sent command.bytes
-      behind zero at = ap (λ standing. owed_standing standing (commands_on lent.backend.account link log) query) (row-clean row has at) ∙ the-query ∙ ap (λ sent. drop sent command.bytes) (sym at)
+      behind zero at = cc (row-clean row has at, the-query, at)
       behind (suc sent) at = ap (λ standing. owed_standing standing (commands_on lent.backend.account link log) query) (row-sends row has (omega arith) less)
           ∙ ap (λ cs. drop (length (last_bytes cs)) query) (row-commands row has (omega arith))
           ∙ ap (λ bytes. drop (length bytes) query) (last-behind (row-inside row has).others (record { tag = command.tag; bytes = take command.sent command.bytes }))

@@ -56,8 +56,8 @@ pub record Mine (service : Service) (log : Log) (e : Entry) (n : ℕ) (hand : Op
 pub moved : (service : Service) (log : Log) (e : Entry) (n : ℕ) (hand : Option Hand) (tables : Tables) (seats : ℕ → Option Seat) (lends : Lends) → Sound service log None tables → Others service log e n tables
     → Mine service log e n hand tables seats lends → Sound service (log ++ e ∷ []) hand (record tables { seats = seats; lends = lends })
 moved service log e n hand tables seats lends sound others mine = record {
-  came = sound.came ∙ ap length (sym (arrivals-plain log e others.plain.arrives));
-  here = sound.here ∙ ap length (sym (connected-plain log e others.plain));
+  came = cc (sound.came, arrivals-plain log e others.plain.arrives);
+  here = cc (sound.here, connected-plain log e others.plain);
   counts = others.counts;
   seats = λ k seat is. one-or-other k n (λ m. seats m ≡ Some seat → Sits service (log ++ e ∷ []) tables.numbers lends m seat) (mine.seat seat) (λ at was. sits k seat at (sym (mine.others k at) ∙ was)) is;
   numbers = λ link client is. numbers link client (sound.numbers link client is);
