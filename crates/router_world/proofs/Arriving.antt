@@ -7,7 +7,7 @@ use Rattle.router_world.proofs.Names.{NotOpened, NotLoggedIn, some-same, refusal
 use Rattle.router_world.proofs.Names.{ClientNo, Port, of_link, open_step, is_open, got_bytes, wrote_bytes, written_of, same_number, of_link-same, step-same}
 use Rattle.router_world.proofs.Names.{step-other, lawful-more, IsOpen, Fits, is_served, is_traffic, Session, new_session, set, most_command, is_loss}
 use Rattle.router_world.proofs.Names.{is_failure, none-if, arrivals-more, Parting, Seat, replied, SeatAt, Tables, admitted, ◌||◌, flat_map, Admin}
-use Rattle.router_world.proofs.Hands.{numbered-seat, known-as, away-gone}
+use Rattle.router_world.proofs.Hands.{put-back, numbered-seat, known-as, away-gone}
 use Rattle.router_world.proofs.Apart.{one-or-other, link-or-other, apart-numbers, set-other, Here, There, row-of, one-same, set-same}
 use Rattle.std.proofs.lemmas.Bool.{and_right, or_right, false_from_ne_true}
 use Rattle.router_world.proofs.Sound.{Sits, Happens, SeatStands, PartAt, PartStands, Sound, InHand, Gone, Clients, Parts, AtMostOne, One, Refused, Strange}
@@ -176,36 +176,26 @@ module _ {service : Service} {log : Log} {port : Port} {link : LinkId} {salt : L
   -- It has a seat.
   seated-step : (client : ClientNo) (here : ℕ) → client.0 ≡ number → port ≡ Traffic → here ≡ length (connected then) → service.setup.limit ≤ most_command → is_served service.setup arrival ≡ true
       → Sound service then None (admitted client link salt service.setup (record tables { came = client.0; here = here }))
-  seated-step client here mine traffic counts-here short room = record {
+  seated-step client here mine traffic counts-here short room = put-back service then client seat (record tables { came = client.0; here = here; numbers = numbers }) (record {
     came = mine ∙ came-now;
     here = counts-here;
     counts = counts-all then (lawful-more Fits log e coming.happens.told coming.happens.fits);
-    seats = λ k other is. one-or-other k client.0 (λ m. set tables.seats client.0 (Some seat) m ≡ Some other → Sits service then numbers tables.lends m other)
-        (λ now. subst (Sits service then numbers tables.lends client.0) (some-same seat other (sym back ∙ now)) (record {
-          stands = stands;
-          serves = away-gone tables.lends client.0 (sound.away client.0 vacant);
-          unfinished = refl;
-          numbered = set-same tables.numbers link.0 (Some client);
-        }))
-        (λ at now. (let was = seats-left service log e link tables sound bystands k other (sym (set-other tables.seats client.0 k (Some seat) at) ∙ now) in record {
-          stands = was.stands;
-          serves = was.serves;
-          unfinished = was.unfinished;
-          numbered = grind (arith, common_steps, number-other);
-        })) is;
+    seats = λ k other is. (let was = seats-left service log e link tables sound bystands k other is in record {
+      stands = was.stands;
+      serves = was.serves;
+      unfinished = was.unfinished;
+      numbered = grind (arith, common_steps, number-other);
+    });
     numbers = λ other someone is. elim (row-of tables.numbers link.0 (Some client) other.0 someone is) [
-      | Here same is ↦ inr (seat, ap (λ (c : ClientNo). set tables.seats client.0 (Some seat) c.0) (sym (some-same client someone is)) ∙ back, ap (λ k. record { 0 = k }) (sym same))
-      | There apart is ↦ elim (sound.numbers other someone is) [
-        | inl none ↦ absurd none
-        | inr old ↦ inr (old.0, set-other tables.seats client.0 someone.0 (Some seat) (apart-numbers someone.0 client.0 (λ same. cc (vacant, ap tables.seats same, old.1))) ∙ old.1, old.2)
-      ]
+      | Here same is ↦ inl (ap (λ (c : ClientNo). c.0) (some-same someone client (sym is)), ap (λ k. record { 0 = k }) same)
+      | There apart is ↦ elim (sound.numbers other someone is) [ inl none ↦ absurd none | inr old ↦ inr old ]
     ];
     unlent = λ other someone is. elim (row-of tables.numbers link.0 (Some client) other.0 someone is) [
       | Here same is ↦ ap tables.lends.links same ∙ bystands.unlent
       | There apart is ↦ sound.unlent other someone is
     ];
     unclosing = λ other closes. cc (coming.quiet.unclosed, closes);
-    away = λ k is. grind (arith, common_steps, one-or-other, set-other);
+    away = λ k is. inr (away-gone tables.lends k (sound.away k is));
     lends = lends-left service log e link tables sound bystands coming.quiet.unclosed;
     one_parts = sound.one_parts;
     parts = λ parting is. cc (coming.quiet.unparted, is);
@@ -214,7 +204,7 @@ module _ {service : Service} {log : Log} {port : Port} {link : LinkId} {salt : L
       | inr same ↦ Clients client (ap (λ (l : LinkId). numbers l.0) same ∙ set-same tables.numbers link.0 (Some client))
     ];
     served = coming.happens.served;
-  } where
+  }) vacant (set-same tables.numbers link.0 (Some client)) stands (away-gone tables.lends client.0 (sound.away client.0 vacant)) refl where
     session : Session
     session = new_session client salt service.setup true
 
@@ -223,9 +213,6 @@ module _ {service : Service} {log : Log} {port : Port} {link : LinkId} {salt : L
 
     numbers : ℕ → Option ClientNo
     numbers = set tables.numbers link.0 (Some client)
-
-    back : set tables.seats client.0 (Some seat) client.0 ≡ Some seat
-    back = set-same tables.seats client.0 (Some seat)
 
     number-other : (other : LinkId) → (other.0 ≡ link.0 → ⊥) → numbers other.0 ≡ tables.numbers other.0
     number-other other differs = grind (arith, common_steps, apart-numbers, set-other)
