@@ -146,12 +146,11 @@ module _ {service : Service} {log : Log} {e : Entry} {n : ℕ} {tables : Tables}
 
           -- the message is the one in work
           same : message ≡ working.message
-          same = some-same message working.message (sym there ∙ message-stays service n client.arrived log (e ∷ []) working.message
-              (in-work service n log (at_place client.arrived working.message) (work-is service n was.came log was.is_came ∙ working.work)).0)
+          same = some-same message working.message (cc (there, message-stays service n client.arrived log (e ∷ []) working.message (in-work service n log (at_place client.arrived working.message) (work-is service n was.came log was.is_came ∙ working.work)).0))
 
           at : SeatTurned (talk_with service n was.came log) (reply then) written old turned
           at = answered-seat working (reply then) written answer packets now-seat now stays (λ i less. unsent-still service n i then (unsent i less).0 (unsent i less).1)
-              (ap (λ (m : Framed). spelt (next_id m.last) answer) same) (read-short was.came.link log from.happens.told (let few = from.happens.few in omega arith))
+              (cc (same)) (read-short was.came.link log from.happens.told (let few = from.happens.few in omega arith))
 
           at-then : SeatTurned (talk_with service n was.came then) (reply then) written old turned
           at-then = subst (λ r. SeatTurned (record { setup = service.setup; number = n; salt = was.came.salt; read = r }) (reply then) written old turned) (sym leaves.read) at
@@ -160,7 +159,7 @@ module _ {service : Service} {log : Log} {e : Entry} {n : ℕ} {tables : Tables}
           behind : (q : Option Query) → q ≢ None → Asks q (talk_with service n was.came log) (reply then) old turned.session → client.arrived < turned.session.client.arrived
           behind None some asks = absurd (some refl)
           behind (Some query) some asks = (let more = later-work (talk_with service n was.came log) (reply then) working.taken.past (split service.setup.limit 0 client.framer.kept).messages
-              (record { ordinal = turned.session.client.arrived; message = asks.1.message }) (ap (λ (s : Split). s.messages) (taken-messages working.taken)) (working-done working (reply then) answer now stays).all asks.1.work in
+              (record { ordinal = turned.session.client.arrived; message = asks.1.message }) (cc (taken-messages working.taken)) (working-done working (reply then) answer now stays).all asks.1.work in
               let count = working.taken.arrived in omega arith)
 
           stands : SeatStands service then n (record { link = seat.link; session = turned.session })
@@ -184,7 +183,7 @@ module _ {service : Service} {log : Log} {e : Entry} {n : ℕ} {tables : Tables}
     by : (o : Option Seat) → tables.seats n ≡ o → Sound service then None (on_seat (answered service.setup (spelt (next_id message.last) answer)) (record { 0 = n }) o (without_seat (record { 0 = n }) (with_lends news.lends tables)))
     by None none = grind (arith, common_steps, away-gone, gone-busy)
     by (Some seat) is = (let works = working-busy seat.session.phase tables.lends n seat.session.client.arrived i ((sound.seats n seat is).serves) busy in
-        seated is works.1 answer message (ap (λ k. message_of service n k then) works.2 ∙ there) (ap (λ k. replied service n k then) works.2 ∙ now) free idle closable)
+        seated is works.1 answer message (cc (works.2, there)) (cc (works.2, now)) free idle closable)
 
 -- What an entry of a server makes of what stands.
 pub server-step : (service : Service) (log : Log) (e : Entry) (n : ℕ) (tables : Tables) (news : Told) → Sound service log None tables → FromServer service log e n tables news → Sound service (log ++ e ∷ []) None (told service.setup news tables)

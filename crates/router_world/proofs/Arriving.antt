@@ -201,7 +201,7 @@ module _ {service : Service} {log : Log} {port : Port} {link : LinkId} {salt : L
     parts = λ parting is. cc (coming.quiet.unparted, is);
     known = λ other opened. elim (opened-now other opened) [
       | inl was ↦ known-as tables.numbers numbers tables.lends tables.parting tables.parting other (number-other other (λ same. shut other (ap (λ k. record { 0 = k }) same) was)) (λ p is on. cc (coming.quiet.unparted, is)) (sound.known other was)
-      | inr same ↦ Clients client (ap (λ (l : LinkId). numbers l.0) same ∙ set-same tables.numbers link.0 (Some client))
+      | inr same ↦ Clients client (cc (same, set-same tables.numbers link.0 (Some client)))
     ];
     served = coming.happens.served;
   }) vacant (set-same tables.numbers link.0 (Some client)) stands (away-gone tables.lends client.0 (sound.away client.0 vacant)) refl where
@@ -247,7 +247,7 @@ module _ {service : Service} {log : Log} {port : Port} {link : LinkId} {salt : L
 
 pub coming-step : {service : Service} {log : Log} {port : Port} {link : LinkId} {salt : List ℕ} {tables : Tables} → IsComing service log port link salt tables → service.setup.limit ≤ most_command
     → Sound service (log ++ Accepted port link salt ∷ []) None (comes port service.setup link salt tables)
-coming-step {log = log} {port = Admin} {tables = tables} coming short = away-step coming tables.here [] ((sound coming).here ∙ sym (ap length (connected-more log (e coming)))) (Strange refl) (among coming)
+coming-step {log = log} {port = Admin} {tables = tables} coming short = away-step coming tables.here [] (cc ((sound coming).here, connected-more log (e coming))) (Strange refl) (among coming)
 coming-step {service} {log} {port = Traffic} {link} {salt} {tables} coming short = by (nat_lt tables.here service.setup.max_clients) refl where
   room : (b : Bool) → nat_lt tables.here service.setup.max_clients ≡ b → nat_lt (length (connected log)) service.setup.max_clients ≡ b
   room b is = grind (arith, common_steps)

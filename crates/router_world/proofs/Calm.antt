@@ -109,7 +109,7 @@ module _ (service : Service) (n i : ℕ) where
         ∙ ap (λ (t : Talk). first_without (λ k. answer service n k (log ++ more)) 1 (messages_of t).messages) (talk-more service n came log more)
         ∙ ap (first_without (λ k. answer service n k (log ++ more)) 1) grows.messages
         ∙ first-still (λ k. answer service n k log) (λ k. answer service n k (log ++ more)) (λ k reply at. answer-stays service n k log more reply lawful at) 1 (messages_of (talk_with service n came log)).messages grows.later (record { ordinal = i; message = message })
-        (sym (ap (λ (o : Option Arrival). work_in service n log (option_map (λ (came : Arrival). talk_with service n came log) o)) at) ∙ is) none)
+        (cc (at, is)) none)
 
     pub asks-stay : (more : Log) → AllLawful (IsLawful service) (log ++ more) → is_some service.setup.target ≡ true → Asks service n i message due log → replied service n i (log ++ more) ≡ None → Asks service n i message due (log ++ more)
     asks-stay more lawful has asks none = (let there = message-stays service n i log more message (in-work service n log (record { ordinal = i; message = message }) asks.work).0 in

@@ -66,7 +66,7 @@ module _ {service : Service} {log : Log} {e : Entry} {client : ClientNo} {link :
   calm k = record { writes = on.writes k; spares = λ i. client-spares service log e link on.on.refuses (unowned log happens.told service client.0 came sits.stands.is_came (sits.stands.link ∙ on.same)) k i }
 
   left : (other : LinkId) → other.0 ≢ link.0 → Leaves other log e
-  left other apart = leaves-other other log e (ap (is_link other) on.on.names ∙ apart-numbers other.0 link.0 apart)
+  left other apart = leaves-other other log e (cc (on.on.names, apart-numbers other.0 link.0 apart))
 
   rows : (other : LinkId) (lent : Lent) → tables.lends.links other.0 ≡ Some lent → Leaves other log e
   rows other lent row = left other (λ at. cc (happens.sound.unlent link client on.number, at, row))
@@ -143,7 +143,7 @@ module _ {service : Service} {log : Log} {e : Entry} {client : ClientNo} {link :
 
   goes : (turned : Turned) → is_failure e ≡ false → StateThen turned.session → Next service then client.0 tables.lends turned.session.phase turned.session.client.arrived turned.query → Sound service then None (goes_on client seat.link turned (without_seat client tables))
   goes turned none state next = (let stands = stands none turned.session state in
-      goes-on service then client seat.link turned (without_seat client tables) out (set-same tables.seats client.0 None) (ap (λ (l : LinkId). tables.numbers l.0) on.same ∙ on.number) quiet.unparted stands next
+      goes-on service then client seat.link turned (without_seat client tables) out (set-same tables.seats client.0 None) (cc (on.same, on.number)) quiet.unparted stands next
       (finished-parted service then client.0 (record { link = seat.link; session = turned.session }) stands))
 
   -- Its link is broken.
@@ -171,7 +171,7 @@ ended-client {service} {log} {client} {link} {seat} {tables} on = goes on (still
   told = cc (bytes-idle wrote_bytes (came on).link log (Ended link) refl, told (sits on).stands.state);
 })) (Ends None (away on (holds on is_loss refl))) where
   told : State on seat.session → written_of (came on).link log ++ seat.session.client.outgoing ≡ due service client.0 (log ++ Ended link ∷ [])
-  told (inl heard) = cc (heard.at.due, due-unlost service client.0 (came on) log (sits on).stands.is_came (sits on).stands.served heard.unlost, due-loses service client.0 (came on) log (Ended link) (sits on).stands.is_came (sits on).stands.served heard.unlost (ap (λ b. b && true) (here on)))
+  told (inl heard) = cc (heard.at.due, due-unlost service client.0 (came on) log (sits on).stands.is_came (sits on).stands.served heard.unlost, due-loses service client.0 (came on) log (Ended link) (sits on).stands.is_came (sits on).stands.served heard.unlost (cc (here on)))
   told (inr went) = went.told ∙ sym (due-lost service client.0 (came on) log (Ended link) (sits on).stands.is_came (sits on).stands.served went.lost)
 
 -- Bytes of it come.
@@ -190,7 +190,7 @@ module _ {service : Service} {log : Log} {client : ClientNo} {link : LinkId} {by
       unsent = λ i later. (replies on heard).unsent i (let grows = (says heard).grows in omega arith);
     })) (says heard).next
     | inr went ↦ rw (ap (λ (p : Phase). said_in p service.setup bytes seat.session) went.ends)
-        (goes on (still seat.session) refl (inr (still-ended on went refl seat.session refl (ap (λ w. w ++ seat.session.client.outgoing) unwritten)))
+        (goes on (still seat.session) refl (inr (still-ended on went refl seat.session refl (cc (unwritten))))
         (rw went.ends (Ends None (away on (keeps on is_loss refl ∙ went.lost)))))
   ] where
     read : read_of (came on).link (then on) ≡ read_of (came on).link log ++ bytes
@@ -236,6 +236,4 @@ module _ {service : Service} {log : Log} {client : ClientNo} {link : LinkId} {ta
           (taken-seat (length bytes) (replies on heard).seat));
       unsent = (replies on heard).unsent;
     })
-    by (inr went) = inr (still-ended on went refl rest refl (ap (λ w. w ++ drop (length bytes) seat.session.client.outgoing) written
-        ∙ append_assoc (written_of (came on).link log) (take (length bytes) seat.session.client.outgoing) (drop (length bytes) seat.session.client.outgoing)
-        ∙ ap (λ w. written_of (came on).link log ++ w) (take-append-drop (length bytes) seat.session.client.outgoing)))
+    by (inr went) = inr (still-ended on went refl rest refl (cc (written, append_assoc (written_of (came on).link log) (take (length bytes) seat.session.client.outgoing) (drop (length bytes) seat.session.client.outgoing), take-append-drop (length bytes) seat.session.client.outgoing)))

@@ -41,7 +41,7 @@ pub gone-stays : (service : Service) (n : ℕ) (user : Account) (log : Log) (e :
 gone-stays service n user log e fits known gone = by (arrival_of n log) refl known where
   by : (o : Option Arrival) → arrival_of n log ≡ o → option_and_then account (option_map (λ (came : Arrival). talk_with service n came log) o) ≡ Some user → is_here n (log ++ e ∷ []) ≡ false
   by None at known = cc
-  by (Some came) at known = cc (arrival-stays n log (e ∷ []) came at, gone-link came.link log e fits (λ new. named-none came.link (came_as came.link) log (came-names came.link) new (arrival-came n log came at)) (ap (λ o. is_here_as o log) (sym at) ∙ gone))
+  by (Some came) at known = cc (arrival-stays n log (e ∷ []) came at, gone-link came.link log e fits (λ new. named-none came.link (came_as came.link) log (came-names came.link) new (arrival-came n log came at)) (cc (at, gone)))
 
 pub user-there : (service : Service) (link : LinkId) (turn : Turn) (user : Account) (log : Log) → turn_of service link log ≡ Some turn → user_of service turn.client log ≡ Some user → user_on service link log ≡ Some user
 user-there service link turn user log is known = grind (arith, common_steps)
@@ -133,7 +133,7 @@ module _ (service : Service) (log : Log) (e : Entry) where
     | Waits ask is same unowned waits ↦ unbegun ask is same
     | Logs ask is same link lent owns at stage ↦ unbegun ask is same
     | On unasked link lent command owns at stage has tag ↦ (let row = sound.rows link lent at in let owner = sound.owned n link owns in
-        let mine = owner-turn service log lends link lent n row.turn.client row.owned (ap (λ (l : Lent). l.owner) (some-same lent owner.lent (sym at ∙ owner.there)) ∙ owner.owner) in
+        let mine = owner-turn service log lends link lent n row.turn.client row.owned (cc (some-same lent owner.lent (sym at ∙ owner.there), owner.owner)) in
         let stands : HandedStands service log n link command = rw mine at (row.command command has) in
         ap (λ k. replied service n k then) (same-ordinal n i stands.ordinal command.tag tag stands.tag)
         ∙ still-none n stands.ordinal command.bytes command.first (refused-or-sent service then lawful) stands.asked calm

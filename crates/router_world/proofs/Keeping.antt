@@ -138,7 +138,7 @@ module _ {service : Service} {log : Log} {tables : Tables} (told : AllLawful Fit
 
   own-row : {link : LinkId} {lent : Lent} (n : ℕ) → tables.lends.owned n ≡ Some link → tables.lends.links link.0 ≡ Some lent → (row : RowStands service log tables.lends link lent) × (row.turn.client ≡ n)
   own-row {link} {lent} n owns is = (let row = sound.lends.rows link lent is in let owner = sound.lends.owned n link owns in
-      (row, owner-turn service log tables.lends link lent n row.turn.client row.owned (ap (λ (l : Lent). l.owner) (some-same lent owner.lent (sym is ∙ owner.there)) ∙ owner.owner)))
+      (row, owner-turn service log tables.lends link lent n row.turn.client row.owned (cc (some-same lent owner.lent (sym is ∙ owner.there), owner.owner))))
 
   busy-waits : (n i : ℕ) (work : Work) → Busy tables.lends n i → work_of service n log ≡ Some work → Waits service n work log
   busy-waits n i work (WaitsForLink ask is same unowned waiting) working = (let asks = (sound.lends.asks n ask is).asked.asks in
@@ -218,7 +218,7 @@ module _ {service : Service} {log : Log} {tables : Tables} (told : AllLawful Fit
       rw (← (some-same there.0.backend.account user (sym (row-user row) ∙ known))) (record { sound = row-sound row; needed = kept there.0 there.1 row mine row.owned })) where
         kept : (lent : Lent) → tables.lends.links link.0 ≡ Some lent → (row : RowStands service log tables.lends link lent) → row.turn.client ≡ owner.client → Owned service log tables.lends link row.turn.client lent
             → (is_here owner.client log ≡ true) ⊎ IsBusy service.forms lent.backend.account link log
-        kept lent is row mine (Own own owns) = inl (ap (λ n. is_here n log) (sym mine) ∙ (own-live sound row.turn.client owns).here)
+        kept lent is row mine (Own own owns) = inl (cc (mine, (own-live sound row.turn.client owns).here))
         kept lent is row mine (Left none gone begun) = inr (row-busy is row begun)
 
   pub rests-at : IsAtRest service log

@@ -228,7 +228,7 @@ module _ (service : Service) (log : Log) (e : Entry) where
   next-turn turn at covers = (let counts : length (turns service.setup log) ≡ length (open_tries log) =
       (let both = counts-both in let now = covers.counts in let one = ap length at in let try = tries-one before turn e at in omega arith) in
       ap (λ (n : ℕ). slice_get service.opens n) (sym counts)
-      ∙ ap (λ opens. slice_get opens (length (turns service.setup log))) (covers.is ∙ ap (λ turns. turns ++ covers.rest) (turns-more ∙ ap (λ now. turns service.setup log ++ now) at) ∙ append_assoc (turns service.setup log) (turn ∷ []) covers.rest)
+      ∙ ap (λ opens. slice_get opens (length (turns service.setup log))) (cc (covers.is, turns-more, at, append_assoc (turns service.setup log) (turn ∷ []) covers.rest))
       ∙ get-behind (turns service.setup log)) where
         get-behind : (xs : List Turn) → slice_get (xs ++ turn ∷ covers.rest) (length xs) ≡ Some turn
         get-behind [] = refl
@@ -294,7 +294,7 @@ module _ {service : Service} {log : Log} {tables : Tables} (sound : Sound servic
   sends-so link tag bytes front = by (tables.numbers link.0) refl front where
     by : (o : Option ClientNo) → tables.numbers link.0 ≡ o → IsFront (sends_by tables link o) tag bytes → Writes tables link tag bytes
     by (Some client) at front = (let one = seat-front (tables.seats client.0) tag bytes front in let seat = numbered-seat service log tables link client sound at in
-        ToClient client one.0 one.1 (ap (λ (s : Seat). s.link) (some-same one.0 seat.0 (sym one.1 ∙ seat.1)) ∙ seat.2) one.2 one.3 one.4)
+        ToClient client one.0 one.1 (cc (some-same one.0 seat.0 (sym one.1 ∙ seat.1), seat.2)) one.2 one.3 one.4)
     by None at front = (let row = lent-left (tables.lends.links link.0) front.sent front.is in ToServer row.0 front.sent row.1 row.2 front.same_tag front.n front.front)
 
   farewell-so : (link : LinkId) (tag : Tag) (bytes : List ℕ) → IsFarewell tables link → IsFront (farewell_of tables.parting) tag bytes → Writes tables link tag bytes
@@ -410,7 +410,7 @@ module _ {service : Service} {log : Log} {tables : Tables} (told : AllLawful Fit
   may-close : (link : LinkId) → IsClosing tables link log → MayClose service link log
   may-close link closing = elim (closes-next tables link sound.one_parts sound.lends.one_closes closing.is_next) [
     | ClosesServer none is ↦ server-closes link (sound.lends.closes link is)
-    | ClosesClient p is on ↦ part-closes p link (sound.parts p is) on (λ some. closing.offered (ap (λ all. is_some (farewell_of all)) is ∙ some))
+    | ClosesClient p is on ↦ part-closes p link (sound.parts p is) on (λ some. closing.offered (cc (is, some)))
   ]
 
 -- What the router does is lawful.

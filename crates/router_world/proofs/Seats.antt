@@ -134,7 +134,7 @@ module _ {talk : Talk} {reply : ℕ → Option Answer} {user : Account} {client 
 
   within : first_open talk.setup reply 1 past ≡ Some work
   within = (let count = working.taken.arrived in
-      open-within talk.setup reply 1 past behind.messages work (sym (ap (λ (s : Split). first_open talk.setup reply 1 s.messages) messages) ∙ working.work) (omega arith))
+      open-within talk.setup reply 1 past behind.messages work (cc (messages, working.work)) (omega arith))
 
   -- no reply is there
   working-open : IsOpen talk.setup (reply client.arrived)

@@ -263,7 +263,7 @@ module _ (talk : Talk) where
 
   pub commands-more : (more : List ℕ) (user : Account) → account talk ≡ Some user → commands (heard_more talk more) ≡ commands talk ++ more
   commands-more more user is = (let who = is-in user is in
-      ap (commands_in (heard_more talk more)) (says-more more user who) ∙ ap (λ o. if_known o (who.rest ++ more)) who.known ∙ sym (ap (λ bytes. bytes ++ more) (in-commands user who)))
+      ap (commands_in (heard_more talk more)) (says-more more user who) ∙ ap (λ o. if_known o (who.rest ++ more)) who.known ∙ sym (cc (in-commands user who)))
 
   commands-shorter : (user : Account) → account talk ≡ Some user → length (commands talk) ≤ length talk.read
   commands-shorter user is = grind (arith, common_steps, is-in, in-commands, opening-shorter)

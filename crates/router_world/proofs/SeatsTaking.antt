@@ -49,7 +49,7 @@ within-framed (suc packets) limit announced id bytes message rest is = found (fi
       let there = first_packet-whole limit announced id bytes packet r at in
       let size = packet_size limit announced id bytes packet r there in
       let allowed = there.allowed in
-      by (ap (λ (f : Framed). f.first) there.is) (omega arith) (nat_eq (length packet.payload) longest) refl same)
+      by (cc (there.is)) (omega arith) (nat_eq (length packet.payload) longest) refl same)
 
 message-framed : (limit : ℕ) (bytes : List ℕ) (message : Framed) (rest : List ℕ) → first_message limit 0 bytes ≡ Whole message rest → IsFramed limit 0 0 message
 unfolding first_message
@@ -117,8 +117,8 @@ module _ (talk : Talk) (reply : ℕ → Option Answer) (written : List ℕ) wher
     coming-refused first fault (switched, fails, bytes) old = (let error = spelling first (fault_error talk.setup.limit fault) in
         let at : opening_of talk ≡ Fails switched fault first = ap (opening talk.setup.limit) (sym (append-nil talk.read)) ∙ fails [] in
         ends-so talk reply written (record client { outgoing = client.outgoing ++ error }) next.mine next.later
-        (ap (λ (o : Opening). ends_in o (account talk) (ends_by (work_said reply talk) (is_some (messages_of talk).fault))) at)
-        (sym (append_assoc written client.outgoing error) ∙ ap (λ l. l ++ error) (bytes ∙ told-greeted switched) ∙ sym (due-alone reply talk (Fails switched fault first) at refl)) old)
+        (cc (at))
+        (cc (append_assoc written client.outgoing error, bytes, told-greeted switched, due-alone reply talk (Fails switched fault first) at refl)) old)
 
     said-now : (response : Response) (first : ℕ) → IsLoggingIn (stage.Login response first) client talk.setup.version talk.read (written ++ client.outgoing) → (switched : Bool) × IsSaid client switched response first
     said-now response first (switched, framer, whatever, is) = (switched, record {
@@ -206,8 +206,8 @@ module _ (talk : Talk) (reply : ℕ → Option Answer) (written : List ℕ) wher
         let messages = taken-faulty goes.at.taken at in
         let all = due-all reply talk past goes.at.said client.framer.kept (Some fault) goes.at.done messages in
         ends-so talk reply written (record (looked client (Faulty fault)) { outgoing = client.outgoing ++ error }) goes.mine goes.later
-        (over-in reply talk user goes.at.account ∙ ap (λ w. ends_by w (is_some (messages_of talk).fault)) all.none ∙ ap (λ (s : Split). is_some s.fault) messages)
-        (sym (append_assoc written client.outgoing error) ∙ ap (λ l. l ++ error) goes.at.put ∙ append_assoc (front talk) goes.at.said error ∙ sym all.due) old)
+        (cc (over-in reply talk user goes.at.account, all.none, messages))
+        (cc (append_assoc written client.outgoing error, goes.at.put, append_assoc (front talk) goes.at.said error, all.due)) old)
 
     -- A message comes.
 

@@ -124,7 +124,7 @@ module _ (service : Service) (log : Log) (e : Entry) where
   -- What a bystander leaves: all other links, and so seats and links to servers.
   module _ (link : LinkId) (tables : Tables) where
     left : Bystands service log e link tables → (other : LinkId) → other.0 ≢ link.0 → Leaves other log e
-    left at other apart = leaves-other other log e (ap (is_link other) at.names ∙ apart-numbers other.0 link.0 apart)
+    left at other apart = leaves-other other log e (cc (at.names, apart-numbers other.0 link.0 apart))
 
     pub rows-left : Bystands service log e link tables → (other : LinkId) (lent : Lent) → tables.lends.links other.0 ≡ Some lent → Leaves other log e
     rows-left at other lent row = left at other (λ same. cc (at.unlent, same, row))
@@ -157,7 +157,7 @@ module _ (service : Service) (log : Log) (e : Entry) where
 
     replied-still : (n i : ℕ) → replied service n i then ≡ replied service n i log
     replied-still n i = ap (λ (turns : List Turn). cond (list_any (is_turn n i) turns) (Some (connection_refused ∷ [])) (reply_to service n i then))
-        (refused-more service log (e ∷ []) ∙ ap (λ (o : Option Turn). refused service log ++ cons_option o []) (silence.silent.refuses_none service log) ∙ append-nil (refused service log))
+        (cc (refused-more service log (e ∷ []), silence.silent.refuses_none service log, append-nil (refused service log)))
         ∙ ap (cond (is_refused service n i log) (Some (connection_refused ∷ []))) (λ j. option_and_then (λ link. reply-same n i link j) (carrier-same n i log e (silence.silent.carries_none n i) j))
 
     work-same : (n : ℕ) → work_of service n then ≡ work_of service n log

@@ -104,7 +104,7 @@ module _ {service : Service} {log : Log} {tables : Tables} (told : AllLawful Fit
 
     by : LeftAt lent.backend l → l.bytes ≡ owed service link log
     by (OfLogin some same) = cc (same, whole, first-some lent.backend.own rest some)
-    by (OfCommand command none has less same) = ap (λ (l : Sent). l.bytes) same ∙ sym (whole ∙ ap (λ bytes. login_first bytes rest) none ∙ behind command.sent refl) where
+    by (OfCommand command none has less same) = ap (λ (l : Sent). l.bytes) same ∙ sym (cc (whole, none, behind command.sent refl)) where
       asked : IsAsked service n (row.command command has).ordinal command.bytes command.first log
       asked = (row.command command has).asked
 
@@ -126,7 +126,7 @@ module _ {service : Service} {log : Log} {tables : Tables} (told : AllLawful Fit
     by (Some client) at whole = (let one = seat-whole (tables.seats client.0) piece whole in
         let seat = numbered-seat service log tables link client sound at in
         let stands = (sound.seats client.0 one.0 one.1).stands in
-        one.2 ∙ owed-client service log told client.0 stands.came link one.0.session.client.outgoing stands.is_came (stands.link ∙ ap (λ (s : Seat). s.link) (some-same one.0 seat.0 (sym one.1 ∙ seat.1)) ∙ seat.2)
+        one.2 ∙ owed-client service log told client.0 stands.came link one.0.session.client.outgoing stands.is_came (cc (stands.link, some-same one.0 seat.0 (sym one.1 ∙ seat.1), seat.2))
         (told-seat service log client.0 one.0 stands))
     by None at whole = grind (arith, common_steps, left-whole, owed-row)
 

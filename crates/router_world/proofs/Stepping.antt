@@ -81,8 +81,8 @@ moved service log e n hand tables seats lends sound others mine = record {
 
   leaves : (k : ℕ) → nat_eq k n ≡ false → (link : LinkId) (lent : Lent) → tables.lends.owned k ≡ Some link → tables.lends.links link.0 ≡ Some lent → Leaves link log e
   leaves k apart link lent owns is = (let row = sound.lends.rows link lent is in let owner = sound.lends.owned k link owns in
-      let client = owner-turn service log tables.lends link lent k row.turn.client row.owned (ap (λ (l : Lent). l.owner) (some-same lent owner.lent (sym is ∙ owner.there)) ∙ owner.owner) in
-      others.rows link lent row.turn is row.is_turn (ap (λ m. nat_eq m n) client ∙ apart))
+      let client = owner-turn service log tables.lends link lent k row.turn.client row.owned (cc (some-same lent owner.lent (sym is ∙ owner.there), owner.owner)) in
+      others.rows link lent row.turn is row.is_turn (cc (client, apart)))
 
   sits : (k : ℕ) (seat : Seat) → nat_eq k n ≡ false → tables.seats k ≡ Some seat → Sits service (log ++ e ∷ []) tables.numbers lends k seat
   sits k seat at was = (let sits = sound.seats k seat was in record {
