@@ -9,7 +9,9 @@ use Rattle.router_world.proofs.Names.{counted, has_server, fault_answer, is_quer
 use Rattle.router_world.proofs.Names.{turned, spelt, answer_of, IsWorking}
 use Rattle.router_world.specs.Seats.{IsOf}
 use Rattle.packet_frame.specs.Packets.{first_packet, begun, and_then, continued, message_within, first_message, spelling}
-use Rattle.packet_frame.specs.PacketLaws.{first_packet-whole, packet_size}
+use Rattle.packet_frame.specs.PacketLaws.{packet_size}
+use Rattle.packet_frame.specs.MessageLaws.{led}
+use Rattle.router_world.proofs.Names.{inl, inr, length-append}
 use Rattle.handshake.specs.declared.fault.HandFault.{HandFault}
 use Rattle.client_side.specs.declared.step.ClientFault.{ClientFault}
 use Rattle.client_side.specs.Login.{Fails, opening, fault_id}
@@ -38,18 +40,16 @@ record IsFramed (limit announced id : ℕ) (message : Framed) : Type 0 where
 
 within-framed : (packets limit announced id : ℕ) (bytes : List ℕ) (message : Framed) (rest : List ℕ) → message_within packets limit announced id bytes ≡ Whole message rest → IsFramed limit announced id message
 within-framed zero limit announced id bytes message rest is = cc
-within-framed (suc packets) limit announced id bytes message rest is = found (first_packet limit announced id bytes) refl is (λ r m behind. within-framed packets limit (announced + longest) (next_id id) r m behind) where
-  found : (first : Found) → first_packet limit announced id bytes ≡ first → and_then first (λ packet r. continued packet r (message_within packets limit (announced + longest) (next_id id) r)) ≡ Whole message rest
-      → ((r : List ℕ) (m : Framed) (behind : List ℕ) → message_within packets limit (announced + longest) (next_id id) r ≡ Whole m behind → IsFramed limit (announced + longest) (next_id id) m) → IsFramed limit announced id message
-  found Nothing at same later = cc
-  found (Faulty fault) at same later = cc
-  found (Whole packet r) at same later = (let by : packet.first ≡ id → announced + length packet.payload ≤ limit → (long : Bool) → nat_eq (length packet.payload) longest ≡ long
-      → cond long (begun packet (message_within packets limit (announced + longest) (next_id id) r)) (Whole packet r) ≡ Whole message rest → IsFramed limit announced id message =
-      λ first fits long h3 same. grind (arith, common_steps, nat_eq-true) in
-      let there = first_packet-whole limit announced id bytes packet r at in
-      let size = packet_size limit announced id bytes packet r there in
-      let allowed = there.allowed in
-      by (cc (there.is)) (omega arith) (nat_eq (length packet.payload) longest) refl same)
+within-framed (suc packets) limit announced id bytes message rest is = (let by = led packets limit announced id bytes message rest is in
+    let size = packet_size limit announced id bytes by.packet by.behind by.at in
+    let allowed = by.at.allowed in
+    elim by.goes [
+      | inl last ↦ record { begins = cc (by.at.is, last.1); fits = omega (arith, ap (λ (m : Framed). length m.payload) last.1) }
+      | inr long ↦ (let others = within-framed packets limit (announced + longest) (next_id id) by.behind long.1 rest long.2 in
+          let all = nat_eq-true (length by.packet.payload) longest long.0 in
+          let fits = others.fits in
+          record { begins = cc (by.at.is, long.3); fits = omega (arith, ap (λ (m : Framed). length m.payload) long.3, length-append by.packet.payload long.1.payload) })
+    ])
 
 message-framed : (limit : ℕ) (bytes : List ℕ) (message : Framed) (rest : List ℕ) → first_message limit 0 bytes ≡ Whole message rest → IsFramed limit 0 0 message
 unfolding first_message
@@ -60,20 +60,8 @@ message-framed limit bytes message rest is = within-framed (length bytes) limit 
 kept-behind : (message : Framed) (client : ClientState) → length (drop (message_size client.framer.kept) client.framer.kept) ≤ length client.framer.kept
 kept-behind message client = omega (arith, length-drop (message_size client.framer.kept) client.framer.kept)
 
-kept-answer : (response : Response) (client : ClientState) (found : Found) → length (answer_found response client found).client.framer.kept ≤ length client.framer.kept
-kept-answer response client found = grind (arith, common_steps, kept-behind)
-
-kept-read : (id : ℕ) (decoded : Result Response HandFault) (client : ClientState) → length (response_read id decoded client).client.framer.kept ≤ length client.framer.kept
-kept-read id decoded client = grind (arith, common_steps, kept-answer)
-
-kept-response : (client : ClientState) (found : Found) → length (response_found client found).client.framer.kept ≤ length client.framer.kept
-kept-response client found = grind (arith, common_steps, kept-read, kept-behind)
-
-kept-command : (client : ClientState) (found : Found) → length (command_found client found).client.framer.kept ≤ length client.framer.kept
-kept-command client found = grind (arith, common_steps)
-
 kept-next : (at : Stage) (client : ClientState) → length (next_of at client).client.framer.kept ≤ length client.framer.kept
-kept-next at client = grind (arith, common_steps, kept-response, kept-answer, kept-command)
+kept-next at client = grind (arith, common_steps, kept-behind)
 
 -- a login is left to say until it is answered
 unsaid-coming : (at : Stage) (client : ClientState) (version read bytes : List ℕ) → IsLoggingIn at client version read bytes → unsaid at ≡ 1
