@@ -104,24 +104,33 @@ module _ {service : Service} {log : Log} {tables : Tables} (told : AllLawful Fit
 
   -- Where the queries in work wait as the router does.
 
-  -- on the client's own link, while the login goes on there or as its command
-  logs-in : {link : LinkId} {lent : Lent} {n i : ℕ} {bytes : List ℕ} {id : ℕ} → tables.lends.links link.0 ≡ Some lent → (row : RowStands service log tables.lends link lent) → lent.backend.stage ≢ In → (asked : IsAsked service n i bytes id log)
-      → Stays service.forms n i asked.message lent.backend.account link log
-  logs-in {link} {lent} is row outside asked = grind (arith, common_steps, entering-at, (row-enters row), append-nil, (row-written row), row-full)
+  module _ {link : LinkId} {lent : Lent} (is : tables.lends.links link.0 ≡ Some lent) (row : RowStands service log tables.lends link lent) where
+    -- a command there was written whole, or the link takes no more
+    whole-or-full : {command : Handed} → lent.backend.command ≡ Some command → (command.sent ≡ length command.bytes) ⊎ ((command.sent < length command.bytes) × (write_dry link log ≡ true))
+    whole-or-full {command} has = by (nat_lt command.sent (length command.bytes)) refl where
+      by : (b : Bool) → nat_lt command.sent (length command.bytes) ≡ b → (command.sent ≡ length command.bytes) ⊎ ((command.sent < length command.bytes) × (write_dry link log ≡ true))
+      by true less = (let part : command.sent < length command.bytes = grind arith in let l = left-some lent.backend command has part in inr (part, row-full lent l.0 row.opened is l.1))
+      by false most = inl (let fits = (row-message row has).sent in grind arith)
 
-  stays-on : {link : LinkId} {lent : Lent} {command : Handed} {n i : ℕ} → tables.lends.links link.0 ≡ Some lent → (row : RowStands service log tables.lends link lent) → lent.backend.command ≡ Some command → command.tag ≡ For (record { 0 = n }) i
-      → (asked : IsAsked service n i command.bytes command.first log) → Stays service.forms n i asked.message lent.backend.account link log
-  stays-on {link} {lent} {command} {n} {i} is row has tag asked = by (nat_lt command.sent (length command.bytes)) refl where
-    message : IsMessage service.forms command
-    message = row-message row has
+    row-busy : is_begun lent.backend.command ≡ true → IsBusy service.forms lent.backend.account link log
+    row-busy begun = (let has = begun-there lent.backend.command begun in let some : has.0.sent ≢ 0 = nat_eq-false has.0.sent 0 has.2 in elim (whole-or-full has.1) [
+      | inl all ↦ Replies (row-runs row has.1 all)
+      | inr part ↦ Blocked (row-sends row has.1 (omega arith) part.0) part.1
+    ])
 
-    by : (b : Bool) → nat_lt command.sent (length command.bytes) ≡ b → Stays service.forms n i asked.message lent.backend.account link log
-    by true less = grind (arith, common_steps, left-some, row-full)
-    by false most = (let all : command.sent ≡ length command.bytes = (let fits = message.sent in grind arith) in
-        let some : 0 < command.sent = (let size = ap length message.spelt in let least = spelling-some 0 message.payload in omega arith) in
-        let whole : record { tag = command.tag; bytes = take command.sent command.bytes } ≡ record { tag = For (record { 0 = n }) i; bytes = spelling asked.message.first asked.message.payload } =
-        λ j. record { tag = tag j; bytes = (take_all command.sent command.bytes (omega arith) ∙ asked-spelt asked) j } in
-        Sent (row-inside row has).others (row-runs row has all) (row-commands row has some ∙ ap (λ (c : Command). (row-inside row has).others ++ c ∷ []) whole))
+    -- a query in work stays there while the login goes on, or as its command
+    logs-in : {n i : ℕ} {bytes : List ℕ} {id : ℕ} → lent.backend.stage ≢ In → (asked : IsAsked service n i bytes id log) → Stays service.forms n i asked.message lent.backend.account link log
+    logs-in outside asked = grind (arith, common_steps, entering-at, (row-enters row), append-nil, (row-written row), row-full)
+
+    stays-on : {command : Handed} {n i : ℕ} → lent.backend.command ≡ Some command → command.tag ≡ For (record { 0 = n }) i → (asked : IsAsked service n i command.bytes command.first log) → Stays service.forms n i asked.message lent.backend.account link log
+    stays-on {command} {n} {i} has tag asked = elim (whole-or-full has) [
+      | inr part ↦ Full part.1
+      | inl all ↦ (let message = row-message row has in
+          let some : 0 < command.sent = (let size = ap length message.spelt in let least = spelling-some 0 message.payload in omega arith) in
+          let whole : record { tag = command.tag; bytes = take command.sent command.bytes } ≡ record { tag = For (record { 0 = n }) i; bytes = spelling asked.message.first asked.message.payload } =
+          λ j. record { tag = tag j; bytes = (take_all command.sent command.bytes (omega arith) ∙ asked-spelt asked) j } in
+          Sent (row-inside row has).others (row-runs row has all) (row-commands row has some ∙ ap (λ (c : Command). (row-inside row has).others ++ c ∷ []) whole))
+    ]
 
   waits-on : {link : LinkId} {lent : Lent} {n i : ℕ} {bytes : List ℕ} {id : ℕ} (work : Work) (row : RowStands service log tables.lends link lent) → row.turn.client ≡ n → (asked : IsAsked service n i bytes id log) → work_of service n log ≡ Some work
       → Stays service.forms n i asked.message lent.backend.account link log → Waits service n work log
@@ -203,12 +212,6 @@ module _ {service : Service} {log : Log} {tables : Tables} (told : AllLawful Fit
   ]
 
   -- Each open link to a server is its client's, which is connected, or busy.
-
-  row-busy : {link : LinkId} {lent : Lent} → tables.lends.links link.0 ≡ Some lent → RowStands service log tables.lends link lent → is_begun lent.backend.command ≡ true → IsBusy service.forms lent.backend.account link log
-  row-busy {link} {lent} is row begun = (let has = begun-there lent.backend.command begun in let some : has.0.sent ≢ 0 = nat_eq-false has.0.sent 0 has.2 in by has.0 has.1 (omega arith) (nat_lt has.0.sent (length has.0.bytes)) refl) where
-    by : (command : Handed) → lent.backend.command ≡ Some command → 0 < command.sent → (b : Bool) → nat_lt command.sent (length command.bytes) ≡ b → IsBusy service.forms lent.backend.account link log
-    by command has some true less = (let l = left-some lent.backend command has (grind arith) in Blocked (row-sends row has some (grind arith)) (row-full lent l.0 row.opened is l.1))
-    by command has some false most = Replies (row-runs row has (let fits = (row-message row has).sent in grind arith))
 
   server-kept : (link : LinkId) (owner : Owner) (user : Account) → IsOpen link log → owner_of service link log ≡ Some owner → user_on service link log ≡ Some user → IsKept service.forms owner user link log
   server-kept link owner user opened owned known = (let turn = owners-turn (turn_of service link log) owner owned in
