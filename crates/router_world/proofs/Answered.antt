@@ -20,18 +20,9 @@ use Rattle.router_world.proofs.Hearing.{turned-more, read-short}
 use Rattle.client_talk.specs.declared.session.Phase.TheVariants as phase
 
 -- A command in work is one alone.
-busy-same : (lends : Lends) (n i j : ℕ) → Busy lends n i → Busy lends n j → i ≡ j
-busy-same lends n i j h4 h5 = grind (arith, common_steps, some-same, none-some, same-ordinal)
-
-free-busy : (lends : Lends) (n i : ℕ) → Free lends n → Busy lends n i → ⊥
-free-busy lends n i free h4 = grind (arith, common_steps, none-some)
-
-gone-busy : (lends : Lends) (n i : ℕ) → Gone lends n → Busy lends n i → ⊥
-gone-busy lends n i gone h4 = grind (arith, common_steps, none-some)
-
 -- so its client works
 pub working-busy : (at : Phase) (lends : Lends) (n arrived i : ℕ) → Serves at lends n arrived → Busy lends n i → (user : Account) × (at ≡ phase.Working user) × (arrived ≡ i)
-working-busy at lends n arrived i serves busy = grind (arith, common_steps, gone-busy, free-busy, busy-same)
+working-busy at lends n arrived i serves busy = grind (arith, common_steps, some-same, none-some, same-ordinal)
 
 -- What an entry of a server makes of the tables.
 pub record FromServer (service : Service) (log : Log) (e : Entry) (n : ℕ) (tables : Tables) (news : Told) : Type 0 where
@@ -181,7 +172,7 @@ module _ {service : Service} {log : Log} {e : Entry} {n : ℕ} {tables : Tables}
       → Sound service then None (answering service.setup (Some (record { client = record { 0 = n }; packets = spelt (next_id message.last) answer })) (with_lends news.lends tables))
   answered-step i answer message busy there now free idle closable = by (tables.seats n) refl where
     by : (o : Option Seat) → tables.seats n ≡ o → Sound service then None (on_seat (answered service.setup (spelt (next_id message.last) answer)) (record { 0 = n }) o (without_seat (record { 0 = n }) (with_lends news.lends tables)))
-    by None none = grind (arith, common_steps, away-gone, gone-busy)
+    by None none = grind (arith, common_steps, away-gone, none-some)
     by (Some seat) is = (let works = working-busy seat.session.phase tables.lends n seat.session.client.arrived i ((sound.seats n seat is).serves) busy in
         seated is works.1 answer message (cc (works.2, there)) (cc (works.2, now)) free idle closable)
 

@@ -26,9 +26,6 @@ module _ (service : Service) (log : Log) (e : Entry) (may : IsLawful service log
   never-here : (n : ℕ) (came : Arrival) → arrival_of n (log ++ e ∷ []) ≡ None → arrival_of n log ≡ Some came → ⊥
   never-here n came none is = cc (arrival-stays n log (e ∷ []) came is, none)
 
-  writes-none : (n i : ℕ) → arrival_of n (log ++ e ∷ []) ≡ None → carries n i e ≡ None
-  writes-none n i none = grind (arith, common_steps, never-here, nat_eq-true, and-true)
-
   arrived-user : (n : ℕ) (user : Account) → user_of service n log ≡ Some user → (came : Arrival) × (arrival_of n log ≡ Some came)
   arrived-user n user is = grind (arith, common_steps)
 
@@ -40,7 +37,7 @@ module _ (service : Service) (log : Log) (e : Entry) (may : IsLawful service log
   spares-none n i none turn is = grind (arith, common_steps, and-true, cause-came, nat_eq-true, never-here, refusal-cause)
 
   unborn-step : Unborn service log → Unborn service (log ++ e ∷ [])
-  unborn-step before n i none = grind (arith, common_steps, carrier-more, never-here, spares-none, unrefused-more, writes-none)
+  unborn-step before n i none = grind (arith, common_steps, carrier-more, never-here, spares-none, unrefused-more, nat_eq-true, and-true)
 
 unborn : (service : Service) (log : Log) → AllLawful (IsLawful service) log → Unborn service log
 unborn service log lawful = lawful-each (IsLawful service) (Unborn service) log (unborn-step service) (λ n i none. (refl, refl)) lawful
@@ -61,9 +58,6 @@ few-step links e = grind (arith, common_steps, length-append, without-few)
 fold-few : (links : List LinkId) (log : Log) → length (fold connected_step links log) ≤ length links + length log
 fold-few links [] = omega arith
 fold-few links (e ∷ log) = (let one = few-step links e in let rest = fold-few (connected_step links e) log in omega arith)
-
-counted-few : (n : ℕ) → n < 281474976710656 → counted n ≡ suc n
-counted-few n few = grind (arith, common_steps)
 
 last-of : {X : Type 0} (xs : List X) (x : X) → slice_get (xs ++ x ∷ []) (length xs) ≡ Some x
 last-of [] x = refl
@@ -104,13 +98,13 @@ module _ {service : Service} {log : Log} {port : Port} {link : LinkId} {salt : L
   arrives-now = grind (arith, common_steps, arrivals-now, last-of)
 
   number-now : counted tables.came ≡ number
-  number-now = grind (arith, common_steps, arrivals-few, counted-few)
+  number-now = grind (arith, common_steps, arrivals-few)
 
   came-now : number ≡ length (arrivals then)
   came-now = grind (arith, common_steps, arrivals-now, length-append)
 
   here-now : port ≡ Traffic → counted tables.here ≡ length (connected then)
-  here-now traffic = grind (arith, common_steps, connected-more, counted-few, fold-few, length-append)
+  here-now traffic = grind (arith, common_steps, connected-more, fold-few, length-append)
 
   -- nobody has the new link
   shut : (other : LinkId) → other ≡ link → IsOpen other log → ⊥

@@ -67,16 +67,12 @@ before-once link [] more lost = cc
 before-once link (e ∷ log) more lost = grind (arith, common_steps, lost-first, (before-once link log more))
 
 module _ (service : Service) (n : ℕ) (came : Arrival) (log : Log) where
-  -- of a client that is served
-  due-came : (log : Log) → arrival_of n log ≡ Some came → is_served service.setup came ≡ true → due service n log ≡ due_then service n came (before_loss came.link log)
-  due-came log is served = grind (arith, common_steps)
-
   pub due-unlost : arrival_of n log ≡ Some came → is_served service.setup came ≡ true → was_lost came.link log ≡ false → due service n log ≡ due_said (λ i. replied service n i log) (talk_with service n came log)
-  due-unlost is served unlost = grind (arith, common_steps, before-none, came-from, due-came, same-from)
+  due-unlost is served unlost = grind (arith, common_steps, before-none, came-from, same-from)
 
   -- what it is due stays once its link is lost, and doesn't change as it is
   due-still : (e : Entry) → arrival_of n log ≡ Some came → is_served service.setup came ≡ true → before_loss came.link (log ++ e ∷ []) ≡ before_loss came.link log → due service n (log ++ e ∷ []) ≡ due service n log
-  due-still e is served same = grind (arith, common_steps, arrival-stays, due-came)
+  due-still e is served same = grind (arith, common_steps, arrival-stays)
 
   pub due-lost : (e : Entry) → arrival_of n log ≡ Some came → is_served service.setup came ≡ true → was_lost came.link log ≡ true → due service n (log ++ e ∷ []) ≡ due service n log
   due-lost e is served lost = due-still e is served (before-once came.link log (e ∷ []) lost)

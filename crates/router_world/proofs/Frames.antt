@@ -31,11 +31,8 @@ pub data Stays (service : Service) (log : Log) (e : Entry) (n i : ℕ) : Type 0 
 
 -- A client that has gone stays gone: its link was open or closed before, and is never opened again.
 
-opened-new : (link : LinkId) (log : Log) (e : Entry) → Fits log e → opened_as link e ≡ true → IsNew link log
-opened-new link log e fits is = grind (arith, common_steps, same-link)
-
 gone-link : (link : LinkId) (log : Log) (e : Entry) → Fits log e → (IsNew link log → ⊥) → (is_open link log && not (was_lost link log)) ≡ false → (is_open link (log ++ e ∷ []) && not (was_lost link (log ++ e ∷ []))) ≡ false
-gone-link link log e fits known gone = grind (arith, common_steps, open-was, came-new, opened-new, lost-stays)
+gone-link link log e fits known gone = grind (arith, common_steps, open-was, came-new, lost-stays, same-link)
 
 pub gone-stays : (service : Service) (n : ℕ) (user : Account) (log : Log) (e : Entry) → Fits log e → user_of service n log ≡ Some user → is_here n log ≡ false → is_here n (log ++ e ∷ []) ≡ false
 gone-stays service n user log e fits known gone = by (arrival_of n log) refl known where

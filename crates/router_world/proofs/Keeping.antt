@@ -52,12 +52,8 @@ ends-or-lasts at = grind (arith, common_steps)
 begun-there : (o : Option Handed) → is_begun o ≡ true → (command : Handed) × (o ≡ Some command) × (nat_eq command.sent 0 ≡ false)
 begun-there o begun = grind (arith, common_steps, not-true)
 
--- a client that waits for what it says, or for its query, isn't at its end
-lasts-over : (at : Phase) (talk : Talk) (reply : ℕ → Option Answer) (arrived : ℕ) → WaitsFor at talk reply arrived → at ≢ phase.Ending → over_said reply talk ≡ false
-lasts-over at talk reply arrived waits lasts = grind (arith, common_steps)
-
 lasts-heard : (service : Service) (log : Log) (n : ℕ) (seat : Seat) (stands : SeatStands service log n seat) → seat.session.phase ≢ phase.Ending → IsHeard service log n stands.came seat.session → has_ended service n stands.came log ≡ false
-lasts-heard service log n seat stands lasts heard = grind (arith, common_steps, work-is, lasts-over, work-here)
+lasts-heard service log n seat stands lasts heard = grind (arith, common_steps, work-is, work-here)
 
 -- The router waits, all that it asked for is done, and no more can be read or written on any link.
 module _ {service : Service} {log : Log} {tables : Tables} (told : AllLawful Fits log) (sound : Sound service log None tables) (waits : MayWait (reads tables) (sends tables) (asks service.setup tables) log) where

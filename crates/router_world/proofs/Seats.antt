@@ -33,39 +33,27 @@ new-seat number salt setup reply short = record {
 
 -- So many bytes are written to it.
 
-written-on : (n : ℕ) (written outgoing : List ℕ) → written ++ outgoing ≡ (written ++ take n outgoing) ++ drop n outgoing
-written-on n written outgoing = grind (arith, common_steps, take-append-drop)
-
 -- a client of which only what is to be written is another
 abbrev with_outgoing : (outgoing : List ℕ) → ClientState → ClientState
 with_outgoing outgoing client = record client { outgoing = outgoing }
 
-login-outgoing : (talk : Talk) (client : ClientState) (outgoing bytes : List ℕ) → IsLoggingIn client.stage client talk.setup.version talk.read bytes → IsLoggingIn client.stage (with_outgoing outgoing client) talk.setup.version talk.read bytes
-login-outgoing talk client outgoing bytes login = grind (arith, common_steps)
-
 abbrev taken-outgoing : (talk : Talk) (client : ClientState) (outgoing : List ℕ) → IsTaken talk client → IsTaken talk (with_outgoing outgoing client)
 taken-outgoing talk client outgoing taken = record { stage = taken.stage; framer = taken.framer; past = taken.past; arrived = taken.arrived; whatever = taken.whatever }
 
-phase-outgoing : (at : Phase) (talk : Talk) (reply : ℕ → Option Answer) (bytes outgoing : List ℕ) (client : ClientState) → PhaseAt at talk reply bytes client → PhaseAt at talk reply bytes (with_outgoing outgoing client)
-phase-outgoing at talk reply bytes outgoing client h6 = grind (arith, common_steps, login-outgoing)
-
 pub taken-seat : {talk : Talk} {reply : ℕ → Option Answer} {written : List ℕ} {session : Session} (n : ℕ) → SeatAt talk reply written session → SeatAt talk reply (written ++ take n session.client.outgoing) (taken n session)
-taken-seat n seat = grind (arith, common_steps, written-on, phase-outgoing)
+taken-seat n seat = grind (arith, common_steps, take-append-drop)
 
 -- Other replies come of its queries, which agree with those before: those that were there stay, and none came to the query in work.
 pub record Agrees (talk : Talk) (reply other : ℕ → Option Answer) : Type 0 where
   pub stays : (i : ℕ) (answer : Answer) → reply i ≡ Some answer → other i ≡ Some answer
   pub none : (work : Work) → work_said reply talk ≡ Some work → is_query work.message.payload ≡ true → other work.ordinal ≡ None
 
-phase-agrees : (at : Phase) (talk : Talk) (reply other : ℕ → Option Answer) (bytes : List ℕ) (client : ClientState) → work_said other talk ≡ work_said reply talk → PhaseAt at talk reply bytes client → PhaseAt at talk other bytes client
-phase-agrees at talk reply other bytes client same h7 = grind (arith, common_steps)
-
 module _ {talk : Talk} {reply other : ℕ → Option Answer} (agrees : Agrees talk reply other) where
   agree-both : Agree talk.setup reply other 1 (messages_of talk).messages (fault_answer talk.setup.limit (messages_of talk).fault)
   agree-both = agree talk.setup reply other 1 (messages_of talk).messages (fault_answer talk.setup.limit (messages_of talk).fault) agrees.stays agrees.none
 
   pub agree-seat : {written : List ℕ} {session : Session} → SeatAt talk reply written session → SeatAt talk other written session
-  agree-seat seat = grind (arith, common_steps, agree-both, phase-agrees)
+  agree-seat seat = grind (arith, common_steps, agree-both)
 
 -- Bytes of it come.
 
@@ -183,8 +171,5 @@ WaitsFor (phase.Working user) talk reply arrived = IsBusy talk reply arrived
 WaitsFor phase.Ending talk reply arrived = over_said reply talk ≡ true
 WaitsFor _ talk reply arrived = IsFree talk reply
 
-waits-at : (at : Phase) (talk : Talk) (reply : ℕ → Option Answer) (bytes : List ℕ) (client : ClientState) → PhaseAt at talk reply bytes client → WaitsFor at talk reply client.arrived
-waits-at at talk reply bytes client h5 = grind (arith, common_steps, work-alone, over-in, query-no-quit)
-
 pub work-here : {talk : Talk} {reply : ℕ → Option Answer} {written : List ℕ} {session : Session} → SeatAt talk reply written session → WaitsFor session.phase talk reply session.client.arrived
-work-here seat = grind (arith, common_steps, waits-at)
+work-here seat = grind (arith, common_steps, work-alone, over-in, query-no-quit)

@@ -35,26 +35,14 @@ Means asked.Ping has_server reply meaning = answer_by (served has_server reply) 
 Means asked.Quit has_server reply meaning = (quit_by meaning ≡ true) × (answer_by (served has_server reply) meaning ≡ None)
 Means (asked.Refused refusal) has_server reply meaning = answer_by (served has_server reply) meaning ≡ Some (payload_of refusal ∷ [])
 
-means-served : (has_server : Bool) (reply : Option Answer) (meaning : Result Meaning CommandFault) → query_by meaning ≡ true → ((o : Option Answer) → answer_by o meaning ≡ o) → Means (query_if has_server) has_server reply meaning
-means-served has_server reply meaning query answers = grind (arith, common_steps)
-
 pub means-asked : (has_server : Bool) (reply : Option Answer) (meaning : Result Meaning CommandFault) → Means (asked_by has_server meaning) has_server reply meaning
-means-asked has_server reply meaning = grind (arith, common_steps, means-served)
+means-asked has_server reply meaning = grind (arith, common_steps)
 
 no-quit : (meaning : Result Meaning CommandFault) → query_by meaning ≡ true → quit_by meaning ≡ false
 no-quit meaning is = grind (arith, common_steps)
 
 pub query-no-quit : (payload : List ℕ) → is_query payload ≡ true → is_quit payload ≡ false
 query-no-quit payload is = no-quit (parsed payload) is
-
-served-stays : (has_server : Bool) (old new : Option Answer) (answer : Answer) → (old ≡ Some answer → new ≡ Some answer) → served has_server old ≡ Some answer → served has_server new ≡ Some answer
-served-stays has_server old new answer stays is = grind (arith, common_steps)
-
-answer-by-none : (old new : Option Answer) (meaning : Result Meaning CommandFault) → (query_by meaning ≡ true → new ≡ None) → answer_by old meaning ≡ None → answer_by new meaning ≡ None
-answer-by-none old new meaning stays is = grind (arith, common_steps)
-
-served-none : (has_server : Bool) (old new : Option Answer) → new ≡ None → served has_server old ≡ None → served has_server new ≡ None
-served-none has_server old new none is = grind (arith, common_steps)
 
 -- a query without an answer is one for which there is a server, and to which no reply is there
 pub record IsOpen (setup : Setup) (reply : Option Answer) : Type 0 where
@@ -73,10 +61,10 @@ module _ (setup : Setup) where
 
   -- an answer that is there stays, and one that isn't comes only of a reply to a query
   answer-stays : (old new : Option Answer) (payload : List ℕ) (answer : Answer) → (old ≡ Some answer → new ≡ Some answer) → answer_of setup old payload ≡ Some answer → answer_of setup new payload ≡ Some answer
-  answer-stays old new payload answer stays is = grind (arith, common_steps, by-stays, served-stays)
+  answer-stays old new payload answer stays is = grind (arith, common_steps, by-stays)
 
   answer-none : (old new : Option Answer) (payload : List ℕ) → (is_query payload ≡ true → new ≡ None) → answer_of setup old payload ≡ None → answer_of setup new payload ≡ None
-  answer-none old new payload stays is = grind (arith, common_steps, answer-by-none, served-none, query-answer)
+  answer-none old new payload stays is = grind (arith, common_steps, query-answer)
 
 -- Messages that are all answered, and their answers joined: what comes behind them is what comes from there on.
 pub record AreDone (setup : Setup) (reply : ℕ → Option Answer) (past : List Framed) (said : List ℕ) : Type 0 where
@@ -140,16 +128,13 @@ pub record Agree (setup : Setup) (reply other : ℕ → Option Answer) (i : ℕ)
   pub goes : first_open setup other i messages ≡ first_open setup reply i messages
 
 module _ (setup : Setup) (reply other : ℕ → Option Answer) where
-  last-done : (i : ℕ) (m : Framed) (answer : Answer) → answer_of setup (reply i) m.payload ≡ None → answer_of setup (other i) m.payload ≡ Some answer → NowDone setup reply other i (m ∷ []) m answer
-  last-done i m answer was now = grind (arith, common_steps, append-nil)
-
   pub now-done : (i k : ℕ) (past : List Framed) (message : Framed) (answer : Answer) → first_open setup reply i past ≡ Some (at_place k message) → suc k ≡ i + length past
       → ((j : ℕ) (answer : Answer) → reply j ≡ Some answer → other j ≡ Some answer) → answer_of setup (other k) message.payload ≡ Some answer → NowDone setup reply other i past message answer
   now-done i k [] message answer is last stays now = cc
   now-done i k (m ∷ past) message answer is last stays now =
       by (answer_of setup (reply i) m.payload) refl is (λ there. now-done (suc i) k past message answer there (let more : suc k ≡ i + suc (length past) = last in omega arith) stays now) where
         alone : (past : List Framed) → i ≡ k → m ≡ message → suc k ≡ i + suc (length past) → answer_of setup (reply i) m.payload ≡ None → NowDone setup reply other i (m ∷ past) message answer
-        alone past at is last was = grind (arith, common_steps, last-done)
+        alone past at is last was = grind (arith, common_steps, append-nil)
 
         more : (a : Answer) → answer_of setup (reply i) m.payload ≡ Some a → answer_of setup (other i) m.payload ≡ Some a → NowDone setup reply other (suc i) past message answer → NowDone setup reply other i (m ∷ past) message answer
         more a was now rest = grind (arith, common_steps)

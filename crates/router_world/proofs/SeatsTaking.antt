@@ -290,13 +290,10 @@ module _ (talk : Talk) (reply : ℕ → Option Answer) (written : List ℕ) wher
     idle-leads (Whole message rest) at = idle-arrives (whole-at message rest at) (asked_of (has_server talk.setup) message.payload) (means-asked (is_some talk.setup.target) (reply (suc (length past))) (parsed message.payload))
     idle-leads (Faulty fault) at = idle-refused fault at
 
-    idle-steps : Leads (left_to_say (idle user client)) talk reply written (step talk.setup (idle user client))
-    idle-steps = grind (arith, common_steps, idle-leads)
-
   -- Of both, step by step.
 
   phase-steps : (at : Phase) (client : ClientState) → GoesAt talk reply written (record { client = client; phase = at }) → Leads (left_to_say (record { client = client; phase = at })) talk reply written (step talk.setup (record { client = client; phase = at }))
-  phase-steps at client goes = grind (arith, common_steps, coming-steps, idle-steps)
+  phase-steps at client goes = grind (arith, common_steps, coming-steps, idle-leads)
 
   turned-to : (n left : ℕ) (t : Turn) (next : Session) → left ≤ n → LeadsTo t left talk reply written next
       → ((session : Session) → left_to_say session < n → GoesAt talk reply written session → Turns talk reply written (goes_on n talk.setup session))

@@ -137,9 +137,6 @@ module _ (service : Service) (log : Log) (e : Entry) where
 
   -- What came of commands stays as nothing is said, and so does why links may close.
   module _ (silence : Silence log e) where
-    turn-same : (link : LinkId) → turn_of service link then ≡ turn_of service link log
-    turn-same link = grind (arith, common_steps, append-nil, filter_map-append)
-
     arrival-same : (n : ℕ) → arrival_of n then ≡ arrival_of n log
     arrival-same n = grind (arith, common_steps, arrivals-plain)
 
@@ -149,11 +146,8 @@ module _ (service : Service) (log : Log) (e : Entry) where
     talk-of-same : (n : ℕ) → talk_of service n then ≡ talk_of service n log
     talk-of-same n = λ j. option_map (λ (came : Arrival). talk-same n came j) (arrival-same n j)
 
-    user-on-same : (link : LinkId) → user_on service link then ≡ user_on service link log
-    user-on-same link = grind (arith, common_steps, talk-of-same, turn-same)
-
     reply-same : (n i : ℕ) (link : LinkId) → option_and_then (reply_on service.forms n i link then) (user_on service link then) ≡ option_and_then (reply_on service.forms n i link log) (user_on service link log)
-    reply-same n i link = grind (arith, common_steps, user-on-same)
+    reply-same n i link = grind (arith, common_steps, talk-of-same, append-nil, filter_map-append)
 
     replied-still : (n i : ℕ) → replied service n i then ≡ replied service n i log
     replied-still n i = ap (λ (turns : List Turn). cond (list_any (is_turn n i) turns) (Some (connection_refused ∷ [])) (reply_to service n i then))

@@ -27,14 +27,8 @@ use Rattle.router_world.proofs.Keeping.{service-of}
 
 -- What is lent.
 
-reply-whole : (bytes : List ℕ) (sent : Sent) → reply_sent bytes ≡ Some sent → (sent.bytes ≡ bytes) × (0 < length bytes)
-reply-whole bytes sent is = grind (arith, common_steps, some-same)
-
 seat-whole : (o : Option Seat) (piece : List ℕ) → IsWhole (seat_sends o) piece → (seat : Seat) × (o ≡ Some seat) × (piece ≡ seat.session.client.outgoing)
-seat-whole o piece whole = grind (arith, common_steps, reply-whole)
-
-left-whole : (o : Option Lent) (piece : List ℕ) → IsWhole (left_in o) piece → (lent : Lent) × (o ≡ Some lent) × (l : Sent) × (left lent.backend ≡ Some l) × (piece ≡ l.bytes)
-left-whole o piece whole = grind (arith, common_steps, some-same)
+seat-whole o piece whole = grind (arith, common_steps, some-same)
 
 -- The client of a link.
 
@@ -128,10 +122,10 @@ module _ {service : Service} {log : Log} {tables : Tables} (told : AllLawful Fit
         let stands = (sound.seats client.0 one.0 one.1).stands in
         one.2 ∙ owed-client service log told client.0 stands.came link one.0.session.client.outgoing stands.is_came (cc (stands.link, some-same one.0 seat.0 (sym one.1 ∙ seat.1), seat.2))
         (told-seat service log client.0 one.0 stands))
-    by None at whole = grind (arith, common_steps, left-whole, owed-row)
+    by None at whole = grind (arith, common_steps, owed-row, some-same)
 
   farewell-owed : (link : LinkId) (piece : List ℕ) → IsFarewell tables link → IsWhole (farewell_of tables.parting) piece → piece ≡ owed service link log
-  farewell-owed link piece farewell whole = grind (arith, common_steps, closes-next, owed-farewell, reply-whole)
+  farewell-owed link piece farewell whole = grind (arith, common_steps, closes-next, owed-farewell, some-same)
 
 -- Reads and writes of a replay take as much as they can: the wire gives all that is there, and takes what there is room for of all that is owed.
 module _ (service : Service) (recording : List RecordEntry) where

@@ -105,11 +105,8 @@ pub record IsQuiet (tables : Tables) : Type 0 where
   pub unparted : tables.parting ≡ []
   pub unclosed : tables.lends.closing ≡ []
 
-has-none : {X : Type 0} (xs : List X) → has_some xs ≡ false → xs ≡ []
-has-none xs is = grind (arith, common_steps)
-
 pub quiet-closes : (tables : Tables) → closes tables ≡ false → IsQuiet tables
-quiet-closes tables closing = grind (arith, common_steps, has-none)
+quiet-closes tables closing = grind (arith, common_steps)
 
 pub done : (setup : Setup) (tables : Tables) → asks setup tables ≡ false → IsQuiet tables
 done setup tables is = quiet-closes tables (or_parts (closes tables) (opens setup tables) is).0
