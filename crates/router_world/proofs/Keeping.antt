@@ -30,7 +30,7 @@ use Rattle.router_world.proofs.Frames.{owner-turn, over-no-query}
 use Rattle.router_world.proofs.RowsStanding.{entering-at}
 use Rattle.router_world.proofs.Seats.{WaitsFor, work-here}
 use Rattle.router_world.proofs.Dues.{due-refused}
-use Rattle.router_world.proofs.Lawful.{own-live, is-of, IsOf, OfClient, OfServer, server-row, of-client, unowned, owner-is, row-user, row-written, row-sound}
+use Rattle.router_world.proofs.Lawful.{own-live, is-of, IsOf, OfClient, OfServer, owned-row, of-client, unowned, owner-is, row-user, row-written, row-sound}
 use Rattle.router_world.proofs.Lawful.{row-enters, row-inside, row-message, row-sends, row-runs, row-commands, asked-spelt, Writes, ToClient, ToServer}
 use Rattle.router_world.proofs.Lawful.{Farewell, writes-so, lawful-entry, comes-of, Comes, Was, Now}
 use Rattle.client_talk.specs.declared.session.Phase.TheVariants as phase
@@ -210,11 +210,8 @@ module _ {service : Service} {log : Log} {tables : Tables} (told : AllLawful Fit
   -- Each open link to a server is its client's, which is connected, or busy.
 
   server-kept : (link : LinkId) (owner : Owner) (user : Account) → IsOpen link log → owner_of service link log ≡ Some owner → user_on service link log ≡ Some user → IsKept service.forms owner user link log
-  server-kept link owner user opened owned known = (let turn = owners-turn (turn_of service link log) owner owned in
-      let there = server-row sound link turn.0 told quiet opened turn.1 in
-      let row = sound.lends.rows link there.0 there.1 in
-      let mine : row.turn.client ≡ owner.client = ap (λ (t : Turn). t.client) (some-same row.turn turn.0 (sym row.is_turn ∙ turn.1)) ∙ ap (λ (o : Owner). o.client) turn.2 in
-      rw (← (some-same there.0.backend.account user (sym (row-user row) ∙ known))) (record { sound = row-sound row; needed = kept there.0 there.1 row mine row.owned })) where
+  server-kept link owner user opened owned known = (let there = owned-row sound link owner told quiet opened owned in
+      rw (← (some-same there.0.backend.account user (sym (row-user there.2) ∙ known))) (record { sound = row-sound there.2; needed = kept there.0 there.1 there.2 there.3 there.2.owned })) where
         kept : (lent : Lent) → tables.lends.links link.0 ≡ Some lent → (row : RowStands service log tables.lends link lent) → row.turn.client ≡ owner.client → Owned service log tables.lends link row.turn.client lent
             → (is_here owner.client log ≡ true) ⊎ IsBusy service.forms lent.backend.account link log
         kept lent is row mine (Own own owns) = inl (cc (mine, (own-live sound row.turn.client owns).here))

@@ -123,11 +123,14 @@ module _ {service : Service} {log : Log} {tables : Tables} (sound : Sound servic
     | Closes is ↦ cc (quiet.unclosed, is)
   ]
 
-  pub server-row : (link : LinkId) (turn : Turn) → AllLawful Fits log → IsQuiet tables → IsOpen link log → turn_of service link log ≡ Some turn → (lent : Lent) × (tables.lends.links link.0 ≡ Some lent)
-  server-row link turn told quiet opened is = elim (is-of link quiet opened) [
-    | OfServer lent at ↦ (lent, at)
-    | OfClient client seat number at on ↦ (let stands = (sound.seats client.0 seat at).stands in cc (unowned log told service client.0 stands.came stands.is_came (stands.link ∙ on), is))
-  ]
+  -- an open link that has an owner is a server's
+  pub owned-row : (link : LinkId) (owner : Owner) → AllLawful Fits log → IsQuiet tables → IsOpen link log → owner_of service link log ≡ Some owner
+      → (lent : Lent) × (tables.lends.links link.0 ≡ Some lent) × (row : RowStands service log tables.lends link lent) × (row.turn.client ≡ owner.client)
+  owned-row link owner told quiet opened owned = (let turn = owner-turn (turn_of service link log) owner owned in elim (is-of link quiet opened) [
+    | OfServer lent at ↦ (let row = sound.lends.rows link lent at in
+        (lent, at, row, ap (λ (t : Turn). t.client) (some-same row.turn turn.0 (cc (row.is_turn, turn.1))) ∙ ap (λ (o : Owner). o.client) turn.2))
+    | OfClient client seat number at on ↦ (let stands = (sound.seats client.0 seat at).stands in cc (unowned log told service client.0 stands.came stands.is_came (stands.link ∙ on), turn.1))
+  ])
 
 -- A link to a server: its owner, how it stands, and what was written there.
 
@@ -453,10 +456,7 @@ module _ {service : Service} {log : Log} (told : AllLawful Fits log) (sound : So
 
     none : (link : LinkId) → owner_of service link log ≡ Some (owner_for service for.client.0 stands.asked.message stands.asked.due) → (b : Bool) → is_open link log ≡ b → b ≡ false
     none link owned false opened = refl
-    none link owned true opened = absurd (let turn = owner-turn (turn_of service link log) _ owned in
-        let lent = server-row sound link turn.0 told (quiet-closes now so.0) opened turn.1 in
-        let row = sound.lends.rows link lent.0 lent.1 in
-        unlinked link lent.0 row.turn.client (ap (λ (t : Turn). t.client) (some-same row.turn turn.0 (sym row.is_turn ∙ turn.1)) ∙ ap (λ (o : Owner). o.client) turn.2) row.owned)
+    none link owned true opened = absurd (let row = owned-row sound link _ told (quiet-closes now so.0) opened owned in unlinked link row.0 row.2.turn.client row.3 row.2.owned)
 
   written : (link : LinkId) (tag : Tag) (bytes : List ℕ) → Writes now link tag bytes → IsLawful service log (Wrote link tag bytes)
   written link tag bytes (ToClient client seat is on reply n front) = (let stands = (sound.seats client.0 seat is).stands in
