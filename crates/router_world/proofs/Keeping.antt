@@ -211,11 +211,13 @@ module _ {service : Service} {log : Log} {tables : Tables} (told : AllLawful Fit
 
   server-kept : (link : LinkId) (owner : Owner) (user : Account) → IsOpen link log → owner_of service link log ≡ Some owner → user_on service link log ≡ Some user → IsKept service.forms owner user link log
   server-kept link owner user opened owned known = (let there = owned-row sound link owner told quiet opened owned in
-      rw (← (some-same there.0.backend.account user (sym (row-user there.2) ∙ known))) (record { sound = row-sound there.2; needed = kept there.0 there.1 there.2 there.3 there.2.owned })) where
-        kept : (lent : Lent) → tables.lends.links link.0 ≡ Some lent → (row : RowStands service log tables.lends link lent) → row.turn.client ≡ owner.client → Owned service log tables.lends link row.turn.client lent
-            → (is_here owner.client log ≡ true) ⊎ IsBusy service.forms lent.backend.account link log
-        kept lent is row mine (Own own owns) = inl (cc (mine, (own-live sound row.turn.client owns).here))
-        kept lent is row mine (Left none gone begun) = inr (row-busy is row begun)
+      rw (← (some-same there.0.backend.account user (sym (row-user there.2) ∙ known))) (record {
+        sound = row-sound there.2;
+        needed = elim there.2.owned [
+          | Own own owns ↦ inl (cc (there.3, (own-live sound there.2.turn.client owns).here))
+          | Left none gone begun ↦ inr (row-busy there.1 there.2 begun)
+        ];
+      }))
 
   pub rests-at : IsAtRest service log
   rests-at = record { accepted = waits.drained.accepted; named = waits.drained.named; read = all-read; clients = client-answered; servers = server-kept }

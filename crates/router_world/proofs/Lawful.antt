@@ -365,21 +365,25 @@ module _ {service : Service} {log : Log} {tables : Tables} {link : LinkId} {lent
     inside : IsInside service.forms lent.backend.account (heard_of link log) (pieces_of link log) lent.backend
     inside = row-inside row has
 
-    here : command.sent ≡ 0 → Owned service log tables.lends link row.turn.client lent → is_here row.turn.client log ≡ true
-    here unsent (Own owner owns) = (own-live sound row.turn.client owns).here
-    here unsent (Left owner gone begins) = cc (ap is_begun has ∙ ap (λ sent. not (nat_eq sent 0)) unsent, begins)
+    here : command.sent ≡ 0 → is_here row.turn.client log ≡ true
+    here unsent = elim row.owned [
+      | Own owner owns ↦ (own-live sound row.turn.client owns).here
+      | Left owner gone begins ↦ cc (ap is_begun has ∙ ap (λ sent. not (nat_eq sent 0)) unsent, begins)
+    ]
 
     follows : (sent : ℕ) → command.sent ≡ sent
         → Continues (For (record { 0 = row.turn.client }) stands.ordinal) bytes (spelling stands.asked.message.first stands.asked.message.payload) (is_here row.turn.client log) (commands_on lent.backend.account link log) (row_standing row)
-    follows zero unsent = Begins (here unsent row.owned) (row-clean row has unsent)
+    follows zero unsent = Begins (here unsent) (row-clean row has unsent)
         (record { rest = drop k (drop command.sent command.bytes); is = take-append-drop k (drop command.sent command.bytes) ∙ ap (λ sent. drop sent command.bytes) unsent ∙ asked-spelt stands.asked })
     follows (suc sent) at = GoesOn inside.others (take command.sent command.bytes) (row-sends row has (omega arith) less)
         (row-commands row has (omega arith) ∙ ap (λ (t : Tag). inside.others ++ record { tag = t; bytes = take command.sent command.bytes } ∷ []) stands.tag)
         (record { rest = drop k (drop command.sent command.bytes); is = front-of command.bytes command.sent k ∙ asked-spelt stands.asked })
 
   may-write : (l : Sent) (k : ℕ) → left lent.backend ≡ Some l → IsLawful service log (Wrote link l.tag (take k l.bytes))
-  may-write l k lefts = (let by : LeftAt lent.backend l → IsLawful service log (Wrote link l.tag (take k l.bytes)) = λ h0. grind (arith, common_steps, (may-say row), may-send) in
-      by (left-at lent.backend l lefts))
+  may-write l k lefts = elim (left-at lent.backend l lefts) [
+    | OfLogin some same ↦ rw same (may-say row k some)
+    | OfCommand command none has less same ↦ rw same (may-send command k none has less)
+  ]
 
 -- The link that the router closes may be closed.
 
@@ -450,13 +454,12 @@ module _ {service : Service} {log : Log} (told : AllLawful Fits log) (sound : So
     live = live-here sound for.client.0 (λ gone. cc (gone.unasked, for.waiting.asks))
 
     -- its link would be the client's, which has none
-    unlinked : (link : LinkId) (lent : Lent) (n : ℕ) → n ≡ for.client.0 → Owned service log now.lends link n lent → ⊥
-    unlinked link lent n mine (Own owner owns) = cc (owns, for.waiting.unowned)
-    unlinked link lent n mine (Left owner gone begun) = cc (gone, live.here)
-
     none : (link : LinkId) → owner_of service link log ≡ Some (owner_for service for.client.0 stands.asked.message stands.asked.due) → (b : Bool) → is_open link log ≡ b → b ≡ false
     none link owned false opened = refl
-    none link owned true opened = absurd (let row = owned-row sound link _ told (quiet-closes now so.0) opened owned in unlinked link row.0 row.2.turn.client row.3 row.2.owned)
+    none link owned true opened = (let row = owned-row sound link _ told (quiet-closes now so.0) opened owned in elim row.2.owned [
+      | Own owner owns ↦ cc (row.3, owns, for.waiting.unowned)
+      | Left owner gone begun ↦ cc (row.3, gone, live.here)
+    ])
 
   written : (link : LinkId) (tag : Tag) (bytes : List ℕ) → Writes now link tag bytes → IsLawful service log (Wrote link tag bytes)
   written link tag bytes (ToClient client seat is on reply n front) = (let stands = (sound.seats client.0 seat is).stands in
