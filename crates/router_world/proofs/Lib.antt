@@ -9,7 +9,6 @@ pub mod Connecting
 pub mod Dues
 pub mod Frames
 pub mod Hands
-pub mod Happenings
 pub mod Hearing
 pub mod Keeping
 pub mod Lawful

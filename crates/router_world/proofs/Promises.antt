@@ -1,21 +1,109 @@
 -- What the router does keeps the promises.
-use Rattle.router_world.proofs.Names.{common_steps, arith, ◌≡◌, ◌≤◌, true, false, List, [], ◌∷◌, ◌++◌, Some, None, refl, sym, ◌∙◌, ap, subst, inl, inr, fold-append}
-use Rattle.router_world.proofs.Names.{LinkId, Log, AllLawful, MayFollow, Entry, Setup, most_command, Service, IsServed, Serves, some-same, Parting, Tables, Fits}
-use Rattle.router_world.proofs.Names.{no_tables, closed_by, tables_after, asks, awaits, IsClosing, IsOurs, length, LawfulAfter, append_assoc, append-nil, turns}
-use Rattle.router_world.proofs.Names.{open_tries, message_of, message-stays, lawful-more, Keeps, Target, turn_at, turn_for, oldest}
+use Rattle.router_world.proofs.Names.{common_steps, ◌≡◌, ◌≢◌, ℕ, true, nat_eq, cond, List, [], ◌∷◌, ◌++◌, length, Some, None, refl, sym, ◌∙◌, ap, subst}
+use Rattle.router_world.proofs.Names.{arith, length-append, inl, inr, AreBytes, LinkId, Tag, Log, link_of, open_step, same_number, Entry, Got, Wrote, is_loss}
+use Rattle.router_world.proofs.Names.{is_failure, carries, is_command, Lent, Service, none-if, Parting, Tables, sends, farewell_of, IsFront, IsFarewell, Bool}
+use Rattle.router_world.proofs.Names.{option_and_then, refused_by, refused_on, is_write, ◌≤◌, fold-append, AllLawful, MayFollow, Setup, most_command}
+use Rattle.router_world.proofs.Names.{IsServed, Serves, Fits, no_tables, tables_after, asks, awaits, IsOurs, LawfulAfter, append_assoc, append-nil, turns}
+use Rattle.router_world.proofs.Names.{open_tries, message-stays, lawful-more, Keeps, Target, turn_at, turn_for, oldest}
+use Rattle.router_world.proofs.Sound.{Happens, Sound, Nobody, Covers, AreFormed}
+use Rattle.router_world.proofs.Stepping.{OnLink, IsPlain, done, nobody-waits, quiet-closes}
+use Rattle.mx_wire.specs.declared.entry.Entry.TheVariants.{Ended, WriteFailed}
+use Rattle.router_world.specs.World.{got_on, ended_on, failed_on, wrote_on, step}
+use Rattle.router_world.proofs.Lawful.{IsOf, OfClient, OfServer, is-of, reply-front, ClosesClient, ClosesServer, closes-next, awaits-so, opens-for}
+use Rattle.router_world.proofs.Lawful.{counts-more, covers-front}
+use Rattle.router_world.proofs.LinksWritten.{front-size}
+use Rattle.router_world.proofs.ServerEvents.{heard-step, lost-step, wrote-step}
+use Rattle.router_world.proofs.ClientEvents.{got-client, ended-client, wrote-client, broken-client}
+use Rattle.router_world.proofs.Closing.{IsOffer, offered-step, closed-client, closed-server}
 use Rattle.mx_wire.specs.Moments.{moment-last}
-use Rattle.router_world.specs.World.{step}
 use Rattle.router_world.proofs.Connecting.{counts-all}
-use Rattle.router_world.proofs.Sound.{Sound, Nobody, Covers, Happens, AreFormed}
-use Rattle.router_world.proofs.Stepping.{done, quiet-closes}
-use Rattle.router_world.proofs.Lawful.{awaits-so, opens-for, counts-more, covers-front, ClosesNext, ClosesClient, ClosesServer, closes-next}
-use Rattle.router_world.proofs.Closing.{closed-client, closed-server}
 use Rattle.router_world.proofs.OpenEvents.{OnOpen, open-failed-step, opened-step}
 use Rattle.router_world.proofs.Arriving.{coming-step}
 use Rattle.router_world.proofs.Silences.{nothing-step}
-use Rattle.router_world.proofs.Happenings.{got-step, ended-step, failed-step, written-step, offer-written, offer-failed}
 use Rattle.router_world.proofs.Keeping.{service-of, form_by, keeps-none, keeps-more}
 use Rattle.mx_wire.specs.declared.entry.Entry.TheVariants as entry
+
+-- What the entries on an open link make of what stands, by whose it is.
+
+module _ {service : Service} {log : Log} {e : Entry} {link : LinkId} {tables : Tables} (on : OnLink service log e link tables) where
+  whose : IsOf tables link
+  whose = is-of on.happens.sound link (done service.setup tables on.acted) on.opened
+
+  -- a server's link has no client's number
+  unnumbered : (lent : Lent) → tables.lends.links link.0 ≡ Some lent → tables.numbers link.0 ≡ None
+  unnumbered lent there = grind (arith, common_steps, none-if)
+
+  -- It is broken.
+  pub failed-step : is_failure e ≡ true → is_loss e ≡ true → ((k i : ℕ) → carries k i e ≡ None) → Sound service (log ++ e ∷ []) None (failed_on service.setup link (tables.numbers link.0) tables)
+  failed-step failure loss silent = elim whose [
+    | OfClient client seat number is at ↦ rw number (broken-client (record { on = on; writes = silent; number = number; is = is; same = at }) failure loss)
+    | OfServer lent is ↦ rw (unnumbered lent is, is) (lost-step service log e link lent tables on.happens.sound (record { on = on; there = is }) loss silent)
+  ]
+
+-- Bytes come.
+pub got-step : {service : Service} {log : Log} {link : LinkId} {bytes : List ℕ} {tables : Tables} → AreBytes bytes → OnLink service log (Got link bytes) link tables
+    → Sound service (log ++ Got link bytes ∷ []) None (got_on service.setup link bytes (tables.numbers link.0) tables)
+got-step {service} {log} {link} {bytes} {tables} are on = elim (whose on) [
+  | OfClient client seat number is at ↦ rw (number, is) (got-client (record { on = on; writes = λ n i. refl; number = number; is = is; same = at }) (nobody-waits service.setup tables on.acted)
+      (let few = on.happens.few in let size = length-append log (Got link bytes ∷ []) in omega arith))
+  | OfServer lent is ↦ rw (unnumbered on lent is, is) (heard-step service log link bytes lent tables are on.happens.sound (record { on = on; there = is }))
+]
+
+-- Its end is read.
+pub ended-step : {service : Service} {log : Log} {link : LinkId} {tables : Tables} → OnLink service log (Ended link) link tables → Sound service (log ++ Ended link ∷ []) None (ended_on service.setup link (tables.numbers link.0) tables)
+ended-step {service} {log} {link} {tables} on = elim (whose on) [
+  | OfClient client seat number is at ↦ rw (number, is) (ended-client (record { on = on; writes = λ n i. refl; number = number; is = is; same = at }))
+  | OfServer lent is ↦ rw (unnumbered on lent is, is) (lost-step service log (Ended link) link lent tables on.happens.sound (record { on = on; there = is }) refl (λ k i. refl))
+]
+
+-- Bytes are written there.
+pub written-step : {service : Service} {log : Log} {link : LinkId} {tag : Tag} {bytes : List ℕ} {tables : Tables} → OnLink service log (Wrote link tag bytes) link tables → IsFront (sends tables link) tag bytes
+    → Sound service (log ++ Wrote link tag bytes ∷ []) None (wrote_on link (length bytes) (tables.numbers link.0) tables)
+written-step {service} {log} {link} {tag} {bytes} {tables} on front = elim (whose on) [
+  | OfClient client seat number is at ↦ (
+      let reply = reply-front tag bytes seat.session.client.outgoing (rw is at (rw number at front)) in
+      rw (number, is) (wrote-client (record { on = on; writes = λ n i. ap (λ (t : Tag). cond (is_command n i t) (Some link) None) reply.0; number = number; is = is; same = at })
+      (sym (front-size seat.session.client.outgoing bytes reply.1 reply.2).1)))
+  | OfServer lent is ↦ rw (unnumbered on lent is, is) (wrote-step service log link tag bytes lent tables on.happens.sound (record { on = on; there = is })
+      (rw is at (rw (unnumbered on lent is) at front)))
+]
+
+-- What is offered to a link before it closes: it is a client's that is to be closed, and has something to be told.
+record Offers (tables : Tables) (link : LinkId) : Type 0 where
+  pub parting : Parting
+  pub is : tables.parting ≡ parting ∷ []
+  pub on : parting.link ≡ link
+  pub some : parting.bytes ≢ []
+
+module _ {service : Service} {log : Log} {e : Entry} {link : LinkId} {tables : Tables} (happens : Happens service log e tables) (farewell : IsFarewell tables link) where
+  the : Offers tables link
+  the = grind (arith, common_steps, closes-next)
+
+  nobodys : (tables.numbers link.0 ≡ None) × (tables.lends.links link.0 ≡ None)
+  nobodys = (let stands = happens.sound.parts the.parting the.is in
+      (ap (λ (l : LinkId). tables.numbers l.0) (sym the.on) ∙ stands.unnumbered, ap (λ (l : LinkId). tables.lends.links l.0) (sym the.on) ∙ stands.unlent))
+
+  offer : link_of e ≡ Some link → is_write e ≡ true → ((n i : ℕ) → carries n i e ≡ None) → refused_by service log e ≡ option_and_then (refused_on service log e) (link_of e) → IsPlain e → ((was : Bool) → open_step was e ≡ was)
+      → IsOffer service log e the.parting tables
+  offer names writes silent refuses plain stays = (let on = the.on in let is = the.is in let some = the.some in grind (arith, common_steps))
+
+pub offer-written : {service : Service} {log : Log} {link : LinkId} {tag : Tag} {bytes : List ℕ} {tables : Tables} → Happens service log (Wrote link tag bytes) tables → IsFarewell tables link → IsFront (farewell_of tables.parting) tag bytes
+    → Sound service (log ++ Wrote link tag bytes ∷ []) None (wrote_on link (length bytes) (tables.numbers link.0) tables)
+offer-written {service} {log} {link} {tag} {bytes} {tables} happens farewell front = (let p = (the happens farewell).parting in
+    let here : nat_eq p.link.0 link.0 ≡ true = ap (λ (l : LinkId). nat_eq l.0 link.0) (the happens farewell).on ∙ same_number link.0 in
+    let reply = reply-front tag bytes p.bytes (rw (the happens farewell).is at front) in
+    let silent : (n i : ℕ) → carries n i (Wrote link tag bytes) ≡ None = λ n i. ap (λ (t : Tag). cond (is_command n i t) (Some link) None) reply.0 in
+    let opens : (was : Bool) → open_step was (Wrote link tag bytes) ≡ was = λ was. refl in
+    rw ((nobodys happens farewell).0, (nobodys happens farewell).1, (the happens farewell).is, here)
+    (offered-step service log (Wrote link tag bytes) p (record p { bytes = [] }) tables happens.sound (offer happens farewell refl refl silent refl (assumption) opens) refl refl (inl refl)))
+
+pub offer-failed : {service : Service} {log : Log} {link : LinkId} {tables : Tables} → Happens service log (WriteFailed link) tables → IsFarewell tables link
+    → Sound service (log ++ WriteFailed link ∷ []) None (failed_on service.setup link (tables.numbers link.0) tables)
+offer-failed {service} {log} {link} {tables} happens farewell = (let p = (the happens farewell).parting in
+    let silent : (n i : ℕ) → carries n i (WriteFailed link) ≡ None = λ n i. refl in
+    let opens : (was : Bool) → open_step was (WriteFailed link) ≡ was = λ was. refl in
+    rw ((nobodys happens farewell).0, (nobodys happens farewell).1) (rw (the happens farewell).is
+    (offered-step service log (WriteFailed link) p p tables happens.sound (offer happens farewell refl refl silent refl (assumption) opens) refl refl (inr (refl, refl)))))
 
 -- Before the first entry nothing stands.
 starts : (service : Service) → Sound service [] None no_tables
