@@ -103,10 +103,7 @@ module _ {service : Service} {log : Log} {tables : Tables} (told : AllLawful Fit
   module _ {link : LinkId} {lent : Lent} (is : tables.lends.links link.0 ≡ Some lent) (row : RowStands service log tables.lends link lent) where
     -- a command there was written whole, or the link takes no more
     whole-or-full : {command : Handed} → lent.backend.command ≡ Some command → (command.sent ≡ length command.bytes) ⊎ ((command.sent < length command.bytes) × (write_dry link log ≡ true))
-    whole-or-full {command} has = by (nat_lt command.sent (length command.bytes)) refl where
-      by : (b : Bool) → nat_lt command.sent (length command.bytes) ≡ b → (command.sent ≡ length command.bytes) ⊎ ((command.sent < length command.bytes) × (write_dry link log ≡ true))
-      by true less = (let part : command.sent < length command.bytes = grind arith in let l = left-some lent.backend command has part in inr (part, row-full lent l.0 row.opened is l.1))
-      by false most = inl (let fits = (row-message row has).sent in grind arith)
+    whole-or-full {command} has = grind (arith, common_steps, left-some, row-full, row-message)
 
     row-busy : is_begun lent.backend.command ≡ true → IsBusy service.forms lent.backend.account link log
     row-busy begun = (let has = begun-there lent.backend.command begun in let some : has.0.sent ≢ 0 = nat_eq-false has.0.sent 0 has.2 in elim (whole-or-full has.1) [
