@@ -18,6 +18,8 @@ use Rattle.router_world.proofs.Connecting.{is_among, counts-all, among-end, conn
 use Rattle.router_world.proofs.Seats.{new_talk, new-seat}
 use Rattle.router_world.proofs.Silences.{refuses-none, Bystands, seats-left, lends-left}
 use Rattle.router_world.proofs.Stepping.{IsQuiet}
+use Rattle.router_world.proofs.Lawful.{get-behind}
+use Rattle.std.proofs.lemmas.Option.{slice_get_past}
 
 abbrev Unborn : Service → Log → Type 0
 Unborn service log = (n i : ℕ) → arrival_of n log ≡ None → (carrier_of n i log ≡ None) × (is_refused service n i log ≡ false)
@@ -59,14 +61,6 @@ fold-few : (links : List LinkId) (log : Log) → length (fold connected_step lin
 fold-few links [] = omega arith
 fold-few links (e ∷ log) = (let one = few-step links e in let rest = fold-few (connected_step links e) log in omega arith)
 
-last-of : {X : Type 0} (xs : List X) (x : X) → slice_get (xs ++ x ∷ []) (length xs) ≡ Some x
-last-of [] x = refl
-last-of (y ∷ xs) x = last-of xs x
-
-beyond : {X : Type 0} (xs : List X) → slice_get xs (length xs) ≡ None
-beyond [] = refl
-beyond (y ∷ xs) = beyond xs
-
 -- A client comes.
 
 -- what is known as a client comes
@@ -95,7 +89,7 @@ module _ {service : Service} {log : Log} {port : Port} {link : LinkId} {salt : L
   arrivals-now = arrivals-more [] log (e ∷ [])
 
   arrives-now : arrival_of number then ≡ Some arrival
-  arrives-now = grind (arith, common_steps, arrivals-now, last-of)
+  arrives-now = grind (arith, common_steps, arrivals-now, get-behind)
 
   number-now : counted tables.came ≡ number
   number-now = grind (arith, common_steps, arrivals-few)
@@ -213,7 +207,7 @@ module _ {service : Service} {log : Log} {port : Port} {link : LinkId} {salt : L
 
     -- nobody had its number
     unarrived : arrival_of client.0 log ≡ None
-    unarrived = cc (mine, beyond (arrivals log))
+    unarrived = cc (mine, slice_get_past (arrivals log) (length (arrivals log)) (omega arith))
 
     vacant : tables.seats client.0 ≡ None
     vacant = none-if (tables.seats client.0) (λ other is. cc (unarrived, (sound.seats client.0 other is).stands.is_came))

@@ -209,6 +209,10 @@ behind-both setup before (x ∷ log) more = grind (arith, common_steps, turns, (
 pub covers-front : (service : Service) (log more : Log) → service.opens ≡ turns service.setup (log ++ more) → length (turns service.setup log) ≡ length (open_tries log) → Covers service log
 covers-front service log more is counts = grind (arith, common_steps, behind-both)
 
+pub get-behind : {X : Type 0} (xs ys : List X) (y : X) → slice_get (xs ++ y ∷ ys) (length xs) ≡ Some y
+get-behind [] ys y = refl
+get-behind (x ∷ xs) ys y = get-behind xs ys y
+
 abbrev tries_at : Entry → ℕ
 tries_at e = length (cons_option (open_try e) [])
 
@@ -232,10 +236,7 @@ module _ (service : Service) (log : Log) (e : Entry) where
       (let both = counts-both in let now = covers.counts in let one = ap length at in let try = tries-one before turn e at in omega arith) in
       ap (λ (n : ℕ). slice_get service.opens n) (sym counts)
       ∙ ap (λ opens. slice_get opens (length (turns service.setup log))) (cc (covers.is, turns-more, at, append_assoc (turns service.setup log) (turn ∷ []) covers.rest))
-      ∙ get-behind (turns service.setup log)) where
-        get-behind : (xs : List Turn) → slice_get (xs ++ turn ∷ covers.rest) (length xs) ≡ Some turn
-        get-behind [] = refl
-        get-behind (x ∷ xs) = get-behind xs
+      ∙ get-behind (turns service.setup log) covers.rest turn)
 
 -- The open that the router asks for is for the one client that waits.
 pub record IsFor (service : Service) (log : Log) (tables : Tables) (e : Entry) : Type 0 where
