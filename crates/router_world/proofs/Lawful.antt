@@ -60,8 +60,7 @@ module _ (log : Log) (e : Entry) (fits : Fits log e) where
   new-link came is = grind (arith, common_steps, some-same)
 
   apart : (k : ℕ) (came other : Arrival) → slice_get (arrivals log) k ≡ Some came → arrival_in log e ≡ Some other → came.link ≡ other.link → ⊥
-  apart k came other is new same =
-      named-none came.link (came_as came.link) log (came-names came.link) (rw same (new-link other new)) (arrival-as [] log k came is)
+  apart k came other is new same = grind (arith, common_steps, arrival-as, came-names, named-none, new-link)
 
   once-step : Once log → Once (log ++ e ∷ [])
   once-step before k j came other one two same = grind (arith, common_steps, apart, (arrived k came one), (arrived j other two))
@@ -234,9 +233,7 @@ module _ (service : Service) (log : Log) (e : Entry) where
   pub next-turn : (turn : Turn) → turn_at before e ≡ turn ∷ [] → Covers service (log ++ e ∷ []) → next_turn service log ≡ Some turn
   next-turn turn at covers = (let counts : length (turns service.setup log) ≡ length (open_tries log) =
       (let both = counts-both in let now = covers.counts in let one = ap length at in let try = tries-one before turn e at in omega arith) in
-      ap (λ (n : ℕ). slice_get service.opens n) (sym counts)
-      ∙ ap (λ opens. slice_get opens (length (turns service.setup log))) (cc (covers.is, turns-more, at, append_assoc (turns service.setup log) (turn ∷ []) covers.rest))
-      ∙ get-behind (turns service.setup log) covers.rest turn)
+      cc (counts, covers.is, turns-more, at, append_assoc (turns service.setup log) (turn ∷ []) covers.rest, get-behind (turns service.setup log) covers.rest turn))
 
 -- The open that the router asks for is for the one client that waits.
 pub record IsFor (service : Service) (log : Log) (tables : Tables) (e : Entry) : Type 0 where
