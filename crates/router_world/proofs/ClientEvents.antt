@@ -218,22 +218,23 @@ module _ {service : Service} {log : Log} {client : ClientNo} {link : LinkId} {ta
   next-same phase.LoggingIn is stands serves = LogsIn serves
   next-same (phase.Idle user) is stands serves = Rests user serves
   next-same (phase.Working user) is stands serves = Works user serves
-  next-same phase.Ending is stands serves = Ends None (by stands.state) where
-    by : IsHeard service (then on) client.0 stands.came rest ⊎ IsEnded service (then on) client.0 stands.came rest → Went service (then on) client.0 tables.lends (gone client tables.lends)
-    by (inl heard) = ends-so service (then on) client.0 stands.came (written_of stands.came.link (then on)) rest tables.lends (lends on) (inl (quiet on).unclosed) stands.is_came (free-gone tables.lends client.0 serves) is heard.at
-    by (inr went) = gone-sound service (then on) client.0 tables.lends (lends on) (inl (quiet on).unclosed) (Away (lost-away client.0 stands.came (then on) stands.is_came went.lost))
+  next-same phase.Ending is stands serves = Ends None (elim stands.state [
+    | inl heard ↦ ends-so service (then on) client.0 stands.came (written_of stands.came.link (then on)) rest tables.lends (lends on) (inl (quiet on).unclosed) stands.is_came (free-gone tables.lends client.0 serves) is heard.at
+    | inr went ↦ gone-sound service (then on) client.0 tables.lends (lends on) (inl (quiet on).unclosed) (Away (lost-away client.0 stands.came (then on) stands.is_came went.lost))
+  ])
 
   pub wrote-client : bytes ≡ take (length bytes) seat.session.client.outgoing → Sound service (log ++ Wrote link tag bytes ∷ []) None (goes_on client seat.link (still rest) (without_seat client tables))
-  wrote-client front = goes on (still rest) refl (by (sits on).stands.state) (next-same seat.session.phase refl (stands on refl rest (by (sits on).stands.state)) (sits on).serves) where
+  wrote-client front = goes on (still rest) refl state (next-same seat.session.phase refl (stands on refl rest state) (sits on).serves) where
     written : written_of (came on).link (then on) ≡ written_of (came on).link log ++ take (length bytes) seat.session.client.outgoing
     written = cc (bytes-same wrote_bytes (came on).link log (Wrote link tag bytes) (here on), front)
 
-    by : State on seat.session → StateThen on rest
-    by (inl heard) = inl (record {
-      unlost = keeps on is_loss refl ∙ heard.unlost;
-      at = rw (bytes-idle got_bytes (came on).link log (Wrote link tag bytes) refl)
-          (rw written
-          (taken-seat (length bytes) (replies on heard).seat));
-      unsent = (replies on heard).unsent;
-    })
-    by (inr went) = inr (still-ended on went refl rest refl (cc (written, append_assoc (written_of (came on).link log) (take (length bytes) seat.session.client.outgoing) (drop (length bytes) seat.session.client.outgoing), take-append-drop (length bytes) seat.session.client.outgoing)))
+    state : StateThen on rest
+    state = elim (sits on).stands.state [
+      | inl heard ↦ inl (record {
+          unlost = keeps on is_loss refl ∙ heard.unlost;
+          at = rw (bytes-idle got_bytes (came on).link log (Wrote link tag bytes) refl) (rw written (taken-seat (length bytes) (replies on heard).seat));
+          unsent = (replies on heard).unsent;
+        })
+      | inr went ↦ inr (still-ended on went refl rest refl (cc (written, append_assoc (written_of (came on).link log) (take (length bytes) seat.session.client.outgoing) (drop (length bytes) seat.session.client.outgoing),
+          take-append-drop (length bytes) seat.session.client.outgoing)))
+    ]
