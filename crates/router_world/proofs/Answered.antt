@@ -21,7 +21,8 @@ use Rattle.client_talk.specs.declared.session.Phase.TheVariants as phase
 
 -- A command in work is one alone.
 -- so its client works
-pub working-busy : (at : Phase) (lends : Lends) (n arrived i : ℕ) → Serves at lends n arrived → Busy lends n i → (user : Account) × (at ≡ phase.Working user) × (arrived ≡ i)
+pub working-busy : (at : Phase) (lends : Lends) (n arrived i : ℕ) → Serves at lends n arrived → Busy lends n i
+    → (user : Account) × (at ≡ phase.Working user) × (arrived ≡ i)
 working-busy at lends n arrived i serves busy = grind (arith, common_steps, some-same, none-some, same-ordinal)
 
 -- What an entry of a server makes of the tables.
@@ -32,19 +33,23 @@ pub record FromServer (service : Service) (log : Log) (e : Entry) (n : ℕ) (tab
   pub came : Came service (log ++ e ∷ []) n tables.lends news
   pub calm : (k : ℕ) → nat_eq k n ≡ false → Calm service log e k
   pub seats : (k : ℕ) (seat : Seat) → tables.seats k ≡ Some seat → Leaves seat.link log e
-  pub rows : (link : LinkId) (lent : Lent) (turn : Turn) → tables.lends.links link.0 ≡ Some lent → turn_of service link log ≡ Some turn → nat_eq turn.client n ≡ false → Leaves link log e
-  pub later : (seat : Seat) → tables.seats n ≡ Some seat → Unsent service n seat.session.client.arrived log → Unsent service n seat.session.client.arrived (log ++ e ∷ [])
+  pub rows : (link : LinkId) (lent : Lent) (turn : Turn) → tables.lends.links link.0 ≡ Some lent → turn_of service link log ≡ Some turn
+      → nat_eq turn.client n ≡ false → Leaves link log e
+  pub later : (seat : Seat) → tables.seats n ≡ Some seat → Unsent service n seat.session.client.arrived log
+      → Unsent service n seat.session.client.arrived (log ++ e ∷ [])
   pub opens : (link : LinkId) → IsOpen link (log ++ e ∷ []) → IsOpen link log
 
 -- Nothing comes of it.
-pub serves-quiet : (at : Phase) (lends other : Lends) (n arrived : ℕ) → ((i : ℕ) → Busy lends n i → Busy other n i) → (Free lends n → Free other n) → (Gone lends n → Gone other n) → Serves at lends n arrived → Serves at other n arrived
+pub serves-quiet : (at : Phase) (lends other : Lends) (n arrived : ℕ) → ((i : ℕ) → Busy lends n i → Busy other n i) → (Free lends n → Free other n)
+    → (Gone lends n → Gone other n) → Serves at lends n arrived → Serves at other n arrived
 serves-quiet phase.LoggingIn lends other n arrived busy free gone serves = gone serves
 serves-quiet (phase.Idle user) lends other n arrived busy free gone serves = free serves
 serves-quiet (phase.Working user) lends other n arrived busy free gone serves = busy arrived serves
 serves-quiet phase.Ending lends other n arrived busy free gone serves = gone serves
 
 -- a client that is logged in stays so
-never-enters : (talk : Talk) (reply : ℕ → Option Answer) (written : List ℕ) (session : Session) (user : Account) → account talk ≡ Some user → SeatAt talk reply written session → session.phase ≡ phase.LoggingIn → ⊥
+never-enters : (talk : Talk) (reply : ℕ → Option Answer) (written : List ℕ) (session : Session) (user : Account) → account talk ≡ Some user
+    → SeatAt talk reply written session → session.phase ≡ phase.LoggingIn → ⊥
 never-enters talk reply written session user known seat is = grind (arith, common_steps)
 
 module _ {service : Service} {log : Log} {e : Entry} {n : ℕ} {tables : Tables} {news : Told} (from : FromServer service log e n tables news) where
@@ -57,7 +62,8 @@ module _ {service : Service} {log : Log} {e : Entry} {n : ℕ} {tables : Tables}
   others : Others service log e n tables
   others = grind (arith, common_steps, counts-all, lawful-more)
 
-  quiet-step : ((i : ℕ) → Busy tables.lends n i → Busy news.lends n i) → (Free tables.lends n → Free news.lends n) → (Gone tables.lends n → Gone news.lends n) → ((i : ℕ) → Busy tables.lends n i → replied service n i then ≡ None)
+  quiet-step : ((i : ℕ) → Busy tables.lends n i → Busy news.lends n i) → (Free tables.lends n → Free news.lends n) → (Gone tables.lends n → Gone news.lends n)
+      → ((i : ℕ) → Busy tables.lends n i → replied service n i then ≡ None)
       → Sound service then None (with_lends news.lends tables)
   quiet-step busy free gone none = moved service log e n None tables tables.seats news.lends sound others (record {
     others = λ k apart. refl;
@@ -110,20 +116,28 @@ module _ {service : Service} {log : Log} {e : Entry} {n : ℕ} {tables : Tables}
     unsent = from.later seat is (heard-of was.state).unsent
 
     now-seat : SeatAt (talk_with service n was.came log) (reply log) written (record { client = client; phase = phase.Working user })
-    now-seat = subst (λ (p : Phase). SeatAt (talk_with service n was.came log) (reply log) written (record { client = client; phase = p })) works (heard-of was.state).at
+    now-seat = subst (λ (p : Phase). SeatAt (talk_with service n was.came log) (reply log) written (record { client = client; phase = p })) works
+        (heard-of was.state).at
 
     working : IsWorking (talk_with service n was.came log) (reply log) user client
     working = now-seat.at
 
-    seated : (answer : Answer) (message : Framed) → message_of service n client.arrived then ≡ Some message → replied service n client.arrived then ≡ Some answer → Free news.lends n → news.lends.waiting ≡ []
+    seated : (answer : Answer) (message : Framed) → message_of service n client.arrived then ≡ Some message
+        → replied service n client.arrived then ≡ Some answer → Free news.lends n → news.lends.waiting ≡ []
         → (news.lends.closing ≡ []) ⊎ (news.lends.owned n ≡ None)
-        → Sound service then None (goes_on (record { 0 = n }) seat.link (answered service.setup (spelt (next_id message.last) answer) seat.session) (without_seat (record { 0 = n }) (with_lends news.lends tables)))
+        → Sound service then None
+            (goes_on (record { 0 = n }) seat.link (answered service.setup (spelt (next_id message.last) answer) seat.session)
+            (without_seat (record { 0 = n }) (with_lends news.lends tables)))
     seated answer message there now free idle closable =
-        subst (λ (p : Phase). Sound service then None (goes_on (record { 0 = n }) seat.link (answered service.setup packets (record { client = client; phase = p })) (without_seat (record { 0 = n }) (with_lends news.lends tables)))) (sym works)
+        subst (λ (p : Phase). Sound service then None
+            (goes_on (record { 0 = n }) seat.link (answered service.setup packets (record { client = client; phase = p }))
+            (without_seat (record { 0 = n }) (with_lends news.lends tables)))) (sym works)
         (goes-on service then (record { 0 = n }) seat.link turned (without_seat (record { 0 = n }) (with_lends news.lends tables))
-        (taken-out service log e (record { 0 = n }) seat tables news.lends sound others is from.came.sound from.came.apart from.came.traces from.opens) (set-same tables.seats n None) ((sound.seats n seat is).numbered) from.quiet.unparted stands
+        (taken-out service log e (record { 0 = n }) seat tables news.lends sound others is from.came.sound from.came.apart from.came.traces from.opens)
+            (set-same tables.seats n None) ((sound.seats n seat is).numbered) from.quiet.unparted stands
         (next-turned service then n was.came written old turned news.lends from.came.sound closable (λ has. idle) came was.served free
-        (λ enters. absurd (never-enters (talk_with service n was.came log) (reply then) written turned.session user working.account at.seat enters)) (λ other same. cc)
+        (λ enters. absurd (never-enters (talk_with service n was.came log) (reply then) written turned.session user working.account at.seat enters))
+            (λ other same. cc)
         (λ some. (unsent turned.session.client.arrived (behind turned.query some at.asks)).0) from.happens.formed at-then)
         (finished-parted service then n (record { link = seat.link; session = turned.session }) stands)) where
           packets : List ℕ
@@ -133,24 +147,31 @@ module _ {service : Service} {log : Log} {e : Entry} {n : ℕ} {tables : Tables}
           turned = answered service.setup packets (record { client = client; phase = phase.Working user })
 
           stays : (i : ℕ) (a : Answer) → replied service n i log ≡ Some a → replied service n i then ≡ Some a
-          stays i a at = replied-stays service n i log (e ∷ []) a (refused-or-sent service then from.happens.lawful) at
+          stays i a at = grind (arith, common_steps, refused-or-sent, replied-stays)
 
           -- the message is the one in work
           same : message ≡ working.message
-          same = some-same message working.message (cc (there, message-stays service n client.arrived log (e ∷ []) working.message (in-work service n log (at_place client.arrived working.message) (work-is service n was.came log was.is_came ∙ working.work)).0))
+          same = some-same message working.message
+              (cc (there, message-stays service n client.arrived log (e ∷ []) working.message
+              (in-work service n log (at_place client.arrived working.message) (work-is service n was.came log was.is_came ∙ working.work)).0))
 
           at : SeatTurned (talk_with service n was.came log) (reply then) written old turned
-          at = answered-seat working (reply then) written answer packets now-seat now stays (λ i less. unsent-still service n i then (unsent i less).0 (unsent i less).1)
+          at = answered-seat working (reply then) written answer packets now-seat now stays
+              (λ i less. unsent-still service n i then (unsent i less).0 (unsent i less).1)
               (cc (same)) (read-short was.came.link log from.happens.told (let few = from.happens.few in omega arith))
 
           at-then : SeatTurned (talk_with service n was.came then) (reply then) written old turned
-          at-then = subst (λ r. SeatTurned (record { setup = service.setup; number = n; salt = was.came.salt; read = r }) (reply then) written old turned) (sym leaves.read) at
+          at-then = subst (λ r. SeatTurned (record { setup = service.setup; number = n; salt = was.came.salt; read = r }) (reply then) written old turned)
+              (sym leaves.read) at
 
           -- behind the answer all messages that were taken are answered, so a query that comes up is a later one
-          behind : (q : Option Query) → q ≢ None → Asks q (talk_with service n was.came log) (reply then) old turned.session → client.arrived < turned.session.client.arrived
+          behind : (q : Option Query) → q ≢ None → Asks q (talk_with service n was.came log) (reply then) old turned.session
+              → client.arrived < turned.session.client.arrived
           behind None some asks = absurd (some refl)
-          behind (Some query) some asks = (let more = later-work (talk_with service n was.came log) (reply then) working.taken.past (split service.setup.limit 0 client.framer.kept).messages
-              (record { ordinal = turned.session.client.arrived; message = asks.1.message }) (cc (taken-messages working.taken)) (working-done working (reply then) answer now stays).all asks.1.work in
+          behind (Some query) some asks = (let more = later-work (talk_with service n was.came log) (reply then) working.taken.past
+              (split service.setup.limit 0 client.framer.kept).messages
+              (record { ordinal = turned.session.client.arrived; message = asks.1.message }) (cc (taken-messages working.taken))
+                  (working-done working (reply then) answer now stays).all asks.1.work in
               let count = working.taken.arrived in omega arith)
 
           stands : SeatStands service then n (record { link = seat.link; session = turned.session })
@@ -164,21 +185,29 @@ module _ {service : Service} {log : Log} {e : Entry} {n : ℕ} {tables : Tables}
             state = inl (record {
               unlost = leaves.lost ∙ (heard-of was.state).unlost;
               at = rw leaves.written at-then.seat;
-              unsent = λ i later. unsent i (let more = turned-more service.setup (rested user packets (record { client = client; phase = phase.Working user })) in omega arith);
+              unsent = λ i later. unsent i
+                  (let more = turned-more service.setup (rested user packets (record { client = client; phase = phase.Working user })) in omega arith);
             });
           }
 
-  answered-step : (i : ℕ) (answer : Answer) (message : Framed) → Busy tables.lends n i → message_of service n i then ≡ Some message → replied service n i then ≡ Some answer → Free news.lends n → news.lends.waiting ≡ [] → (news.lends.closing ≡ []) ⊎ (news.lends.owned n ≡ None)
-      → Sound service then None (answering service.setup (Some (record { client = record { 0 = n }; packets = spelt (next_id message.last) answer })) (with_lends news.lends tables))
+  answered-step : (i : ℕ) (answer : Answer) (message : Framed) → Busy tables.lends n i → message_of service n i then ≡ Some message
+      → replied service n i then ≡ Some answer → Free news.lends n → news.lends.waiting ≡ [] → (news.lends.closing ≡ []) ⊎ (news.lends.owned n ≡ None)
+      → Sound service then None
+          (answering service.setup (Some (record { client = record { 0 = n }; packets = spelt (next_id message.last) answer })) (with_lends news.lends tables))
   answered-step i answer message busy there now free idle closable = by (tables.seats n) refl where
-    by : (o : Option Seat) → tables.seats n ≡ o → Sound service then None (on_seat (answered service.setup (spelt (next_id message.last) answer)) (record { 0 = n }) o (without_seat (record { 0 = n }) (with_lends news.lends tables)))
+    by : (o : Option Seat) → tables.seats n ≡ o
+        → Sound service then None
+        (on_seat (answered service.setup (spelt (next_id message.last) answer)) (record { 0 = n }) o
+        (without_seat (record { 0 = n }) (with_lends news.lends tables)))
     by None none = grind (arith, common_steps, away-gone, none-some)
     by (Some seat) is = (let works = working-busy seat.session.phase tables.lends n seat.session.client.arrived i ((sound.seats n seat is).serves) busy in
         seated is works.1 answer message (cc (works.2, there)) (cc (works.2, now)) free idle closable)
 
 -- What an entry of a server makes of what stands.
-pub server-step : (service : Service) (log : Log) (e : Entry) (n : ℕ) (tables : Tables) (news : Told) → Sound service log None tables → FromServer service log e n tables news → Sound service (log ++ e ∷ []) None (told service.setup news tables)
+pub server-step : (service : Service) (log : Log) (e : Entry) (n : ℕ) (tables : Tables) (news : Told) → Sound service log None tables
+    → FromServer service log e n tables news → Sound service (log ++ e ∷ []) None (told service.setup news tables)
 server-step service log e n tables news sound from = by news.answer refl from.came.comes where
-  by : (o : Option Answered) → news.answer ≡ o → Comes service (log ++ e ∷ []) n tables.lends news.lends o → Sound service (log ++ e ∷ []) None (told service.setup news tables)
+  by : (o : Option Answered) → news.answer ≡ o → Comes service (log ++ e ∷ []) n tables.lends news.lends o
+      → Sound service (log ++ e ∷ []) None (told service.setup news tables)
   by o same (Quiet busy free gone none) = rw same (quiet-step from busy free gone none)
   by o same (Answers i answer message busy there now free idle closable) = rw same (answered-step from i answer message busy there now free idle closable)

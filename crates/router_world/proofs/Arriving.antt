@@ -68,7 +68,8 @@ pub record IsComing (service : Service) (log : Log) (port : Port) (link : LinkId
   pub happens : Happens service log (Accepted port link salt) tables
   pub quiet : IsQuiet tables
 
-module _ {service : Service} {log : Log} {port : Port} {link : LinkId} {salt : List ℕ} {tables : Tables} (coming : IsComing service log port link salt tables) where
+module _ {service : Service} {log : Log} {port : Port} {link : LinkId} {salt : List ℕ} {tables : Tables}
+    (coming : IsComing service log port link salt tables) where
   abbrev e : Entry
   e = Accepted port link salt
 
@@ -107,7 +108,9 @@ module _ {service : Service} {log : Log} {port : Port} {link : LinkId} {salt : L
   bystands : Bystands service log e link tables
   bystands = record {
     names = refl;
-    unnumbered = none-if (tables.numbers link.0) (λ client is. (let seat = numbered-seat service log tables link client sound is in shut seat.0.link seat.2 (sound.seats client.0 seat.0 seat.1).stands.opened));
+    unnumbered = none-if (tables.numbers link.0)
+        (λ client is. (let seat = numbered-seat service log tables link client sound is in
+        shut seat.0.link seat.2 (sound.seats client.0 seat.0 seat.1).stands.opened));
     unlent = none-if (tables.lends.links link.0) (λ lent is. shut link refl (sound.lends.rows link lent is).opened);
     calm = λ k. grind (arith, common_steps, refuses-none);
     fits = coming.happens.fits;
@@ -122,8 +125,10 @@ module _ {service : Service} {log : Log} {port : Port} {link : LinkId} {salt : L
   opened-now other opened = grind (arith, common_steps, link-or-other, step-other)
 
   -- No seat for it: its link is to be closed.
-  away-step : (here : ℕ) (bytes : List ℕ) → here ≡ length (connected then) → PartAt service then number arrival bytes → is_among link (connected then) ≡ is_traffic port
-      → Sound service then None (to_part (record { link = link; bytes = bytes; is_client = is_traffic port }) (record tables { came = counted tables.came; here = here }))
+  away-step : (here : ℕ) (bytes : List ℕ) → here ≡ length (connected then) → PartAt service then number arrival bytes
+      → is_among link (connected then) ≡ is_traffic port
+      → Sound service then None
+          (to_part (record { link = link; bytes = bytes; is_client = is_traffic port }) (record tables { came = counted tables.came; here = here }))
   away-step here bytes counts-here at among = record {
     came = number-now ∙ came-now;
     here = counts-here;
@@ -150,7 +155,8 @@ module _ {service : Service} {log : Log} {port : Port} {link : LinkId} {salt : L
       at = at;
     });
     known = λ other opened. elim (opened-now other opened) [
-      | inl was ↦ known-as tables.numbers tables.numbers tables.lends tables.parting (tables.parting ++ mine ∷ []) other refl (λ p is on. cc (coming.quiet.unparted, is)) (sound.known other was)
+      | inl was ↦ known-as tables.numbers tables.numbers tables.lends tables.parting (tables.parting ++ mine ∷ []) other refl
+          (λ p is on. cc (coming.quiet.unparted, is)) (sound.known other was)
       | inr same ↦ Parts mine the (sym same)
     ];
     served = coming.happens.served;
@@ -162,9 +168,11 @@ module _ {service : Service} {log : Log} {port : Port} {link : LinkId} {salt : L
     the = cc (coming.quiet.unparted)
 
   -- It has a seat.
-  seated-step : (client : ClientNo) (here : ℕ) → client.0 ≡ number → port ≡ Traffic → here ≡ length (connected then) → service.setup.limit ≤ most_command → is_served service.setup arrival ≡ true
+  seated-step : (client : ClientNo) (here : ℕ) → client.0 ≡ number → port ≡ Traffic → here ≡ length (connected then) → service.setup.limit ≤ most_command
+      → is_served service.setup arrival ≡ true
       → Sound service then None (admitted client link salt service.setup (record tables { came = client.0; here = here }))
-  seated-step client here mine traffic counts-here short room = put-back service then client seat (record tables { came = client.0; here = here; numbers = numbers }) (record {
+  seated-step client here mine traffic counts-here short room = put-back service then client seat
+      (record tables { came = client.0; here = here; numbers = numbers }) (record {
     came = mine ∙ came-now;
     here = counts-here;
     counts = counts-all then (lawful-more Fits log e coming.happens.told coming.happens.fits);
@@ -174,10 +182,7 @@ module _ {service : Service} {log : Log} {port : Port} {link : LinkId} {salt : L
       unfinished = was.unfinished;
       numbered = grind (arith, common_steps, number-other);
     });
-    numbers = λ other someone is. elim (row-of tables.numbers link.0 (Some client) other.0 someone is) [
-      | Here same is ↦ inl (ap (λ (c : ClientNo). c.0) (some-same someone client (sym is)), ap (λ k. record { 0 = k }) same)
-      | There apart is ↦ elim (sound.numbers other someone is) [ inl none ↦ absurd none | inr old ↦ inr old ]
-    ];
+    numbers = λ other someone is. grind (arith, common_steps, row-of, some-same);
     unlent = λ other someone is. elim (row-of tables.numbers link.0 (Some client) other.0 someone is) [
       | Here same is ↦ ap tables.lends.links same ∙ bystands.unlent
       | There apart is ↦ sound.unlent other someone is
@@ -188,7 +193,8 @@ module _ {service : Service} {log : Log} {port : Port} {link : LinkId} {salt : L
     one_parts = sound.one_parts;
     parts = λ parting is. cc (coming.quiet.unparted, is);
     known = λ other opened. elim (opened-now other opened) [
-      | inl was ↦ known-as tables.numbers numbers tables.lends tables.parting tables.parting other (number-other other (λ same. shut other (ap (λ k. record { 0 = k }) same) was)) (λ p is on. cc (coming.quiet.unparted, is)) (sound.known other was)
+      | inl was ↦ known-as tables.numbers numbers tables.lends tables.parting tables.parting other
+          (number-other other (λ same. shut other (ap (λ k. record { 0 = k }) same) was)) (λ p is on. cc (coming.quiet.unparted, is)) (sound.known other was)
       | inr same ↦ Clients client (cc (same, set-same tables.numbers link.0 (Some client)))
     ];
     served = coming.happens.served;
@@ -233,14 +239,20 @@ module _ {service : Service} {log : Log} {port : Port} {link : LinkId} {salt : L
   among : is_among link (connected then) ≡ is_traffic port
   among = grind (arith, common_steps, among-end, connected-more)
 
-pub coming-step : {service : Service} {log : Log} {port : Port} {link : LinkId} {salt : List ℕ} {tables : Tables} → IsComing service log port link salt tables → service.setup.limit ≤ most_command
+pub coming-step : {service : Service} {log : Log} {port : Port} {link : LinkId} {salt : List ℕ} {tables : Tables} → IsComing service log port link salt tables
+    → service.setup.limit ≤ most_command
     → Sound service (log ++ Accepted port link salt ∷ []) None (comes port service.setup link salt tables)
-coming-step {log = log} {port = Admin} {tables = tables} coming short = away-step coming tables.here [] (cc ((sound coming).here, connected-more log (e coming))) (Strange refl) (among coming)
+coming-step {log = log} {port = Admin} {tables = tables} coming short = away-step coming tables.here []
+    (cc ((sound coming).here, connected-more log (e coming))) (Strange refl) (among coming)
 coming-step {service} {log} {port = Traffic} {link} {salt} {tables} coming short = by (nat_lt tables.here service.setup.max_clients) refl where
   room : (b : Bool) → nat_lt tables.here service.setup.max_clients ≡ b → nat_lt (length (connected log)) service.setup.max_clients ≡ b
   room b is = grind (arith, common_steps)
 
   by : (b : Bool) → nat_lt tables.here service.setup.max_clients ≡ b
-      → Sound service (then coming) None (admitted_if b (record { 0 = counted tables.came }) link salt service.setup (record tables { came = counted tables.came; here = counted tables.here }))
-  by true is = seated-step coming (record { 0 = counted tables.came }) (counted tables.here) (number-now coming) refl (here-now coming refl) short (room true is)
-  by false full = away-step coming (counted tables.here) _ (here-now coming refl) (Refused (room false full) refl (ap (flat_map wrote_bytes) (alone coming))) (among coming)
+      → Sound service (then coming) None
+          (admitted_if b (record { 0 = counted tables.came }) link salt service.setup
+          (record tables { came = counted tables.came; here = counted tables.here }))
+  by true is = seated-step coming (record { 0 = counted tables.came }) (counted tables.here) (number-now coming) refl (here-now coming refl) short
+      (room true is)
+  by false full = away-step coming (counted tables.here) _ (here-now coming refl) (Refused (room false full) refl (ap (flat_map wrote_bytes) (alone coming)))
+      (among coming)

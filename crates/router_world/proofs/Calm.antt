@@ -36,7 +36,8 @@ until-still : (log : Log) (e : Entry) → is_loss e ≡ false → until_loss (lo
 until-still [] e calm = cc (calm)
 until-still (d ∷ log) e calm = grind (arith, common_steps, (until-still log e calm))
 
-pub sound-still : {X : Type 0} (f : Log → List X) (log : Log) (e : Entry) → is_loss e ≡ false → ((l : Log) → f (l ++ e ∷ []) ≡ f l) → f (until_loss (log ++ e ∷ [])) ≡ f (until_loss log)
+pub sound-still : {X : Type 0} (f : Log → List X) (log : Log) (e : Entry) → is_loss e ≡ false → ((l : Log) → f (l ++ e ∷ []) ≡ f l)
+    → f (until_loss (log ++ e ∷ [])) ≡ f (until_loss log)
 sound-still f log e calm same = grind (arith, common_steps, until-still)
 
 pub or-none : (b : Bool) → (b || false) ≡ b
@@ -59,11 +60,13 @@ abbrev pub Spares : Service → Log → Entry → (n i : ℕ) → Type 0
 Spares service log e n i = (turn : Turn) → refused_by service log e ≡ Some turn → is_turn n i turn ≡ false
 
 -- what a query that asks has in place of an answer
-asks-served : (setup : Setup) (reply : Option Answer) → cond (is_some setup.target) reply (Some (no_server ∷ [])) ≡ None → (is_some setup.target ≡ true) × (reply ≡ None)
+asks-served : (setup : Setup) (reply : Option Answer) → cond (is_some setup.target) reply (Some (no_server ∷ [])) ≡ None
+    → (is_some setup.target ≡ true) × (reply ≡ None)
 asks-served setup reply none = grind (arith, common_steps)
 
 -- the first message without an answer stays the first, where the answers stay and it has none yet
-first-still : (old new : ℕ → Option Answer) → ((i : ℕ) (reply : Answer) → old i ≡ Some reply → new i ≡ Some reply) → (i : ℕ) (messages later : List Framed) (work : Work) → first_without old i messages ≡ Some work → new work.ordinal ≡ None
+first-still : (old new : ℕ → Option Answer) → ((i : ℕ) (reply : Answer) → old i ≡ Some reply → new i ≡ Some reply)
+    → (i : ℕ) (messages later : List Framed) (work : Work) → first_without old i messages ≡ Some work → new work.ordinal ≡ None
     → first_without new i (messages ++ later) ≡ Some work
 first-still old new stay i [] later work is none = cc
 first-still old new stay i (message ∷ messages) later work is none = grind (arith, common_steps, (first-still old new stay (suc i) messages later work))
@@ -82,14 +85,16 @@ module _ (service : Service) (n i : ℕ) where
   sent-unrefused log link never at = grind (arith, common_steps)
 
   -- One whose link is left has the reply that it had.
-  pub reply-left : (log : Log) (e : Entry) (link : LinkId) (user : Account) → carrier_of n i log ≡ Some link → user_on service link log ≡ Some user → Leaves link log e → reply_to service n i (log ++ e ∷ []) ≡ reply_to service n i log
+  pub reply-left : (log : Log) (e : Entry) (link : LinkId) (user : Account) → carrier_of n i log ≡ Some link → user_on service link log ≡ Some user
+      → Leaves link log e → reply_to service n i (log ++ e ∷ []) ≡ reply_to service n i log
   reply-left log e link user at is leaves = there (log ++ e ∷ []) (carrier-stays n i log (e ∷ []) link at) (user-on-stays service link log (e ∷ []) user is)
       ∙ (λ j. reply_said service.forms n i user (leaves.heard j) (leaves.pieces j) (leaves.lost j)) ∙ sym (there log at is) where
         there : (l : Log) → carrier_of n i l ≡ Some link → user_on service link l ≡ Some user → reply_to service n i l ≡ reply_on service.forms n i link l user
         there l at is = grind (arith, common_steps)
 
   -- What came of it stays.
-  pub replied-stays : (log more : Log) (answer : Answer) → RefusedOrSent service (log ++ more) → replied service n i log ≡ Some answer → replied service n i (log ++ more) ≡ Some answer
+  pub replied-stays : (log more : Log) (answer : Answer) → RefusedOrSent service (log ++ more) → replied service n i log ≡ Some answer
+      → replied service n i (log ++ more) ≡ Some answer
   replied-stays log more answer never is = grind (arith, common_steps, reply-stays, then-of, carrier-stays, refused-stays)
 
   -- A query that is in work stays so until something comes of it.
@@ -102,18 +107,25 @@ module _ (service : Service) (n i : ℕ) where
     pub asks-unreplied : Asks service n i message due log → replied service n i log ≡ None
     asks-unreplied asks = (asks-served service.setup (replied service n i log) (asks-open service n i message due log asks)).1
 
-    work-stays : (came : Arrival) (more : Log) → arrival_of n log ≡ Some came → AllLawful (IsLawful service) (log ++ more) → work_of service n log ≡ Some (record { ordinal = i; message = message }) → answer service n i (log ++ more) ≡ None
+    work-stays : (came : Arrival) (more : Log) → arrival_of n log ≡ Some came → AllLawful (IsLawful service) (log ++ more)
+        → work_of service n log ≡ Some (record { ordinal = i; message = message }) → answer service n i (log ++ more) ≡ None
         → work_of service n (log ++ more) ≡ Some (record { ordinal = i; message = message })
     work-stays came more at lawful is none = (let grows = messages-grow (talk_with service n came log) (read_of came.link more) in
-        ap (λ (o : Option Arrival). work_in service n (log ++ more) (option_map (λ (came : Arrival). talk_with service n came (log ++ more)) o)) (arrival-stays n log more came at)
+        ap (λ (o : Option Arrival). work_in service n (log ++ more) (option_map (λ (came : Arrival). talk_with service n came (log ++ more)) o))
+            (arrival-stays n log more came at)
         ∙ ap (λ (t : Talk). first_without (λ k. answer service n k (log ++ more)) 1 (messages_of t).messages) (talk-more service n came log more)
         ∙ ap (first_without (λ k. answer service n k (log ++ more)) 1) grows.messages
-        ∙ first-still (λ k. answer service n k log) (λ k. answer service n k (log ++ more)) (λ k reply at. answer-stays service n k log more reply lawful at) 1 (messages_of (talk_with service n came log)).messages grows.later (record { ordinal = i; message = message })
+        ∙ first-still (λ k. answer service n k log) (λ k. answer service n k (log ++ more))
+            (λ k reply at. answer-stays service n k log more reply lawful at) 1 (messages_of (talk_with service n came log)).messages grows.later
+            (record { ordinal = i; message = message })
         (cc (at, is)) none)
 
-    pub asks-stay : (more : Log) → AllLawful (IsLawful service) (log ++ more) → is_some service.setup.target ≡ true → Asks service n i message due log → replied service n i (log ++ more) ≡ None → Asks service n i message due (log ++ more)
-    asks-stay more lawful has asks none = (let there = message-stays service n i log more message (in-work service n log (record { ordinal = i; message = message }) asks.work).0 in
-        let unanswered : answer service n i (log ++ more) ≡ None = ap (λ d. answer_when service n i d (log ++ more)) (due-stays service n i log more due asks.is_due)
+    pub asks-stay : (more : Log) → AllLawful (IsLawful service) (log ++ more) → is_some service.setup.target ≡ true → Asks service n i message due log
+        → replied service n i (log ++ more) ≡ None → Asks service n i message due (log ++ more)
+    asks-stay more lawful has asks
+        none = (let there = message-stays service n i log more message (in-work service n log (record { ordinal = i; message = message }) asks.work).0 in
+        let unanswered : answer service n i (log ++ more) ≡ None = ap (λ d. answer_when service n i d (log ++ more))
+            (due-stays service n i log more due asks.is_due)
         ∙ ap (option_and_then (λ (m : Framed). answer_by (query_answer service n i m due (log ++ more)) (parsed m.payload))) there
         ∙ query-answer (cond (is_some service.setup.target) (replied service n i (log ++ more)) (Some (no_server ∷ []))) (parsed message.payload) asks.query
         ∙ ap (λ b. cond b (replied service n i (log ++ more)) (Some (no_server ∷ []))) has ∙ none in

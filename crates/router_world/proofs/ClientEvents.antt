@@ -38,7 +38,8 @@ record Replies (service : Service) (log : Log) (e : Entry) (n : ℕ) (came : Arr
   pub unanswered : Unanswered (λ i. replied service n i (log ++ e ∷ [])) session
   pub unsent : Unsent service n session.client.arrived (log ++ e ∷ [])
 
-module _ {service : Service} {log : Log} {e : Entry} {client : ClientNo} {link : LinkId} {seat : Seat} {tables : Tables} (on : OnClient service log e client link seat tables) where
+module _ {service : Service} {log : Log} {e : Entry} {client : ClientNo} {link : LinkId} {seat : Seat} {tables : Tables}
+    (on : OnClient service log e client link seat tables) where
   abbrev then : Log
   then = log ++ e ∷ []
 
@@ -63,7 +64,9 @@ module _ {service : Service} {log : Log} {e : Entry} {client : ClientNo} {link :
   -- It leaves all other links, and all commands.
 
   calm : (k : ℕ) → Calm service log e k
-  calm k = record { writes = on.writes k; spares = λ i. client-spares service log e link on.on.refuses (unowned log happens.told service client.0 came sits.stands.is_came (sits.stands.link ∙ on.same)) k i }
+  calm k = record { writes = on.writes k;
+      spares = λ i. client-spares service log e link on.on.refuses
+      (unowned log happens.told service client.0 came sits.stands.is_came (sits.stands.link ∙ on.same)) k i }
 
   left : (other : LinkId) → other.0 ≢ link.0 → Leaves other log e
   left other apart = leaves-other other log e (cc (on.on.names, apart-numbers other.0 link.0 apart))
@@ -87,7 +90,9 @@ module _ {service : Service} {log : Log} {e : Entry} {client : ClientNo} {link :
     counts = counts-all then (lawful-more Fits log e happens.told happens.fits);
   }) on.is lends (apart-self client.0 tables.lends) (traces-self tables.lends) (λ other opened. sym (open-kept other log e on.on.stays) ∙ opened) where
     seats : (k : ℕ) (other : Seat) → nat_eq k client.0 ≡ false → tables.seats k ≡ Some other → Leaves other.link log e
-    seats k other apart there = left other.link (λ at. (let both : Some (record { 0 = k }) ≡ Some client = sym ((happens.sound.seats k other there).numbered) ∙ ap (λ m. tables.numbers m) at ∙ on.number in
+    seats k other apart there = left other.link
+        (λ at. (let both : Some (record { 0 = k }) ≡ Some client = sym ((happens.sound.seats k other there).numbered)
+        ∙ ap (λ m. tables.numbers m) at ∙ on.number in
         let number : k ≡ client.0 = ap (λ (c : ClientNo). c.0) (some-same (record { 0 = k }) client both) in
         cc (same_number client.0, ap (λ m. nat_eq m client.0) number, apart)))
 
@@ -110,7 +115,8 @@ module _ {service : Service} {log : Log} {e : Entry} {client : ClientNo} {link :
 
   replies : IsHeard service log client.0 came seat.session → Replies service log e client.0 came seat.session
   replies heard = (let none : (user : Account) → seat.session.phase ≡ phase.Working user → replied service client.0 seat.session.client.arrived then ≡ None =
-      λ user working. busy-none service log e tables.lends client.0 seat.session.client.arrived happens.lawful happens.sound.lends (calm client.0) (λ other lent owns row. rows other lent row)
+      λ user working. busy-none service log e tables.lends client.0 seat.session.client.arrived happens.lawful happens.sound.lends (calm client.0)
+          (λ other lent owns row. rows other lent row)
       (rw working at sits.serves) in
       record {
         seat = agree-seat (replies-agree service log e client.0 came seat.session happens.lawful heard none) heard.at;
@@ -122,7 +128,9 @@ module _ {service : Service} {log : Log} {e : Entry} {client : ClientNo} {link :
   away lost = gone-sound service then client.0 tables.lends lends (inl quiet.unclosed) (Away (lost-away client.0 came then arrived lost))
 
   -- a client whose end was read before is due what it was
-  still-ended : IsEnded service log client.0 came seat.session → is_loss e ≡ false → (session : Session) → session.phase ≡ seat.session.phase → written_of came.link then ++ session.client.outgoing ≡ written_of came.link log ++ seat.session.client.outgoing → IsEnded service then client.0 came session
+  still-ended : IsEnded service log client.0 came seat.session → is_loss e ≡ false → (session : Session) → session.phase ≡ seat.session.phase
+      → written_of came.link then ++ session.client.outgoing ≡ written_of came.link log ++ seat.session.client.outgoing
+      → IsEnded service then client.0 came session
   still-ended went none session same told = record {
     lost = keeps is_loss none ∙ went.lost;
     ends = same ∙ went.ends;
@@ -141,9 +149,12 @@ module _ {service : Service} {log : Log} {e : Entry} {client : ClientNo} {link :
     state = state;
   }
 
-  goes : (turned : Turned) → is_failure e ≡ false → StateThen turned.session → Next service then client.0 tables.lends turned.session.phase turned.session.client.arrived turned.query → Sound service then None (goes_on client seat.link turned (without_seat client tables))
+  goes : (turned : Turned) → is_failure e ≡ false → StateThen turned.session
+      → Next service then client.0 tables.lends turned.session.phase turned.session.client.arrived turned.query
+      → Sound service then None (goes_on client seat.link turned (without_seat client tables))
   goes turned none state next = (let stands = stands none turned.session state in
-      goes-on service then client seat.link turned (without_seat client tables) out (set-same tables.seats client.0 None) (cc (on.same, on.number)) quiet.unparted stands next
+      goes-on service then client seat.link turned (without_seat client tables) out (set-same tables.seats client.0 None)
+          (cc (on.same, on.number)) quiet.unparted stands next
       (finished-parted service then client.0 (record { link = seat.link; session = turned.session }) stands))
 
   -- Its link is broken.
@@ -152,7 +163,8 @@ module _ {service : Service} {log : Log} {e : Entry} {client : ClientNo} {link :
       let taken : Sound service then (Some (record { client = client.0; link = link })) (without_seat client tables) =
       rw on.same at out in
       part-with service then client link (with_lends (gone client tables.lends) (without_seat client tables))
-      (relend service then client.0 link (without_seat client tables) (gone client tables.lends) taken (set-same tables.seats client.0 None) quiet.unparted went.sound went.apart went.traces)
+      (relend service then client.0 link (without_seat client tables) (gone client tables.lends) taken
+          (set-same tables.seats client.0 None) quiet.unparted went.sound went.apart went.traces)
       (set-same tables.seats client.0 None) on.number went.gone quiet.unparted (record {
         came = came;
         is_came = arrived;
@@ -163,7 +175,8 @@ module _ {service : Service} {log : Log} {e : Entry} {client : ClientNo} {link :
       }))
 
 -- Its end is read.
-pub ended-client : {service : Service} {log : Log} {client : ClientNo} {link : LinkId} {seat : Seat} {tables : Tables} → OnClient service log (Ended link) client link seat tables
+pub ended-client : {service : Service} {log : Log} {client : ClientNo} {link : LinkId} {seat : Seat} {tables : Tables}
+    → OnClient service log (Ended link) client link seat tables
     → Sound service (log ++ Ended link ∷ []) None (goes_on client seat.link (still (ended seat.session)) (without_seat client tables))
 ended-client {service} {log} {client} {link} {seat} {tables} on = goes on (still (ended seat.session)) refl (inr (record {
   lost = holds on is_loss refl;
@@ -171,18 +184,22 @@ ended-client {service} {log} {client} {link} {seat} {tables} on = goes on (still
   told = cc (bytes-idle wrote_bytes (came on).link log (Ended link) refl, told (sits on).stands.state);
 })) (Ends None (away on (holds on is_loss refl))) where
   told : State on seat.session → written_of (came on).link log ++ seat.session.client.outgoing ≡ due service client.0 (log ++ Ended link ∷ [])
-  told (inl heard) = cc (heard.at.due, due-unlost service client.0 (came on) log (sits on).stands.is_came (sits on).stands.served heard.unlost, due-loses service client.0 (came on) log (Ended link) (sits on).stands.is_came (sits on).stands.served heard.unlost (cc (here on)))
+  told (inl heard) = cc (heard.at.due, due-unlost service client.0 (came on) log (sits on).stands.is_came
+      (sits on).stands.served heard.unlost, due-loses service client.0 (came on) log (Ended link) (sits on).stands.is_came
+      (sits on).stands.served heard.unlost (cc (here on)))
   told (inr went) = went.told ∙ sym (due-lost service client.0 (came on) log (Ended link) (sits on).stands.is_came (sits on).stands.served went.lost)
 
 -- Bytes of it come.
-module _ {service : Service} {log : Log} {client : ClientNo} {link : LinkId} {bytes : List ℕ} {seat : Seat} {tables : Tables} (on : OnClient service log (Got link bytes) client link seat tables) where
+module _ {service : Service} {log : Log} {client : ClientNo} {link : LinkId} {bytes : List ℕ} {seat : Seat} {tables : Tables}
+    (on : OnClient service log (Got link bytes) client link seat tables) where
   abbrev told : Turned
   told = said service.setup bytes seat.session
 
   unwritten : written_of (came on).link (then on) ≡ written_of (came on).link log
   unwritten = bytes-idle wrote_bytes (came on).link log (Got link bytes) refl
 
-  pub got-client : (is_some service.setup.target ≡ true → tables.lends.waiting ≡ []) → length (log ++ Got link bytes ∷ []) < 281474976710656 → Sound service (log ++ Got link bytes ∷ []) None (goes_on client seat.link told (without_seat client tables))
+  pub got-client : (is_some service.setup.target ≡ true → tables.lends.waiting ≡ []) → length (log ++ Got link bytes ∷ []) < 281474976710656
+      → Sound service (log ++ Got link bytes ∷ []) None (goes_on client seat.link told (without_seat client tables))
   got-client idle few = elim (sits on).stands.state [
     | inl heard ↦ goes on told refl (inl (record {
       unlost = keeps on is_loss refl ∙ heard.unlost;
@@ -196,12 +213,16 @@ module _ {service : Service} {log : Log} {client : ClientNo} {link : LinkId} {by
     read : read_of (came on).link (then on) ≡ read_of (came on).link log ++ bytes
     read = bytes-same got_bytes (came on).link log (Got link bytes) (here on)
 
-    says : IsHeard service log client.0 (came on) seat.session → Says service (then on) client.0 (came on) (written_of (came on).link log) seat.session tables.lends told
-    says heard = (let then-heard = replies on heard in said-by service (then on) client.0 (came on) (talk_with service client.0 (came on) log) bytes (written_of (came on).link log) seat.session tables.lends (record {
+    says : IsHeard service log client.0 (came on) seat.session
+        → Says service (then on) client.0 (came on) (written_of (came on).link log) seat.session tables.lends told
+    says heard = (let then-heard = replies on heard in
+        said-by service (then on) client.0 (came on) (talk_with service client.0 (came on) log) bytes
+        (written_of (came on).link log) seat.session tables.lends (record {
       now = ap (λ r. record { setup = service.setup; number = client.0; salt = (came on).salt; read = r }) read;
       is = arrived on;
       served = (sits on).stands.served;
-      few = (let short = read-short (came on).link (then on) (lawful-more Fits log (Got link bytes) (happens on).told (happens on).fits) few in rw read at short);
+      few = (let short = read-short (came on).link (then on) (lawful-more Fits log (Got link bytes) (happens on).told (happens on).fits) few in
+          rw read at short);
       sound = lends on;
       unclosed = (quiet on).unclosed;
       idle = idle;
@@ -209,21 +230,26 @@ module _ {service : Service} {log : Log} {client : ClientNo} {link : LinkId} {by
     }) then-heard.seat then-heard.unanswered (λ i later. (then-heard.unsent i later).0) seat.session.phase refl (sits on).serves refl)
 
 -- So many of the bytes for it were written.
-module _ {service : Service} {log : Log} {client : ClientNo} {link : LinkId} {tag : Tag} {bytes : List ℕ} {seat : Seat} {tables : Tables} (on : OnClient service log (Wrote link tag bytes) client link seat tables) where
+module _ {service : Service} {log : Log} {client : ClientNo} {link : LinkId} {tag : Tag} {bytes : List ℕ} {seat : Seat} {tables : Tables}
+    (on : OnClient service log (Wrote link tag bytes) client link seat tables) where
   abbrev rest : Session
   rest = taken (length bytes) seat.session
 
   -- a seat that keeps its phase asks for nothing new
-  next-same : (at : Phase) → seat.session.phase ≡ at → SeatStands service (then on) client.0 (record { link = seat.link; session = rest }) → Serves at tables.lends client.0 rest.client.arrived → Next service (then on) client.0 tables.lends at rest.client.arrived None
+  next-same : (at : Phase) → seat.session.phase ≡ at → SeatStands service (then on) client.0 (record { link = seat.link; session = rest })
+      → Serves at tables.lends client.0 rest.client.arrived → Next service (then on) client.0 tables.lends at rest.client.arrived None
   next-same phase.LoggingIn is stands serves = LogsIn serves
   next-same (phase.Idle user) is stands serves = Rests user serves
   next-same (phase.Working user) is stands serves = Works user serves
   next-same phase.Ending is stands serves = Ends None (elim stands.state [
-    | inl heard ↦ ends-so service (then on) client.0 stands.came (written_of stands.came.link (then on)) rest tables.lends (lends on) (inl (quiet on).unclosed) stands.is_came (free-gone tables.lends client.0 serves) is heard.at
-    | inr went ↦ gone-sound service (then on) client.0 tables.lends (lends on) (inl (quiet on).unclosed) (Away (lost-away client.0 stands.came (then on) stands.is_came went.lost))
+    | inl heard ↦ ends-so service (then on) client.0 stands.came (written_of stands.came.link (then on)) rest tables.lends (lends on)
+        (inl (quiet on).unclosed) stands.is_came (free-gone tables.lends client.0 serves) is heard.at
+    | inr went ↦ gone-sound service (then on) client.0 tables.lends (lends on) (inl (quiet on).unclosed)
+        (Away (lost-away client.0 stands.came (then on) stands.is_came went.lost))
   ])
 
-  pub wrote-client : bytes ≡ take (length bytes) seat.session.client.outgoing → Sound service (log ++ Wrote link tag bytes ∷ []) None (goes_on client seat.link (still rest) (without_seat client tables))
+  pub wrote-client : bytes ≡ take (length bytes) seat.session.client.outgoing
+      → Sound service (log ++ Wrote link tag bytes ∷ []) None (goes_on client seat.link (still rest) (without_seat client tables))
   wrote-client front = goes on (still rest) refl state (next-same seat.session.phase refl (stands on refl rest state) (sits on).serves) where
     written : written_of (came on).link (then on) ≡ written_of (came on).link log ++ take (length bytes) seat.session.client.outgoing
     written = cc (bytes-same wrote_bytes (came on).link log (Wrote link tag bytes) (here on), front)
@@ -235,6 +261,8 @@ module _ {service : Service} {log : Log} {client : ClientNo} {link : LinkId} {ta
           at = rw (bytes-idle got_bytes (came on).link log (Wrote link tag bytes) refl) (rw written (taken-seat (length bytes) (replies on heard).seat));
           unsent = (replies on heard).unsent;
         })
-      | inr went ↦ inr (still-ended on went refl rest refl (cc (written, append_assoc (written_of (came on).link log) (take (length bytes) seat.session.client.outgoing) (drop (length bytes) seat.session.client.outgoing),
+      | inr went ↦ inr (still-ended on went refl rest refl
+          (cc (written, append_assoc (written_of (came on).link log) (take (length bytes) seat.session.client.outgoing)
+          (drop (length bytes) seat.session.client.outgoing),
           take-append-drop (length bytes) seat.session.client.outgoing)))
     ]

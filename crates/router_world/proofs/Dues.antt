@@ -10,18 +10,22 @@ use Rattle.promises.specs.Due.{query_answer, answer_when, is_answered, due_then,
 use Rattle.exchange.specs.Logins.{loses, before_loss}
 
 -- A message that is whole, and before which all are answered, is answered by what comes of it.
-pub answer-here : (service : Service) (n i : ℕ) (log : Log) (message : Framed) → message_of service n (suc i) log ≡ Some message → is_answered service n i (due_at service n i log) log ≡ true
+pub answer-here : (service : Service) (n i : ℕ) (log : Log) (message : Framed) → message_of service n (suc i) log ≡ Some message
+    → is_answered service n i (due_at service n i log) log ≡ true
     → answer service n (suc i) log ≡ answer_of service.setup (replied service n (suc i) log) message.payload
 answer-here service n i log message there done = (
-    let first = first-some (λ moment. is_some (message_of service n (suc i) moment) && is_answered service n i (due_at service n i moment) moment) [] log (and_from _ _ (ap is_some there) done) in
-    ap (λ d. answer_when service n (suc i) d log) first.1 ∙ ap (option_and_then (λ (m : Framed). answer_by (query_answer service n (suc i) m first.0 log) (parsed m.payload))) there)
+    let first = first-some (λ moment. is_some (message_of service n (suc i) moment) && is_answered service n i (due_at service n i moment) moment) [] log
+        (and_from _ _ (ap is_some there) done) in
+    ap (λ d. answer_when service n (suc i) d log) first.1
+        ∙ ap (option_and_then (λ (m : Framed). answer_by (query_answer service n (suc i) m first.0 log) (parsed m.payload))) there)
 
 -- The answers to messages are those by the replies, up to the first that isn't there, and so is the first message without one.
 record Same (setup : Setup) (told reply : ℕ → Option Answer) (i : ℕ) (messages : List Framed) (last : List ℕ) : Type 0 where
   joins : answers told i messages last ≡ answers_by setup reply i messages last
   goes : first_without told i messages ≡ first_open setup reply i messages
 
-same-more : (setup : Setup) (told reply : ℕ → Option Answer) (i : ℕ) (message : Framed) (messages : List Framed) (last : List ℕ) → told i ≡ answer_of setup (reply i) message.payload
+same-more : (setup : Setup) (told reply : ℕ → Option Answer) (i : ℕ) (message : Framed) (messages : List Framed) (last : List ℕ)
+    → told i ≡ answer_of setup (reply i) message.payload
     → (is_some (told i) ≡ true → Same setup told reply (suc i) messages last) → Same setup told reply i (message ∷ messages) last
 same-more setup told reply i message messages last now later = grind (arith, common_steps)
 
@@ -31,9 +35,11 @@ module _ (service : Service) (n : ℕ) where
     there : (k : ℕ) (message : Framed) → slice_get messages k ≡ Some message → message_of service n (suc (i + k)) log ≡ Some message
     done : is_answered service n i (due_at service n i log) log ≡ true
 
-  same-from : (i : ℕ) (log : Log) (messages : List Framed) (last : List ℕ) → From i log messages → Same service.setup (λ k. answer service n k log) (λ k. replied service n k log) (suc i) messages last
+  same-from : (i : ℕ) (log : Log) (messages : List Framed) (last : List ℕ) → From i log messages
+      → Same service.setup (λ k. answer service n k log) (λ k. replied service n k log) (suc i) messages last
   same-from i log [] last from = record { joins = refl; goes = refl }
-  same-from i log (message ∷ messages) last from = same-more service.setup (λ k. answer service n k log) (λ k. replied service n k log) (suc i) message messages last
+  same-from i log (message ∷ messages) last from = same-more service.setup (λ k. answer service n k log) (λ k. replied service n k log)
+      (suc i) message messages last
       (answer-here service n i log message (rw (let same : i + 0 ≡ i = omega arith in same) at (from.there 0 message refl)) from.done)
       (λ some. same-from (suc i) log messages last (record {
         there = λ k m is. rw (let same : i + suc k ≡ suc i + k = omega arith in same) at (from.there (suc k) m is);
@@ -45,7 +51,9 @@ module _ (service : Service) (n : ℕ) (came : Arrival) (log : Log) where
   came-from is = grind (arith, common_steps)
 
   -- the message in work of a client that came
-  pub first-replied : arrival_of n log ≡ Some came → first_without (λ k. answer service n k log) 1 (messages_of (talk_with service n came log)).messages ≡ first_open service.setup (λ k. replied service n k log) 1 (messages_of (talk_with service n came log)).messages
+  pub first-replied : arrival_of n log ≡ Some came
+      → first_without (λ k. answer service n k log) 1 (messages_of (talk_with service n came log)).messages ≡ first_open service.setup
+      (λ k. replied service n k log) 1 (messages_of (talk_with service n came log)).messages
   first-replied is = (same-from service n 0 log (messages_of (talk_with service n came log)).messages [] (came-from is)).goes
 
 -- What a client is due, before its link is lost and from then on.
@@ -67,17 +75,21 @@ before-once link [] more lost = cc
 before-once link (e ∷ log) more lost = grind (arith, common_steps, lost-first, (before-once link log more))
 
 module _ (service : Service) (n : ℕ) (came : Arrival) (log : Log) where
-  pub due-unlost : arrival_of n log ≡ Some came → is_served service.setup came ≡ true → was_lost came.link log ≡ false → due service n log ≡ due_said (λ i. replied service n i log) (talk_with service n came log)
+  pub due-unlost : arrival_of n log ≡ Some came → is_served service.setup came ≡ true → was_lost came.link log ≡ false
+      → due service n log ≡ due_said (λ i. replied service n i log) (talk_with service n came log)
   due-unlost is served unlost = grind (arith, common_steps, before-none, came-from, same-from)
 
   -- what it is due stays once its link is lost, and doesn't change as it is
-  due-still : (e : Entry) → arrival_of n log ≡ Some came → is_served service.setup came ≡ true → before_loss came.link (log ++ e ∷ []) ≡ before_loss came.link log → due service n (log ++ e ∷ []) ≡ due service n log
+  due-still : (e : Entry) → arrival_of n log ≡ Some came → is_served service.setup came ≡ true
+      → before_loss came.link (log ++ e ∷ []) ≡ before_loss came.link log → due service n (log ++ e ∷ []) ≡ due service n log
   due-still e is served same = grind (arith, common_steps, arrival-stays)
 
-  pub due-lost : (e : Entry) → arrival_of n log ≡ Some came → is_served service.setup came ≡ true → was_lost came.link log ≡ true → due service n (log ++ e ∷ []) ≡ due service n log
+  pub due-lost : (e : Entry) → arrival_of n log ≡ Some came → is_served service.setup came ≡ true → was_lost came.link log ≡ true
+      → due service n (log ++ e ∷ []) ≡ due service n log
   due-lost e is served lost = due-still e is served (before-once came.link log (e ∷ []) lost)
 
-  pub due-loses : (e : Entry) → arrival_of n log ≡ Some came → is_served service.setup came ≡ true → was_lost came.link log ≡ false → loses came.link e ≡ true → due service n (log ++ e ∷ []) ≡ due service n log
+  pub due-loses : (e : Entry) → arrival_of n log ≡ Some came → is_served service.setup came ≡ true → was_lost came.link log ≡ false → loses came.link e ≡ true
+      → due service n (log ++ e ∷ []) ≡ due service n log
   due-loses e is served unlost at = grind (arith, common_steps, append-nil, before-all, before-none, due-still)
 
   -- of one that isn't

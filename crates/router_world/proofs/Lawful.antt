@@ -78,7 +78,8 @@ module _ (log : Log) (told : AllLawful Fits log) where
   same-client n m came other one two same = grind (arith, common_steps, once)
 
   -- so what is said of the one is said of the other
-  pub of-client : (P : ℕ → Arrival → Type 0) {n m : ℕ} {came other : Arrival} → arrival_of n log ≡ Some came → arrival_of m log ≡ Some other → came.link ≡ other.link → P n came → P m other
+  pub of-client : (P : ℕ → Arrival → Type 0) {n m : ℕ} {came other : Arrival} → arrival_of n log ≡ Some came → arrival_of m log ≡ Some other
+      → came.link ≡ other.link → P n came → P m other
   of-client P {n} {m} {came} {other} one two same is = grind (arith, common_steps, same-client, some-same)
 
   -- A client's link was opened for no command.
@@ -128,13 +129,15 @@ module _ {service : Service} {log : Log} {tables : Tables} (sound : Sound servic
   owned-row link owner told quiet opened owned = (let turn = owner-turn (turn_of service link log) owner owned in elim (is-of link quiet opened) [
     | OfServer lent at ↦ (let row = sound.lends.rows link lent at in
         (lent, at, row, ap (λ (t : Turn). t.client) (some-same row.turn turn.0 (cc (row.is_turn, turn.1))) ∙ ap (λ (o : Owner). o.client) turn.2))
-    | OfClient client seat number at on ↦ (let stands = (sound.seats client.0 seat at).stands in cc (unowned log told service client.0 stands.came stands.is_came (stands.link ∙ on), turn.1))
+    | OfClient client seat number at on ↦
+        (let stands = (sound.seats client.0 seat at).stands in cc (unowned log told service client.0 stands.came stands.is_came (stands.link ∙ on), turn.1))
   ])
 
 -- A link to a server: its owner, how it stands, and what was written there.
 
 -- the bytes of a command are its message's
-pub asked-spelt : {service : Service} {n i : ℕ} {bytes : List ℕ} {id : ℕ} {log : Log} (asked : IsAsked service n i bytes id log) → bytes ≡ spelling asked.message.first asked.message.payload
+pub asked-spelt : {service : Service} {n i : ℕ} {bytes : List ℕ} {id : ℕ} {log : Log} (asked : IsAsked service n i bytes id log)
+    → bytes ≡ spelling asked.message.first asked.message.payload
 asked-spelt asked = grind (arith, common_steps)
 
 module _ {service : Service} {log : Log} {lends : Lends} {link : LinkId} {lent : Lent} (row : RowStands service log lends link lent) where
@@ -157,7 +160,8 @@ module _ {service : Service} {log : Log} {lends : Lends} {link : LinkId} {lent :
   pub row-sound : row_standing ≢ Spoilt
   row-sound is = elim row.at [
     | Entering at ↦ cc (row-standing, is, standing-entering service.forms lent.backend.account (heard_of link log) (pieces_of link log) lent.backend at)
-    | Inside at ↦ unspoilt lent.backend.command (sym (row-standing ∙ standing-inside service.forms lent.backend.account (heard_of link log) (pieces_of link log) lent.backend at) ∙ is)
+    | Inside at ↦ unspoilt lent.backend.command
+        (sym (row-standing ∙ standing-inside service.forms lent.backend.account (heard_of link log) (pieces_of link log) lent.backend at) ∙ is)
   ] where
     unspoilt : (command : Option Handed) → standing_by command ≢ Spoilt
     unspoilt command is = grind (arith, common_steps)
@@ -177,7 +181,8 @@ module _ {service : Service} {log : Log} {lends : Lends} {link : LinkId} {lent :
 
   -- a command on it
   module _ {command : Handed} (has : lent.backend.command ≡ Some command) where
-    inside-with : LinkAt service.forms lent.backend.account (heard_of link log) (pieces_of link log) lent.backend → IsInside service.forms lent.backend.account (heard_of link log) (pieces_of link log) lent.backend
+    inside-with : LinkAt service.forms lent.backend.account (heard_of link log) (pieces_of link log) lent.backend
+        → IsInside service.forms lent.backend.account (heard_of link log) (pieces_of link log) lent.backend
     inside-with h0 = grind (arith, common_steps)
 
     pub row-inside : IsInside service.forms lent.backend.account (heard_of link log) (pieces_of link log) lent.backend
@@ -190,22 +195,28 @@ module _ {service : Service} {log : Log} {lends : Lends} {link : LinkId} {lent :
     row-clean unsent = grind (arith, common_steps, row-inside, row-standing, standing-clean)
 
     pub row-sends : 0 < command.sent → command.sent < length command.bytes → row_standing ≡ Sends
-    row-sends some less = row-standing ∙ standing-sends service.forms lent.backend.account (heard_of link log) (pieces_of link log) lent.backend command (record { inside = row-inside; is = has; some = some }) less
+    row-sends some less = row-standing
+        ∙ standing-sends service.forms lent.backend.account (heard_of link log) (pieces_of link log) lent.backend command
+        (record { inside = row-inside; is = has; some = some }) less
 
     pub row-runs : command.sent ≡ length command.bytes → row_standing ≡ Runs
-    row-runs all = row-standing ∙ standing-runs service.forms lent.backend.account (heard_of link log) (pieces_of link log) lent.backend command row-inside has all
+    row-runs all = row-standing
+        ∙ standing-runs service.forms lent.backend.account (heard_of link log) (pieces_of link log) lent.backend command row-inside has all
 
-    pub row-commands : 0 < command.sent → commands_on lent.backend.account link log ≡ row-inside.others ++ record { tag = command.tag; bytes = take command.sent command.bytes } ∷ []
+    pub row-commands : 0 < command.sent
+        → commands_on lent.backend.account link log ≡ row-inside.others ++ record { tag = command.tag; bytes = take command.sent command.bytes } ∷ []
     row-commands some = grind (arith, common_steps, begun-some, commands-inside, row-inside)
 
 -- The commands of the opens of a log, one entry at a time.
 
-behind-both : (setup : Setup) (before log more : Log) → turns_behind setup before (log ++ more) ≡ turns_behind setup before log ++ turns_behind setup (before ++ log) more
+behind-both : (setup : Setup) (before log more : Log)
+    → turns_behind setup before (log ++ more) ≡ turns_behind setup before log ++ turns_behind setup (before ++ log) more
 behind-both setup before [] more = cc (append-nil before)
 behind-both setup before (x ∷ log) more = grind (arith, common_steps, turns, (behind-both setup (before ++ x ∷ []) log more))
 
 -- The commands of a longer log cover the log.
-pub covers-front : (service : Service) (log more : Log) → service.opens ≡ turns service.setup (log ++ more) → length (turns service.setup log) ≡ length (open_tries log) → Covers service log
+pub covers-front : (service : Service) (log more : Log) → service.opens ≡ turns service.setup (log ++ more)
+    → length (turns service.setup log) ≡ length (open_tries log) → Covers service log
 covers-front service log more is counts = grind (arith, common_steps, behind-both)
 
 pub get-behind : {X : Type 0} (xs ys : List X) (y : X) → slice_get (xs ++ y ∷ ys) (length xs) ≡ Some y
@@ -226,14 +237,16 @@ module _ (service : Service) (log : Log) (e : Entry) where
   turns-more = grind (arith, common_steps, append-nil, behind-both)
 
   -- as many more as opens are tried
-  counts-both : (length (turns service.setup (log ++ e ∷ [])) ≡ length (turns service.setup log) + length (turn_at before e)) × (length (open_tries (log ++ e ∷ [])) ≡ length (open_tries log) + tries_at e)
+  counts-both : (length (turns service.setup (log ++ e ∷ [])) ≡ length (turns service.setup log) + length (turn_at before e)) × (length
+      (open_tries (log ++ e ∷ [])) ≡ length (open_tries log) + tries_at e)
   counts-both = grind (arith, common_steps, length-append, tries-more, turns-more)
 
   -- The command of an open is the next of the service.
   pub next-turn : (turn : Turn) → turn_at before e ≡ turn ∷ [] → Covers service (log ++ e ∷ []) → next_turn service log ≡ Some turn
   next-turn turn at covers = (let counts : length (turns service.setup log) ≡ length (open_tries log) =
       (let both = counts-both in let now = covers.counts in let one = ap length at in let try = tries-one before turn e at in omega arith) in
-      cc (counts, covers.is, turns-more, at, append_assoc (turns service.setup log) (turn ∷ []) covers.rest, get-behind (turns service.setup log) covers.rest turn))
+      cc (counts, covers.is, turns-more, at, append_assoc (turns service.setup log) (turn ∷ []) covers.rest, get-behind
+          (turns service.setup log) covers.rest turn))
 
 -- The open that the router asks for is for the one client that waits.
 pub record IsFor (service : Service) (log : Log) (tables : Tables) (e : Entry) : Type 0 where
@@ -243,31 +256,40 @@ pub record IsFor (service : Service) (log : Log) (tables : Tables) (e : Entry) :
   pub turn : turn_at tables e ≡ record { client = client.0; ordinal = waiting.ask.ordinal; hostgroup = 0 } ∷ []
 
 -- nothing is to be closed then, somebody waits, and it is at the server that queries go to
-pub awaits-so : (setup : Setup) (tables : Tables) (target : Target) → awaits setup tables ≡ Some target → (closes tables ≡ false) × (is_waiting tables.lends.waiting ≡ true) × (target_of setup.target ≡ Some target)
+pub awaits-so : (setup : Setup) (tables : Tables) (target : Target) → awaits setup tables ≡ Some target
+    → (closes tables ≡ false) × (is_waiting tables.lends.waiting ≡ true) × (target_of setup.target ≡ Some target)
 awaits-so setup tables target is = grind (arith, common_steps)
 
-at-target : (o : Option ServerAt) (server : ServerId) (address : Address) → target_of o ≡ Some (record { server = server; address = address }) → o ≡ Some (record { server = server; address = address })
+at-target : (o : Option ServerAt) (server : ServerId) (address : Address) → target_of o ≡ Some (record { server = server; address = address })
+    → o ≡ Some (record { server = server; address = address })
 at-target o server address is = grind (arith, common_steps, some-same)
 
 one-waits : (waiting : List ClientNo) → AtMostOne waiting → is_waiting waiting ≡ true → (client : ClientNo) × (waiting ≡ client ∷ [])
 one-waits waiting h1 is = grind (arith, common_steps)
 
-pub opens-for : (service : Service) (log : Log) (tables : Tables) (target : Target) (e : Entry) → Sound service log None tables → awaits service.setup tables ≡ Some target → turn_at tables e ≡ turn_for (oldest tables.lends.waiting) tables.lends.asks → IsFor service log tables e
-opens-for service log tables target e sound awaits at = (let one = one-waits tables.lends.waiting sound.lends.one_waits (awaits-so service.setup tables target awaits).1 in
+pub opens-for : (service : Service) (log : Log) (tables : Tables) (target : Target) (e : Entry) → Sound service log None tables
+    → awaits service.setup tables ≡ Some target → turn_at tables e ≡ turn_for (oldest tables.lends.waiting) tables.lends.asks → IsFor service log tables e
+opens-for service log tables target e sound awaits
+    at = (let one = one-waits tables.lends.waiting sound.lends.one_waits (awaits-so service.setup tables target awaits).1 in
     let waiting = sound.lends.waits one.0 one.1 in
-    record { client = one.0; waits = one.1; waiting = waiting; turn = at ∙ ap (λ w. turn_for (oldest w) tables.lends.asks) one.1 ∙ ap (turn_asked one.0) waiting.asks })
+    record { client = one.0; waits = one.1; waiting = waiting; turn = at ∙ ap (λ w. turn_for (oldest w) tables.lends.asks) one.1
+        ∙ ap (turn_asked one.0) waiting.asks })
 
 -- Whose link a write of the router is on, and what it writes.
 
 pub data Writes (tables : Tables) (link : LinkId) (tag : Tag) (bytes : List ℕ) : Type 0 where
-  ToClient : (client : ClientNo) (seat : Seat) → tables.seats client.0 ≡ Some seat → seat.link ≡ link → tag ≡ Reply → (n : ℕ) → bytes ≡ take n seat.session.client.outgoing → Writes tables link tag bytes
-  ToServer : (lent : Lent) (l : Sent) → tables.lends.links link.0 ≡ Some lent → left lent.backend ≡ Some l → tag ≡ l.tag → (n : ℕ) → bytes ≡ take n l.bytes → Writes tables link tag bytes
-  Farewell : (parting : Parting) → tables.parting ≡ parting ∷ [] → parting.link ≡ link → tag ≡ Reply → (n : ℕ) → bytes ≡ take n parting.bytes → Writes tables link tag bytes
+  ToClient : (client : ClientNo) (seat : Seat) → tables.seats client.0 ≡ Some seat → seat.link ≡ link → tag ≡ Reply → (n : ℕ)
+      → bytes ≡ take n seat.session.client.outgoing → Writes tables link tag bytes
+  ToServer : (lent : Lent) (l : Sent) → tables.lends.links link.0 ≡ Some lent → left lent.backend ≡ Some l → tag ≡ l.tag → (n : ℕ) → bytes ≡ take n l.bytes
+      → Writes tables link tag bytes
+  Farewell : (parting : Parting) → tables.parting ≡ parting ∷ [] → parting.link ≡ link → tag ≡ Reply → (n : ℕ) → bytes ≡ take n parting.bytes
+      → Writes tables link tag bytes
 
 pub reply-front : (tag : Tag) (bytes whole : List ℕ) → IsFront (reply_sent whole) tag bytes → (tag ≡ Reply) × (n : ℕ) × (bytes ≡ take n whole)
 reply-front tag bytes whole front = grind (arith, common_steps, some-same)
 
-seat-front : (o : Option Seat) (tag : Tag) (bytes : List ℕ) → IsFront (seat_sends o) tag bytes → (seat : Seat) × (o ≡ Some seat) × (tag ≡ Reply) × (n : ℕ) × (bytes ≡ take n seat.session.client.outgoing)
+seat-front : (o : Option Seat) (tag : Tag) (bytes : List ℕ) → IsFront (seat_sends o) tag bytes
+    → (seat : Seat) × (o ≡ Some seat) × (tag ≡ Reply) × (n : ℕ) × (bytes ≡ take n seat.session.client.outgoing)
 seat-front o tag bytes front = grind (arith, common_steps, reply-front)
 
 lent-left : (o : Option Lent) (l : Sent) → left_in o ≡ Some l → (lent : Lent) × (o ≡ Some lent) × (left lent.backend ≡ Some l)
@@ -278,9 +300,11 @@ pub data ClosesNext (tables : Tables) (link : LinkId) : Type 0 where
   ClosesClient : (parting : Parting) → tables.parting ≡ parting ∷ [] → parting.link ≡ link → ClosesNext tables link
   ClosesServer : tables.parting ≡ [] → tables.lends.closing ≡ link ∷ [] → ClosesNext tables link
 
-pub closes-next : (tables : Tables) (link : LinkId) → AtMostOne tables.parting → AtMostOne tables.lends.closing → close_of tables.parting tables.lends.closing ≡ Some link → ClosesNext tables link
+pub closes-next : (tables : Tables) (link : LinkId) → AtMostOne tables.parting → AtMostOne tables.lends.closing
+    → close_of tables.parting tables.lends.closing ≡ Some link → ClosesNext tables link
 closes-next tables link one most next = by tables.parting refl one next where
-  servers : (links : List LinkId) → tables.parting ≡ [] → tables.lends.closing ≡ links → AtMostOne links → first_closing links ≡ Some link → ClosesNext tables link
+  servers : (links : List LinkId) → tables.parting ≡ [] → tables.lends.closing ≡ links → AtMostOne links → first_closing links ≡ Some link
+      → ClosesNext tables link
   servers [] none is Nobody next = cc
   servers (first ∷ second ∷ links) none is most next = elim most [ ]
   servers (first ∷ []) none is (One other) next = grind (arith, common_steps, some-same)
@@ -294,24 +318,29 @@ module _ {service : Service} {log : Log} {tables : Tables} (sound : Sound servic
   sends-so : (link : LinkId) (tag : Tag) (bytes : List ℕ) → IsFront (sends tables link) tag bytes → Writes tables link tag bytes
   sends-so link tag bytes front = by (tables.numbers link.0) refl front where
     by : (o : Option ClientNo) → tables.numbers link.0 ≡ o → IsFront (sends_by tables link o) tag bytes → Writes tables link tag bytes
-    by (Some client) at front = (let one = seat-front (tables.seats client.0) tag bytes front in let seat = numbered-seat service log tables link client sound at in
+    by (Some client) at front = (let one = seat-front (tables.seats client.0) tag bytes front in
+        let seat = numbered-seat service log tables link client sound at in
         ToClient client one.0 one.1 (cc (some-same one.0 seat.0 (sym one.1 ∙ seat.1), seat.2)) one.2 one.3 one.4)
-    by None at front = (let row = lent-left (tables.lends.links link.0) front.sent front.is in ToServer row.0 front.sent row.1 row.2 front.same_tag front.n front.front)
+    by None at front = (let row = lent-left (tables.lends.links link.0) front.sent front.is in
+        ToServer row.0 front.sent row.1 row.2 front.same_tag front.n front.front)
 
-  farewell-so : (link : LinkId) (tag : Tag) (bytes : List ℕ) → IsFarewell tables link → IsFront (farewell_of tables.parting) tag bytes → Writes tables link tag bytes
+  farewell-so : (link : LinkId) (tag : Tag) (bytes : List ℕ) → IsFarewell tables link → IsFront (farewell_of tables.parting) tag bytes
+      → Writes tables link tag bytes
   farewell-so link tag bytes farewell front = elim (closes-next tables link sound.one_parts sound.lends.one_closes farewell.is_next) [
     | ClosesServer none closing ↦ cc (ap farewell_of none, front.is)
     | ClosesClient p is on ↦ (let at = reply-front tag bytes p.bytes (rw is at front) in Farewell p is on at.0 at.1 at.2)
   ]
 
-pub writes-so : {service : Service} {log : Log} (link : LinkId) (tag : Tag) (bytes : List ℕ) → Sound service log None (tables_after service.setup log) → IsOurs service.setup log (Wrote link tag bytes) → Writes (tables_after service.setup log) link tag bytes
+pub writes-so : {service : Service} {log : Log} (link : LinkId) (tag : Tag) (bytes : List ℕ) → Sound service log None (tables_after service.setup log)
+    → IsOurs service.setup log (Wrote link tag bytes) → Writes (tables_after service.setup log) link tag bytes
 writes-so link tag bytes sound (inl ours) = sends-so sound link tag bytes ours.1
 writes-so link tag bytes sound (inr ours) = farewell-so sound link tag bytes ours.0 ours.1
 
 -- What is left to be written on a link to a server is of the login, or of the command.
 pub data LeftAt (backend : BackendState) (l : Sent) : Type 0 where
   OfLogin : 0 < length backend.own → l ≡ record { tag = OwnTag; bytes = backend.own } → LeftAt backend l
-  OfCommand : (command : Handed) → backend.own ≡ [] → backend.command ≡ Some command → command.sent < length command.bytes → l ≡ record { tag = command.tag; bytes = drop command.sent command.bytes } → LeftAt backend l
+  OfCommand : (command : Handed) → backend.own ≡ [] → backend.command ≡ Some command → command.sent < length command.bytes
+      → l ≡ record { tag = command.tag; bytes = drop command.sent command.bytes } → LeftAt backend l
 
 pub left-at : (backend : BackendState) (l : Sent) → left backend ≡ Some l → LeftAt backend l
 left-at backend l is = by backend.own refl is where
@@ -335,8 +364,10 @@ front-of bytes sent k = grind (arith, common_steps, take-append-drop)
 carried-there : (link : LinkId) (sent : ℕ) (other : LinkId) → carried_by link sent ≡ Some other → other ≡ link
 carried-there link sent other at = grind (arith, common_steps, some-same)
 
-module _ {service : Service} {log : Log} {tables : Tables} {link : LinkId} {lent : Lent} (sound : Sound service log None tables) (row : RowStands service log tables.lends link lent) where
-  may-send : (command : Handed) (k : ℕ) → lent.backend.own ≡ [] → lent.backend.command ≡ Some command → command.sent < length command.bytes → IsLawful service log (Wrote link command.tag (take k (drop command.sent command.bytes)))
+module _ {service : Service} {log : Log} {tables : Tables} {link : LinkId} {lent : Lent} (sound : Sound service log None tables)
+    (row : RowStands service log tables.lends link lent) where
+  may-send : (command : Handed) (k : ℕ) → lent.backend.own ≡ [] → lent.backend.command ≡ Some command → command.sent < length command.bytes
+      → IsLawful service log (Wrote link command.tag (take k (drop command.sent command.bytes)))
   may-send command k none has less = rw stands.tag (record {
     message = stands.asked.message;
     due = stands.asked.due;
@@ -349,7 +380,8 @@ module _ {service : Service} {log : Log} {tables : Tables} {link : LinkId} {lent
       said = inside.said;
       rest = inside.past ++ inside.part;
       is = inside.is;
-      written = subst (IsPrefix inside.said) (sym (row-written row)) (said-written service.forms lent.backend.account (heard_of link log) (pieces_of link log) lent.backend inside none);
+      written = subst (IsPrefix inside.said) (sym (row-written row))
+          (said-written service.forms lent.backend.account (heard_of link log) (pieces_of link log) lent.backend inside none);
     };
     elsewhere = λ other at. carried-there link command.sent other (sym stands.carrier ∙ at);
     follows = follows command.sent refl;
@@ -370,9 +402,11 @@ module _ {service : Service} {log : Log} {tables : Tables} {link : LinkId} {lent
     ]
 
     follows : (sent : ℕ) → command.sent ≡ sent
-        → Continues (For (record { 0 = row.turn.client }) stands.ordinal) bytes (spelling stands.asked.message.first stands.asked.message.payload) (is_here row.turn.client log) (commands_on lent.backend.account link log) (row_standing row)
+        → Continues (For (record { 0 = row.turn.client }) stands.ordinal) bytes (spelling stands.asked.message.first stands.asked.message.payload)
+            (is_here row.turn.client log) (commands_on lent.backend.account link log) (row_standing row)
     follows zero unsent = Begins (here unsent) (row-clean row has unsent)
-        (record { rest = drop k (drop command.sent command.bytes); is = take-append-drop k (drop command.sent command.bytes) ∙ ap (λ sent. drop sent command.bytes) unsent ∙ asked-spelt stands.asked })
+        (record { rest = drop k (drop command.sent command.bytes); is = take-append-drop k (drop command.sent command.bytes)
+            ∙ ap (λ sent. drop sent command.bytes) unsent ∙ asked-spelt stands.asked })
     follows (suc sent) at = GoesOn inside.others (take command.sent command.bytes) (row-sends row has (omega arith) less)
         (row-commands row has (omega arith) ∙ ap (λ (t : Tag). inside.others ++ record { tag = t; bytes = take command.sent command.bytes } ∷ []) stands.tag)
         (record { rest = drop k (drop command.sent command.bytes); is = front-of command.bytes command.sent k ∙ asked-spelt stands.asked })
@@ -389,7 +423,8 @@ some-sent : (bytes : List ℕ) → 0 < length bytes → is_some (reply_sent byte
 some-sent bytes some = grind (arith, common_steps)
 
 -- a client's link, where what it is told was offered
-may-part : (service : Service) (log : Log) (n : ℕ) (came : Arrival) (bytes : List ℕ) → PartAt service log n came bytes → (is_some (reply_sent bytes) ≡ true → was_offered came.link log ≡ true) → came.port ≡ Traffic
+may-part : (service : Service) (log : Log) (n : ℕ) (came : Arrival) (bytes : List ℕ) → PartAt service log n came bytes
+    → (is_some (reply_sent bytes) ≡ true → was_offered came.link log ≡ true) → came.port ≡ Traffic
     → MayPart (is_served service.setup came) service n came log
 may-part service log n came bytes (Done served done) offered traffic = rw served done
 may-part service log n came bytes (Refused refused port none) offered traffic =
@@ -398,11 +433,14 @@ may-part service log n came bytes (Offered refused port was) offered traffic = r
 may-part service log n came bytes (Strange admin) offered traffic = cc (traffic, admin)
 
 module _ {service : Service} {log : Log} {tables : Tables} (told : AllLawful Fits log) (sound : Sound service log None tables) where
-  part-closes : (parting : Parting) (link : LinkId) → PartStands service log tables.numbers tables.lends parting → parting.link ≡ link → (is_some (reply_sent parting.bytes) ≡ true → was_offered link log ≡ true) → MayClose service link log
+  part-closes : (parting : Parting) (link : LinkId) → PartStands service log tables.numbers tables.lends parting → parting.link ≡ link
+      → (is_some (reply_sent parting.bytes) ≡ true → was_offered link log ≡ true) → MayClose service link log
   part-closes parting link stands on offered = record {
     client = λ n came is same port. may-part service log n came parting.bytes
-        (of-client log told (λ m (c : Arrival). PartAt service log m c parting.bytes) stands.is_came is (stands.link ∙ on ∙ sym same) stands.at) (λ some. ap (λ (l : LinkId). was_offered l log) same ∙ offered some) port;
-    server = λ owner user owned known. cc ((owner-turn (turn_of service link log) owner owned).1, unowned log told service stands.n stands.came stands.is_came (stands.link ∙ on));
+        (of-client log told (λ m (c : Arrival). PartAt service log m c parting.bytes) stands.is_came is (stands.link ∙ on ∙ sym same) stands.at)
+            (λ some. ap (λ (l : LinkId). was_offered l log) same ∙ offered some) port;
+    server = λ owner user owned known. cc
+        ((owner-turn (turn_of service link log) owner owned).1, unowned log told service stands.n stands.came stands.is_came (stands.link ∙ on));
   }
 
   -- a link to a server
@@ -425,7 +463,8 @@ module _ {service : Service} {log : Log} (told : AllLawful Fits log) (sound : So
   now = tables_after service.setup log
 
   -- the open that it asks for
-  may-open : (e : Entry) (server : ServerId) (address : Address) → Covers service (log ++ e ∷ []) → awaits service.setup now ≡ Some (record { server = server; address = address }) → turn_at now e ≡ turn_for (oldest now.lends.waiting) now.lends.asks
+  may-open : (e : Entry) (server : ServerId) (address : Address) → Covers service (log ++ e ∷ [])
+      → awaits service.setup now ≡ Some (record { server = server; address = address }) → turn_at now e ≡ turn_for (oldest now.lends.waiting) now.lends.asks
       → MayOpen service (record { server = server; address = address }) log
   may-open e server address covers awaited at = record {
     turn = record { client = for.client.0; ordinal = for.waiting.ask.ordinal; hostgroup = 0 };
@@ -452,7 +491,8 @@ module _ {service : Service} {log : Log} (told : AllLawful Fits log) (sound : So
     live = live-here sound for.client.0 (λ gone. cc (gone.unasked, for.waiting.asks))
 
     -- its link would be the client's, which has none
-    none : (link : LinkId) → owner_of service link log ≡ Some (owner_for service for.client.0 stands.asked.message stands.asked.due) → (b : Bool) → is_open link log ≡ b → b ≡ false
+    none : (link : LinkId) → owner_of service link log ≡ Some (owner_for service for.client.0 stands.asked.message stands.asked.due) → (b : Bool)
+        → is_open link log ≡ b → b ≡ false
     none link owned false opened = refl
     none link owned true opened = (let row = owned-row sound link _ told (quiet-closes now so.0) opened owned in elim row.2.owned [
       | Own owner owns ↦ cc (row.3, owns, for.waiting.unowned)
@@ -475,7 +515,8 @@ module _ {service : Service} {log : Log} (told : AllLawful Fits log) (sound : So
   lawful-entry _ covers ours = tt
 
 -- as many commands as opens were tried
-pub counts-more : (service : Service) (log : Log) (e : Entry) → Sound service log None (tables_after service.setup log) → IsOurs service.setup log e → length (turns service.setup log) ≡ length (open_tries log)
+pub counts-more : (service : Service) (log : Log) (e : Entry) → Sound service log None (tables_after service.setup log) → IsOurs service.setup log e
+    → length (turns service.setup log) ≡ length (open_tries log)
     → length (turns service.setup (log ++ e ∷ [])) ≡ length (open_tries (log ++ e ∷ []))
 counts-more service log e sound ours was = (let both = counts-both service log e in let one = by e ours in omega arith) where
   by : (e : Entry) → IsOurs service.setup log e → length (turn_at (tables_after service.setup log) e) ≡ tries_at e

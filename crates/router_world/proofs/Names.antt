@@ -8,7 +8,7 @@ pub use Rattle.client_session.specs.Errors.{bad_server_bytes, connection_refused
 pub use Rattle.client_session.specs.Refusals.{payload_of}
 pub use Rattle.client_session.specs.Setups.{Setup, has_server}
 pub use Rattle.client_session.specs.declared.setup.ServerAt.{ServerAt}
-pub use Rattle.client_side.specs.Client.{ClientState, counted, fed, login_of}
+pub use Rattle.client_side.specs.Client.{ClientState, counted, fed}
 pub use Rattle.client_side.specs.HeldUp.{next_same}
 pub use Rattle.client_side.specs.Laws.{opening-says-more}
 pub use Rattle.client_side.specs.Login.{Fails as FailsToSay, Opening, Says, Waits, Waits as WaitsToLogIn}
@@ -17,17 +17,15 @@ pub use Rattle.client_side.specs.Steps.{command_found, next_of}
 pub use Rattle.client_side.specs.declared.stage.Stage.{Stage}
 pub use Rattle.client_side.specs.declared.step.ClientStep.{ClientStep}
 pub use Rattle.client_talk.specs.Asked.{asked_of}
-pub use Rattle.client_talk.specs.Events.{answered_in, rested, said, said_in, taken}
+pub use Rattle.client_talk.specs.Events.{rested, said, said_in, taken}
 pub use Rattle.client_talk.specs.Going.{Turned, left_to_say, still, turned, turned_by}
 pub use Rattle.client_talk.specs.Queries.{Query}
 pub use Rattle.client_talk.specs.Sessions.{is_ending, is_finished, new_session}
 pub use Rattle.client_talk.specs.Steps.{arrives_as, ended, logs_in, logs_in_as, step, step_by}
 pub use Rattle.client_talk.specs.declared.asked.Asked.{Asked}
-pub use Rattle.client_talk.specs.declared.asked.Asked.TheVariants.{Refused}
 pub use Rattle.client_talk.specs.declared.session.Phase.{Phase}
 pub use Rattle.client_talk.specs.declared.session.Session.{Session}
 pub use Rattle.command_parse.specs.Meaning.{Meaning, parsed}
-pub use Rattle.command_parse.specs.Meaning.Meaning.{FieldList, InitDb, Ping, Quit}
 pub use Rattle.command_parse.specs.declared.fault.CommandFault.{CommandFault}
 pub use Rattle.exchange.specs.Commands.{Command, behind, carrier_of, carries, commands_behind, commands_in, commands_on, first_some, is_command, is_whole}
 pub use Rattle.exchange.specs.Commands.{most_command, piece, pieces_of, place_in, whole_by, with_piece}
@@ -60,7 +58,6 @@ pub use Rattle.mx_wire.specs.Moments.{AllLawful, LawfulAfter, lawful-each, lawfu
 pub use Rattle.mx_wire.specs.Tells.{Fits, IsNew, IsOpen, MayFollow}
 pub use Rattle.mx_wire.specs.declared.entry.Entry.{Entry}
 pub use Rattle.mx_wire.specs.declared.entry.Entry.TheVariants.{Accepted, Closed, Got, OpenFailed, Opened, Wrote}
-pub use Rattle.packet_frame.specs.FramerState.{look}
 pub use Rattle.packet_frame.specs.Laws.{first_message-empty, first_message-whole-more}
 pub use Rattle.packet_frame.specs.MessageLaws.{first_message-goes}
 pub use Rattle.packet_frame.specs.PacketLaws.{nat_eq-false, nat_eq-true}
@@ -73,7 +70,7 @@ pub use Rattle.promises.proofs.InWork.{asks-unrefused, in-work, refused-more, so
 pub use Rattle.promises.proofs.Links.{carrier-more, owner-turn, refused-or-sent, tries-more}
 pub use Rattle.promises.proofs.Staying.{arrival-stays, arrivals-more, carrier-stays, lost-stays, message-stays, messages-grow, turn-stays, user-stays}
 pub use Rattle.promises.specs.Closes.{Gone as HasGone, IsDone, IsSpoilt, MayDrop, Unneeded, ends_by, ends_in, has_ended, if_user, is_write, was_offered}
-pub use Rattle.promises.specs.Due.{Work, answer, answer_by, answered, answers, due, due_at, first_without, message_of, reply_on, reply_to, turned_away, work_in}
+pub use Rattle.promises.specs.Due.{Work, answer, answer_by, answers, due, due_at, first_without, message_of, reply_on, reply_to, turned_away, work_in}
 pub use Rattle.promises.specs.Due.{work_of}
 pub use Rattle.promises.specs.Follows.{Cause, NotLoggedIn, NotOpened, RefusedOrSent, behind_replies}
 pub use Rattle.promises.specs.Headline.{IsLawful, IsServed, Keeps, Serves}
@@ -82,7 +79,7 @@ pub use Rattle.promises.specs.Owners.{user_of, user_on}
 pub use Rattle.promises.specs.Rest.{RestsAt}
 pub use Rattle.promises.specs.Sends.{GoesOn, MayOpen, form_of, owner_for}
 pub use Rattle.promises.specs.Service.{Service, Turn, next_turn, open_tries, open_try, turn_by, turn_of}
-pub use Rattle.ready_loop.specs.Drained.{IsDrained, write_dry}
+pub use Rattle.ready_loop.specs.Drained.{write_dry}
 pub use Rattle.ready_loop.specs.Machine.{Target}
 pub use Rattle.reply_track.proofs.Replying.{SameEnd, same-end}
 pub use Rattle.reply_track.specs.Replying.{id_after, kind_to, to_command}
@@ -99,7 +96,7 @@ pub use Rattle.router_world.specs.Rows.{Entering, HearsPart, Inside, IsEntering,
 pub use Rattle.router_world.specs.Rows.{commands_said, form_at, is_of, piece_bytes, replies_said, reply_said, standing_said}
 pub use Rattle.router_world.specs.Seats.{Asks, IsIdle, IsTaken, IsWorking, PhaseAt, SeatAt, Unanswered, due_said, over_said, unanswered_from, work_said}
 pub use Rattle.router_world.specs.Tables.{Tables, no_tables, with_lends, without_seat}
-pub use Rattle.router_world.specs.World.{admitted, closed_by, heard_on, lost_on, on_seat, tables_after, told, turn_at, turn_for, turns, turns_behind}
+pub use Rattle.router_world.specs.World.{admitted, closed_by, on_seat, tables_after, told, turn_at, turn_for, turns, turns_behind}
 pub use Rattle.router_world.specs.declared.seat.Parting.{Parting}
 pub use Rattle.router_world.specs.declared.seat.Seat.{Seat}
 pub use Rattle.server_side.specs.Account.{Account}
@@ -122,6 +119,6 @@ pub use Rattle.std.proofs.lemmas.List.Folds.{list_all-append, list_any-append}
 pub use Rattle.std.proofs.lemmas.List.Sums.{fold-append}
 pub use Rattle.std.specs.List.{cons_option, filter_map, flat_map, list_all, list_any}
 pub use Rattle.std.specs.Option.{option_and_then, option_map}
-pub use Rattle.std.specs.Prelude.{Bool, Err, List, None, Ok, Option, Result, Some, [], cond, drop, false, fold, is_some, length, nat_eq, nat_lt, not, refl}
+pub use Rattle.std.specs.Prelude.{Bool, List, None, Option, Result, Some, [], cond, drop, false, fold, is_some, length, nat_eq, nat_lt, not, refl}
 pub use Rattle.std.specs.Prelude.{slice_get, slice_index_or, suc, take, true, zero, ℕ, ◌%◌, ◌&&◌, ◌*◌, ◌++◌, ◌+◌, ◌-◌, ◌/◌, ◌<◌, ◌||◌, ◌∷◌, ◌≡◌, ◌≢◌, ◌≤◌, ◌⊎◌}
 pub use Rattle.std.proofs.lemmas.Grind.{common_steps}

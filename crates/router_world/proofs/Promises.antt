@@ -34,35 +34,42 @@ module _ {service : Service} {log : Log} {e : Entry} {link : LinkId} {tables : T
   unnumbered lent there = grind (arith, common_steps, none-if)
 
   -- It is broken.
-  pub failed-step : is_failure e ≡ true → is_loss e ≡ true → ((k i : ℕ) → carries k i e ≡ None) → Sound service (log ++ e ∷ []) None (failed_on service.setup link (tables.numbers link.0) tables)
+  pub failed-step : is_failure e ≡ true → is_loss e ≡ true → ((k i : ℕ) → carries k i e ≡ None)
+      → Sound service (log ++ e ∷ []) None (failed_on service.setup link (tables.numbers link.0) tables)
   failed-step failure loss silent = elim whose [
     | OfClient client seat number is at ↦ rw number (broken-client (record { on = on; writes = silent; number = number; is = is; same = at }) failure loss)
     | OfServer lent is ↦ rw (unnumbered lent is, is) (lost-step service log e link lent tables on.happens.sound (record { on = on; there = is }) loss silent)
   ]
 
 -- Bytes come.
-pub got-step : {service : Service} {log : Log} {link : LinkId} {bytes : List ℕ} {tables : Tables} → AreBytes bytes → OnLink service log (Got link bytes) link tables
+pub got-step : {service : Service} {log : Log} {link : LinkId} {bytes : List ℕ} {tables : Tables} → AreBytes bytes
+    → OnLink service log (Got link bytes) link tables
     → Sound service (log ++ Got link bytes ∷ []) None (got_on service.setup link bytes (tables.numbers link.0) tables)
 got-step {service} {log} {link} {bytes} {tables} are on = elim (whose on) [
-  | OfClient client seat number is at ↦ rw (number, is) (got-client (record { on = on; writes = λ n i. refl; number = number; is = is; same = at }) (nobody-waits service.setup tables on.acted)
+  | OfClient client seat number is at ↦ rw (number, is)
+      (got-client (record { on = on; writes = λ n i. refl; number = number; is = is; same = at }) (nobody-waits service.setup tables on.acted)
       (let few = on.happens.few in let size = length-append log (Got link bytes ∷ []) in omega arith))
   | OfServer lent is ↦ rw (unnumbered on lent is, is) (heard-step service log link bytes lent tables are on.happens.sound (record { on = on; there = is }))
 ]
 
 -- Its end is read.
-pub ended-step : {service : Service} {log : Log} {link : LinkId} {tables : Tables} → OnLink service log (Ended link) link tables → Sound service (log ++ Ended link ∷ []) None (ended_on service.setup link (tables.numbers link.0) tables)
+pub ended-step : {service : Service} {log : Log} {link : LinkId} {tables : Tables} → OnLink service log (Ended link) link tables
+    → Sound service (log ++ Ended link ∷ []) None (ended_on service.setup link (tables.numbers link.0) tables)
 ended-step {service} {log} {link} {tables} on = elim (whose on) [
   | OfClient client seat number is at ↦ rw (number, is) (ended-client (record { on = on; writes = λ n i. refl; number = number; is = is; same = at }))
-  | OfServer lent is ↦ rw (unnumbered on lent is, is) (lost-step service log (Ended link) link lent tables on.happens.sound (record { on = on; there = is }) refl (λ k i. refl))
+  | OfServer lent is ↦ rw (unnumbered on lent is, is)
+      (lost-step service log (Ended link) link lent tables on.happens.sound (record { on = on; there = is }) refl (λ k i. refl))
 ]
 
 -- Bytes are written there.
-pub written-step : {service : Service} {log : Log} {link : LinkId} {tag : Tag} {bytes : List ℕ} {tables : Tables} → OnLink service log (Wrote link tag bytes) link tables → IsFront (sends tables link) tag bytes
+pub written-step : {service : Service} {log : Log} {link : LinkId} {tag : Tag} {bytes : List ℕ} {tables : Tables}
+    → OnLink service log (Wrote link tag bytes) link tables → IsFront (sends tables link) tag bytes
     → Sound service (log ++ Wrote link tag bytes ∷ []) None (wrote_on link (length bytes) (tables.numbers link.0) tables)
 written-step {service} {log} {link} {tag} {bytes} {tables} on front = elim (whose on) [
   | OfClient client seat number is at ↦ (
       let reply = reply-front tag bytes seat.session.client.outgoing (rw is at (rw number at front)) in
-      rw (number, is) (wrote-client (record { on = on; writes = λ n i. ap (λ (t : Tag). cond (is_command n i t) (Some link) None) reply.0; number = number; is = is; same = at })
+      rw (number, is) (wrote-client
+          (record { on = on; writes = λ n i. ap (λ (t : Tag). cond (is_command n i t) (Some link) None) reply.0; number = number; is = is; same = at })
       (sym (front-size seat.session.client.outgoing bytes reply.1 reply.2).1)))
   | OfServer lent is ↦ rw (unnumbered on lent is, is) (wrote-step service log link tag bytes lent tables on.happens.sound (record { on = on; there = is })
       (rw is at (rw (unnumbered on lent is) at front)))
@@ -75,7 +82,8 @@ record Offers (tables : Tables) (link : LinkId) : Type 0 where
   pub on : parting.link ≡ link
   pub some : parting.bytes ≢ []
 
-module _ {service : Service} {log : Log} {e : Entry} {link : LinkId} {tables : Tables} (happens : Happens service log e tables) (farewell : IsFarewell tables link) where
+module _ {service : Service} {log : Log} {e : Entry} {link : LinkId} {tables : Tables} (happens : Happens service log e tables)
+    (farewell : IsFarewell tables link) where
   the : Offers tables link
   the = grind (arith, common_steps, closes-next)
 
@@ -83,11 +91,13 @@ module _ {service : Service} {log : Log} {e : Entry} {link : LinkId} {tables : T
   nobodys = (let stands = happens.sound.parts the.parting the.is in
       (ap (λ (l : LinkId). tables.numbers l.0) (sym the.on) ∙ stands.unnumbered, ap (λ (l : LinkId). tables.lends.links l.0) (sym the.on) ∙ stands.unlent))
 
-  offer : link_of e ≡ Some link → is_write e ≡ true → ((n i : ℕ) → carries n i e ≡ None) → refused_by service log e ≡ option_and_then (refused_on service log e) (link_of e) → IsPlain e → ((was : Bool) → open_step was e ≡ was)
+  offer : link_of e ≡ Some link → is_write e ≡ true → ((n i : ℕ) → carries n i e ≡ None)
+      → refused_by service log e ≡ option_and_then (refused_on service log e) (link_of e) → IsPlain e → ((was : Bool) → open_step was e ≡ was)
       → IsOffer service log e the.parting tables
   offer names writes silent refuses plain stays = (let on = the.on in let is = the.is in let some = the.some in grind (arith, common_steps))
 
-pub offer-written : {service : Service} {log : Log} {link : LinkId} {tag : Tag} {bytes : List ℕ} {tables : Tables} → Happens service log (Wrote link tag bytes) tables → IsFarewell tables link → IsFront (farewell_of tables.parting) tag bytes
+pub offer-written : {service : Service} {log : Log} {link : LinkId} {tag : Tag} {bytes : List ℕ} {tables : Tables}
+    → Happens service log (Wrote link tag bytes) tables → IsFarewell tables link → IsFront (farewell_of tables.parting) tag bytes
     → Sound service (log ++ Wrote link tag bytes ∷ []) None (wrote_on link (length bytes) (tables.numbers link.0) tables)
 offer-written {service} {log} {link} {tag} {bytes} {tables} happens farewell front = (let p = (the happens farewell).parting in
     let here : nat_eq p.link.0 link.0 ≡ true = ap (λ (l : LinkId). nat_eq l.0 link.0) (the happens farewell).on ∙ same_number link.0 in
@@ -95,7 +105,8 @@ offer-written {service} {log} {link} {tag} {bytes} {tables} happens farewell fro
     let silent : (n i : ℕ) → carries n i (Wrote link tag bytes) ≡ None = λ n i. ap (λ (t : Tag). cond (is_command n i t) (Some link) None) reply.0 in
     let opens : (was : Bool) → open_step was (Wrote link tag bytes) ≡ was = λ was. refl in
     rw ((nobodys happens farewell).0, (nobodys happens farewell).1, (the happens farewell).is, here)
-    (offered-step service log (Wrote link tag bytes) p (record p { bytes = [] }) tables happens.sound (offer happens farewell refl refl silent refl (assumption) opens) refl refl (inl refl)))
+    (offered-step service log (Wrote link tag bytes) p (record p { bytes = [] }) tables happens.sound
+        (offer happens farewell refl refl silent refl (assumption) opens) refl refl (inl refl)))
 
 pub offer-failed : {service : Service} {log : Log} {link : LinkId} {tables : Tables} → Happens service log (WriteFailed link) tables → IsFarewell tables link
     → Sound service (log ++ WriteFailed link ∷ []) None (failed_on service.setup link (tables.numbers link.0) tables)
@@ -103,11 +114,13 @@ offer-failed {service} {log} {link} {tables} happens farewell = (let p = (the ha
     let silent : (n i : ℕ) → carries n i (WriteFailed link) ≡ None = λ n i. refl in
     let opens : (was : Bool) → open_step was (WriteFailed link) ≡ was = λ was. refl in
     rw ((nobodys happens farewell).0, (nobodys happens farewell).1) (rw (the happens farewell).is
-    (offered-step service log (WriteFailed link) p p tables happens.sound (offer happens farewell refl refl silent refl (assumption) opens) refl refl (inr (refl, refl)))))
+    (offered-step service log (WriteFailed link) p p tables happens.sound (offer happens farewell refl refl silent refl (assumption) opens) refl refl
+        (inr (refl, refl)))))
 
 -- Before the first entry nothing stands.
 starts : (service : Service) → Sound service [] None no_tables
-starts service = (let counts = counts-all [] tt in let served = moment-last (IsServed service) [] (keeps-none service).served in grind (arith, common_steps, Nobody))
+starts service = (let counts = counts-all [] tt in let served = moment-last (IsServed service) [] (keeps-none service).served in
+    grind (arith, common_steps, Nobody))
 
 -- What each entry makes of what stands.
 module _ (service : Service) (log : Log) where
@@ -115,10 +128,12 @@ module _ (service : Service) (log : Log) where
   now = tables_after service.setup log
 
   -- an open is tried
-  on-open : (e : Entry) (target : Target) → Happens service log e now → Covers service (log ++ e ∷ []) → awaits service.setup now ≡ Some target → turn_at now e ≡ turn_for (oldest now.lends.waiting) now.lends.asks → OnOpen service log e now
+  on-open : (e : Entry) (target : Target) → Happens service log e now → Covers service (log ++ e ∷ []) → awaits service.setup now ≡ Some target
+      → turn_at now e ≡ turn_for (oldest now.lends.waiting) now.lends.asks → OnOpen service log e now
   on-open e target happens covers awaited at = grind (arith, common_steps, awaits-so, opens-for, quiet-closes)
 
-  entry-step : (e : Entry) → service.setup.limit ≤ most_command → Happens service log e now → Covers service (log ++ e ∷ []) → IsOurs service.setup log e → Sound service (log ++ e ∷ []) None (step service.setup now e)
+  entry-step : (e : Entry) → service.setup.limit ≤ most_command → Happens service log e now → Covers service (log ++ e ∷ []) → IsOurs service.setup log e
+      → Sound service (log ++ e ∷ []) None (step service.setup now e)
   entry-step (entry.Accepted port link salt) short happens covers ours = coming-step (record { happens = happens; quiet = done service.setup now ours }) short
   entry-step (entry.Opened server address link) short happens covers ours =
       opened-step service log server address link now happens.sound (on-open (entry.Opened server address link) _ happens covers ours refl)
@@ -149,13 +164,15 @@ module _ (setup : Setup) (all : Log) (short : setup.limit ≤ most_command) wher
   formed : (log more : Log) → log ++ more ≡ all → AreFormed (service-of setup all) log
   formed log more is n i message there = ap form_by (rw is at (message-stays (service-of setup all) n i log more message there))
 
-  one-more : (log more : Log) (e : Entry) → (log ++ e ∷ []) ++ more ≡ all → StandsFor (service-of setup all) log → MayFollow log e → IsOurs setup log e → StandsFor (service-of setup all) (log ++ e ∷ [])
+  one-more : (log more : Log) (e : Entry) → (log ++ e ∷ []) ++ more ≡ all → StandsFor (service-of setup all) log → MayFollow log e → IsOurs setup log e
+      → StandsFor (service-of setup all) (log ++ e ∷ [])
   one-more log more e is stands follows ours = (let counts = counts-more (service-of setup all) log e stands.sound ours stands.counts in
       let covers = covers-front (service-of setup all) (log ++ e ∷ []) more (ap (turns setup) (sym is)) counts in
       let keeps = keeps-more (service-of setup all) log e stands.told follows.fits stands.sound covers ours stands.keeps in
       record {
         told = lawful-more Fits log e stands.told follows.fits;
-        sound = subst (Sound (service-of setup all) (log ++ e ∷ []) None) (sym (fold-append (step setup) no_tables log (e ∷ []))) (entry-step (service-of setup all) log e short (record {
+        sound = subst (Sound (service-of setup all) (log ++ e ∷ []) None) (sym (fold-append (step setup) no_tables log (e ∷ [])))
+            (entry-step (service-of setup all) log e short (record {
           told = stands.told;
           fits = follows.fits;
           few = follows.bounded;
@@ -174,11 +191,14 @@ module _ (setup : Setup) (all : Log) (short : setup.limit ≤ most_command) wher
   behind log (e ∷ more) is stands follow ours = (let so : (log ++ e ∷ []) ++ more ≡ all = append_assoc log (e ∷ []) more ∙ is in
       let rest = behind (log ++ e ∷ []) more so (one-more log more e so stands follow.0 ours.0) follow.1 ours.1 in ((stands, rest.0), rest.1))
 
-  pub stands-all : AllLawful MayFollow all → AllLawful (IsOurs setup) all → AllLawful (λ l e. StandsFor (service-of setup all) l) all × StandsFor (service-of setup all) all
-  stands-all follow ours = behind [] all refl (record { told = tt; sound = starts (service-of setup all); counts = refl; keeps = keeps-none (service-of setup all) }) follow ours
+  pub stands-all : AllLawful MayFollow all → AllLawful (IsOurs setup) all
+      → AllLawful (λ l e. StandsFor (service-of setup all) l) all × StandsFor (service-of setup all) all
+  stands-all follow ours = behind [] all refl
+      (record { told = tt; sound = starts (service-of setup all); counts = refl; keeps = keeps-none (service-of setup all) }) follow ours
 
 -- What the router knows stands for each log of its own.
-pub sound-after : (setup : Setup) (log : Log) → setup.limit ≤ most_command → AllLawful MayFollow log → AllLawful (IsOurs setup) log → (service : Service) × Sound service log None (tables_after setup log)
+pub sound-after : (setup : Setup) (log : Log) → setup.limit ≤ most_command → AllLawful MayFollow log → AllLawful (IsOurs setup) log
+    → (service : Service) × Sound service log None (tables_after setup log)
 sound-after setup log short follow ours = (service-of setup log, (stands-all setup log short follow ours).1.sound)
 
 -- A log whose entries are the router's keeps the promises.

@@ -24,10 +24,12 @@ nothing-read : (limit : ℕ) → opening limit [] ≡ Waits false
 unfolding opening
 nothing-read limit = cc (first_message-empty limit 1)
 
-pub new-seat : (number : ClientNo) (salt : List ℕ) (setup : Setup) (reply : ℕ → Option Answer) → setup.limit ≤ most_command → SeatAt (new_talk number salt setup) reply [] (new_session number salt setup true)
+pub new-seat : (number : ClientNo) (salt : List ℕ) (setup : Setup) (reply : ℕ → Option Answer) → setup.limit ≤ most_command
+    → SeatAt (new_talk number salt setup) reply [] (new_session number salt setup true)
 new-seat number salt setup reply short = record {
   mine = grind (arith, common_steps);
-  due = sym (append-nil (greeting_said number.0 salt setup.version)) ∙ sym (due-alone reply (new_talk number salt setup) (Waits false) (nothing-read setup.limit) refl);
+  due = sym (append-nil (greeting_said number.0 salt setup.version))
+      ∙ sym (due-alone reply (new_talk number salt setup) (Waits false) (nothing-read setup.limit) refl);
   at = grind (arith, common_steps, logging-new, nothing-read);
 }
 
@@ -38,9 +40,11 @@ abbrev with_outgoing : (outgoing : List ℕ) → ClientState → ClientState
 with_outgoing outgoing client = record client { outgoing = outgoing }
 
 abbrev taken-outgoing : (talk : Talk) (client : ClientState) (outgoing : List ℕ) → IsTaken talk client → IsTaken talk (with_outgoing outgoing client)
-taken-outgoing talk client outgoing taken = record { stage = taken.stage; framer = taken.framer; past = taken.past; arrived = taken.arrived; whatever = taken.whatever }
+taken-outgoing talk client outgoing
+    taken = record { stage = taken.stage; framer = taken.framer; past = taken.past; arrived = taken.arrived; whatever = taken.whatever }
 
-pub taken-seat : {talk : Talk} {reply : ℕ → Option Answer} {written : List ℕ} {session : Session} (n : ℕ) → SeatAt talk reply written session → SeatAt talk reply (written ++ take n session.client.outgoing) (taken n session)
+pub taken-seat : {talk : Talk} {reply : ℕ → Option Answer} {written : List ℕ} {session : Session} (n : ℕ) → SeatAt talk reply written session
+    → SeatAt talk reply (written ++ take n session.client.outgoing) (taken n session)
 taken-seat n seat = grind (arith, common_steps, take-append-drop)
 
 -- Other replies come of its queries, which agree with those before: those that were there stay, and none came to the query in work.
@@ -72,7 +76,8 @@ module _ (talk : Talk) (reply : ℕ → Option Answer) (written bytes : List ℕ
     due = grind (arith, common_steps, append-nil);
   })
 
-  idle-fed : (user : Account) (client : ClientState) → SeatAt talk reply written (record { client = client; phase = phase.Idle user }) → IsGoing now reply user (written ++ client.outgoing) (fed client bytes)
+  idle-fed : (user : Account) (client : ClientState) → SeatAt talk reply written (record { client = client; phase = phase.Idle user })
+      → IsGoing now reply user (written ++ client.outgoing) (fed client bytes)
   idle-fed user client seat = (let answered = idle-answered user client seat.at in record {
     taken = taken-fed seat.at.taken bytes user seat.at.account;
     account = account-more talk bytes user seat.at.account;
@@ -82,7 +87,8 @@ module _ (talk : Talk) (reply : ℕ → Option Answer) (written bytes : List ℕ
   })
 
   -- the query in work stays so
-  working-fed : (user : Account) (client : ClientState) → SeatAt talk reply written (record { client = client; phase = phase.Working user }) → SeatAt now reply written (record { client = fed client bytes; phase = phase.Working user })
+  working-fed : (user : Account) (client : ClientState) → SeatAt talk reply written (record { client = client; phase = phase.Working user })
+      → SeatAt now reply written (record { client = fed client bytes; phase = phase.Working user })
   working-fed user client seat = (let grown = messages-grow talk bytes in let work = at_place client.arrived seat.at.message in
       let old = fault_answer talk.setup.limit (messages_of talk).fault in let new = fault_answer talk.setup.limit (messages_of now).fault in record {
         mine = seat.mine;
@@ -91,19 +97,25 @@ module _ (talk : Talk) (reply : ℕ → Option Answer) (written bytes : List ℕ
       })
 
   -- the session that has kept them may go on
-  fed-turned : (at : Phase) (client : ClientState) → SeatAt talk reply written (record { client = client; phase = at }) → ((i : ℕ) → suc client.arrived ≤ i → reply i ≡ None) → length (talk.read ++ bytes) < 18446744073709551616
-      → MayGo at now reply (written ++ client.outgoing) (fed client bytes) → SeatTurned now reply written (record { client = client; phase = at }) (turned talk.setup (record { client = fed client bytes; phase = at }))
+  fed-turned : (at : Phase) (client : ClientState) → SeatAt talk reply written (record { client = client; phase = at })
+      → ((i : ℕ) → suc client.arrived ≤ i → reply i ≡ None) → length (talk.read ++ bytes) < 18446744073709551616
+      → MayGo at now reply (written ++ client.outgoing) (fed client bytes)
+          → SeatTurned now reply written (record { client = client; phase = at }) (turned talk.setup (record { client = fed client bytes; phase = at }))
   fed-turned at client seat later few may =
-      turned-seat now reply written (record { client = fed client bytes; phase = at }) (record { mine = seat.mine; few = few; later = later; at = may }) (record { client = client; phase = at })
+      turned-seat now reply written (record { client = fed client bytes; phase = at }) (record { mine = seat.mine; few = few; later = later; at = may })
+          (record { client = client; phase = at })
 
-  said-at : (at : Phase) (client : ClientState) → SeatAt talk reply written (record { client = client; phase = at }) → Unanswered reply (record { client = client; phase = at }) → at ≢ phase.Ending → length (talk.read ++ bytes) < 18446744073709551616
+  said-at : (at : Phase) (client : ClientState) → SeatAt talk reply written (record { client = client; phase = at })
+      → Unanswered reply (record { client = client; phase = at }) → at ≢ phase.Ending → length (talk.read ++ bytes) < 18446744073709551616
       → SeatTurned now reply written (record { client = client; phase = at }) (said_in at talk.setup bytes (record { client = client; phase = at }))
   said-at phase.LoggingIn client seat unanswered unended few = grind (arith, common_steps, fed-turned, logging-fed)
   said-at (phase.Idle user) client seat unanswered unended few = grind (arith, common_steps, fed-turned, idle-fed)
-  said-at (phase.Working user) client seat unanswered unended few = record { seat = working-fed user client seat; unanswered = unanswered; asks = λ other is. is }
+  said-at (phase.Working user) client seat unanswered unended
+      few = record { seat = working-fed user client seat; unanswered = unanswered; asks = λ other is. is }
   said-at phase.Ending client seat unanswered unended few = absurd (unended refl)
 
-  pub said-seat : (session : Session) → SeatAt talk reply written session → Unanswered reply session → session.phase ≢ phase.Ending → length (talk.read ++ bytes) < 18446744073709551616 → SeatTurned now reply written session (said talk.setup bytes session)
+  pub said-seat : (session : Session) → SeatAt talk reply written session → Unanswered reply session → session.phase ≢ phase.Ending
+      → length (talk.read ++ bytes) < 18446744073709551616 → SeatTurned now reply written session (said talk.setup bytes session)
   said-seat session seat unanswered unended few = said-at session.phase session.client seat unanswered unended few
 
 -- The query in work is answered.
@@ -126,18 +138,25 @@ module _ {talk : Talk} {reply : ℕ → Option Answer} {user : Account} {client 
 
   -- no reply is there
   working-open : IsOpen talk.setup (reply client.arrived)
-  working-open = query-open talk.setup (reply client.arrived) working.message.payload working.query (open-none talk.setup reply 1 (messages_of talk).messages work working.work)
+  working-open = query-open talk.setup (reply client.arrived) working.message.payload working.query
+      (open-none talk.setup reply 1 (messages_of talk).messages work working.work)
 
   -- all messages that were taken are answered then
-  pub working-done : (other : ℕ → Option Answer) (answer : Answer) → other client.arrived ≡ Some answer → ((i : ℕ) (answer : Answer) → reply i ≡ Some answer → other i ≡ Some answer) → NowDone talk.setup reply other 1 past working.message answer
-  working-done other answer now stays = (let count = working.taken.arrived in now-done talk.setup reply other 1 client.arrived past working.message answer within (omega arith) stays
+  pub working-done : (other : ℕ → Option Answer) (answer : Answer) → other client.arrived ≡ Some answer
+      → ((i : ℕ) (answer : Answer) → reply i ≡ Some answer → other i ≡ Some answer) → NowDone talk.setup reply other 1 past working.message answer
+  working-done other answer now
+      stays = (let count = working.taken.arrived in now-done talk.setup reply other 1 client.arrived past working.message answer within (omega arith) stays
       (query-served talk.setup (other client.arrived) working.message.payload working.query working-open.server ∙ now))
 
-  pub answered-seat : (other : ℕ → Option Answer) (written : List ℕ) (answer : Answer) (packets : List ℕ) → SeatAt talk reply written (record { client = client; phase = phase.Working user }) → other client.arrived ≡ Some answer
-      → ((i : ℕ) (answer : Answer) → reply i ≡ Some answer → other i ≡ Some answer) → ((i : ℕ) → client.arrived < i → other i ≡ None) → packets ≡ spelt (next_id working.message.last) answer → length talk.read < 18446744073709551616
-      → SeatTurned talk other written (record { client = client; phase = phase.Idle user }) (answered talk.setup packets (record { client = client; phase = phase.Working user }))
+  pub answered-seat : (other : ℕ → Option Answer) (written : List ℕ) (answer : Answer) (packets : List ℕ)
+      → SeatAt talk reply written (record { client = client; phase = phase.Working user }) → other client.arrived ≡ Some answer
+      → ((i : ℕ) (answer : Answer) → reply i ≡ Some answer → other i ≡ Some answer) → ((i : ℕ) → client.arrived < i → other i ≡ None)
+          → packets ≡ spelt (next_id working.message.last) answer → length talk.read < 18446744073709551616
+      → SeatTurned talk other written (record { client = client; phase = phase.Idle user })
+          (answered talk.setup packets (record { client = client; phase = phase.Working user }))
   answered-seat other written answer packets seat now stays later spelled few = (let done = working-done other answer now stays in
-      let due : written ++ client.outgoing ≡ front talk ++ answers_by talk.setup reply 1 past [] = seat.due ∙ ap (λ (s : Split). front talk ++ due_behind reply talk s) messages
+      let due : written ++ client.outgoing ≡ front talk ++ answers_by talk.setup reply 1 past [] = seat.due
+          ∙ ap (λ (s : Split). front talk ++ due_behind reply talk s) messages
       ∙ ap (λ l. front talk ++ l) (open-due talk.setup reply 1 past behind.messages [] (fault_answer talk.setup.limit behind.fault) work within) in
       turned-seat talk other written (rested user packets (record { client = client; phase = phase.Working user })) (record {
         mine = seat.mine;
@@ -171,5 +190,6 @@ WaitsFor (phase.Working user) talk reply arrived = IsBusy talk reply arrived
 WaitsFor phase.Ending talk reply arrived = over_said reply talk ≡ true
 WaitsFor _ talk reply arrived = IsFree talk reply
 
-pub work-here : {talk : Talk} {reply : ℕ → Option Answer} {written : List ℕ} {session : Session} → SeatAt talk reply written session → WaitsFor session.phase talk reply session.client.arrived
+pub work-here : {talk : Talk} {reply : ℕ → Option Answer} {written : List ℕ} {session : Session} → SeatAt talk reply written session
+    → WaitsFor session.phase talk reply session.client.arrived
 work-here seat = grind (arith, common_steps, work-alone, over-in, query-no-quit)

@@ -35,7 +35,8 @@ Means asked.Ping has_server reply meaning = answer_by (served has_server reply) 
 Means asked.Quit has_server reply meaning = (quit_by meaning ≡ true) × (answer_by (served has_server reply) meaning ≡ None)
 Means (asked.Refused refusal) has_server reply meaning = answer_by (served has_server reply) meaning ≡ Some (payload_of refusal ∷ [])
 
-pub means-asked : (has_server : Bool) (reply : Option Answer) (meaning : Result Meaning CommandFault) → Means (asked_by has_server meaning) has_server reply meaning
+pub means-asked : (has_server : Bool) (reply : Option Answer) (meaning : Result Meaning CommandFault)
+    → Means (asked_by has_server meaning) has_server reply meaning
 means-asked has_server reply meaning = grind (arith, common_steps)
 
 no-quit : (meaning : Result Meaning CommandFault) → query_by meaning ≡ true → quit_by meaning ≡ false
@@ -60,15 +61,18 @@ module _ (setup : Setup) where
   query-served reply payload query server = grind (arith, common_steps, query-answer)
 
   -- an answer that is there stays, and one that isn't comes only of a reply to a query
-  answer-stays : (old new : Option Answer) (payload : List ℕ) (answer : Answer) → (old ≡ Some answer → new ≡ Some answer) → answer_of setup old payload ≡ Some answer → answer_of setup new payload ≡ Some answer
+  answer-stays : (old new : Option Answer) (payload : List ℕ) (answer : Answer) → (old ≡ Some answer → new ≡ Some answer)
+      → answer_of setup old payload ≡ Some answer → answer_of setup new payload ≡ Some answer
   answer-stays old new payload answer stays is = grind (arith, common_steps, by-stays)
 
-  answer-none : (old new : Option Answer) (payload : List ℕ) → (is_query payload ≡ true → new ≡ None) → answer_of setup old payload ≡ None → answer_of setup new payload ≡ None
+  answer-none : (old new : Option Answer) (payload : List ℕ) → (is_query payload ≡ true → new ≡ None) → answer_of setup old payload ≡ None
+      → answer_of setup new payload ≡ None
   answer-none old new payload stays is = grind (arith, common_steps, query-answer)
 
 -- Messages that are all answered, and their answers joined: what comes behind them is what comes from there on.
 pub record AreDone (setup : Setup) (reply : ℕ → Option Answer) (past : List Framed) (said : List ℕ) : Type 0 where
-  pub joins : (later : List Framed) (last : List ℕ) → answers_by setup reply 1 (past ++ later) last ≡ said ++ answers_by setup reply (suc (length past)) later last
+  pub joins : (later : List Framed) (last : List ℕ)
+      → answers_by setup reply 1 (past ++ later) last ≡ said ++ answers_by setup reply (suc (length past)) later last
   pub goes : (later : List Framed) → first_open setup reply 1 (past ++ later) ≡ first_open setup reply (suc (length past)) later
 
 module _ (setup : Setup) (reply : ℕ → Option Answer) where
@@ -78,39 +82,49 @@ module _ (setup : Setup) (reply : ℕ → Option Answer) where
   open-from i [] work is = cc
   open-from i (m ∷ messages) work is = grind (arith, common_steps, some-same, (open-from (suc i) messages work))
 
-  pub open-none : (i : ℕ) (messages : List Framed) (work : Work) → first_open setup reply i messages ≡ Some work → answer_of setup (reply work.ordinal) work.message.payload ≡ None
+  pub open-none : (i : ℕ) (messages : List Framed) (work : Work) → first_open setup reply i messages ≡ Some work
+      → answer_of setup (reply work.ordinal) work.message.payload ≡ None
   open-none i [] work is = cc
-  open-none i (m ∷ messages) work is = (let by : (o : Option Answer) → answer_of setup (reply i) m.payload ≡ o → cond (is_some o) (first_open setup reply (suc i) messages) (Some (at_place i m)) ≡ Some work
-      → (first_open setup reply (suc i) messages ≡ Some work → answer_of setup (reply work.ordinal) work.message.payload ≡ None) → answer_of setup (reply work.ordinal) work.message.payload ≡ None =
+  open-none i (m ∷ messages) work
+      is = (let by : (o : Option Answer) → answer_of setup (reply i) m.payload ≡ o
+      → cond (is_some o) (first_open setup reply (suc i) messages) (Some (at_place i m)) ≡ Some work
+      → (first_open setup reply (suc i) messages ≡ Some work → answer_of setup (reply work.ordinal) work.message.payload ≡ None)
+          → answer_of setup (reply work.ordinal) work.message.payload ≡ None =
       λ o at here later. grind (arith, common_steps, some-same) in
       by (answer_of setup (reply i) m.payload) refl is (open-none (suc i) messages work))
 
   -- messages behind it change nothing of it, nor of what is due
-  pub open-more : (i : ℕ) (messages later : List Framed) (work : Work) → first_open setup reply i messages ≡ Some work → first_open setup reply i (messages ++ later) ≡ Some work
+  pub open-more : (i : ℕ) (messages later : List Framed) (work : Work) → first_open setup reply i messages ≡ Some work
+      → first_open setup reply i (messages ++ later) ≡ Some work
   open-more i [] later work is = cc
   open-more i (m ∷ messages) later work is = grind (arith, common_steps, (open-more (suc i) messages later work))
 
-  pub open-due : (i : ℕ) (messages later : List Framed) (last now : List ℕ) (work : Work) → first_open setup reply i messages ≡ Some work → answers_by setup reply i (messages ++ later) now ≡ answers_by setup reply i messages last
+  pub open-due : (i : ℕ) (messages later : List Framed) (last now : List ℕ) (work : Work) → first_open setup reply i messages ≡ Some work
+      → answers_by setup reply i (messages ++ later) now ≡ answers_by setup reply i messages last
   open-due i [] later last now work is = cc
   open-due i (m ∷ messages) later last now work is = grind (arith, common_steps, (open-due (suc i) messages later last now work))
 
   -- where none is without an answer, the walk goes on behind
-  joins-all : (i : ℕ) (past later : List Framed) (last : List ℕ) → first_open setup reply i past ≡ None → answers_by setup reply i (past ++ later) last ≡ answers_by setup reply i past [] ++ answers_by setup reply (i + length past) later last
+  joins-all : (i : ℕ) (past later : List Framed) (last : List ℕ) → first_open setup reply i past ≡ None
+      → answers_by setup reply i (past ++ later) last ≡ answers_by setup reply i past [] ++ answers_by setup reply (i + length past) later last
   joins-all i [] later last all = grind (arith, common_steps)
   joins-all i (m ∷ past) later last all = grind (arith, common_steps, (joins-all (suc i) past later last))
 
-  pub goes-all : (i : ℕ) (past later : List Framed) → first_open setup reply i past ≡ None → first_open setup reply i (past ++ later) ≡ first_open setup reply (i + length past) later
+  pub goes-all : (i : ℕ) (past later : List Framed) → first_open setup reply i past ≡ None
+      → first_open setup reply i (past ++ later) ≡ first_open setup reply (i + length past) later
   goes-all i [] later all = grind (arith, common_steps)
   goes-all i (m ∷ past) later all = grind (arith, common_steps, (goes-all (suc i) past later))
 
   -- the first one without an answer is among those at whose places it stands
-  pub open-within : (i : ℕ) (past later : List Framed) (work : Work) → first_open setup reply i (past ++ later) ≡ Some work → work.ordinal < i + length past → first_open setup reply i past ≡ Some work
+  pub open-within : (i : ℕ) (past later : List Framed) (work : Work) → first_open setup reply i (past ++ later) ≡ Some work → work.ordinal < i + length past
+      → first_open setup reply i past ≡ Some work
   open-within i past later work is below = grind (arith, common_steps, open-from, goes-all, open-more)
 
   pub done-none : AreDone setup reply [] []
   done-none = record { joins = λ later last. refl; goes = λ later. refl }
 
-  pub done-one : (past : List Framed) (said : List ℕ) (message : Framed) (answer : Answer) → AreDone setup reply past said → answer_of setup (reply (suc (length past))) message.payload ≡ Some answer
+  pub done-one : (past : List Framed) (said : List ℕ) (message : Framed) (answer : Answer) → AreDone setup reply past said
+      → answer_of setup (reply (suc (length past))) message.payload ≡ Some answer
       → AreDone setup reply (past ++ message ∷ []) (said ++ spelt (next_id message.last) answer)
   done-one past said message answer done is = grind (arith, common_steps, length-append)
 
@@ -128,33 +142,45 @@ pub record Agree (setup : Setup) (reply other : ℕ → Option Answer) (i : ℕ)
   pub goes : first_open setup other i messages ≡ first_open setup reply i messages
 
 module _ (setup : Setup) (reply other : ℕ → Option Answer) where
-  pub now-done : (i k : ℕ) (past : List Framed) (message : Framed) (answer : Answer) → first_open setup reply i past ≡ Some (at_place k message) → suc k ≡ i + length past
-      → ((j : ℕ) (answer : Answer) → reply j ≡ Some answer → other j ≡ Some answer) → answer_of setup (other k) message.payload ≡ Some answer → NowDone setup reply other i past message answer
+  pub now-done : (i k : ℕ) (past : List Framed) (message : Framed) (answer : Answer) → first_open setup reply i past ≡ Some (at_place k message)
+      → suc k ≡ i + length past
+      → ((j : ℕ) (answer : Answer) → reply j ≡ Some answer → other j ≡ Some answer) → answer_of setup (other k) message.payload ≡ Some answer
+          → NowDone setup reply other i past message answer
   now-done i k [] message answer is last stays now = cc
   now-done i k (m ∷ past) message answer is last stays now =
-      by (answer_of setup (reply i) m.payload) refl is (λ there. now-done (suc i) k past message answer there (let more : suc k ≡ i + suc (length past) = last in omega arith) stays now) where
-        alone : (past : List Framed) → i ≡ k → m ≡ message → suc k ≡ i + suc (length past) → answer_of setup (reply i) m.payload ≡ None → NowDone setup reply other i (m ∷ past) message answer
+      by (answer_of setup (reply i) m.payload) refl is
+          (λ there. now-done (suc i) k past message answer there (let more : suc k ≡ i + suc (length past) = last in omega arith) stays now) where
+        alone : (past : List Framed) → i ≡ k → m ≡ message → suc k ≡ i + suc (length past) → answer_of setup (reply i) m.payload ≡ None
+            → NowDone setup reply other i (m ∷ past) message answer
         alone past at is last was = grind (arith, common_steps, append-nil)
 
-        more : (a : Answer) → answer_of setup (reply i) m.payload ≡ Some a → answer_of setup (other i) m.payload ≡ Some a → NowDone setup reply other (suc i) past message answer → NowDone setup reply other i (m ∷ past) message answer
+        more : (a : Answer) → answer_of setup (reply i) m.payload ≡ Some a → answer_of setup (other i) m.payload ≡ Some a
+            → NowDone setup reply other (suc i) past message answer → NowDone setup reply other i (m ∷ past) message answer
         more a was now rest = grind (arith, common_steps)
 
-        by : (o : Option Answer) → answer_of setup (reply i) m.payload ≡ o → cond (is_some o) (first_open setup reply (suc i) past) (Some (at_place i m)) ≡ Some (at_place k message)
-            → (first_open setup reply (suc i) past ≡ Some (at_place k message) → NowDone setup reply other (suc i) past message answer) → NowDone setup reply other i (m ∷ past) message answer
-        by None at here others = (let one = some-same (at_place i m) (at_place k message) here in alone past (ap (λ (w : Work). w.ordinal) one) (ap (λ (w : Work). w.message) one) last at)
+        by : (o : Option Answer) → answer_of setup (reply i) m.payload ≡ o
+            → cond (is_some o) (first_open setup reply (suc i) past) (Some (at_place i m)) ≡ Some (at_place k message)
+            → (first_open setup reply (suc i) past ≡ Some (at_place k message) → NowDone setup reply other (suc i) past message answer)
+                → NowDone setup reply other i (m ∷ past) message answer
+        by None at here others = (let one = some-same (at_place i m) (at_place k message) here in
+            alone past (ap (λ (w : Work). w.ordinal) one) (ap (λ (w : Work). w.message) one) last at)
         by (Some a) at here others = more a at (answer-stays setup (reply i) (other i) m.payload a (stays i a) at) (others here)
 
-  agree-at : (i : ℕ) (m : Framed) (messages : List Framed) (last : List ℕ) (o : Option Answer) → answer_of setup (reply i) m.payload ≡ o → answer_of setup (other i) m.payload ≡ o
+  agree-at : (i : ℕ) (m : Framed) (messages : List Framed) (last : List ℕ) (o : Option Answer) → answer_of setup (reply i) m.payload ≡ o
+      → answer_of setup (other i) m.payload ≡ o
       → (is_some o ≡ true → Agree setup reply other (suc i) messages last) → Agree setup reply other i (m ∷ messages) last
   agree-at i m messages last o was now later = grind (arith, common_steps)
 
   pub agree : (i : ℕ) (messages : List Framed) (last : List ℕ) → ((j : ℕ) (answer : Answer) → reply j ≡ Some answer → other j ≡ Some answer)
-      → ((work : Work) → first_open setup reply i messages ≡ Some work → is_query work.message.payload ≡ true → other work.ordinal ≡ None) → Agree setup reply other i messages last
+      → ((work : Work) → first_open setup reply i messages ≡ Some work → is_query work.message.payload ≡ true → other work.ordinal ≡ None)
+          → Agree setup reply other i messages last
   agree i [] last stays none = record { joins = refl; goes = refl }
   agree i (m ∷ messages) last stays none = by (answer_of setup (reply i) m.payload) refl none (agree (suc i) messages last stays) where
     by : (o : Option Answer) → answer_of setup (reply i) m.payload ≡ o
-        → ((work : Work) → cond (is_some o) (first_open setup reply (suc i) messages) (Some (at_place i m)) ≡ Some work → is_query work.message.payload ≡ true → other work.ordinal ≡ None)
-        → (((work : Work) → first_open setup reply (suc i) messages ≡ Some work → is_query work.message.payload ≡ true → other work.ordinal ≡ None) → Agree setup reply other (suc i) messages last)
+        → ((work : Work) → cond (is_some o) (first_open setup reply (suc i) messages) (Some (at_place i m)) ≡ Some work → is_query work.message.payload ≡ true
+            → other work.ordinal ≡ None)
+        → (((work : Work) → first_open setup reply (suc i) messages ≡ Some work → is_query work.message.payload ≡ true → other work.ordinal ≡ None)
+            → Agree setup reply other (suc i) messages last)
         → Agree setup reply other i (m ∷ messages) last
     by None at none later = agree-at i m messages last None at (answer-none setup (reply i) (other i) m.payload (none (at_place i m) refl) at) (λ some. cc)
     by (Some answer) at none later = grind (arith, common_steps, agree-at, answer-stays)
@@ -203,7 +229,8 @@ abbrev pub Leads : (left : ℕ) → Talk → (ℕ → Option Answer) → (writte
 Leads left talk reply written next = LeadsTo next.turn left talk reply written next.session
 
 -- A session that ends is asked for nothing.
-pub ends-so : (talk : Talk) (reply : ℕ → Option Answer) (written : List ℕ) (client : ClientState) → IsOf client.number.0 talk.number client.salt talk.salt client.framer.limit talk.setup.limit
+pub ends-so : (talk : Talk) (reply : ℕ → Option Answer) (written : List ℕ) (client : ClientState)
+    → IsOf client.number.0 talk.number client.salt talk.salt client.framer.limit talk.setup.limit
     → ((i : ℕ) → suc client.arrived ≤ i → reply i ≡ None) → over_said reply talk ≡ true → written ++ client.outgoing ≡ due_said reply talk
     → Turns talk reply written (still (record { client = client; phase = phase.Ending }))
 ends-so talk reply written client mine later over due old = grind (arith, common_steps)
@@ -240,7 +267,8 @@ module _ (talk : Talk) where
   in-commands : (user : Account) (who : IsIn talk user) → commands talk ≡ who.rest
   in-commands user who = grind (arith, common_steps)
 
-  says-more : (more : List ℕ) (user : Account) (who : IsIn talk user) → opening_of (heard_more talk more) ≡ Says who.switched who.response who.id (who.rest ++ more)
+  says-more : (more : List ℕ) (user : Account) (who : IsIn talk user)
+      → opening_of (heard_more talk more) ≡ Says who.switched who.response who.id (who.rest ++ more)
   says-more more user who = grind (arith, common_steps, opening-says-more)
 
   pub front-more : (more : List ℕ) (user : Account) → account talk ≡ Some user → front (heard_more talk more) ≡ front talk
@@ -254,7 +282,8 @@ module _ (talk : Talk) where
   commands-shorter user is = grind (arith, common_steps, is-in, in-commands, opening-shorter)
 
 -- whether it is at its end
-pub over-in : (reply : ℕ → Option Answer) (talk : Talk) (user : Account) → account talk ≡ Some user → over_said reply talk ≡ ends_by (work_said reply talk) (is_some (messages_of talk).fault)
+pub over-in : (reply : ℕ → Option Answer) (talk : Talk) (user : Account) → account talk ≡ Some user
+    → over_said reply talk ≡ ends_by (work_said reply talk) (is_some (messages_of talk).fault)
 over-in reply talk user is = grind (arith, common_steps, is-in)
 
 counted-one : (n : ℕ) → n < 18446744073709551615 → counted n ≡ n + 1
@@ -278,7 +307,8 @@ module _ {talk : Talk} {client : ClientState} (taken : IsTaken talk client) wher
   pub taken-nothing : found ≡ Nothing → messages_of talk ≡ record { messages = taken.past ++ []; rest = client.framer.kept; fault = None }
   taken-nothing at = grind (arith, common_steps, split-nothing, taken-messages)
 
-  pub taken-faulty : {fault : FrameFault} → found ≡ Faulty fault → messages_of talk ≡ record { messages = taken.past ++ []; rest = client.framer.kept; fault = Some fault }
+  pub taken-faulty : {fault : FrameFault} → found ≡ Faulty fault
+      → messages_of talk ≡ record { messages = taken.past ++ []; rest = client.framer.kept; fault = Some fault }
   taken-faulty at = grind (arith, common_steps, split-faulty, taken-messages)
 
   -- more bytes are kept
@@ -312,7 +342,8 @@ module _ {talk : Talk} {client : ClientState} (taken : IsTaken talk client) wher
         ≡ with_front (taken.past ++ message ∷ []) (split talk.setup.limit 0 (drop (message_size client.framer.kept) client.framer.kept ++ more))
     past-whatever more = (let limit = talk.setup.limit in let kept = client.framer.kept in let others = split limit 0 (rest ++ more) in taken.whatever more
         ∙ ap (with_front taken.past) (split-whole limit 0 (kept ++ more) message (rest ++ more) (first_message-whole-more limit 0 kept more message rest at))
-        ∙ ap (λ (messages : List Framed). record { messages = messages; rest = others.rest; fault = others.fault }) (sym (append_assoc taken.past (message ∷ []) others.messages))
+        ∙ ap (λ (messages : List Framed). record { messages = messages; rest = others.rest; fault = others.fault })
+            (sym (append_assoc taken.past (message ∷ []) others.messages))
         ∙ ap (λ bytes. with_front (taken.past ++ message ∷ []) (split limit 0 (bytes ++ more))) (first_message-goes limit 0 kept message rest at))
 
     -- and it is taken
@@ -337,9 +368,12 @@ pub record IsDueTo (reply : ℕ → Option Answer) (talk : Talk) (bytes : List �
   pub first : work_said reply talk ≡ Some work
 
 module _ (reply : ℕ → Option Answer) (talk : Talk) (past : List Framed) (said : List ℕ) where
-  pub due-all : (rest : List ℕ) (fault : Option FrameFault) → AreDone talk.setup reply past said → messages_of talk ≡ record { messages = past ++ []; rest = rest; fault = fault } → IsAllDue reply talk (front talk ++ (said ++ fault_answer talk.setup.limit fault))
+  pub due-all : (rest : List ℕ) (fault : Option FrameFault) → AreDone talk.setup reply past said
+      → messages_of talk ≡ record { messages = past ++ []; rest = rest; fault = fault }
+      → IsAllDue reply talk (front talk ++ (said ++ fault_answer talk.setup.limit fault))
   due-all rest fault done at = grind (arith, common_steps)
 
-  pub due-open : (message : Framed) (others : Split) → AreDone talk.setup reply past said → messages_of talk ≡ with_front past (with_front (message ∷ []) others) → answer_of talk.setup (reply (suc (length past))) message.payload ≡ None
+  pub due-open : (message : Framed) (others : Split) → AreDone talk.setup reply past said
+      → messages_of talk ≡ with_front past (with_front (message ∷ []) others) → answer_of talk.setup (reply (suc (length past))) message.payload ≡ None
       → IsDueTo reply talk (front talk ++ said) (at_place (suc (length past)) message)
   due-open message others done at none = grind (arith, common_steps, append-nil)

@@ -38,7 +38,8 @@ record IsFramed (limit announced id : ℕ) (message : Framed) : Type 0 where
   begins : message.first ≡ id
   fits : announced + length message.payload ≤ limit
 
-within-framed : (packets limit announced id : ℕ) (bytes : List ℕ) (message : Framed) (rest : List ℕ) → message_within packets limit announced id bytes ≡ Whole message rest → IsFramed limit announced id message
+within-framed : (packets limit announced id : ℕ) (bytes : List ℕ) (message : Framed) (rest : List ℕ)
+    → message_within packets limit announced id bytes ≡ Whole message rest → IsFramed limit announced id message
 within-framed zero limit announced id bytes message rest is = cc
 within-framed (suc packets) limit announced id bytes message rest is = (let by = led packets limit announced id bytes message rest is in
     let size = packet_size limit announced id bytes by.packet by.behind by.at in
@@ -48,7 +49,8 @@ within-framed (suc packets) limit announced id bytes message rest is = (let by =
       | inr long ↦ (let others = within-framed packets limit (announced + longest) (next_id id) by.behind long.1 rest long.2 in
           let all = nat_eq-true (length by.packet.payload) longest long.0 in
           let fits = others.fits in
-          record { begins = cc (by.at.is, long.3); fits = omega (arith, ap (λ (m : Framed). length m.payload) long.3, length-append by.packet.payload long.1.payload) })
+          record { begins = cc (by.at.is, long.3);
+              fits = omega (arith, ap (λ (m : Framed). length m.payload) long.3, length-append by.packet.payload long.1.payload) })
     ])
 
 message-framed : (limit : ℕ) (bytes : List ℕ) (message : Framed) (rest : List ℕ) → first_message limit 0 bytes ≡ Whole message rest → IsFramed limit 0 0 message
@@ -96,11 +98,13 @@ module _ (talk : Talk) (reply : ℕ → Option Answer) (written : List ℕ) wher
     told-greeted switched = grind (arith, common_steps)
 
     -- it waits for more
-    coming-waits : HasStepped says.Nothing client talk.setup.limit talk.setup.version talk.read (written ++ client.outgoing) → Turns talk reply written (still (entering client))
+    coming-waits : HasStepped says.Nothing client talk.setup.limit talk.setup.version talk.read (written ++ client.outgoing)
+        → Turns talk reply written (still (entering client))
     coming-waits h6 old = grind (arith, common_steps, told-greeted, due-alone)
 
     -- what can't be is refused
-    coming-refused : (first : ℕ) (fault : ClientFault) → HasStepped (says.Refused first fault) client talk.setup.limit talk.setup.version talk.read (written ++ client.outgoing)
+    coming-refused : (first : ℕ) (fault : ClientFault)
+        → HasStepped (says.Refused first fault) client talk.setup.limit talk.setup.version talk.read (written ++ client.outgoing)
         → Turns talk reply written (still (refused talk.setup.limit fault first (entering client)))
     coming-refused first fault (switched, fails, bytes) old = (let error = spelling first (fault_error talk.setup.limit fault) in
         let at : opening_of talk ≡ Fails switched fault first = ap (opening talk.setup.limit) (sym (append-nil talk.read)) ∙ fails [] in
@@ -108,7 +112,8 @@ module _ (talk : Talk) (reply : ℕ → Option Answer) (written : List ℕ) wher
         (cc (at))
         (cc (append_assoc written client.outgoing error, bytes, told-greeted switched, due-alone reply talk (Fails switched fault first) at refl)) old)
 
-    said-now : (response : Response) (first : ℕ) → IsLoggingIn (stage.Login response first) client talk.setup.version talk.read (written ++ client.outgoing) → (switched : Bool) × IsSaid client switched response first
+    said-now : (response : Response) (first : ℕ) → IsLoggingIn (stage.Login response first) client talk.setup.version talk.read (written ++ client.outgoing)
+        → (switched : Bool) × IsSaid client switched response first
     said-now response first (switched, framer, whatever, is) = (switched, record {
       framer = framer;
       opened = cc (append-nil talk.read, next.mine.limit_is, whatever.whatever [], append-nil client.framer.kept);
@@ -116,10 +121,13 @@ module _ (talk : Talk) (reply : ℕ → Option Answer) (written : List ℕ) wher
     })
 
     -- it is let in
-    coming-admitted : (switched : Bool) (response : Response) (first : ℕ) (user : Account) → IsSaid client switched response first → account_of talk.setup.users talk.salt response ≡ Some user
+    coming-admitted : (switched : Bool) (response : Response) (first : ℕ) (user : Account) → IsSaid client switched response first
+        → account_of talk.setup.users talk.salt response ≡ Some user
         → GoesAt talk reply written (admitted user first (entering client)) × (left_to_say (admitted user first (entering client)) < left)
-    coming-admitted switched response first user said known = (let behind : commands talk ≡ client.framer.kept = ap (commands_in talk) said.opened ∙ ap (λ o. if_known o client.framer.kept) known in
-        let told : front talk ≡ greeted talk switched ++ spelling first own_ok = ap (front_in talk) said.opened ∙ ap (λ o. greeted talk switched ++ spelling first (login_answer response o)) known in (
+    coming-admitted switched response first user said
+        known = (let behind : commands talk ≡ client.framer.kept = ap (commands_in talk) said.opened ∙ ap (λ o. if_known o client.framer.kept) known in
+        let told : front talk ≡ greeted talk switched ++ spelling first own_ok = ap (front_in talk) said.opened
+            ∙ ap (λ o. greeted talk switched ++ spelling first (login_answer response o)) known in (
           record {
             mine = next.mine;
             few = next.few;
@@ -136,27 +144,33 @@ module _ (talk : Talk) (reply : ℕ → Option Answer) (written : List ℕ) wher
         ))
 
     -- it isn't known
-    coming-denied : (switched : Bool) (response : Response) (first : ℕ) → IsSaid client switched response first → account_of talk.setup.users talk.salt response ≡ None → Turns talk reply written (still (denied response first (entering client)))
+    coming-denied : (switched : Bool) (response : Response) (first : ℕ) → IsSaid client switched response first
+        → account_of talk.setup.users talk.salt response ≡ None → Turns talk reply written (still (denied response first (entering client)))
     coming-denied switched response first said unknown old = grind (arith, common_steps, ends-so, due-alone)
 
     -- whatever it says
-    logs-leads : (response : Response) (first : ℕ) → IsLoggingIn (stage.Login response first) client talk.setup.version talk.read (written ++ client.outgoing) → Leads left talk reply written (logs_in talk.setup (Some response) first (entering client))
+    logs-leads : (response : Response) (first : ℕ) → IsLoggingIn (stage.Login response first) client talk.setup.version talk.read (written ++ client.outgoing)
+        → Leads left talk reply written (logs_in talk.setup (Some response) first (entering client))
     logs-leads response first login =
-        subst (λ (salt : List ℕ). Leads left talk reply written (logs_in_as (account_of talk.setup.users salt response) response first (entering client))) (sym next.mine.salt_is) (by (account_of talk.setup.users talk.salt response) refl) where
+        subst (λ (salt : List ℕ). Leads left talk reply written (logs_in_as (account_of talk.setup.users salt response) response first (entering client)))
+            (sym next.mine.salt_is) (by (account_of talk.setup.users talk.salt response) refl) where
           now : (switched : Bool) × IsSaid client switched response first
           now = said-now response first login
 
-          by : (o : Option Account) → account_of talk.setup.users talk.salt response ≡ o → Leads left talk reply written (logs_in_as o response first (entering client))
+          by : (o : Option Account) → account_of talk.setup.users talk.salt response ≡ o
+              → Leads left talk reply written (logs_in_as o response first (entering client))
           by (Some user) known = coming-admitted now.0 response first user now.1 known
           by None unknown = coming-denied now.0 response first now.1 unknown
 
-    coming-leads : (what : ClientStep) → HasStepped what client talk.setup.limit talk.setup.version talk.read (written ++ client.outgoing) → Leads left talk reply written (step_by talk.setup what (entering client))
+    coming-leads : (what : ClientStep) → HasStepped what client talk.setup.limit talk.setup.version talk.read (written ++ client.outgoing)
+        → Leads left talk reply written (step_by talk.setup what (entering client))
     coming-leads says.Nothing has = coming-waits has
     coming-leads (says.Login first) (response, at, login) = grind (arith, common_steps, logs-leads)
     coming-leads (says.Message ordinal first) has = absurd has
     coming-leads (says.Refused first fault) has = coming-refused first fault has
 
-  coming-steps : (client : ClientState) → GoesAt talk reply written (entering client) → Leads (left_to_say (entering client)) talk reply written (step talk.setup (entering client))
+  coming-steps : (client : ClientState) → GoesAt talk reply written (entering client)
+      → Leads (left_to_say (entering client)) talk reply written (step talk.setup (entering client))
   coming-steps client goes = (
       let next = next_of client.stage client in
       let same = next_same client.stage client in
@@ -238,7 +252,10 @@ module _ (talk : Talk) (reply : ℕ → Option Answer) (written : List ℕ) wher
       taken = idle user (looked client (Whole message rest))
 
       -- the router answers it
-      idle-answers : (payload : List ℕ) → answer ≡ Some (payload ∷ []) → GoesAt talk reply written (answers message (next_id message.last) payload taken) × (left_to_say (answers message (next_id message.last) payload taken) < left_to_say (idle user client))
+      idle-answers : (payload : List ℕ) → answer ≡ Some (payload ∷ [])
+          → GoesAt talk reply written
+          (answers message (next_id message.last) payload taken) × (left_to_say (answers message (next_id message.last) payload taken) < left_to_say
+          (idle user client))
       idle-answers payload is = (let told = spelling (next_id message.last) payload in (
         record {
           mine = goes.mine;
@@ -256,8 +273,12 @@ module _ (talk : Talk) (reply : ℕ → Option Answer) (written : List ℕ) wher
       ))
 
       -- it is a query
-      idle-works : is_query message.payload ≡ true → answer ≡ reply (suc (length past)) → Turns talk reply written (record { session = started message taken; query = Some (record { ordinal = counted client.arrived; first = next_id message.last; packets = spelling 0 message.payload }) })
-      idle-works query is old = (let to = due-open reply talk past goes.at.said message (split talk.setup.limit 0 rest) goes.at.done whole.messages (is ∙ later-from (suc (length past)) (suc (length past)) refl (omega arith)) in
+      idle-works : is_query message.payload ≡ true → answer ≡ reply (suc (length past))
+          → Turns talk reply written
+          (record { session = started message taken;
+          query = Some (record { ordinal = counted client.arrived; first = next_id message.last; packets = spelling 0 message.payload }) })
+      idle-works query is old = (let to = due-open reply talk past goes.at.said message (split talk.setup.limit 0 rest) goes.at.done whole.messages
+          (is ∙ later-from (suc (length past)) (suc (length past)) refl (omega arith)) in
           let working : IsWorking talk reply user (client_past message client.outgoing client) = record {
             taken = taken-one goes.at.taken whole.at client.outgoing whole.few;
             account = goes.at.account;
@@ -285,14 +306,17 @@ module _ (talk : Talk) (reply : ℕ → Option Answer) (written : List ℕ) wher
       idle-arrives asked.Quit means = idle-quits means.0 means.1
       idle-arrives (asked.Refused refusal) means = idle-answers (payload_of refusal) means
 
-    idle-leads : (found : Found) → first_message talk.setup.limit 0 client.framer.kept ≡ found → Leads (left_to_say (idle user client)) talk reply written (stepped talk.setup (command_found client found) (phase.Idle user))
+    idle-leads : (found : Found) → first_message talk.setup.limit 0 client.framer.kept ≡ found
+        → Leads (left_to_say (idle user client)) talk reply written (stepped talk.setup (command_found client found) (phase.Idle user))
     idle-leads Nothing at = idle-rests at
-    idle-leads (Whole message rest) at = idle-arrives (whole-at message rest at) (asked_of (has_server talk.setup) message.payload) (means-asked (is_some talk.setup.target) (reply (suc (length past))) (parsed message.payload))
+    idle-leads (Whole message rest) at = idle-arrives (whole-at message rest at) (asked_of (has_server talk.setup) message.payload)
+        (means-asked (is_some talk.setup.target) (reply (suc (length past))) (parsed message.payload))
     idle-leads (Faulty fault) at = idle-refused fault at
 
   -- Of both, step by step.
 
-  phase-steps : (at : Phase) (client : ClientState) → GoesAt talk reply written (record { client = client; phase = at }) → Leads (left_to_say (record { client = client; phase = at })) talk reply written (step talk.setup (record { client = client; phase = at }))
+  phase-steps : (at : Phase) (client : ClientState) → GoesAt talk reply written (record { client = client; phase = at })
+      → Leads (left_to_say (record { client = client; phase = at })) talk reply written (step talk.setup (record { client = client; phase = at }))
   phase-steps at client goes = grind (arith, common_steps, coming-steps, idle-leads)
 
   turned-to : (n left : ℕ) (t : Turn) (next : Session) → left ≤ n → LeadsTo t left talk reply written next
@@ -302,11 +326,13 @@ module _ (talk : Talk) (reply : ℕ → Option Answer) (written : List ℕ) wher
   turned-to n left (turn.Work query) next enough leads others old = leads old
   turned-to n left turn.Rests next enough leads others old = leads old
 
-  goes-turned : (n : ℕ) (session : Session) → left_to_say session < n → GoesAt talk reply written session → Turns talk reply written (goes_on n talk.setup session)
+  goes-turned : (n : ℕ) (session : Session) → left_to_say session < n → GoesAt talk reply written session
+      → Turns talk reply written (goes_on n talk.setup session)
   unfolding goes_on
   goes-turned zero session enough goes old = absurd (omega arith)
   goes-turned (suc n) session enough goes old =
-      turned-to n (left_to_say session) (step talk.setup session).turn (step talk.setup session).session (omega arith) (phase-steps session.phase session.client goes) (goes-turned n) old
+      turned-to n (left_to_say session) (step talk.setup session).turn (step talk.setup session).session (omega arith)
+          (phase-steps session.phase session.client goes) (goes-turned n) old
 
   -- What is whole is taken: the session stands then by all that was said.
   pub turned-seat : (session : Session) → GoesAt talk reply written session → Turns talk reply written (turned talk.setup session)

@@ -59,7 +59,8 @@ sounds-mute log e mute = record {
   same-any : (p : Entry → Bool) → p e ≡ false → (link : LinkId) → list_any p (of_link link (log ++ e ∷ [])) ≡ list_any p (of_link link log)
   same-any p none link = grind (arith, common_steps, of_link-same, any-still)
 
-  same-sound : {X : Type 0} (f : Log → List X) → ((l : Log) → f (l ++ e ∷ []) ≡ f l) → (link : LinkId) → f (until_loss (of_link link (log ++ e ∷ []))) ≡ f (until_loss (of_link link log))
+  same-sound : {X : Type 0} (f : Log → List X) → ((l : Log) → f (l ++ e ∷ []) ≡ f l) → (link : LinkId)
+      → f (until_loss (of_link link (log ++ e ∷ []))) ≡ f (until_loss (of_link link log))
   same-sound f same link = elim (bool_cases (is_link link (link_of e))) [
     | inl here ↦ ap (λ l. f (until_loss l)) (of_link-same link log e here) ∙ sound-still f (of_link link log) e mute.loss same
     | inr other ↦ ap (λ l. f (until_loss l)) (of_link-other link log e other)
@@ -107,14 +108,17 @@ module _ (service : Service) (log : Log) (e : Entry) where
   silent-calm silent n = grind (arith, common_steps)
 
   -- an entry that breaks off no login refuses nothing
-  pub refuses-none : refused_by service log e ≡ option_and_then (refused_on service log e) (link_of e) → ((user : Account) (link : LinkId) → breaks_off user link log e ≡ false) → refused_by service log e ≡ None
+  pub refuses-none : refused_by service log e ≡ option_and_then (refused_on service log e) (link_of e)
+      → ((user : Account) (link : LinkId) → breaks_off user link log e ≡ false) → refused_by service log e ≡ None
   refuses-none h3 calm = grind (arith, common_steps)
 
   -- a seat whose link is left stands, and so does its command
-  sits-then : (numbers : ℕ → Option ClientNo) (lends : Lends) (n : ℕ) (seat : Seat) → AllLawful (IsLawful service) then → LendsSound service log lends → Calm service log e n → ((link : LinkId) (lent : Lent) → lends.links link.0 ≡ Some lent → Leaves link log e)
+  sits-then : (numbers : ℕ → Option ClientNo) (lends : Lends) (n : ℕ) (seat : Seat) → AllLawful (IsLawful service) then → LendsSound service log lends
+      → Calm service log e n → ((link : LinkId) (lent : Lent) → lends.links link.0 ≡ Some lent → Leaves link log e)
       → Leaves seat.link log e → Sits service log numbers lends n seat → Sits service then numbers lends n seat
   sits-then numbers lends n seat lawful sound calm rows leaves was = record {
-    stands = seat-calm service log e n seat lawful was.stands calm leaves (λ user working. busy-none service log e lends n seat.session.client.arrived lawful sound calm (λ link lent owns row. rows link lent row)
+    stands = seat-calm service log e n seat lawful was.stands calm leaves
+        (λ user working. busy-none service log e lends n seat.session.client.arrived lawful sound calm (λ link lent owns row. rows link lent row)
         (rw working at was.serves));
     serves = was.serves;
     unfinished = was.unfinished;
@@ -129,8 +133,12 @@ module _ (service : Service) (log : Log) (e : Entry) where
     pub rows-left : Bystands service log e link tables → (other : LinkId) (lent : Lent) → tables.lends.links other.0 ≡ Some lent → Leaves other log e
     rows-left at other lent row = left at other (λ same. cc (at.unlent, same, row))
 
-    pub seats-left : Sound service log None tables → Bystands service log e link tables → (n : ℕ) (seat : Seat) → tables.seats n ≡ Some seat → Sits service then tables.numbers tables.lends n seat
-    seats-left sound at n seat is = (let was = sound.seats n seat is in sits-then tables.numbers tables.lends n seat at.lawful sound.lends (at.calm n) (rows-left at) (left at seat.link (λ same. cc (at.unnumbered, same, was.numbered))) was)
+    pub seats-left : Sound service log None tables → Bystands service log e link tables → (n : ℕ) (seat : Seat) → tables.seats n ≡ Some seat
+        → Sits service then tables.numbers tables.lends n seat
+    seats-left sound at n seat
+        is = (let was = sound.seats n seat is in
+        sits-then tables.numbers tables.lends n seat at.lawful sound.lends (at.calm n) (rows-left at)
+        (left at seat.link (λ same. cc (at.unnumbered, same, was.numbered))) was)
 
     pub lends-left : Sound service log None tables → Bystands service log e link tables → tables.lends.closing ≡ [] → LendsSound service then tables.lends
     lends-left sound at none = grind (arith, common_steps, lends-still, rows-left)
@@ -146,13 +154,16 @@ module _ (service : Service) (log : Log) (e : Entry) where
     talk-of-same : (n : ℕ) → talk_of service n then ≡ talk_of service n log
     talk-of-same n = λ j. option_map (λ (came : Arrival). talk-same n came j) (arrival-same n j)
 
-    reply-same : (n i : ℕ) (link : LinkId) → option_and_then (reply_on service.forms n i link then) (user_on service link then) ≡ option_and_then (reply_on service.forms n i link log) (user_on service link log)
+    reply-same : (n i : ℕ) (link : LinkId)
+        → option_and_then (reply_on service.forms n i link then) (user_on service link then) ≡ option_and_then (reply_on service.forms n i link log)
+        (user_on service link log)
     reply-same n i link = grind (arith, common_steps, talk-of-same, append-nil, filter_map-append)
 
     replied-still : (n i : ℕ) → replied service n i then ≡ replied service n i log
     replied-still n i = ap (λ (turns : List Turn). cond (list_any (is_turn n i) turns) (Some (connection_refused ∷ [])) (reply_to service n i then))
         (cc (refused-more service log (e ∷ []), silence.silent.refuses_none service log, append-nil (refused service log)))
-        ∙ ap (cond (is_refused service n i log) (Some (connection_refused ∷ []))) (λ j. option_and_then (λ link. reply-same n i link j) (carrier-same n i log e (silence.silent.carries_none n i) j))
+        ∙ ap (cond (is_refused service n i log) (Some (connection_refused ∷ [])))
+            (λ j. option_and_then (λ link. reply-same n i link j) (carrier-same n i log e (silence.silent.carries_none n i) j))
 
     work-same : (n : ℕ) → work_of service n then ≡ work_of service n log
     work-same n = grind (arith, common_steps, arrival-same, work-is, arrival-stays, replied-still, talk-same)
@@ -167,12 +178,14 @@ module _ (service : Service) (log : Log) (e : Entry) where
 
     ended-same : (n : ℕ) (came : Arrival) → has_ended service n came then ≡ has_ended service n came log
     ended-same n came = ap (λ (t : Talk). is_over service n came t then) (talk-same n came)
-        ∙ (λ j. silence.sounds.lost came.link j || ends_in (opening_of (talk_with service n came log)) (account (talk_with service n came log)) (ends_by (work-same n j) (is_some (messages_of (talk_with service n came log)).fault)))
+        ∙ (λ j. silence.sounds.lost came.link j || ends_in (opening_of (talk_with service n came log)) (account (talk_with service n came log))
+            (ends_by (work-same n j) (is_some (messages_of (talk_with service n came log)).fault)))
 
     standing-same : (user : Account) (link : LinkId) → standing_on service.forms user link then ≡ standing_on service.forms user link log
     standing-same user link = grind (arith, common_steps)
 
-    drop-same : (owner : Owner) (user known : Account) (link : LinkId) → Fits log e → user_of service owner.client log ≡ Some known → MayDrop service owner user link log → MayDrop service owner user link then
+    drop-same : (owner : Owner) (user known : Account) (link : LinkId) → Fits log e → user_of service owner.client log ≡ Some known
+        → MayDrop service owner user link log → MayDrop service owner user link then
     drop-same owner user known link fits is (IsSpoilt spoilt) = IsSpoilt (standing-same user link ∙ spoilt)
     drop-same owner user known link fits is (HasGone gone idle) = grind (arith, common_steps, gone-stays, standing-same)
     drop-same owner user known link fits is (Unneeded clean idle) = grind (arith, common_steps, standing-same, work-same)
@@ -181,7 +194,9 @@ module _ (service : Service) (log : Log) (e : Entry) where
   module _ (passes : Passes service log e) where
     part-passes : (n : ℕ) (came : Arrival) (bytes : List ℕ) → arrival_of n log ≡ Some came → PartAt service log n came bytes → PartAt service then n came bytes
     part-passes n came bytes is (Done served (inl broken)) = Done served (inl (passes.silence.sounds.broken came.link ∙ broken))
-    part-passes n came bytes is (Done served (inr done)) = Done served (inr (record { ended = ended-same passes.silence n came ∙ done.ended; told = passes.silence.sounds.written came.link ∙ done.told ∙ sym (due-same passes.silence n came is served) }))
+    part-passes n came bytes is (Done served (inr done)) = Done served
+        (inr (record { ended = ended-same passes.silence n came ∙ done.ended; told = passes.silence.sounds.written came.link ∙ done.told
+        ∙ sym (due-same passes.silence n came is served) }))
     part-passes n came bytes is (Refused refused port none) = Refused refused port (passes.silence.sounds.written came.link ∙ none)
     part-passes n came bytes is (Offered refused port offered) = Offered refused port (offered-stays came.link log (e ∷ []) offered)
     part-passes n came bytes is (Strange port) = Strange port
@@ -192,21 +207,27 @@ module _ (service : Service) (log : Log) (e : Entry) where
       unlent = stands.unlent;
       turn = stands.turn;
       is_turn = turn-stays service link log (e ∷ []) stands.turn stands.is_turn;
-      may = λ user known. (let was : user_of service stands.turn.client log ≡ Some user = sym (ap (option_and_then account) (talk-of-same passes.silence stands.turn.client)) ∙ known in
-          drop-same passes.silence (record { client = stands.turn.client; hostgroup = stands.turn.hostgroup }) user user link passes.fits was (stands.may user was));
+      may = λ user known. (let was : user_of service stands.turn.client log ≡ Some user = sym
+          (ap (option_and_then account) (talk-of-same passes.silence stands.turn.client)) ∙ known in
+          drop-same passes.silence (record { client = stands.turn.client; hostgroup = stands.turn.hostgroup }) user user link passes.fits was
+              (stands.may user was));
     }
 
-  pub lends-pass : (lends : Lends) → Passes service log e → ((link : LinkId) (lent : Lent) → lends.links link.0 ≡ Some lent → Leaves link log e) → ((link : LinkId) → lends.closing ≡ link ∷ [] → Leaves link log e) → LendsSound service log lends
+  pub lends-pass : (lends : Lends) → Passes service log e → ((link : LinkId) (lent : Lent) → lends.links link.0 ≡ Some lent → Leaves link log e)
+      → ((link : LinkId) → lends.closing ≡ link ∷ [] → Leaves link log e) → LendsSound service log lends
       → LendsSound service then lends
-  lends-pass lends passes rows closing sound = lends-framed service log e lends passes.lawful passes.fits sound (silent-calm passes.silence.silent) rows (λ link is. close-passes passes lends link (closing link is) (sound.closes link is))
+  lends-pass lends passes rows closing sound = lends-framed service log e lends passes.lawful passes.fits sound (silent-calm passes.silence.silent) rows
+      (λ link is. close-passes passes lends link (closing link is) (sound.closes link is))
 
 -- An entry of which the router makes nothing.
-pub nothing-step : {service : Service} {log : Log} {e : Entry} {tables : Tables} → Happens service log e tables → IsNothing e → Sound service (log ++ e ∷ []) None tables
+pub nothing-step : {service : Service} {log : Log} {e : Entry} {tables : Tables} → Happens service log e tables → IsNothing e
+    → Sound service (log ++ e ∷ []) None tables
 nothing-step {service} {log} {e} {tables} happens nothing = record {
   came = grind (arith, common_steps, arrivals-plain);
   here = cc (sound.here, connected-plain log e nothing.plain);
   counts = counts-all (log ++ e ∷ []) (lawful-more Fits log e happens.told happens.fits);
-  seats = λ n seat is. sits-then service log e tables.numbers tables.lends n seat happens.lawful sound.lends (silent-calm service log e passes.silence.silent n) (λ link lent row. leaves link) (leaves seat.link) (sound.seats n seat is);
+  seats = λ n seat is. sits-then service log e tables.numbers tables.lends n seat happens.lawful sound.lends
+      (silent-calm service log e passes.silence.silent n) (λ link lent row. leaves link) (leaves seat.link) (sound.seats n seat is);
   numbers = sound.numbers;
   unlent = sound.unlent;
   unclosing = sound.unclosing;
@@ -238,4 +259,5 @@ nothing-step {service} {log} {e} {tables} happens nothing = record {
 
   leaves : (link : LinkId) → Leaves link log e
   leaves link = (let sounds = passes.silence.sounds in
-      record { read = sounds.read link; written = sounds.written link; lost = sounds.lost link; broken = sounds.broken link; heard = sounds.heard link; pieces = sounds.pieces link; opened = open-kept link log e nothing.stays })
+      record { read = sounds.read link; written = sounds.written link; lost = sounds.lost link; broken = sounds.broken link; heard = sounds.heard link;
+          pieces = sounds.pieces link; opened = open-kept link log e nothing.stays })

@@ -34,32 +34,38 @@ pub record Others (service : Service) (log : Log) (e : Entry) (n : ℕ) (tables 
   pub plain : IsPlain e
   pub calm : (k : ℕ) → nat_eq k n ≡ false → Calm service log e k
   pub seats : (k : ℕ) (seat : Seat) → nat_eq k n ≡ false → tables.seats k ≡ Some seat → Leaves seat.link log e
-  pub rows : (link : LinkId) (lent : Lent) (turn : Turn) → tables.lends.links link.0 ≡ Some lent → turn_of service link log ≡ Some turn → nat_eq turn.client n ≡ false → Leaves link log e
+  pub rows : (link : LinkId) (lent : Lent) (turn : Turn) → tables.lends.links link.0 ≡ Some lent → turn_of service link log ≡ Some turn
+      → nat_eq turn.client n ≡ false → Leaves link log e
   pub served : IsServed service (log ++ e ∷ [])
   pub unparted : tables.parting ≡ []
   pub counts : Counts (log ++ e ∷ [])
 
 -- and what stands of client n
-pub record Mine (service : Service) (log : Log) (e : Entry) (n : ℕ) (hand : Option Hand) (tables : Tables) (places : ℕ → Option Seat) (links : Lends) : Type 0 where
+pub record Mine (service : Service) (log : Log) (e : Entry) (n : ℕ) (hand : Option Hand) (tables : Tables) (places : ℕ → Option Seat)
+    (links : Lends) : Type 0 where
   pub others : (k : ℕ) → nat_eq k n ≡ false → places k ≡ tables.seats k
   pub seat : (seat : Seat) → places n ≡ Some seat → Sits service (log ++ e ∷ []) tables.numbers links n seat
   pub away : places n ≡ None → InHand hand n ⊎ Gone links n
   pub numbers : (link : LinkId) (seat : Seat) → tables.seats n ≡ Some seat → seat.link ≡ link → OnHand hand n link ⊎ (places n ≡ Some seat)
   pub known : (link : LinkId) → IsOpen link (log ++ e ∷ []) → IsOpen link log ⊎ Known tables.numbers links tables.parting link
-  pub from : (link : LinkId) (lent : Lent) → links.links link.0 ≡ Some lent → ((old : Lent) × (tables.lends.links link.0 ≡ Some old)) ⊎ (tables.numbers link.0 ≡ None)
-  pub to : (link : LinkId) (lent : Lent) → tables.lends.links link.0 ≡ Some lent → ((now : Lent) × (links.links link.0 ≡ Some now)) ⊎ (links.closing ≡ link ∷ [])
+  pub from : (link : LinkId) (lent : Lent) → links.links link.0 ≡ Some lent
+      → ((old : Lent) × (tables.lends.links link.0 ≡ Some old)) ⊎ (tables.numbers link.0 ≡ None)
+  pub to : (link : LinkId) (lent : Lent) → tables.lends.links link.0 ≡ Some lent
+      → ((now : Lent) × (links.links link.0 ≡ Some now)) ⊎ (links.closing ≡ link ∷ [])
   pub closed : (link : LinkId) → links.closing ≡ link ∷ [] → (tables.lends.closing ≡ link ∷ []) ⊎ ((lent : Lent) × (tables.lends.links link.0 ≡ Some lent))
   pub closes : (link : LinkId) → tables.lends.closing ≡ link ∷ [] → links.closing ≡ link ∷ []
   pub lends : LendsSound service (log ++ e ∷ []) links
   pub apart : Apart n tables.lends links
 
-pub moved : (service : Service) (log : Log) (e : Entry) (n : ℕ) (hand : Option Hand) (tables : Tables) (seats : ℕ → Option Seat) (lends : Lends) → Sound service log None tables → Others service log e n tables
+pub moved : (service : Service) (log : Log) (e : Entry) (n : ℕ) (hand : Option Hand) (tables : Tables) (seats : ℕ → Option Seat) (lends : Lends)
+    → Sound service log None tables → Others service log e n tables
     → Mine service log e n hand tables seats lends → Sound service (log ++ e ∷ []) hand (record tables { seats = seats; lends = lends })
 moved service log e n hand tables seats lends sound others mine = record {
   came = cc (sound.came, arrivals-plain log e others.plain.arrives);
   here = cc (sound.here, connected-plain log e others.plain);
   counts = others.counts;
-  seats = λ k seat is. one-or-other k n (λ m. seats m ≡ Some seat → Sits service (log ++ e ∷ []) tables.numbers lends m seat) (mine.seat seat) (λ at was. sits k seat at (sym (mine.others k at) ∙ was)) is;
+  seats = λ k seat is. one-or-other k n (λ m. seats m ≡ Some seat → Sits service (log ++ e ∷ []) tables.numbers lends m seat) (mine.seat seat)
+      (λ at was. sits k seat at (sym (mine.others k at) ∙ was)) is;
   numbers = λ link client is. numbers link client (sound.numbers link client is);
   unlent = λ link client is. grind (arith, common_steps, none-if);
   unclosing = λ link is. unclosing link (mine.closed link is);
@@ -73,30 +79,37 @@ moved service log e n hand tables seats lends sound others mine = record {
   ];
   served = others.served;
 } where
-  unlent : (link : LinkId) (client : ClientNo) → tables.numbers link.0 ≡ Some client → ((old : Lent) × (tables.lends.links link.0 ≡ Some old)) ⊎ (tables.numbers link.0 ≡ None) → ⊥
+  unlent : (link : LinkId) (client : ClientNo) → tables.numbers link.0 ≡ Some client
+      → ((old : Lent) × (tables.lends.links link.0 ≡ Some old)) ⊎ (tables.numbers link.0 ≡ None) → ⊥
   unlent link client is h3 = grind (arith, common_steps, none-some)
 
   unclosing : (link : LinkId) → (tables.lends.closing ≡ link ∷ []) ⊎ ((lent : Lent) × (tables.lends.links link.0 ≡ Some lent)) → tables.numbers link.0 ≡ None
   unclosing link h1 = grind (arith, common_steps, none-if, none-some)
 
-  leaves : (k : ℕ) → nat_eq k n ≡ false → (link : LinkId) (lent : Lent) → tables.lends.owned k ≡ Some link → tables.lends.links link.0 ≡ Some lent → Leaves link log e
+  leaves : (k : ℕ) → nat_eq k n ≡ false → (link : LinkId) (lent : Lent) → tables.lends.owned k ≡ Some link → tables.lends.links link.0 ≡ Some lent
+      → Leaves link log e
   leaves k apart link lent owns is = (let row = sound.lends.rows link lent is in let owner = sound.lends.owned k link owns in
-      let client = owner-turn service log tables.lends link lent k row.turn.client row.owned (cc (some-same lent owner.lent (sym is ∙ owner.there), owner.owner)) in
+      let client = owner-turn service log tables.lends link lent k row.turn.client row.owned
+          (cc (some-same lent owner.lent (sym is ∙ owner.there), owner.owner)) in
       others.rows link lent row.turn is row.is_turn (cc (client, apart)))
 
   sits : (k : ℕ) (seat : Seat) → nat_eq k n ≡ false → tables.seats k ≡ Some seat → Sits service (log ++ e ∷ []) tables.numbers lends k seat
   sits k seat at was = (let sits = sound.seats k seat was in record {
-    stands = seat-calm service log e k seat others.lawful sits.stands (others.calm k at) (others.seats k seat at was) (λ user same. busy-none service log e tables.lends k seat.session.client.arrived others.lawful sound.lends
+    stands = seat-calm service log e k seat others.lawful sits.stands (others.calm k at) (others.seats k seat at was)
+        (λ user same. busy-none service log e tables.lends k seat.session.client.arrived others.lawful sound.lends
         (others.calm k at) (leaves k at) (rw same at sits.serves));
     serves = grind (arith, common_steps, serves-apart);
     unfinished = sits.unfinished;
     numbered = sits.numbered;
   })
 
-  numbers : (link : LinkId) (client : ClientNo) → OnHand None client.0 link ⊎ ((seat : Seat) × (tables.seats client.0 ≡ Some seat) × (seat.link ≡ link)) → OnHand hand client.0 link ⊎ ((seat : Seat) × (seats client.0 ≡ Some seat) × (seat.link ≡ link))
+  numbers : (link : LinkId) (client : ClientNo) → OnHand None client.0 link ⊎ ((seat : Seat) × (tables.seats client.0 ≡ Some seat) × (seat.link ≡ link))
+      → OnHand hand client.0 link ⊎ ((seat : Seat) × (seats client.0 ≡ Some seat) × (seat.link ≡ link))
   numbers link client (inl none) = absurd none
-  numbers link client (inr seat) = one-or-other client.0 n (λ m. tables.seats m ≡ Some seat.0 → OnHand hand m link ⊎ ((s : Seat) × (seats m ≡ Some s) × (s.link ≡ link)))
-      (λ is. elim (mine.numbers link seat.0 is seat.2) [ inl held ↦ inl held | inr put ↦ inr (seat.0, put, seat.2) ]) (λ at is. inr (seat.0, mine.others client.0 at ∙ is, seat.2)) seat.1
+  numbers link client (inr seat) = one-or-other client.0 n
+      (λ m. tables.seats m ≡ Some seat.0 → OnHand hand m link ⊎ ((s : Seat) × (seats m ≡ Some s) × (s.link ≡ link)))
+      (λ is. elim (mine.numbers link seat.0 is seat.2) [ inl held ↦ inl held | inr put ↦ inr (seat.0, put, seat.2) ])
+          (λ at is. inr (seat.0, mine.others client.0 at ∙ is, seat.2)) seat.1
 
 -- An entry on an open link.
 
@@ -115,10 +128,13 @@ pub nobody-waits : (setup : Setup) (tables : Tables) → asks setup tables ≡ f
 nobody-waits setup tables is has = grind (arith, common_steps, closes, opens)
 
 -- The links to servers and all commands stay, where the entry touches none.
-pub lends-framed : (service : Service) (log : Log) (e : Entry) (lends : Lends) → AllLawful (IsLawful service) (log ++ e ∷ []) → Fits log e → LendsSound service log lends → ((k : ℕ) → Calm service log e k)
-    → ((link : LinkId) (lent : Lent) → lends.links link.0 ≡ Some lent → Leaves link log e) → ((link : LinkId) → lends.closing ≡ link ∷ [] → CloseStands service (log ++ e ∷ []) lends link) → LendsSound service (log ++ e ∷ []) lends
+pub lends-framed : (service : Service) (log : Log) (e : Entry) (lends : Lends) → AllLawful (IsLawful service) (log ++ e ∷ []) → Fits log e
+    → LendsSound service log lends → ((k : ℕ) → Calm service log e k)
+    → ((link : LinkId) (lent : Lent) → lends.links link.0 ≡ Some lent → Leaves link log e)
+        → ((link : LinkId) → lends.closing ≡ link ∷ [] → CloseStands service (log ++ e ∷ []) lends link) → LendsSound service (log ++ e ∷ []) lends
 lends-framed service log e lends lawful fits sound calm leaves closes = record {
-  rows = λ link lent is. (let stands = sound.rows link lent is in row-calm service log e lends link lent lawful fits stands (calm stands.turn.client) (leaves link lent is));
+  rows = λ link lent is. (let stands = sound.rows link lent is in
+      row-calm service log e lends link lent lawful fits stands (calm stands.turn.client) (leaves link lent is));
   asks = λ k ask is. ask-calm service log e k ask lawful (sound.asks k ask is) (calm k);
   owned = sound.owned;
   one_waits = sound.one_waits;
@@ -127,12 +143,14 @@ lends-framed service log e lends lawful fits sound calm leaves closes = record {
   closes = closes;
 }
 
-pub lends-still : (service : Service) (log : Log) (e : Entry) (lends : Lends) → AllLawful (IsLawful service) (log ++ e ∷ []) → Fits log e → LendsSound service log lends → lends.closing ≡ [] → ((k : ℕ) → Calm service log e k)
+pub lends-still : (service : Service) (log : Log) (e : Entry) (lends : Lends) → AllLawful (IsLawful service) (log ++ e ∷ []) → Fits log e
+    → LendsSound service log lends → lends.closing ≡ [] → ((k : ℕ) → Calm service log e k)
     → ((link : LinkId) (lent : Lent) → lends.links link.0 ≡ Some lent → Leaves link log e) → LendsSound service (log ++ e ∷ []) lends
 lends-still service log e lends lawful fits sound none calm leaves = grind (arith, common_steps, lends-framed)
 
 -- An entry on a client's link refuses nothing.
-pub client-spares : (service : Service) (log : Log) (e : Entry) (link : LinkId) → refused_by service log e ≡ option_and_then (refused_on service log e) (Some link) → turn_of service link log ≡ None → (n i : ℕ) → Spares service log e n i
+pub client-spares : (service : Service) (log : Log) (e : Entry) (link : LinkId)
+    → refused_by service log e ≡ option_and_then (refused_on service log e) (Some link) → turn_of service link log ≡ None → (n i : ℕ) → Spares service log e n i
 client-spares service log e link names none n i turn is = cc (names ∙ ap (option_and_then (refused_for service log e link)) none, is)
 
 -- all was done that the router asked for; the entry is on this link
@@ -146,9 +164,12 @@ pub record OnLink (service : Service) (log : Log) (e : Entry) (link : LinkId) (t
   pub refuses : refused_by service log e ≡ option_and_then (refused_on service log e) (Some link)
 
 -- A client's seat is taken out.
-pub taken-out : (service : Service) (log : Log) (e : Entry) (client : ClientNo) (seat : Seat) (tables : Tables) (lends : Lends) → Sound service log None tables → Others service log e client.0 tables → tables.seats client.0 ≡ Some seat → LendsSound service (log ++ e ∷ []) lends
-    → Apart client.0 tables.lends lends → Traces tables.lends lends → ((link : LinkId) → IsOpen link (log ++ e ∷ []) → IsOpen link log) → Sound service (log ++ e ∷ []) (Some (record { client = client.0; link = seat.link })) (without_seat client (with_lends lends tables))
-taken-out service log e client seat tables lends sound others is stands apart traces opens = moved service log e client.0 (Some (record { client = client.0; link = seat.link })) tables (set tables.seats client.0 None) lends sound others (record {
+pub taken-out : (service : Service) (log : Log) (e : Entry) (client : ClientNo) (seat : Seat) (tables : Tables) (lends : Lends)
+    → Sound service log None tables → Others service log e client.0 tables → tables.seats client.0 ≡ Some seat → LendsSound service (log ++ e ∷ []) lends
+    → Apart client.0 tables.lends lends → Traces tables.lends lends → ((link : LinkId) → IsOpen link (log ++ e ∷ []) → IsOpen link log)
+        → Sound service (log ++ e ∷ []) (Some (record { client = client.0; link = seat.link })) (without_seat client (with_lends lends tables))
+taken-out service log e client seat tables lends sound others is stands apart traces opens = moved service log e client.0
+    (Some (record { client = client.0; link = seat.link })) tables (set tables.seats client.0 None) lends sound others (record {
   others = λ k differs. set-other tables.seats client.0 k None differs;
   seat = λ other at. cc (set-same tables.seats client.0 None, at);
   away = λ none. inl refl;
