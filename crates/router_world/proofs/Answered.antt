@@ -1,14 +1,14 @@
 -- What comes of a client's command, and its session goes on.
-use Rattle.router_world.proofs.Names.{common_steps, lawful-more, ◌≡◌, ◌⊎◌, ◌<◌, ℕ, false, nat_eq, [], ◌∷◌, ◌++◌, length, Some, None, refl, sym, ◌∙◌, ap}
-use Rattle.router_world.proofs.Names.{subst, inl, inr, LinkId, Log, IsOpen, Fits, Entry, Account, Phase, Lent, Lends, Told, Turn, Service, turn_of, some-same}
-use Rattle.router_world.proofs.Names.{Seat, replied, Tables, with_lends, ◌≢◌, ◌≤◌, Bool, true, cond, List, Option, arith, read_of, written_of, same_number}
-use Rattle.router_world.proofs.Names.{nat_eq-true, nat_eq-false, Framed, Split, split, next_id, Arrival, arrival_of, is_served, Talk, account, Session, Query}
-use Rattle.router_world.proofs.Names.{Turned, rested, Answered, Answer, spelt, talk_with, message_of, work_of, in-work, refused-or-sent, arrival-stays}
-use Rattle.router_world.proofs.Names.{message-stays, work_said, SeatAt, PhaseAt, IsWorking, Asks, without_seat, on_seat, told, Work, ClientState}
+use Rattle.router_world.proofs.Names.{common_steps, lawful-more, ◌≡◌, ◌⊎◌, ◌<◌, ℕ, false, nat_eq, [], ◌∷◌, ◌++◌, Some, None, refl, sym, ◌∙◌}
+use Rattle.router_world.proofs.Names.{subst, inl, inr, LinkId, Log, IsOpen, Entry, Account, Phase, Lent, Lends, Told, Turn, Service, turn_of, some-same}
+use Rattle.router_world.proofs.Names.{Seat, replied, Tables, with_lends, ◌≢◌, List, Option, arith, written_of}
+use Rattle.router_world.proofs.Names.{Framed, split, next_id, arrival_of, Talk, account, Session, Query}
+use Rattle.router_world.proofs.Names.{Turned, rested, Answered, Answer, spelt, talk_with, message_of, in-work, refused-or-sent, arrival-stays}
+use Rattle.router_world.proofs.Names.{message-stays, SeatAt, IsWorking, Asks, without_seat, on_seat, told, ClientState}
 use Rattle.router_world.proofs.Stepping.{taken-out, IsPlain, Others, moved, IsQuiet}
-use Rattle.router_world.proofs.Apart.{apart-numbers, Came, Comes, Quiet, Answers, set-same}
-use Rattle.router_world.proofs.Hands.{away-gone, none-some, Next, goes-on, work-is, later-work, next-turned, finished-parted}
-use Rattle.router_world.proofs.Sound.{Happens, AreFormed, Sound, Serves, Unsent, Free, Gone, Busy, LendsSound, SeatStands, IsHeard, IsEnded}
+use Rattle.router_world.proofs.Apart.{Came, Comes, Quiet, Answers, set-same}
+use Rattle.router_world.proofs.Hands.{away-gone, none-some, goes-on, work-is, later-work, next-turned, finished-parted}
+use Rattle.router_world.proofs.Sound.{Happens, Sound, Serves, Unsent, Free, Gone, Busy, SeatStands, IsHeard, IsEnded}
 use Rattle.router_world.proofs.Connecting.{counts-all}
 use Rattle.client_talk.specs.Events.{answered}
 use Rattle.router_world.specs.World.{goes_on, answering}

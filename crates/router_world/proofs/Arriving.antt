@@ -1,21 +1,20 @@
 -- A client comes: nothing was sent for it before, nor refused.
-use Rattle.router_world.proofs.Names.{common_steps, lawful-last, ◌≡◌, ◌⊎◌, ◌<◌, ◌≤◌, ℕ, suc, ◌+◌, Bool, true, false, nat_eq, nat_lt, ◌&&◌, List, [], ◌∷◌}
-use Rattle.router_world.proofs.Names.{◌++◌, length, slice_get, fold, Option, Some, None, refl, sym, ◌∙◌, ap, arith, length-append, LinkId, Traffic, Log}
+use Rattle.router_world.proofs.Names.{common_steps, lawful-last, ◌≡◌, ◌⊎◌, ◌≤◌, ℕ, suc, ◌+◌, Bool, true, false, nat_lt, List, [], ◌∷◌}
+use Rattle.router_world.proofs.Names.{◌++◌, length, fold, Option, Some, None, refl, sym, ◌∙◌, ap, arith, length-append, LinkId, Traffic, Log}
 use Rattle.router_world.proofs.Names.{AllLawful, lawful-each, Entry, Accepted, nat_eq-true, Account, counted, Arrival, arrivals, arrivals_behind, arrival_of}
-use Rattle.router_world.proofs.Names.{without, connected, connected_step, carries, carrier_of, Turn, Service, user_of, is_turn, is_refused, IsLawful, Cause}
-use Rattle.router_world.proofs.Names.{NotOpened, NotLoggedIn, some-same, refusal-cause, and-true, carrier-more, arrival-stays, list_any, subst, inl, inr}
-use Rattle.router_world.proofs.Names.{ClientNo, Port, of_link, open_step, is_open, got_bytes, wrote_bytes, written_of, same_number, of_link-same, step-same}
-use Rattle.router_world.proofs.Names.{step-other, lawful-more, IsOpen, Fits, is_served, is_traffic, Session, new_session, set, most_command, is_loss}
-use Rattle.router_world.proofs.Names.{is_failure, none-if, arrivals-more, Parting, Seat, replied, SeatAt, Tables, admitted, ◌||◌, flat_map, Admin}
+use Rattle.router_world.proofs.Names.{without, connected, connected_step, carrier_of, Turn, Service, user_of, is_refused, IsLawful, Cause}
+use Rattle.router_world.proofs.Names.{NotOpened, NotLoggedIn, some-same, refusal-cause, and-true, carrier-more, arrival-stays, subst, inl, inr}
+use Rattle.router_world.proofs.Names.{ClientNo, Port, of_link, open_step, is_open, got_bytes, wrote_bytes, same_number, of_link-same, step-same}
+use Rattle.router_world.proofs.Names.{step-other, lawful-more, IsOpen, Fits, is_served, is_traffic, Session, new_session, set, most_command}
+use Rattle.router_world.proofs.Names.{none-if, arrivals-more, Parting, Seat, replied, Tables, admitted, flat_map, Admin}
 use Rattle.router_world.proofs.Hands.{put-back, numbered-seat, known-as, away-gone}
-use Rattle.router_world.proofs.Apart.{one-or-other, link-or-other, apart-numbers, set-other, Here, There, row-of, one-same, set-same}
-use Rattle.std.proofs.lemmas.Bool.{and_right, or_right, false_from_ne_true}
-use Rattle.router_world.proofs.Sound.{Sits, Happens, SeatStands, PartAt, PartStands, Sound, InHand, Gone, Clients, Parts, AtMostOne, One, Refused, Strange}
+use Rattle.router_world.proofs.Apart.{link-or-other, apart-numbers, set-other, Here, There, row-of, one-same, set-same}
+use Rattle.router_world.proofs.Sound.{Happens, SeatStands, PartAt, PartStands, Sound, Clients, Parts, AtMostOne, One, Refused, Strange}
 use Rattle.router_world.specs.Tables.{to_part}
 use Rattle.router_world.specs.World.{comes, admitted_if}
 use Rattle.router_world.proofs.Calm.{Spares, unrefused-more, carrier-same}
-use Rattle.router_world.proofs.Connecting.{is_among, counts-all, among-end, connected-more, traffic_as}
-use Rattle.router_world.proofs.Seats.{new_talk, new-seat}
+use Rattle.router_world.proofs.Connecting.{is_among, counts-all, among-end, connected-more}
+use Rattle.router_world.proofs.Seats.{new-seat}
 use Rattle.router_world.proofs.Silences.{refuses-none, Bystands, seats-left, lends-left}
 use Rattle.router_world.proofs.Stepping.{IsQuiet}
 use Rattle.router_world.proofs.Lawful.{get-behind}

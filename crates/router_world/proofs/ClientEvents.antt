@@ -1,9 +1,9 @@
 -- What the entries on a client's link make of what stands.
-use Rattle.router_world.proofs.Names.{list_any-append, ◌≡◌, ◌⊎◌, ◌<◌, ℕ, Bool, true, false, is_some, nat_eq, ◌||◌, ◌&&◌, List, [], ◌∷◌, ◌++◌, length, take}
-use Rattle.router_world.proofs.Names.{drop, Some, None, refl, list_any, sym, ◌∙◌, ap, subst, arith, append_assoc, take-append-drop, inl, inr, ClientNo}
+use Rattle.router_world.proofs.Names.{list_any-append, ◌≡◌, ◌⊎◌, ◌<◌, ℕ, Bool, true, false, is_some, nat_eq, ◌||◌, List, [], ◌∷◌, ◌++◌, length, take}
+use Rattle.router_world.proofs.Names.{drop, Some, None, refl, list_any, sym, ◌∙◌, ap, arith, append_assoc, take-append-drop, inl, inr, ClientNo}
 use Rattle.router_world.proofs.Names.{LinkId, Tag, Log, is_link, link_of, of_link, got_bytes, wrote_bytes, read_of, written_of, lawful-more, Fits}
 use Rattle.router_world.proofs.Names.{same_number, of_link-same, bytes-same, bytes-idle, Entry, Got, Wrote, Account, Arrival, arrival_of, is_traffic, Phase}
-use Rattle.router_world.proofs.Names.{Session, Turned, still, ended, said, taken, gone, is_loss, was_lost, was_broken, is_failure, Service, talk_with, due}
+use Rattle.router_world.proofs.Names.{Session, Turned, still, ended, said, taken, gone, is_loss, was_lost, is_failure, Service, talk_with, due}
 use Rattle.router_world.proofs.Names.{arrival-stays, Seat, replied, SeatAt, Unanswered, Tables, without_seat, with_lends, Lent, some-same, ◌≢◌, carries}
 use Rattle.std.proofs.lemmas.Bool.{and_parts, or_right}
 use Rattle.router_world.proofs.Connecting.{open-kept, counts-all}

@@ -1,12 +1,12 @@
 -- What a client is due, by the replies to its queries.
 use Rattle.router_world.proofs.Names.{common_steps, and_from, ◌≡◌, ℕ, suc, ◌+◌, true, false, is_some, ◌&&◌, cond, List, [], ◌∷◌, ◌++◌, slice_get, Option}
-use Rattle.router_world.proofs.Names.{Some, refl, option_and_then, sym, ◌∙◌, ap, subst, append-nil, arith, Log, Framed, parsed, Arrival, arrival_of}
+use Rattle.router_world.proofs.Names.{Some, refl, option_and_then, sym, ◌∙◌, ap, append-nil, arith, Log, Framed, parsed, Arrival, arrival_of}
 use Rattle.router_world.proofs.Names.{messages_of, Answer, Service, talk_with, answer, answer_by, message_of, due_at, first_without, answers, replied}
-use Rattle.router_world.proofs.Names.{answer_of, answers_by, first_open, ◌||◌, LinkId, Entry, is_served, front, fault_answer, was_lost, turned_away, due}
+use Rattle.router_world.proofs.Names.{answer_of, answers_by, first_open, ◌||◌, LinkId, Entry, is_served, was_lost, turned_away, due}
 use Rattle.router_world.proofs.Names.{arrival-stays, due_said, Setup}
 use Rattle.promises.proofs.Moments.{first-some}
 use Rattle.std.proofs.lemmas.Bool.{or_parts}
-use Rattle.promises.specs.Due.{query_answer, answer_when, is_answered, due_then, due_of}
+use Rattle.promises.specs.Due.{query_answer, answer_when, is_answered}
 use Rattle.exchange.specs.Logins.{loses, before_loss}
 
 -- A message that is whole, and before which all are answered, is answered by what comes of it.

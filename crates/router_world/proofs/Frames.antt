@@ -1,15 +1,14 @@
 -- What an entry leaves of what stands for the log.
 use Rattle.router_world.proofs.Names.{common_steps, ◌≡◌, ℕ, zero, suc, Bool, true, false, not, ◌&&◌, cond, List, [], ◌∷◌, ◌++◌, Option, Some, None, refl, sym}
-use Rattle.router_world.proofs.Names.{◌∙◌, ap, subst, inl, inr, LinkId, Log, is_open, IsNew, Fits, option_map, option_and_then, AllLawful, Entry, Account}
-use Rattle.router_world.proofs.Names.{Handed, Arrival, arrival_of, connection_refused, account, Ask, Lent, Lends, was_lost, heard_of, pieces_of, carries}
-use Rattle.router_world.proofs.Names.{carrier_of, Answer, Turn, Service, turn_of, talk_with, user_of, user_on, is_here_as, is_here, is_refused, reply_to}
+use Rattle.router_world.proofs.Names.{◌∙◌, ap, inl, inr, LinkId, Log, is_open, IsNew, Fits, option_map, option_and_then, AllLawful, Entry, Account}
+use Rattle.router_world.proofs.Names.{Handed, Arrival, arrival_of, connection_refused, account, Ask, Lent, Lends, was_lost, carries}
+use Rattle.router_world.proofs.Names.{carrier_of, Answer, Turn, Service, turn_of, talk_with, user_of, user_on, is_here, is_refused, reply_to}
 use Rattle.router_world.proofs.Names.{IsLawful, RefusedOrSent, asks-unrefused, refused-or-sent, came_as, named-none, came-names, same-link, arrival-stays}
-use Rattle.router_world.proofs.Names.{carrier-stays, turn-stays, user-stays, lost-stays, replied, LinkAt, list_all, ◌<◌, ◌≤◌, nat_eq, arith, Tag, For}
-use Rattle.router_world.proofs.Names.{written_of, nat_eq-true, nat_eq-false, Talk, is_query, Phase, Session, Work, some-same, Seat, SeatAt, work_said}
+use Rattle.router_world.proofs.Names.{carrier-stays, turn-stays, user-stays, lost-stays, replied, ◌<◌, ◌≤◌, arith, Tag, For}
+use Rattle.router_world.proofs.Names.{nat_eq-true, nat_eq-false, Talk, is_query, Phase, Session, Work, some-same, Seat, work_said}
 use Rattle.router_world.proofs.Names.{over_said, Unanswered, unanswered_from}
 use Rattle.promises.proofs.Links.{open-was, came-new}
-use Rattle.promises.proofs.Causes.{opened_as, arrival-came}
-use Rattle.router_world.proofs.RowsPieces.{has_bytes}
+use Rattle.promises.proofs.Causes.{arrival-came}
 use Rattle.router_world.proofs.Calm.{Leaves, Spares, carrier-same, unrefused-more, unsent-still, sent-unrefused, reply-left, asks-stay, asks-server}
 use Rattle.router_world.proofs.Calm.{asks-unreplied, replied-stays}
 use Rattle.router_world.proofs.Sound.{IsAsked, AskStands, HandedStands, carried_by, Owned, RowStands, LendsSound, Busy, Waits, Logs, On, Unsent, IsHeard}
@@ -45,7 +44,8 @@ gone-stays service n user log e fits known gone = by (arrival_of n log) refl kno
       (arrival-stays n log (e ∷ []) came at, gone-link came.link log e fits
       (λ new. named-none came.link (came_as came.link) log (came-names came.link) new (arrival-came n log came at)) (cc (at, gone)))
 
-pub user-there : (service : Service) (link : LinkId) (turn : Turn) (user : Account) (log : Log) → turn_of service link log ≡ Some turn → user_of service turn.client log ≡ Some user → user_on service link log ≡ Some user
+pub user-there : (service : Service) (link : LinkId) (turn : Turn) (user : Account) (log : Log)
+    → turn_of service link log ≡ Some turn → user_of service turn.client log ≡ Some user → user_on service link log ≡ Some user
 user-there service link turn user log is known = grind (arith, common_steps)
 
 pub owner-turn : (service : Service) (log : Log) (lends : Lends) (link : LinkId) (lent : Lent) (n m : ℕ) → Owned service log lends link m lent

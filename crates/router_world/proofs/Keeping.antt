@@ -1,28 +1,26 @@
 -- The router waits at rest, and each entry of its own keeps the promises.
-use Rattle.router_world.proofs.Names.{common_steps, ◌≡◌, ◌⊎◌, ℕ, Bool, true, false, is_some, nat_eq, nat_lt, List, [], ◌∷◌, length, drop, Option, Some, None}
-use Rattle.router_world.proofs.Names.{refl, sym, ◌∙◌, ap, inl, inr, ClientNo, LinkId, Reply, Log, IsOpen, write_dry, BackendState, left_by, left, Handed}
-use Rattle.router_world.proofs.Names.{Phase, Lent, Service, none-if, Seat, Tables, reply_sent, seat_sends, sends_by, sends, reads, ◌≢◌, ◌<◌, ◌++◌, take}
-use Rattle.router_world.proofs.Names.{subst, append-nil, arith, Tag, For, spelling-some, In, Work, work_of, owner_for, some-same, begun, IsMessage, asks}
-use Rattle.router_world.proofs.Names.{written_of, AllLawful, Fits, Entry, nat_eq-false, Account, is_begun, Arrival, arrival_of, Talk, is_query, Answer, Turn}
-use Rattle.router_world.proofs.Names.{turn_of, talk_with, is_here, Owner, owner_of, user_on, has_ended, RestsAt, replied, work_said, over_said, tables_after}
+use Rattle.router_world.proofs.Names.{common_steps, ◌≡◌, ◌⊎◌, ℕ, Bool, true, false, is_some, nat_eq, List, [], ◌∷◌, length, drop, Option, Some, None}
+use Rattle.router_world.proofs.Names.{refl, sym, ◌∙◌, ap, inl, inr, ClientNo, LinkId, Log, IsOpen, write_dry, BackendState, left_by, left, Handed}
+use Rattle.router_world.proofs.Names.{Phase, Lent, Service, none-if, Seat, Tables, sends, reads, ◌≢◌, ◌<◌, ◌++◌, take}
+use Rattle.router_world.proofs.Names.{append-nil, arith, Tag, For, spelling-some, In, Work, work_of, some-same, begun, asks}
+use Rattle.router_world.proofs.Names.{written_of, AllLawful, Fits, Entry, nat_eq-false, Account, is_begun, Arrival, arrival_of, Talk, is_query, Answer}
+use Rattle.router_world.proofs.Names.{talk_with, is_here, Owner, owner_of, user_on, has_ended, RestsAt, replied, work_said, tables_after}
 use Rattle.router_world.proofs.Names.{IsOurs, append_assoc, is_link, wrote_bytes, bool_cases, bytes-same, bytes-other, bytes-idle, IsNew, Wrote, arrival_in}
-use Rattle.router_world.proofs.Names.{IsPrefix, turned_away, due, IsServed, IsLawful, same-link, lawful-more, Framed, Results, Setup, Form, Forms, message_of}
-use Rattle.router_world.proofs.Names.{form_of, Keeps, turns, left_in, Command}
+use Rattle.router_world.proofs.Names.{IsPrefix, due, IsServed, IsLawful, same-link, lawful-more, Framed, Results, Setup, Form, Forms, message_of}
+use Rattle.router_world.proofs.Names.{form_of, Keeps, turns, Command}
 use Rattle.std.proofs.lemmas.Bool.{not-true}
 use Rattle.mx_base.specs.declared.tag.Tag.TheVariants.{Own as OwnTag}
 use Rattle.mx_base.specs.Sent.{Sent as ToSend}
 use Rattle.ready_loop.specs.Drained.{read_dry, MayWait}
 use Rattle.client_talk.specs.Sessions.{is_read}
 use Rattle.promises.specs.Rest.{IsEnding, Stays, Sent, Full, Waits, IsAnswered, IsBusy, Replies, Blocked, IsKept, IsAtRest}
-use Rattle.router_world.specs.Acts.{seat_reads, reads_by}
 use Rattle.std.proofs.lemmas.List.{take_all, take-append-drop}
 use Rattle.packet_frame.specs.Packets.{spelling}
-use Rattle.promises.proofs.Links.{owner-turn as owners-turn}
 use Rattle.promises.specs.Closes.{WasToldAll}
 use Rattle.promises.proofs.Growing.{prefix-trans, due-grows}
 use Rattle.mx_wire.specs.Moments.{moment-more}
 use Rattle.router_world.proofs.Hands.{ended-seat, told-seat, lost-away, work-is}
-use Rattle.router_world.proofs.Sound.{Sound, IsAsked, HandedStands, RowStands, Busy, Waits as WaitsForLink, Logs, On, Owned, Own, Left, Serves, IsHeard}
+use Rattle.router_world.proofs.Sound.{Sound, IsAsked, HandedStands, RowStands, Busy, Waits as WaitsForLink, Logs, On, Own, Left, Serves, IsHeard}
 use Rattle.router_world.proofs.Sound.{IsEnded, SeatStands, PartAt, Refused, Covers}
 use Rattle.router_world.proofs.Stepping.{IsQuiet, nobody-waits, done}
 use Rattle.router_world.proofs.Calm.{asks-server}
@@ -32,7 +30,7 @@ use Rattle.router_world.proofs.Seats.{WaitsFor, work-here}
 use Rattle.router_world.proofs.Dues.{due-refused}
 use Rattle.router_world.proofs.Lawful.{own-live, is-of, IsOf, OfClient, OfServer, owned-row, of-client, unowned, owner-is, row-user, row-written, row-sound}
 use Rattle.router_world.proofs.Lawful.{row-enters, row-inside, row-message, row-sends, row-runs, row-commands, asked-spelt, Writes, ToClient, ToServer}
-use Rattle.router_world.proofs.Lawful.{Farewell, writes-so, lawful-entry, comes-of, Comes, Was, Now}
+use Rattle.router_world.proofs.Lawful.{Farewell, writes-so, lawful-entry, comes-of, Was, Now}
 use Rattle.client_talk.specs.declared.session.Phase.TheVariants as phase
 
 -- Something is left of a command that wasn't written whole.

@@ -1,16 +1,17 @@
 -- Whose an open link is, and that what the router does is lawful.
 use Rattle.router_world.proofs.Names.{common_steps, ◌≡◌, ℕ, zero, suc, List, [], ◌∷◌, ◌++◌, length, slice_get, Option, Some, None, refl, cons_option, sym}
 use Rattle.router_world.proofs.Names.{◌∙◌, ap, subst, LinkId, Log, AllLawful, lawful-each, Fits, IsNew, Entry, Arrival, arrival_in, arrivals, arrival_of}
-use Rattle.router_world.proofs.Names.{some-same, came_as, came-names, named-none, arrivals-more, ◌≢◌, true, false, not, cond, flat_map, filter_map, inl, inr}
-use Rattle.router_world.proofs.Names.{ClientNo, of_link, written_of, is_open, IsOpen, Framed, Phase, Lent, Lends, heard_of, piece, pieces_of, Spoilt}
-use Rattle.router_world.proofs.Names.{standing_on, Turn, Service, turn_of, is_here, Owner, owner_of, owner_for, clients-unowned, Seat, piece_bytes, bytes_in}
+use Rattle.router_world.proofs.Names.{some-same, came-names, named-none, arrivals-more, ◌≢◌, true, false, not, cond, inl, inr}
+use Rattle.router_world.proofs.Names.{ClientNo, of_link, written_of, is_open, IsOpen, Framed, Lent, Lends, heard_of, pieces_of, Spoilt}
+use Rattle.router_world.proofs.Names.{standing_on, Turn, Service, turn_of, is_here, Owner, owner_of, owner_for, clients-unowned, Seat, bytes_in}
 use Rattle.router_world.proofs.Names.{standing_said, Tables, ◌+◌, Bool, append_assoc, append-nil, arith, length-append, Opened, OpenFailed, Target, Setup}
 use Rattle.router_world.proofs.Names.{oldest, is_waiting, open_try, open_tries, next_turn, tries-more, tables_after, turn_for, turn_at, turns_behind, turns}
-use Rattle.router_world.proofs.Names.{nat_lt, left_by, command_left, closes, awaited_if, awaits, IsOurs, take, Tag, Reply, Wrote, Sent, left, left_in, Parting, reply_sent, seat_sends}
-use Rattle.router_world.proofs.Names.{sends_by, sends, close_of, farewell_of, IsFront, IsFarewell, ◌<◌, nat_eq, drop, For, BackendState, is_begun, said_of}
-use Rattle.router_world.proofs.Names.{Handed, IsPrefix, commands_on, Enters, Clean, GoesOn, IsLawful, begun, begun_by, IsInside, LinkAt, Entering, Inside}
-use Rattle.router_world.proofs.Names.{is_some, ServerId, Address, ServerAt, MayOpen, owner-turn, option_and_then, Traffic, spelling-some, is_served}
-use Rattle.router_world.proofs.Names.{too_many_connections, user_of, user_on, was_offered, MayDrop, first_closing, IsClosing, Closed, Standing, Sends, Runs}
+use Rattle.router_world.proofs.Names.{nat_lt, left_by, command_left}
+use Rattle.router_world.proofs.Names.{closes, awaits, IsOurs, take, Tag, Reply, Wrote, Sent, left, left_in, Parting, reply_sent, seat_sends}
+use Rattle.router_world.proofs.Names.{sends_by, sends, close_of, farewell_of, IsFront, IsFarewell, ◌<◌, nat_eq, drop, For, BackendState, is_begun}
+use Rattle.router_world.proofs.Names.{Handed, IsPrefix, commands_on, Enters, Clean, GoesOn, IsLawful, begun, IsInside, LinkAt, Entering, Inside}
+use Rattle.router_world.proofs.Names.{is_some, ServerId, Address, ServerAt, MayOpen, owner-turn, Traffic, spelling-some, is_served}
+use Rattle.router_world.proofs.Names.{too_many_connections, user_on, was_offered, first_closing, IsClosing, Closed, Standing, Sends, Runs}
 use Rattle.router_world.proofs.Names.{IsMessage, IsHanded, In}
 use Rattle.router_world.proofs.Hands.{away-gone, numbered-seat}
 use Rattle.router_world.proofs.Stepping.{IsQuiet, quiet-closes}
@@ -20,12 +21,11 @@ use Rattle.router_world.specs.World.{turn_of as turn_asked}
 use Rattle.mx_base.specs.declared.tag.Tag.TheVariants.{Own as OwnTag}
 use Rattle.std.proofs.lemmas.List.{take-append-drop}
 use Rattle.packet_frame.specs.Packets.{spelling}
-use Rattle.server_side.specs.Login.{opening}
 use Rattle.promises.specs.Sends.{Continues, Begins, MaySay}
 use Rattle.router_world.specs.Acts.{target_of}
 use Rattle.promises.specs.Closes.{MayPart, MayClose}
-use Rattle.router_world.proofs.Sound.{SeatStands, RowStands, Gone, Serves, Sound, Known, Clients, Servers, Parts, Closes, AtMostOne, Nobody, One, Waiting}
-use Rattle.router_world.proofs.Sound.{Covers, HandedStands, carried_by, Owned, AskStands, Own, Left, PartAt, Done, Refused, Offered, Strange, PartStands}
+use Rattle.router_world.proofs.Sound.{SeatStands, RowStands, Gone, Sound, Clients, Servers, Parts, Closes, AtMostOne, Nobody, One, Waiting}
+use Rattle.router_world.proofs.Sound.{Covers, HandedStands, carried_by, AskStands, Own, Left, PartAt, Done, Refused, Offered, Strange, PartStands}
 use Rattle.router_world.proofs.Sound.{CloseStands, IsAsked}
 use Rattle.router_world.proofs.Frames.{user-there}
 use Rattle.router_world.proofs.RowsStanding.{standing-entering, commands-inside, standing-clean, standing-sends, standing_by, standing-inside, begun-some}

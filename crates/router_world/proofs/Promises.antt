@@ -3,7 +3,7 @@ use Rattle.router_world.proofs.Names.{common_steps, ◌≡◌, ◌≢◌, ℕ, t
 use Rattle.router_world.proofs.Names.{arith, length-append, inl, inr, AreBytes, LinkId, Tag, Log, link_of, open_step, same_number, Entry, Got, Wrote, is_loss}
 use Rattle.router_world.proofs.Names.{is_failure, carries, is_command, Lent, Service, none-if, Parting, Tables, sends, farewell_of, IsFront, IsFarewell, Bool}
 use Rattle.router_world.proofs.Names.{option_and_then, refused_by, refused_on, is_write, ◌≤◌, fold-append, AllLawful, MayFollow, Setup, most_command}
-use Rattle.router_world.proofs.Names.{IsServed, Serves, Fits, no_tables, tables_after, asks, awaits, IsOurs, LawfulAfter, append_assoc, append-nil, turns}
+use Rattle.router_world.proofs.Names.{IsServed, Serves, Fits, no_tables, tables_after, awaits, IsOurs, LawfulAfter, append_assoc, append-nil, turns}
 use Rattle.router_world.proofs.Names.{open_tries, message-stays, lawful-more, Keeps, Target, turn_at, turn_for, oldest}
 use Rattle.router_world.proofs.Sound.{Happens, Sound, Nobody, Covers, AreFormed}
 use Rattle.router_world.proofs.Stepping.{OnLink, IsPlain, done, nobody-waits, quiet-closes}

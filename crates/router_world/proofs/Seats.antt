@@ -1,12 +1,12 @@
 -- What each event leaves of how a client's session stands.
-use Rattle.router_world.proofs.Names.{common_steps, ◌≡◌, ◌≢◌, ◌≤◌, ◌<◌, ℕ, suc, true, false, List, [], ◌++◌, length, take, drop, Option, Some, None, refl}
+use Rattle.router_world.proofs.Names.{common_steps, ◌≡◌, ◌≢◌, ◌≤◌, ◌<◌, ℕ, suc, true, false, List, [], ◌++◌, length, take, Option, Some, None, refl}
 use Rattle.router_world.proofs.Names.{sym, ◌∙◌, ap, append-nil, append_assoc, take-append-drop, arith, ClientNo, Framed, Split, split, with_front, next_id}
-use Rattle.router_world.proofs.Names.{first_message-empty, ClientState, fed, Waits, IsLoggingIn, Account, Setup, Talk, heard_more, messages_of, front}
+use Rattle.router_world.proofs.Names.{first_message-empty, ClientState, fed, Waits, Account, Setup, Talk, heard_more, messages_of, front}
 use Rattle.router_world.proofs.Names.{fault_answer, is_query, Phase, Session, new_session, said_in, said, turned, rested, taken, most_command, Answer, spelt, Work}
-use Rattle.router_world.proofs.Names.{messages-grow, answers_by, first_open, due_said, work_said, over_said, IsTaken, IsIdle, IsWorking, PhaseAt, SeatAt}
+use Rattle.router_world.proofs.Names.{messages-grow, answers_by, first_open, due_said, work_said, over_said, IsTaken, IsIdle, IsWorking, SeatAt}
 use Rattle.router_world.proofs.Names.{Unanswered}
 use Rattle.promises.proofs.Staying.{account-more}
-use Rattle.client_side.specs.Login.{greeting_said, by_message, opening}
+use Rattle.client_side.specs.Login.{greeting_said, opening}
 use Rattle.client_side.specs.Laws.{logging-new, logging-fed}
 use Rattle.client_talk.specs.Events.{answered}
 use Rattle.router_world.proofs.SeatsTaking.{turned-seat}

@@ -1,5 +1,5 @@
 -- The answers of a client, up to the first that isn't there.
-use Rattle.router_world.proofs.Names.{common_steps, ◌≡◌, ◌≢◌, ◌≤◌, ◌<◌, ℕ, suc, ◌+◌, Bool, true, false, is_some, cond, List, [], ◌∷◌, ◌++◌, length, Option}
+use Rattle.router_world.proofs.Names.{common_steps, ◌≡◌, ◌≤◌, ◌<◌, ℕ, suc, ◌+◌, Bool, true, false, is_some, cond, List, [], ◌∷◌, ◌++◌, length, Option}
 use Rattle.router_world.proofs.Names.{Some, None, Result, refl, sym, ◌∙◌, ap, append-nil, append_assoc, arith, length-append, Framed, next_id, Meaning}
 use Rattle.router_world.proofs.Names.{parsed, CommandFault, Setup, query_by, is_query, is_quit, no_server, own_ok, payload_of, Asked, Answer, spelt}
 use Rattle.router_world.proofs.Names.{answer_by, Work, answer_of, answers_by, first_open, ClientState, IsLoggingIn, Account, Talk, account, front, Phase}
@@ -11,7 +11,7 @@ use Rattle.promises.proofs.Staying.{by-stays}
 use Rattle.promises.proofs.InWork.{query-answer, some-same}
 use Rattle.router_world.specs.Seats.{IsOf}
 use Rattle.client_session.specs.Answers.{quit_by, commands_in, client_messages}
-use Rattle.client_talk.specs.Asked.{query_if, asked_by}
+use Rattle.client_talk.specs.Asked.{asked_by}
 use Rattle.client_talk.specs.declared.step.Turn.{Turn}
 use Rattle.client_talk.specs.Steps.{Step}
 use Rattle.packet_frame.specs.Packets.{first_message}

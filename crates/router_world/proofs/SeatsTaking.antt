@@ -1,22 +1,21 @@
 -- What is whole of what a client said is taken, step by step.
 use Rattle.router_world.proofs.Names.{common_steps, ◌∙◌, sym, ap, arith, Framed, Found, longest, next_id, Nothing, Whole, Faulty, nat_eq-true, ◌≡◌, ◌≤◌, ℕ}
-use Rattle.router_world.proofs.Names.{zero, suc, ◌+◌, Bool, true, nat_eq, cond, List, ◌++◌, length, refl, ◌<◌, is_some, [], drop, Option, Some, None, Result}
-use Rattle.router_world.proofs.Names.{subst, append-nil, append_assoc, length-drop, split, message_size, Response, Stage, ClientStep, ClientState, Opening}
-use Rattle.router_world.proofs.Names.{Says, IsLoggingIn, command_found, next_of, next_same, Account, account_of, Talk, opening_of, account_in, account}
+use Rattle.router_world.proofs.Names.{zero, suc, ◌+◌, Bool, true, List, ◌++◌, length, refl, ◌<◌, is_some, [], drop, Option, Some, None}
+use Rattle.router_world.proofs.Names.{subst, append-nil, append_assoc, length-drop, split, message_size, Response, Stage, ClientStep, ClientState}
+use Rattle.router_world.proofs.Names.{Says, IsLoggingIn, command_found, next_of, next_same, Account, account_of, Talk, opening_of}
 use Rattle.router_world.proofs.Names.{if_known, commands, messages_of, front_in, front, own_ok, Session, logs_in, logs_in_as, step_by, step, still}
-use Rattle.router_world.proofs.Names.{left_to_say, Answer, ends_by, ends_in, work_said, ◌∷◌, FrameFault, Split, with_front, first_message-goes, parsed}
+use Rattle.router_world.proofs.Names.{left_to_say, Answer, ◌∷◌, FrameFault, with_front, first_message-goes, parsed}
 use Rattle.router_world.proofs.Names.{counted, has_server, fault_answer, is_query, is_quit, payload_of, Asked, Phase, asked_of, arrives_as, ended, turned_by}
 use Rattle.router_world.proofs.Names.{turned, spelt, answer_of, IsWorking}
 use Rattle.router_world.specs.Seats.{IsOf}
-use Rattle.packet_frame.specs.Packets.{first_packet, begun, and_then, continued, message_within, first_message, spelling}
+use Rattle.packet_frame.specs.Packets.{message_within, first_message, spelling}
 use Rattle.packet_frame.specs.PacketLaws.{packet_size}
 use Rattle.packet_frame.specs.MessageLaws.{led}
 use Rattle.router_world.proofs.Names.{inl, inr, length-append}
-use Rattle.handshake.specs.declared.fault.HandFault.{HandFault}
 use Rattle.client_side.specs.declared.step.ClientFault.{ClientFault}
 use Rattle.client_side.specs.Login.{Fails, opening, fault_id}
 use Rattle.client_side.specs.Reading.{IsReading, HasStepped, said, said_to}
-use Rattle.client_side.specs.Steps.{answer_found, response_read, response_found, looked}
+use Rattle.client_side.specs.Steps.{looked}
 use Rattle.client_side.specs.Laws.{logging-next}
 use Rattle.client_session.specs.Answers.{commands_in, greeted, login_answer, fault_error}
 use Rattle.client_talk.specs.Steps.{admitted, denied, refused, answers, started, stepped}
@@ -24,7 +23,7 @@ use Rattle.client_talk.specs.Going.{unsaid, goes_on}
 use Rattle.packet_frame.specs.Laws.{first_message-shorter}
 use Rattle.client_side.specs.declared.step.ClientFault.TheVariants.{Frame}
 use Rattle.client_talk.specs.declared.step.Turn.{Turn}
-use Rattle.router_world.proofs.SeatsAnswers.{Means, means-asked, at_place, done-none, done-one, GoesAt, Turns, LeadsTo, Leads, ends-so, due-alone}
+use Rattle.router_world.proofs.SeatsAnswers.{Means, means-asked, done-none, done-one, GoesAt, Turns, LeadsTo, Leads, ends-so, due-alone}
 use Rattle.router_world.proofs.SeatsAnswers.{taken-nothing, taken-whole, taken-faulty, taken-few, over-in, counted-suc, client_past, taken-one, due-all}
 use Rattle.router_world.proofs.SeatsAnswers.{due-open}
 use Rattle.client_side.specs.declared.stage.Stage.TheVariants as stage

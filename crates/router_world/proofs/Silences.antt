@@ -1,16 +1,16 @@
 -- Entries that say nothing leave all that came of commands, and why links may close.
 use Rattle.router_world.proofs.Names.{arith, common_steps, open_try, Bool, ClientNo, ◌≡◌, ℕ, cond, List, [], ◌∷◌, ◌++◌, Option, Some, None, option_and_then}
-use Rattle.router_world.proofs.Names.{cons_option, list_any, sym, ◌∙◌, ap, append-nil, filter_map-append, LinkId, Log, got_bytes, wrote_bytes, read_of}
+use Rattle.router_world.proofs.Names.{list_any, sym, ◌∙◌, ap, append-nil, filter_map-append, LinkId, Log, got_bytes, wrote_bytes, read_of}
 use Rattle.router_world.proofs.Names.{written_of, Entry, Account, connection_refused, was_lost, was_broken, heard_of, pieces_of, carries, Turn, Service}
-use Rattle.router_world.proofs.Names.{open_tries, turn_by, turn_of, user_on, refused_by, refused, is_turn, is_refused, reply_on, reply_to, refused-more}
-use Rattle.router_world.proofs.Names.{replied, reply_said, ◌≢◌, true, false, flat_map, filter_map, subst, inl, inr, link_of, is_link, of_link, bool_cases}
+use Rattle.router_world.proofs.Names.{user_on, refused_by, refused, is_turn, is_refused, reply_on, reply_to, refused-more}
+use Rattle.router_world.proofs.Names.{replied, ◌≢◌, true, false, flat_map, filter_map, inl, inr, link_of, is_link, of_link, bool_cases}
 use Rattle.router_world.proofs.Names.{of_link-same, bytes-idle, AllLawful, Fits, Lent, is_loss, is_failure, until_loss, breaks_off, piece, user_of}
-use Rattle.router_world.proofs.Names.{refused_on, IsLawful, Seat, Tables, Phase, is_some, ◌||◌, option_map, Arrival, arrival_in, arrival_of, is_served, Talk}
-use Rattle.router_world.proofs.Names.{opening_of, account, messages_of, Spoilt, standing_on, talk_with, Owner, work_of, due, ends_in, ends_by, has_ended}
-use Rattle.router_world.proofs.Names.{MayDrop, IsSpoilt, HasGone, Unneeded, arrival-stays, standing_said, due_said, length, list_any-append, Lends}
-use Rattle.router_world.proofs.Names.{was_offered, is_write, or-inl, turn-stays, lawful-more, open_step}
-use Rattle.router_world.proofs.Connecting.{open-kept, is_among, counts-all}
-use Rattle.router_world.proofs.Sound.{Sits, LendsSound, Sound, Serves, CloseStands, PartAt, Done, Refused, Offered, Strange, Happens}
+use Rattle.router_world.proofs.Names.{refused_on, IsLawful, Seat, Tables, is_some, ◌||◌, option_map, Arrival, arrival_in, arrival_of, is_served, Talk}
+use Rattle.router_world.proofs.Names.{opening_of, account, messages_of, standing_on, talk_with, Owner, work_of, due, ends_in, ends_by, has_ended}
+use Rattle.router_world.proofs.Names.{MayDrop, IsSpoilt, HasGone, Unneeded, arrival-stays, due_said, list_any-append, Lends}
+use Rattle.router_world.proofs.Names.{was_offered, or-inl, turn-stays, lawful-more, open_step}
+use Rattle.router_world.proofs.Connecting.{open-kept, counts-all}
+use Rattle.router_world.proofs.Sound.{Sits, LendsSound, Sound, CloseStands, PartAt, Done, Refused, Offered, Strange, Happens}
 use Rattle.promises.specs.Owners.{talk_of}
 use Rattle.promises.specs.Closes.{is_over}
 use Rattle.promises.proofs.Clean.{of-link-more}

@@ -1,16 +1,15 @@
 -- What the router lends for a link is all that is owed to it.
 use Rattle.router_world.proofs.Names.{common_steps, ◌≡◌, ◌+◌, ◌<◌, ℕ, zero, suc, Bool, true, false, nat_eq, cond, List, [], ◌∷◌, ◌++◌, length, take, drop}
 use Rattle.router_world.proofs.Names.{slice_get, Option, Some, None, refl, sym, ◌∙◌, ap, inl, inr, arith, length-append, ClientNo, LinkId, Log, written_of}
-use Rattle.router_world.proofs.Names.{AllLawful, Fits, Sent, nat_eq-true, Account, BackendState, left, said_of, Arrival, arrivals, arrival_of, Lent, left_in}
-use Rattle.router_world.proofs.Names.{heard_of, Command, pieces_of, commands_on, Forms, Service, user_on, work_of, turned_away, due, some-same, Parting, Seat}
-use Rattle.router_world.proofs.Names.{reply_sent, seat_sends, sends_by, sends, farewell_of, IsFarewell, lends, bytes_in, LinkAt, Tables, ◌≤◌, LawfulAfter}
-use Rattle.router_world.proofs.Names.{MayFollow, Entry, Got, Wrote, Setup, most_command, IsOurs, turns}
+use Rattle.router_world.proofs.Names.{AllLawful, Fits, Sent, nat_eq-true, Account, BackendState, left, said_of, Arrival, arrivals, arrival_of, Lent}
+use Rattle.router_world.proofs.Names.{heard_of, Command, pieces_of, commands_on, Forms, Service, work_of, due, some-same, Parting, Seat}
+use Rattle.router_world.proofs.Names.{seat_sends, sends_by, sends, farewell_of, IsFarewell, lends, bytes_in, LinkAt, Tables, ◌≤◌, LawfulAfter}
+use Rattle.router_world.proofs.Names.{MayFollow, Entry, Got, Wrote, Setup, most_command, IsOurs}
 use Rattle.router_world.proofs.Hands.{numbered-seat, told-seat}
 use Rattle.std.proofs.Math.Seq.{drop-append_seam}
 use Rattle.std.proofs.lemmas.List.{length-take-le}
-use Rattle.packet_frame.specs.Packets.{spelling}
 use Rattle.server_side.specs.Login.{opening}
-use Rattle.promises.specs.Sizes.{unwritten, client_at, query_in, last_bytes, owed_standing, login_first, owed_as, owed_by, owed, IsSized}
+use Rattle.promises.specs.Sizes.{unwritten, client_at, query_in, last_bytes, owed_standing, login_first, owed, IsSized}
 use Rattle.router_world.specs.Owed.{IsWhole}
 use Rattle.mx_wire.specs.Offers.{Offers}
 use Rattle.recording.specs.declared.entry.RecordEntry.{RecordEntry}
@@ -21,7 +20,7 @@ use Rattle.promises.specs.Replay.{KeepsSized}
 use Rattle.router_world.proofs.Dues.{due-refused}
 use Rattle.router_world.proofs.Sound.{PartAt, Refused, PartStands, RowStands, Sound, IsAsked}
 use Rattle.router_world.proofs.Lawful.{unowned, same-client, row-user, row_standing, row-written, row-inside, row-clean, row-sends, row-commands, asked-spelt}
-use Rattle.router_world.proofs.Lawful.{ClosesNext, ClosesClient, ClosesServer, closes-next, LeftAt, OfLogin, OfCommand, left-at}
+use Rattle.router_world.proofs.Lawful.{closes-next, LeftAt, OfLogin, OfCommand, left-at}
 use Rattle.router_world.proofs.Promises.{StandsFor, stands-all}
 use Rattle.router_world.proofs.Keeping.{service-of}
 

@@ -1,21 +1,18 @@
 -- An entry that concerns one client leaves all others as they were.
-use Rattle.router_world.proofs.Names.{arith, common_steps, ◌≡◌, ◌⊎◌, ℕ, Bool, true, false, nat_eq, List, [], ◌∷◌, ◌++◌, length, Option, Some, None, refl}
-use Rattle.router_world.proofs.Names.{cons_option, sym, ◌∙◌, ap, subst, append-nil, inl, inr, fold-append, ClientNo, LinkId, Log, AllLawful, IsOpen, Entry}
-use Rattle.router_world.proofs.Names.{Arrival, arrivals, arrival_in, connected, connected_step, Phase, Lent, Lends, Turn, Service, turn_of, IsLawful, IsServed}
-use Rattle.router_world.proofs.Names.{some-same, none-if, arrivals-more, Seat, replied, Tables, ◌≢◌, is_some, option_and_then, link_of, is_link, open_step}
-use Rattle.router_world.proofs.Names.{same_number, lawful-more, Fits, Setup, Turned, is_finished, set, refused_by, refused_on, refused_for, clients-unowned}
+use Rattle.router_world.proofs.Names.{arith, common_steps, ◌≡◌, ◌⊎◌, ℕ, Bool, true, false, nat_eq, List, [], ◌∷◌, ◌++◌, Option, Some, None, refl}
+use Rattle.router_world.proofs.Names.{sym, ◌∙◌, ap, subst, append-nil, inl, inr, fold-append, ClientNo, LinkId, Log, AllLawful, IsOpen, Entry}
+use Rattle.router_world.proofs.Names.{arrivals, arrival_in, connected, connected_step, Lent, Lends, Turn, Service, turn_of, IsLawful, IsServed}
+use Rattle.router_world.proofs.Names.{some-same, none-if, arrivals-more, Seat, Tables, is_some, option_and_then, link_of, open_step}
+use Rattle.router_world.proofs.Names.{Fits, Setup, set, refused_by, refused_on, refused_for}
 use Rattle.router_world.proofs.Names.{without_seat, closes, opens, asks}
-use Rattle.router_world.proofs.Hands.{away-gone, traces-self, known-later, none-some, Parted, Next, goes-on, apart-self}
+use Rattle.router_world.proofs.Hands.{away-gone, known-later, none-some}
 use Rattle.router_world.specs.Tables.{with_lends}
-use Rattle.router_world.proofs.Apart.{Traces, one-or-other, Apart, serves-apart, gone-apart, set-same, set-other, apart-numbers}
+use Rattle.router_world.proofs.Apart.{Traces, one-or-other, Apart, serves-apart, gone-apart, set-same, set-other}
 use Rattle.std.proofs.lemmas.Bool.{or_parts}
-use Rattle.router_world.proofs.Sound.{CloseStands, Sits, Happens, LendsSound, Sound, Hand, InHand, OnHand, SeatStands, Serves, Gone, Known, AtMostOne, Nobody}
-use Rattle.router_world.proofs.Connecting.{open-kept, Counts, counts-all}
-use Rattle.router_world.specs.World.{goes_on}
-use Rattle.router_world.specs.Acts.{has_some}
-use Rattle.router_world.proofs.Calm.{Leaves, leaves-other, Spares}
+use Rattle.router_world.proofs.Sound.{CloseStands, Sits, Happens, LendsSound, Sound, Hand, InHand, OnHand, Gone, Known, AtMostOne, Nobody}
+use Rattle.router_world.proofs.Connecting.{Counts}
+use Rattle.router_world.proofs.Calm.{Leaves, Spares}
 use Rattle.router_world.proofs.Frames.{Calm, busy-none, seat-calm, owner-turn, ask-calm, row-calm}
-use Rattle.client_talk.specs.declared.session.Phase.TheVariants as phase
 
 -- nobody comes and no client's link closes by the entry
 pub record IsPlain (e : Entry) : Type 0 where
