@@ -1,13 +1,13 @@
 -- A client's seat is taken out, and put back or not.
 use Rattle.router_world.proofs.Names.{common_steps, ◌≡◌, ◌⊎◌, ℕ, Bool, true, false, nat_eq, [], ◌∷◌, Option, Some, None, refl, sym, ◌∙◌, ap, subst, inl, inr}
-use Rattle.router_world.proofs.Names.{ClientNo, LinkId, Log, nat_eq-true, is_finished, Lent, Lends, set, Service, some-same, none-if, Seat, Tables, with_lends}
-use Rattle.router_world.proofs.Names.{◌++◌, IsOpen, Arrival, arrival_of, is_traffic, connected, Parting, ◌&&◌, Account, Phase, Query, is_ending, Turned, Ask}
-use Rattle.router_world.proofs.Names.{asked, gone, ◌<◌, ◌≤◌, ◌+◌, is_some, List, length, option_map, option_and_then, arith, append-nil, Framed, next_id}
-use Rattle.router_world.proofs.Names.{FrameFault, ClientState, Opening, WaitsToLogIn, Says, FailsToSay, opening-says-more, is_served, Talk, heard_more}
-use Rattle.router_world.proofs.Names.{opening_of, account, if_known, messages_of, front, front_in, fault_answer, Session, most_command, carrier_of, Answer}
-use Rattle.router_world.proofs.Names.{talk_with, user_of, Work, work_in, work_of, ends_in, ends_by, if_user, messages-grow, replied, first_open, answers_by}
-use Rattle.router_world.proofs.Names.{SeatAt, PhaseAt, IsWorking, due_said, work_said, over_said, in-work, ◌≢◌, is_query, turned, Asks, not, nil_from_length}
-use Rattle.router_world.proofs.Names.{written_of, is_open, was_lost, is_here_as, is_here, due, has_ended}
+use Rattle.router_world.proofs.Names.{ClientNo, LinkId, Log, nat_eq-true, is_finished, Lent, Lends, set, Service, some-same, none-if, Seat, Tables}
+use Rattle.router_world.proofs.Names.{with_lends, ◌++◌, IsOpen, Arrival, arrival_of, is_traffic, connected, Parting, ◌&&◌, Account, Phase, Query, is_ending}
+use Rattle.router_world.proofs.Names.{Turned, Ask, asked, gone, ◌<◌, ◌≤◌, ◌+◌, is_some, List, length, option_map, option_and_then, arith, append-nil, Framed}
+use Rattle.router_world.proofs.Names.{next_id, FrameFault, ClientState, Opening, WaitsToLogIn, Says, FailsToSay, opening-says-more, is_served, Talk}
+use Rattle.router_world.proofs.Names.{heard_more, opening_of, account, if_known, messages_of, front, front_in, fault_answer, Session, most_command}
+use Rattle.router_world.proofs.Names.{carrier_of, Answer, talk_with, user_of, Work, work_in, work_of, ends_in, ends_by, if_user, messages-grow, replied}
+use Rattle.router_world.proofs.Names.{first_open, answers_by, SeatAt, PhaseAt, IsWorking, due_said, work_said, over_said, in-work, ◌≢◌, is_query, turned}
+use Rattle.router_world.proofs.Names.{Asks, not, nil_from_length, written_of, is_open, was_lost, is_here_as, is_here, due, has_ended}
 use Rattle.promises.proofs.Staying.{account-more, Grown}
 use Rattle.router_world.proofs.Apart.{none-one, one-or-other, link-or-other, apart-links, apart-numbers, set-same, set-other, Row, row-of, Apart, Traces}
 use Rattle.router_world.proofs.Apart.{serves-apart, gone-apart, Went, Idle}
@@ -35,11 +35,13 @@ pub away-gone : (lends : Lends) (n : ℕ) → InHand None n ⊎ Gone lends n →
 away-gone lends n h2 = grind (arith, common_steps)
 
 -- The link of a client's seat.
-pub numbered-seat : (service : Service) (log : Log) (tables : Tables) (link : LinkId) (client : ClientNo) → Sound service log None tables → tables.numbers link.0 ≡ Some client → (seat : Seat) × (tables.seats client.0 ≡ Some seat) × (seat.link ≡ link)
+pub numbered-seat : (service : Service) (log : Log) (tables : Tables) (link : LinkId) (client : ClientNo) → Sound service log None tables
+    → tables.numbers link.0 ≡ Some client → (seat : Seat) × (tables.seats client.0 ≡ Some seat) × (seat.link ≡ link)
 numbered-seat service log tables link client sound is = grind (arith, common_steps)
 
 -- Whose a link is where its number is as it was, and others are to be closed.
-pub known-as : (numbers other : ℕ → Option ClientNo) (lends : Lends) (parting later : List Parting) (link : LinkId) → other link.0 ≡ numbers link.0 → ((p : Parting) → parting ≡ p ∷ [] → p.link ≡ link → Known other lends later link) → Known numbers lends parting link
+pub known-as : (numbers other : ℕ → Option ClientNo) (lends : Lends) (parting later : List Parting) (link : LinkId) → other link.0 ≡ numbers link.0
+    → ((p : Parting) → parting ≡ p ∷ [] → p.link ≡ link → Known other lends later link) → Known numbers lends parting link
     → Known other lends later link
 known-as numbers other lends parting later link same parts (Clients client is) = Clients client (same ∙ is)
 known-as numbers other lends parting later link same parts (Servers lent is) = Servers lent is
@@ -47,7 +49,8 @@ known-as numbers other lends parting later link same parts (Parts p is on) = par
 known-as numbers other lends parting later link same parts (Closes is) = Closes is
 
 -- Whose a link is where the links to servers changed: a row that went is to be closed.
-pub known-later : (numbers : ℕ → Option ClientNo) (lends other : Lends) (parting : List Parting) (link : LinkId) → ((lent : Lent) → lends.links link.0 ≡ Some lent → ((now : Lent) × (other.links link.0 ≡ Some now)) ⊎ (other.closing ≡ link ∷ []))
+pub known-later : (numbers : ℕ → Option ClientNo) (lends other : Lends) (parting : List Parting) (link : LinkId)
+    → ((lent : Lent) → lends.links link.0 ≡ Some lent → ((now : Lent) × (other.links link.0 ≡ Some now)) ⊎ (other.closing ≡ link ∷ []))
     → (lends.closing ≡ link ∷ [] → other.closing ≡ link ∷ []) → Known numbers lends parting link → Known numbers other parting link
 known-later numbers lends other parting link to closes (Clients client is) = Clients client is
 known-later numbers lends other parting link to closes (Parts one is on) = Parts one is on
@@ -58,7 +61,9 @@ known-later numbers lends other parting link to closes (Servers lent is) = by (t
   by (inr last) = Closes last
 
 -- The links to servers change for the client in hand.
-pub relend : (service : Service) (log : Log) (n : ℕ) (link : LinkId) (tables : Tables) (other : Lends) → Sound service log (Some (record { client = n; link = link })) tables → tables.seats n ≡ None → tables.parting ≡ [] → LendsSound service log other → Apart n tables.lends other → Traces tables.lends other
+pub relend : (service : Service) (log : Log) (n : ℕ) (link : LinkId) (tables : Tables) (other : Lends)
+    → Sound service log (Some (record { client = n; link = link })) tables → tables.seats n ≡ None → tables.parting ≡ []
+    → LendsSound service log other → Apart n tables.lends other → Traces tables.lends other
     → Sound service log (Some (record { client = n; link = link })) (with_lends other tables)
 relend service log n hand tables other sound out unparted lends apart traces = (let unclosing : (link : LinkId) → (tables.lends.closing ≡ link ∷ []) ⊎ ((lent : Lent) × (tables.lends.links link.0 ≡ Some lent)) → tables.numbers link.0 ≡ None =
     λ link h1. grind (arith, common_steps, none-if) in
@@ -84,9 +89,12 @@ relend service log n hand tables other sound out unparted lends apart traces = (
     }))
 
 -- The seat is put back.
-pub put-back : (service : Service) (log : Log) (client : ClientNo) (seat : Seat) (tables : Tables) → Sound service log (Some (record { client = client.0; link = seat.link })) tables → tables.seats client.0 ≡ None → tables.numbers seat.link.0 ≡ Some client → SeatStands service log client.0 seat → Serves seat.session.phase tables.lends client.0 seat.session.client.arrived
-    → is_finished seat.session ≡ false → Sound service log None (with_seat client seat tables)
-put-back service log client seat tables sound out number stands serves unfinished = (let back : set tables.seats client.0 (Some seat) client.0 ≡ Some seat = set-same tables.seats client.0 (Some seat) in
+pub put-back : {service : Service} {log : Log} {seat : Seat} {tables : Tables} (client : ClientNo)
+    → Sound service log (Some (record { client = client.0; link = seat.link })) tables → tables.seats client.0 ≡ None
+    → tables.numbers seat.link.0 ≡ Some client → SeatStands service log client.0 seat
+    → Serves seat.session.phase tables.lends client.0 seat.session.client.arrived → is_finished seat.session ≡ false
+    → Sound service log None (with_seat client seat tables)
+put-back {service} {log} {seat} {tables} client sound out number stands serves unfinished = (let back : set tables.seats client.0 (Some seat) client.0 ≡ Some seat = set-same tables.seats client.0 (Some seat) in
     let numbers : (link : LinkId) (other : ClientNo) → OnHand (Some (record { client = client.0; link = seat.link })) other.0 link ⊎ ((s : Seat) × (tables.seats other.0 ≡ Some s) × (s.link ≡ link)) → (s : Seat) × (set tables.seats client.0 (Some seat) other.0 ≡ Some s) × (s.link ≡ link) =
     λ link other h2. grind (arith, common_steps, set-other, apart-numbers) in
     let away : (k : ℕ) → nat_eq k client.0 ≡ false → InHand (Some (record { client = client.0; link = seat.link })) k ⊎ Gone tables.lends k → Gone tables.lends k =
@@ -121,8 +129,9 @@ pub record Parted (service : Service) (log : Log) (n : ℕ) (link : LinkId) : Ty
   pub opened : IsOpen link log
   pub at : PartAt service log n came []
 
-pub part-with : (service : Service) (log : Log) (client : ClientNo) (link : LinkId) (tables : Tables) → Sound service log (Some (record { client = client.0; link = link })) tables → tables.seats client.0 ≡ None → tables.numbers link.0 ≡ Some client → Gone tables.lends client.0 → tables.parting ≡ []
-    → Parted service log client.0 link → Sound service log None (parts link tables)
+pub part-with : (service : Service) (log : Log) (client : ClientNo) (link : LinkId) (tables : Tables)
+    → Sound service log (Some (record { client = client.0; link = link })) tables → tables.seats client.0 ≡ None → tables.numbers link.0 ≡ Some client
+    → Gone tables.lends client.0 → tables.parting ≡ [] → Parted service log client.0 link → Sound service log None (parts link tables)
 part-with service log client link tables sound out number gone none parted = (let new : Tables = parts link tables in
     let apart : (k : ℕ) (seat : Seat) → tables.seats k ≡ Some seat → nat_eq seat.link.0 link.0 ≡ false =
     λ k seat is. apart-links seat.link link (λ at. (let both : Some client ≡ Some (record { 0 = k }) = sym number ∙ ap (λ (l : LinkId). tables.numbers l.0) (sym at) ∙ (sound.seats k seat is).numbered in
@@ -195,19 +204,22 @@ apart-self n lends = record { asks = λ k differs. refl; owned = λ k differs. r
 pub traces-self : (lends : Lends) → Traces lends lends
 traces-self lends = record { from = λ link lent is. (lent, is); to = λ link lent is. inl (lent, is); closed = λ link is. inl is; closes = λ link is. is }
 
-turns : (service : Service) (log : Log) (n arrived : ℕ) (at : Phase) (query : Option Query) (lends : Lends) → LendsSound service log lends → Next service log n lends at arrived query
+turns : {service : Service} {log : Log} {n arrived : ℕ} {at : Phase} {query : Option Query} {lends : Lends} → LendsSound service log lends
+    → Next service log n lends at arrived query
     → Turns service log n arrived at lends (leaving (is_ending at) (record { 0 = n }) (asking (record { 0 = n }) (account_in at) query lends))
-turns service log n arrived at query lends sound (Comes user asks free idle stands same) = (let now = asked-sound service log n (ask_for user asks) lends sound free idle stands in
+turns {n} {lends} sound (Comes user asks free idle stands same) = (let now = asked-sound sound free idle stands in
     record { sound = now.sound; serves = subst (Busy (asked (record { 0 = n }) (ask_for user asks) lends) n) same now.busy; apart = now.apart; traces = now.traces })
-turns service log n arrived at query lends sound (Works user busy) = record { sound = sound; serves = busy; apart = apart-self n lends; traces = traces-self lends }
-turns service log n arrived at query lends sound (Rests user free) = record { sound = sound; serves = free; apart = apart-self n lends; traces = traces-self lends }
-turns service log n arrived at query lends sound (LogsIn gone) = record { sound = sound; serves = gone; apart = apart-self n lends; traces = traces-self lends }
-turns service log n arrived at query lends sound (Ends o went) = record { sound = went.sound; serves = went.gone; apart = went.apart; traces = went.traces }
+turns {n} {lends} sound (Works user busy) = record { sound = sound; serves = busy; apart = apart-self n lends; traces = traces-self lends }
+turns {n} {lends} sound (Rests user free) = record { sound = sound; serves = free; apart = apart-self n lends; traces = traces-self lends }
+turns {n} {lends} sound (LogsIn gone) = record { sound = sound; serves = gone; apart = apart-self n lends; traces = traces-self lends }
+turns sound (Ends o went) = record { sound = went.sound; serves = went.gone; apart = went.apart; traces = went.traces }
 
-pub goes-on : (service : Service) (log : Log) (client : ClientNo) (link : LinkId) (turned : Turned) (tables : Tables) → Sound service log (Some (record { client = client.0; link = link })) tables → tables.seats client.0 ≡ None → tables.numbers link.0 ≡ Some client → tables.parting ≡ []
-    → SeatStands service log client.0 (record { link = link; session = turned.session }) → Next service log client.0 tables.lends turned.session.phase turned.session.client.arrived turned.query → (is_finished turned.session ≡ true → Parted service log client.0 link)
-    → Sound service log None (goes_on client link turned tables)
-goes-on service log client link turned tables sound out number unparted stands next parted = by (turns service log client.0 turned.session.client.arrived turned.session.phase turned.query tables.lends sound.lends next) where
+pub goes-on : (service : Service) (log : Log) (client : ClientNo) (link : LinkId) (turned : Turned) (tables : Tables)
+    → Sound service log (Some (record { client = client.0; link = link })) tables → tables.seats client.0 ≡ None → tables.numbers link.0 ≡ Some client
+    → tables.parting ≡ [] → SeatStands service log client.0 (record { link = link; session = turned.session })
+    → Next service log client.0 tables.lends turned.session.phase turned.session.client.arrived turned.query
+    → (is_finished turned.session ≡ true → Parted service log client.0 link) → Sound service log None (goes_on client link turned tables)
+goes-on service log client link turned tables sound out number unparted stands next parted = by (turns sound.lends next) where
   lends : Lends
   lends = leaving (is_ending turned.session.phase) client (asking client (account_in turned.session.phase) turned.query tables.lends)
 
@@ -217,25 +229,30 @@ goes-on service log client link turned tables sound out number unparted stands n
     gone-at at is serves = grind (arith, common_steps)
 
     at : (b : Bool) → is_finished turned.session ≡ b → Sound service log (Some (record { client = client.0; link = link })) (with_lends lends tables) → Sound service log None (seated_or_parts b client (record { link = link; session = turned.session }) (with_lends lends tables))
-    at false going sound = put-back service log client (record { link = link; session = turned.session }) (with_lends lends tables) sound out number stands now.serves going
+    at false going sound = put-back client sound out number stands now.serves going
     at true is sound = part-with service log client link (with_lends lends tables) sound out number (gone-at turned.session.phase (and_parts (is_ending turned.session.phase) _ is).0 now.serves) unparted (parted is)
 
 -- A query that came up for work is in work, by the promises; and a client at its end stays so.
 
 -- Behind messages that are all answered the one in work comes later.
-pub later-work : (talk : Talk) (reply : ℕ → Option Answer) (past later : List Framed) (work : Work) → (messages_of talk).messages ≡ past ++ later → first_open talk.setup reply 1 past ≡ None → work_said reply talk ≡ Some work → length past < work.ordinal
+pub later-work : (talk : Talk) (reply : ℕ → Option Answer) (past later : List Framed) (work : Work) → (messages_of talk).messages ≡ past ++ later
+    → first_open talk.setup reply 1 past ≡ None → work_said reply talk ≡ Some work → length past < work.ordinal
 later-work talk reply past later work messages all is = (let from : 1 + length past ≤ work.ordinal = open-from talk.setup reply (1 + length past) later work (sym (goes-all talk.setup reply 1 past later all) ∙ sym (ap (first_open talk.setup reply 1) messages) ∙ is) in omega arith)
 
 -- The message in work, by the promises.
-pub work-is : (service : Service) (n : ℕ) (came : Arrival) (log : Log) → arrival_of n log ≡ Some came → work_of service n log ≡ work_said (λ i. replied service n i log) (talk_with service n came log)
+pub work-is : (service : Service) (n : ℕ) (came : Arrival) (log : Log) → arrival_of n log ≡ Some came
+    → work_of service n log ≡ work_said (λ i. replied service n i log) (talk_with service n came log)
 work-is service n came log is = ap (λ (o : Option Arrival). work_in service n log (option_map (λ (came : Arrival). talk_with service n came log) o)) is ∙ first-replied service n came log is
 
-pub user-is : (service : Service) (n : ℕ) (came : Arrival) (log : Log) → arrival_of n log ≡ Some came → user_of service n log ≡ account (talk_with service n came log)
+pub user-is : (service : Service) (n : ℕ) (came : Arrival) (log : Log) → arrival_of n log ≡ Some came
+    → user_of service n log ≡ account (talk_with service n came log)
 user-is service n came log is = ap (λ (o : Option Arrival). option_and_then account (option_map (λ (came : Arrival). talk_with service n came log) o)) is
 
-pub working-asked : (service : Service) (n : ℕ) (came : Arrival) (log : Log) (user : Account) (client : ClientState) (bytes : List ℕ) (id : ℕ) → arrival_of n log ≡ Some came → is_served service.setup came ≡ true → service.setup.limit ≤ most_command → AreFormed service log
-    → (working : IsWorking (talk_with service n came log) (λ i. replied service n i log) user client) → bytes ≡ spelling 0 working.message.payload → id ≡ next_id working.message.last → IsAsked service n client.arrived bytes id log
-working-asked service n came log user client bytes id is served short formed working packets first = (let work : work_of service n log ≡ Some (record { ordinal = client.arrived; message = working.message }) = work-is service n came log is ∙ working.work in
+pub working-asked : {service : Service} {n : ℕ} {log : Log} {user : Account} {client : ClientState} {bytes : List ℕ} {id : ℕ} (came : Arrival)
+    → arrival_of n log ≡ Some came → is_served service.setup came ≡ true → service.setup.limit ≤ most_command → AreFormed service log
+    → (working : IsWorking (talk_with service n came log) (λ i. replied service n i log) user client) → bytes ≡ spelling 0 working.message.payload
+    → id ≡ next_id working.message.last → IsAsked service n client.arrived bytes id log
+working-asked {service} {n} {log} {client} came is served short formed working packets first = (let work : work_of service n log ≡ Some (record { ordinal = client.arrived; message = working.message }) = work-is service n came log is ∙ working.work in
     let due = work-due service n log (record { ordinal = client.arrived; message = working.message }) work in
     record {
       message = working.message;
@@ -248,11 +265,13 @@ working-asked service n came log user client bytes id is served short formed wor
       first = first;
     })
 
-pub working-ask : (service : Service) (n : ℕ) (came : Arrival) (log : Log) (user : Account) (client : ClientState) (query : Query) → arrival_of n log ≡ Some came → is_served service.setup came ≡ true → service.setup.limit ≤ most_command → AreFormed service log
-    → (working : IsWorking (talk_with service n came log) (λ i. replied service n i log) user client) → query.ordinal ≡ client.arrived → query.first ≡ next_id working.message.last → query.packets ≡ spelling 0 working.message.payload
-    → carrier_of n client.arrived log ≡ None → AskStands service log n (ask_for user query)
-working-ask service n came log user client query is served short formed working ordinal first packets none = record {
-  asked = subst (λ i. IsAsked service n i query.packets query.first log) (sym ordinal) (working-asked service n came log user client query.packets query.first is served short formed working packets first);
+pub working-ask : {service : Service} {n : ℕ} {log : Log} {user : Account} {client : ClientState} (came : Arrival) (query : Query)
+    → arrival_of n log ≡ Some came → is_served service.setup came ≡ true → service.setup.limit ≤ most_command → AreFormed service log
+    → (working : IsWorking (talk_with service n came log) (λ i. replied service n i log) user client) → query.ordinal ≡ client.arrived
+    → query.first ≡ next_id working.message.last → query.packets ≡ spelling 0 working.message.payload → carrier_of n client.arrived log ≡ None
+    → AskStands service log n (ask_for user query)
+working-ask {service} {n} {log} came query is served short formed working ordinal first packets none = record {
+  asked = subst (λ i. IsAsked service n i query.packets query.first log) (sym ordinal) (working-asked came is served short formed working packets first);
   account = user-is service n came log is ∙ working.account;
   unsent = ap (λ i. carrier_of n i log) ordinal ∙ none;
 }
@@ -262,12 +281,14 @@ record StaysOver (reply : ℕ → Option Answer) (talk now : Talk) : Type 0 wher
   due : due_said reply now ≡ due_said reply talk
   over : over_said reply now ≡ true
 
-over-alone : (reply : ℕ → Option Answer) (talk now : Talk) (o p : Opening) → opening_of talk ≡ o → opening_of now ≡ p → commands_in talk o ≡ [] → commands_in now p ≡ [] → front_in talk o ≡ front_in now p
-    → (ended : Bool) → ((other : Bool) → ends_in p (account now) other ≡ true) → StaysOver reply talk now
-over-alone reply talk now o p was is none h8 same ended over = grind (arith, common_steps, due-alone)
+over-alone : {reply : ℕ → Option Answer} {talk now : Talk} (o p : Opening) → opening_of talk ≡ o → opening_of now ≡ p → commands_in talk o ≡ []
+    → commands_in now p ≡ [] → front_in talk o ≡ front_in now p → (ended : Bool) → ((other : Bool) → ends_in p (account now) other ≡ true)
+    → StaysOver reply talk now
+over-alone o p was is none h8 same ended over = grind (arith, common_steps, due-alone)
 
-over-known : (reply : ℕ → Option Answer) (talk : Talk) (more : List ℕ) (user : Account) → account talk ≡ Some user → over_said reply talk ≡ true → StaysOver reply talk (heard_more talk more)
-over-known reply talk more user is over = by (work_said reply talk) refl (messages_of talk).fault refl (sym (over-in reply talk user is) ∙ over) where
+over-known : {reply : ℕ → Option Answer} {talk : Talk} (more : List ℕ) (user : Account) → account talk ≡ Some user → over_said reply talk ≡ true
+    → StaysOver reply talk (heard_more talk more)
+over-known {reply} {talk} more user is over = by (work_said reply talk) refl (messages_of talk).fault refl (sym (over-in reply talk user is) ∙ over) where
   now : Talk
   now = heard_more talk more
 
@@ -291,22 +312,23 @@ over-known reply talk more user is over = by (work_said reply talk) refl (messag
         over = over-in reply now user (account-more talk more user is) ∙ ap (λ l. ends_by (first_open talk.setup reply 1 l) (is_some (messages_of now).fault)) same ∙ ap (λ f. ends_by (work_said reply talk) (is_some f)) faulty ∙ ends;
       })
 
-stays-over : (reply : ℕ → Option Answer) (talk : Talk) (more : List ℕ) → over_said reply talk ≡ true → StaysOver reply talk (heard_more talk more)
-stays-over reply talk more over = by (opening_of talk) refl (account talk) refl over where
+stays-over : {reply : ℕ → Option Answer} {talk : Talk} (more : List ℕ) → over_said reply talk ≡ true → StaysOver reply talk (heard_more talk more)
+stays-over {reply} {talk} more over = by (opening_of talk) refl (account talk) refl over where
   now : Talk
   now = heard_more talk more
 
   by : (o : Opening) → opening_of talk ≡ o → (a : Option Account) → account talk ≡ a → over_said reply talk ≡ true → StaysOver reply talk now
   by (WaitsToLogIn switched) at a who over = absurd (let none : false ≡ true = sym (ap (λ (o : Opening). ends_in o (account talk) (ends_by (work_said reply talk) (is_some (messages_of talk).fault))) at) ∙ over in cc)
-  by (FailsToSay switched fault id) at a who over = over-alone reply talk now (FailsToSay switched fault id) (FailsToSay switched fault id) at (opening-fails-more talk.setup.limit talk.read more switched fault id at) refl refl refl true (λ other. refl)
-  by (Says switched response id rest) at (Some user) who over = over-known reply talk more user who over
+  by (FailsToSay switched fault id) at a who over = over-alone (FailsToSay switched fault id) (FailsToSay switched fault id) at (opening-fails-more talk.setup.limit talk.read more switched fault id at) refl refl refl true (λ other. refl)
+  by (Says switched response id rest) at (Some user) who over = over-known more user who over
   by (Says switched response id rest) at None who over = (let says : opening_of now ≡ Says switched response id (rest ++ more) = opening-says-more talk.setup.limit talk.read more switched response id rest at in
       let unknown : account_by talk (Says switched response id rest) ≡ None = sym (ap (account_by talk) at) ∙ who in
-      over-alone reply talk now (Says switched response id rest) (Says switched response id (rest ++ more)) at says (ap (λ a. if_known a rest) unknown) (ap (λ a. if_known a (rest ++ more)) unknown) refl true
+      over-alone (Says switched response id rest) (Says switched response id (rest ++ more)) at says (ap (λ a. if_known a rest) unknown) (ap (λ a. if_known a (rest ++ more)) unknown) refl true
       (λ other. ap (λ a. if_user a other) (ap (account_by now) says ∙ unknown)))
 
-pub ending-more : (talk : Talk) (reply : ℕ → Option Answer) (written more : List ℕ) (session : Session) → session.phase ≡ phase.Ending → SeatAt talk reply written session → SeatAt (heard_more talk more) reply written session
-ending-more talk reply written more session ends seat = (let over = stays-over reply talk more (subst (λ (p : Phase). PhaseAt p talk reply (written ++ session.client.outgoing) session.client) ends seat.at) in record {
+pub ending-more : {talk : Talk} {reply : ℕ → Option Answer} {written : List ℕ} {session : Session} (more : List ℕ) → session.phase ≡ phase.Ending
+    → SeatAt talk reply written session → SeatAt (heard_more talk more) reply written session
+ending-more {talk} {reply} {written} {session} more ends seat = (let over : StaysOver reply talk (heard_more talk more) = stays-over more (subst (λ (p : Phase). PhaseAt p talk reply (written ++ session.client.outgoing) session.client) ends seat.at) in record {
   mine = seat.mine;
   due = seat.due ∙ sym over.due;
   at = subst (λ (p : Phase). PhaseAt p (heard_more talk more) reply (written ++ session.client.outgoing) session.client) (sym ends) over.over;
@@ -318,8 +340,10 @@ pub free-gone : (lends : Lends) (n : ℕ) → Gone lends n → Free lends n
 free-gone lends n gone = record { unasked = gone.unasked; idle = λ link lent owns is. absurd (let none : None ≡ Some link = sym gone.unowned ∙ owns in cc) }
 
 -- A client that ends by what it says may go.
-pub ends-so : (service : Service) (log : Log) (n : ℕ) (came : Arrival) (written : List ℕ) (session : Session) (lends : Lends) → LendsSound service log lends → (lends.closing ≡ []) ⊎ (lends.owned n ≡ None) → arrival_of n log ≡ Some came → Free lends n → session.phase ≡ phase.Ending
-    → SeatAt (talk_with service n came log) (λ i. replied service n i log) written session → Went service log n lends (gone (record { 0 = n }) lends)
+pub ends-so : (service : Service) (log : Log) (n : ℕ) (came : Arrival) (written : List ℕ) (session : Session) (lends : Lends)
+    → LendsSound service log lends → (lends.closing ≡ []) ⊎ (lends.owned n ≡ None) → arrival_of n log ≡ Some came → Free lends n
+    → session.phase ≡ phase.Ending → SeatAt (talk_with service n came log) (λ i. replied service n i log) written session
+    → Went service log n lends (gone (record { 0 = n }) lends)
 ends-so service log n came written session lends sound none is free ends seat = gone-sound service log n lends sound none (Idle free (λ work at. quits work (sym (work-is service n came log is) ∙ at) (is_query work.message.payload) refl)) where
   over : over_said (λ i. replied service n i log) (talk_with service n came log) ≡ true
   over = subst (λ (p : Phase). PhaseAt p (talk_with service n came log) (λ i. replied service n i log) (written ++ session.client.outgoing) session.client) ends seat.at
@@ -329,9 +353,11 @@ ends-so service log n came written session lends sound none is free ends seat = 
   quits work at true query = absurd (over-no-query (λ i. replied service n i log) (talk_with service n came log) work over at query)
 
 -- What is next for a session that had no query in work.
-pub next-turned : (service : Service) (log : Log) (n : ℕ) (came : Arrival) (written : List ℕ) (old : Session) (turned : Turned) (lends : Lends) → LendsSound service log lends → (lends.closing ≡ []) ⊎ (lends.owned n ≡ None) → (is_some service.setup.target ≡ true → lends.waiting ≡ [])
-    → arrival_of n log ≡ Some came → is_served service.setup came ≡ true → Free lends n → (turned.session.phase ≡ phase.LoggingIn → Gone lends n) → ((user : Account) → old.phase ≢ phase.Working user)
-    → (turned.query ≢ None → carrier_of n turned.session.client.arrived log ≡ None) → AreFormed service log → SeatTurned (talk_with service n came log) (λ i. replied service n i log) written old turned
+pub next-turned : (service : Service) (log : Log) (n : ℕ) (came : Arrival) (written : List ℕ) (old : Session) (turned : Turned) (lends : Lends)
+    → LendsSound service log lends → (lends.closing ≡ []) ⊎ (lends.owned n ≡ None) → (is_some service.setup.target ≡ true → lends.waiting ≡ [])
+    → arrival_of n log ≡ Some came → is_served service.setup came ≡ true → Free lends n → (turned.session.phase ≡ phase.LoggingIn → Gone lends n)
+    → ((user : Account) → old.phase ≢ phase.Working user) → (turned.query ≢ None → carrier_of n turned.session.client.arrived log ≡ None)
+    → AreFormed service log → SeatTurned (talk_with service n came log) (λ i. replied service n i log) written old turned
     → Next service log n lends turned.session.phase turned.session.client.arrived turned.query
 next-turned service log n came written old turned lends sound none idle is served free entering unworking unsent formed at = by turned.query refl at.asks turned.session.phase refl where
   talk : Talk
@@ -342,7 +368,7 @@ next-turned service log n came written old turned lends sound none idle is serve
 
   asks : (query : Query) → turned.query ≡ Some query → Asks (Some query) talk reply old turned.session → (p : Phase) → turned.session.phase ≡ p → Next service log n lends p turned.session.client.arrived (Some query)
   asks query same so p phase-is = (let stands : AskStands service log n (ask_for so.0 query) =
-      working-ask service n came log so.0 turned.session.client query is served at.seat.mine.short formed so.1 so.3 so.4 so.5 (unsent (λ none. (let no' : None ≡ Some query = sym none ∙ same in cc))) in
+      working-ask came query is served at.seat.mine.short formed so.1 so.3 so.4 so.5 (unsent (λ none. (let no' : None ≡ Some query = sym none ∙ same in cc))) in
       subst (λ (q : Phase). Next service log n lends q turned.session.client.arrived (Some query)) (sym so.2 ∙ phase-is)
       (Comes so.0 query free (idle (Rattle.router_world.proofs.Calm.asks-server service n (ask_for so.0 query).ordinal stands.asked.message stands.asked.due log stands.asked.asks)) stands so.3))
 
@@ -359,20 +385,25 @@ pub ending-is : (at : Phase) → is_ending at ≡ true → at ≡ phase.Ending
 ending-is at is = grind (arith, common_steps)
 
 -- A seat in its end.
-pub over-is : (service : Service) (log : Log) (n : ℕ) (came : Arrival) (session : Session) → IsHeard service log n came session → session.phase ≡ phase.Ending → over_said (λ i. replied service n i log) (talk_with service n came log) ≡ true
-over-is service log n came session heard ends = grind (arith, common_steps)
+pub over-is : {service : Service} {log : Log} {n : ℕ} {came : Arrival} {session : Session} → IsHeard service log n came session
+    → session.phase ≡ phase.Ending → over_said (λ i. replied service n i log) (talk_with service n came log) ≡ true
+over-is heard ends = grind (arith, common_steps)
 
-pub ended-heard : (service : Service) (log : Log) (n : ℕ) (came : Arrival) (session : Session) → arrival_of n log ≡ Some came → IsHeard service log n came session → session.phase ≡ phase.Ending → has_ended service n came log ≡ true
-ended-heard service log n came session is heard ends = grind (arith, common_steps, work-is, over-is)
+pub ended-heard : {service : Service} {log : Log} {n : ℕ} {came : Arrival} {session : Session} → arrival_of n log ≡ Some came
+    → IsHeard service log n came session → session.phase ≡ phase.Ending → has_ended service n came log ≡ true
+ended-heard is heard ends = grind (arith, common_steps, work-is, over-is)
 
-pub ended-seat : (service : Service) (log : Log) (n : ℕ) (seat : Seat) (stands : SeatStands service log n seat) → seat.session.phase ≡ phase.Ending → has_ended service n stands.came log ≡ true
+pub ended-seat : (service : Service) (log : Log) (n : ℕ) (seat : Seat) (stands : SeatStands service log n seat) → seat.session.phase ≡ phase.Ending
+    → has_ended service n stands.came log ≡ true
 ended-seat service log n seat stands ends = grind (arith, common_steps, ended-heard)
 
 -- What is due to it is what was written, and what is to be.
-pub told-seat : (service : Service) (log : Log) (n : ℕ) (seat : Seat) (stands : SeatStands service log n seat) → written_of stands.came.link log ++ seat.session.client.outgoing ≡ due service n log
+pub told-seat : (service : Service) (log : Log) (n : ℕ) (seat : Seat) (stands : SeatStands service log n seat)
+    → written_of stands.came.link log ++ seat.session.client.outgoing ≡ due service n log
 told-seat service log n seat stands = grind (arith, common_steps, due-unlost)
 
-pub finished-parted : (service : Service) (log : Log) (n : ℕ) (seat : Seat) → SeatStands service log n seat → is_finished seat.session ≡ true → Parted service log n seat.link
+pub finished-parted : (service : Service) (log : Log) (n : ℕ) (seat : Seat) → SeatStands service log n seat → is_finished seat.session ≡ true
+    → Parted service log n seat.link
 finished-parted service log n seat stands finished = (let both = and_parts (is_ending seat.session.phase) (nat_eq (length seat.session.client.outgoing) 0) finished in
     let ends : seat.session.phase ≡ phase.Ending = ending-is seat.session.phase both.0 in
     let none : seat.session.client.outgoing ≡ [] = nil_from_length seat.session.client.outgoing (nat_eq-true (length seat.session.client.outgoing) 0 both.1) in

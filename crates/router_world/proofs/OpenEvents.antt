@@ -4,17 +4,16 @@ use Rattle.router_world.proofs.Names.{Option, Some, None, refl, flat_map, filter
 use Rattle.router_world.proofs.Names.{list_any-append, ServerId, Address, ClientNo, LinkId, Log, is_link, of_link, got_bytes, open_step, is_open, IsNew, Fits}
 use Rattle.router_world.proofs.Names.{AllLawful, lawful-last, same_number, of_link-same, step-same, Entry, Opened, OpenFailed, nat_eq-true, new_backend, In}
 use Rattle.router_world.proofs.Names.{connection_refused, ServerAt, Ask, Lent, Lends, Told, oldest, with_link, without_ask, refusal_for, opened, open_failed}
-use Rattle.router_world.proofs.Names.{is_loss, until_loss, piece, pieces_of, Turn, Service, open_tries, next_turn, turn_by, is_turn, refused, reply_to, MayOpen}
-use Rattle.router_world.proofs.Names.{IsLawful, some-same, refused-more, refusal-cause, or-inr, tries-more, turn-stays, user-stays, turn_for, turn_at, turns}
-use Rattle.router_world.proofs.Names.{tables_after, replied, LinkAt, ◌<◌, lawful-more, IsOpen, step-other, Phase, refused_by, none-if, Seat, Tables, with_lends}
-use Rattle.router_world.proofs.Names.{told}
+use Rattle.router_world.proofs.Names.{is_loss, until_loss, piece, pieces_of, Turn, Service, open_tries, next_turn, turn_by, is_turn, refused, reply_to}
+use Rattle.router_world.proofs.Names.{MayOpen, IsLawful, some-same, refused-more, refusal-cause, or-inr, tries-more, turn-stays, user-stays, turn_for}
+use Rattle.router_world.proofs.Names.{turn_at, turns, tables_after, replied, LinkAt, ◌<◌, lawful-more, IsOpen, step-other, Phase, refused_by, none-if, Seat}
+use Rattle.router_world.proofs.Names.{Tables, with_lends, told}
 use Rattle.router_world.proofs.Hands.{numbered-seat, away-gone}
 use Rattle.router_world.proofs.Apart.{link-or-other, apart-links, apart-numbers, rows-one, row-now, set-same, set-other, Apart, RowNow, Was, Mended, mended}
 use Rattle.router_world.proofs.Apart.{Comes, Quiet, Came, none-one, one-same, NoRow, apart-none, traces-none}
 use Rattle.router_world.proofs.Connecting.{open-kept, counts-all}
 use Rattle.router_world.proofs.Sound.{Happens, AskStands, Own, RowStands, AtMostOne, Nobody, Waiting, Owns, LendsSound, Busy, Waits, Logs, On, Covers, Sound}
 use Rattle.router_world.proofs.Sound.{Serves, Unsent, Known, Servers}
-use Rattle.packet_frame.specs.Packets.{spelling}
 use Rattle.server_side.specs.declared.stage.Stage.TheVariants.{Greeting}
 use Rattle.lend_core.specs.Lends.{others}
 use Rattle.lend_core.specs.Changes.{owns, without_first}
@@ -24,14 +23,15 @@ use Rattle.promises.proofs.Links.{new-untried}
 use Rattle.router_world.proofs.RowsPieces.{pieces-some}
 use Rattle.router_world.proofs.RowsStanding.{first-at}
 use Rattle.router_world.proofs.Frames.{Calm, ask-calm, seat-stays}
-use Rattle.router_world.proofs.LinksAt.{Opens, OpensNone, open-cause, but-client, ask-unreplied, Concerns, calm-other, leaves-others}
-use Rattle.router_world.proofs.LinksFailed.{answers-one, error-spelt}
+use Rattle.router_world.proofs.LinksAt.{Opens, OpensNone, open-cause, but-client, Concerns, calm-other, leaves-others, answers-one, error-spelt}
+use Rattle.router_world.proofs.LinksAt.{ask-unreplied}
 use Rattle.router_world.proofs.Calm.{Leaves, leaves-other, Spares, carrier-same, unrefused-more}
 use Rattle.router_world.proofs.Lawful.{IsFor, next-turn}
 use Rattle.router_world.proofs.Stepping.{Others, Mine, moved, IsQuiet}
 use Rattle.router_world.proofs.Answered.{working-busy, serves-quiet, server-step}
 
-turn-there : (link : LinkId) (tries : List (Option LinkId)) (turns : List Turn) (turn : Turn) → list_any (is_link link) tries ≡ false → slice_get turns (length tries) ≡ Some turn → turn_by link (tries ++ Some link ∷ []) turns ≡ Some turn
+turn-there : (link : LinkId) (tries : List (Option LinkId)) (turns : List Turn) (turn : Turn) → list_any (is_link link) tries ≡ false
+    → slice_get turns (length tries) ≡ Some turn → turn_by link (tries ++ Some link ∷ []) turns ≡ Some turn
 turn-there link [] [] turn new at = absurd (let no' : None ≡ Some turn = at in cc)
 turn-there link [] (first ∷ turns) turn new at = ap (λ b. cond b (Some first) None) (same_number link.0) ∙ at
 turn-there link (t ∷ tries) [] turn new at = absurd (let no' : None ≡ Some turn = at in cc)
@@ -49,21 +49,26 @@ pub record IsAwaited (service : Service) (log : Log) (lends : Lends) (client : C
 abbrev pub turn_with : ClientNo → Ask → Turn
 turn_with client ask = record { client = client.0; ordinal = ask.ordinal; hostgroup = 0 }
 
-awaited-next : (service : Service) (log : Log) (e : Entry) (lends : Lends) (client : ClientNo) (awaited : IsAwaited service log lends client) (ask : Ask) → lends.asks client.0 ≡ Some ask → Covers service (log ++ e ∷ [])
-    → turn_at (tables_after service.setup log) e ≡ turn_for (oldest (tables_after service.setup log).lends.waiting) (tables_after service.setup log).lends.asks → next_turn service log ≡ Some (turn_with client ask)
-awaited-next service log e lends client awaited ask asks covers at = grind (arith, common_steps, next-turn)
+awaited-next : {service : Service} {log : Log} {lends : Lends} {client : ClientNo} (e : Entry) (awaited : IsAwaited service log lends client) (ask : Ask)
+    → lends.asks client.0 ≡ Some ask → Covers service (log ++ e ∷ [])
+    → turn_at (tables_after service.setup log) e ≡ turn_for (oldest (tables_after service.setup log).lends.waiting) (tables_after service.setup log).lends.asks
+    → next_turn service log ≡ Some (turn_with client ask)
+awaited-next e awaited ask asks covers at = grind (arith, common_steps, next-turn)
 
 -- no row is of that client
-awaited-others : (service : Service) (at : ServerAt) (log : Log) (lends : Lends) (turn : Turn) (l : LinkId) (x : Lent) → MayOpen service at log → next_turn service log ≡ Some turn → turn.hostgroup ≡ 0 → (row : RowStands service log lends l x) → nat_eq row.turn.client turn.client ≡ false
-awaited-others service at log lends turn l x may next zero_group row = grind (arith, common_steps, apart-numbers, some-same, opened)
+awaited-others : {service : Service} {at : ServerAt} {log : Log} {lends : Lends} {l : LinkId} {x : Lent} (turn : Turn) → MayOpen service at log
+    → next_turn service log ≡ Some turn → turn.hostgroup ≡ 0 → (row : RowStands service log lends l x) → nat_eq row.turn.client turn.client ≡ false
+awaited-others turn may next zero_group row = grind (arith, common_steps, apart-numbers, some-same, opened)
 
-pub open-failed-sound : (service : Service) (log : Log) (server : ServerId) (address : Address) (lends : Lends) (client : ClientNo) → AllLawful (IsLawful service) (log ++ OpenFailed server address ∷ []) → AllLawful Fits (log ++ OpenFailed server address ∷ []) → IsAwaited service log lends client
-    → Covers service (log ++ OpenFailed server address ∷ []) → Came service (log ++ OpenFailed server address ∷ []) client.0 lends (open_failed lends)
-open-failed-sound service log server address lends client lawful fits awaited covers = (let e : Entry = OpenFailed server address in
+pub open-failed-sound : {service : Service} {log : Log} {lends : Lends} {client : ClientNo} (server : ServerId) (address : Address)
+    → AllLawful (IsLawful service) (log ++ OpenFailed server address ∷ []) → AllLawful Fits (log ++ OpenFailed server address ∷ [])
+    → IsAwaited service log lends client → Covers service (log ++ OpenFailed server address ∷ [])
+    → Came service (log ++ OpenFailed server address ∷ []) client.0 lends (open_failed lends)
+open-failed-sound {service} {log} {lends} {client} server address lawful fits awaited covers = (let e : Entry = OpenFailed server address in
     let new : Log = log ++ e ∷ [] in
     let mine : Waiting lends client = awaited.sound.waits client awaited.waiting in
     let turn : Turn = turn_with client mine.ask in
-    let next : next_turn service log ≡ Some (turn_with client mine.ask) = awaited-next service log e lends client awaited mine.ask mine.asks covers refl in
+    let next : next_turn service log ≡ Some (turn_with client mine.ask) = awaited-next e awaited mine.ask mine.asks covers refl in
     let other : Lends = without_ask client (without_first lends) in
     let unwaiting : other.waiting ≡ [] = ap others awaited.waiting in
     let unasked : other.asks client.0 ≡ None = set-same lends.asks client.0 None in
@@ -77,9 +82,9 @@ open-failed-sound service log server address lends client lawful fits awaited co
     } in
     let row : (l : LinkId) (x : Lent) → lends.links l.0 ≡ Some x → RowStands service log lends l x → RowNow service new client.0 lends other l x =
     λ l x is stands. Was is stands.turn (turn-stays service l log (e ∷ []) stands.turn stands.is_turn)
-    (awaited-others service (record { server = server; address = address }) log lends (turn_with client mine.ask) l x (lawful-last (IsLawful service) log e lawful).1 next refl stands) in
+    (awaited-others (turn_with client mine.ask) (lawful-last (IsLawful service) log e lawful).1 next refl stands) in
     let mends : Mended service new client.0 lends other = record {
-      apart = apart-none client.0 lends other same;
+      apart = apart-none same;
       rows = λ l x is. row l x is (awaited.sound.rows l x is);
       ask = λ a is. absurd (let no' : None ≡ Some a = sym unasked ∙ is in cc);
       owns = λ l is. absurd (let no' : None ≡ Some l = sym mine.unowned ∙ is in cc);
@@ -93,10 +98,10 @@ open-failed-sound service log server address lends client lawful fits awaited co
     ∙ list_any-append (is_turn client.0 mine.ask.ordinal) (refused service log) (turn_with client mine.ask ∷ [])
     ∙ or-inr (list_any (is_turn client.0 mine.ask.ordinal) (refused service log)) (is_turn client.0 mine.ask.ordinal (turn_with client mine.ask) || false) (ap (λ b. (b && nat_eq mine.ask.ordinal mine.ask.ordinal) || false) (same_number client.0) ∙ ap (λ b. b || false) (same_number mine.ask.ordinal))) in
     let came : Came service new client.0 lends (record { lends = other; answer = Some (refusal_for client mine.ask) }) = record {
-      sound = mended service new client.0 lends other (but-client service log e client.0 lends lawful fits awaited.sound (OpensNone server address (turn_with client mine.ask) next refl)) mends;
-      apart = apart-none client.0 lends other same;
-      traces = traces-none client.0 lends other same;
-      comes = answers-one service log e client.0 mine.ask.ordinal lends other (connection_refused ∷ []) (spelling mine.ask.first connection_refused) mine.ask.packets mine.ask.first (error-spelt mine.ask.first connection_refused) (Waits mine.ask mine.asks refl mine.unowned awaited.waiting) stands.asked told
+      sound = mended (but-client lawful fits awaited.sound (OpensNone server address (turn_with client mine.ask) next refl)) mends;
+      apart = apart-none same;
+      traces = traces-none same;
+      comes = answers-one e (error-spelt mine.ask.first connection_refused) (Waits mine.ask mine.asks refl mine.unowned awaited.waiting) stands.asked told
           (record { unasked = unasked; idle = λ l x owned is. absurd (let no' : None ≡ Some l = sym mine.unowned ∙ owned in cc) }) unwaiting (inl awaited.unclosed);
     } in
     subst (λ w. Came service new client.0 lends (refused_owner (oldest w) (without_first lends))) (sym awaited.waiting)
@@ -112,9 +117,11 @@ pub record CameNew (service : Service) (log : Log) (n : ℕ) (link : LinkId) (le
   pub closing : told.lends.closing ≡ lends.closing
   pub comes : Comes service log n lends told.lends told.answer
 
-pub opened-sound : (service : Service) (log : Log) (server : ServerId) (address : Address) (link : LinkId) (lends : Lends) (client : ClientNo) → AllLawful (IsLawful service) (log ++ Opened server address link ∷ []) → AllLawful Fits (log ++ Opened server address link ∷ []) → IsAwaited service log lends client
-    → Covers service (log ++ Opened server address link ∷ []) → CameNew service (log ++ Opened server address link ∷ []) client.0 link lends (record { lends = opened link lends; answer = None })
-opened-sound service log server address link lends client lawful fits awaited covers = (let next : next_turn service log ≡ Some (turn_with client mine.ask) = awaited-next service log e lends client awaited mine.ask mine.asks covers refl in
+pub opened-sound : {service : Service} {log : Log} {link : LinkId} {lends : Lends} {client : ClientNo} (server : ServerId) (address : Address)
+    → AllLawful (IsLawful service) (log ++ Opened server address link ∷ []) → AllLawful Fits (log ++ Opened server address link ∷ [])
+    → IsAwaited service log lends client → Covers service (log ++ Opened server address link ∷ [])
+    → CameNew service (log ++ Opened server address link ∷ []) client.0 link lends (record { lends = opened link lends; answer = None })
+opened-sound {service} {log} {link} {lends} {client} server address lawful fits awaited covers = (let next : next_turn service log ≡ Some (turn_with client mine.ask) = awaited-next e awaited mine.ask mine.asks covers refl in
     let unnamed : IsNew link log = (lawful-last Fits log e fits).1 in
     let stands : AskStands service log client.0 mine.ask = awaited.sound.asks client.0 mine.ask mine.asks in
     -- no row is on a link that no entry names
@@ -130,15 +137,15 @@ opened-sound service log server address link lends client lawful fits awaited co
       user = user-stays service client.0 log (e ∷ []) mine.ask.account stands.account;
       some = pieces-some link new fits;
       at = subst (λ h. LinkAt service.forms mine.ask.account h (pieces_of link new) (new_backend mine.ask.account)) (sym (ap (λ (l : Log). flat_map got_bytes (until_loss l)) alone))
-          (subst (λ p. LinkAt service.forms mine.ask.account [] p (new_backend mine.ask.account)) (sym (ap (λ (l : Log). filter_map piece (until_loss l)) alone)) (first-at service.forms mine.ask.account));
+          (subst (λ p. LinkAt service.forms mine.ask.account [] p (new_backend mine.ask.account)) (sym (ap (λ (l : Log). filter_map piece (until_loss l)) alone)) (first-at));
       command = λ c has. absurd (let no' : None ≡ Some c = has in cc);
       enters = λ outside. record { ask = mine.ask; is = mine.asks; same = refl };
       owned = Own refl owned;
     } in
     let row : (l : LinkId) (x : Lent) → other.links l.0 ≡ Some x → RowNow service new client.0 lends other l x =
-    rows-one service new client.0 link lends other (λ k at. set-other lends.links link.0 k (Some now) at) (row-now service new client.0 link lends other now here first_row)
+    rows-one link (λ k at. set-other lends.links link.0 k (Some now) at) (row-now here first_row)
     (λ l x at is. (let stands = awaited.sound.rows l x is in Was is stands.turn (turn-stays service l log (e ∷ []) stands.turn stands.is_turn)
-    (awaited-others service (record { server = server; address = address }) log lends (turn_with client mine.ask) l x (lawful-last (IsLawful service) log e lawful).1 next refl stands))) in
+    (awaited-others (turn_with client mine.ask) (lawful-last (IsLawful service) log e lawful).1 next refl stands))) in
     let from : (l : LinkId) (x : Lent) → other.links l.0 ≡ Some x → ((old : Lent) × (lends.links l.0 ≡ Some old)) ⊎ (l ≡ link) =
     λ l x is. link-or-other l link (λ k. other.links k.0 ≡ Some x → ((old : Lent) × (lends.links k.0 ≡ Some old)) ⊎ (k ≡ link)) (λ now_is. inr refl) (λ at now_is. inl (x, sym (set-other lends.links link.0 l.0 (Some now) at) ∙ now_is)) is in
     (let unwaiting : other.waiting ≡ [] = ap others awaited.waiting in
@@ -159,7 +166,7 @@ opened-sound service log server address link lends client lawful fits awaited co
       closes = λ l is. absurd (none-one lends.closing awaited.unclosed is);
     } in
     let came : CameNew service new client.0 link lends (record { lends = other; answer = None }) = record {
-      sound = mended service new client.0 lends other (but-client service log e client.0 lends lawful fits awaited.sound (Opens server address link)) mends;
+      sound = mended (but-client lawful fits awaited.sound (Opens server address link)) mends;
       apart = apart;
       from = λ l x is. from l x is;
       to = λ l x is. set-other lends.links link.0 l.0 (Some now) (apart-link l x is) ∙ is;
@@ -191,7 +198,7 @@ opened-sound service log server address link lends client lawful fits awaited co
       owned = set-same lends.owned client.0 (Some link)
 
       calm : Calm service log e client.0
-      calm = record { writes = λ i. refl; spares = λ i turn is. absurd (open-cause service log server address link turn (refusal-cause service log e turn is)) }
+      calm = record { writes = λ i. refl; spares = λ i turn is. absurd (open-cause server address link (refusal-cause service log e turn is)) }
 
       unowned-no : (l : LinkId) → lends.owned client.0 ≡ Some l → ⊥
       unowned-no l is = (let no' : None ≡ Some l = sym mine.unowned ∙ is in cc)
@@ -202,7 +209,7 @@ opened-sound service log server address link lends client lawful fits awaited co
       goes i (On none l x command is_own at stage has tag) = absurd (unowned-no l is_own)
 
       silent : (i : ℕ) → Busy lends client.0 i → replied service client.0 i new ≡ None
-      silent i (Waits ask is same unowned waits) = ap (λ k. replied service client.0 k new) (sym same) ∙ ask-unreplied service log e client.0 ask lawful (awaited.sound.asks client.0 ask is) calm
+      silent i (Waits ask is same unowned waits) = ap (λ k. replied service client.0 k new) (sym same) ∙ ask-unreplied lawful (awaited.sound.asks client.0 ask is) calm
       silent i (Logs ask is same l x is_own at stage) = absurd (unowned-no l is_own)
       silent i (On none l x command is_own at stage has tag) = absurd (unowned-no l is_own)
 
@@ -216,28 +223,33 @@ pub record OnOpen (service : Service) (log : Log) (e : Entry) (tables : Tables) 
   pub are : tables_after service.setup log ≡ tables
   pub for : IsFor service log tables e
 
-awaited : (service : Service) (log : Log) (e : Entry) (tables : Tables) → Sound service log None tables → (on : OnOpen service log e tables) → IsAwaited service log tables.lends on.for.client
+awaited : (service : Service) (log : Log) (e : Entry) (tables : Tables) → Sound service log None tables → (on : OnOpen service log e tables)
+    → IsAwaited service log tables.lends on.for.client
 awaited service log e tables sound on = record { sound = sound.lends; are = ap (λ (t : Tables). t.lends) on.are; waiting = on.for.waits; unclosed = on.quiet.unclosed }
 
 abbrev turn-for : (service : Service) (log : Log) (e : Entry) (tables : Tables) → OnOpen service log e tables → Turn
 turn-for service log e tables on = record { client = on.for.client.0; ordinal = on.for.waiting.ask.ordinal; hostgroup = 0 }
 
-turn-next : (service : Service) (log : Log) (e : Entry) (tables : Tables) (on : OnOpen service log e tables) → next_turn service log ≡ Some (turn-for service log e tables on)
-turn-next service log e tables on = next-turn service log e (turn-for service log e tables on) (ap (λ t. turn_at t e) on.are ∙ on.for.turn) on.covers
+turn-next : {service : Service} {log : Log} {e : Entry} {tables : Tables} (on : OnOpen service log e tables)
+    → next_turn service log ≡ Some (turn-for service log e tables on)
+turn-next {service} {log} {e} {tables} on = next-turn service log e (turn-for service log e tables on) (ap (λ t. turn_at t e) on.are ∙ on.for.turn) on.covers
 
 -- what an open refuses is the command in work
-open-spares : (service : Service) (log : Log) (e : Entry) (n i arrived : ℕ) (turn : Turn) → next_turn service log ≡ Some turn → turn.ordinal ≡ arrived → arrived < i → (server : ServerId) (address : Address) → e ≡ OpenFailed server address → Spares service log e n i
+open-spares : (service : Service) (log : Log) (e : Entry) (n i arrived : ℕ) (turn : Turn) → next_turn service log ≡ Some turn → turn.ordinal ≡ arrived
+    → arrived < i → (server : ServerId) (address : Address) → e ≡ OpenFailed server address → Spares service log e n i
 open-spares service log e n i arrived turn next same later server address is other refuses = (let first : other.ordinal ≡ arrived = ap (λ (t : Turn). t.ordinal) (some-same other turn (sym refuses ∙ ap (refused_by service log) is ∙ next)) ∙ same in
     let by : (b : Bool) → nat_eq i other.ordinal ≡ b → is_turn n i other ≡ false = λ b at. grind (arith, common_steps, nat_eq-true) in
     by (nat_eq i other.ordinal) refl)
 
 -- A link can't be opened.
-pub open-failed-step : (service : Service) (log : Log) (server : ServerId) (address : Address) (tables : Tables) → Sound service log None tables → OnOpen service log (OpenFailed server address) tables → Sound service (log ++ OpenFailed server address ∷ []) None (told service.setup (open_failed tables.lends) tables)
+pub open-failed-step : (service : Service) (log : Log) (server : ServerId) (address : Address) (tables : Tables) → Sound service log None tables
+    → OnOpen service log (OpenFailed server address) tables
+    → Sound service (log ++ OpenFailed server address ∷ []) None (told service.setup (open_failed tables.lends) tables)
 open-failed-step service log server address tables sound on = (let e : Entry = OpenFailed server address in
     let n : ℕ = on.for.client.0 in
     let all : AllLawful Fits (log ++ e ∷ []) = lawful-more Fits log e on.happens.told on.happens.fits in
     let turn : Turn = turn-for service log e tables on in
-    let next : next_turn service log ≡ Some turn = turn-next service log e tables on in
+    let next : next_turn service log ≡ Some turn = turn-next on in
     let concerns : Concerns service log n e = OpensNone server address turn next refl in
     let in-work : (seat : Seat) → tables.seats n ≡ Some seat → turn.ordinal ≡ seat.session.client.arrived =
     λ seat is. sym (working-busy seat.session.phase tables.lends n seat.session.client.arrived turn.ordinal ((sound.seats n seat is).serves) (Waits on.for.waiting.ask on.for.waiting.asks refl on.for.waiting.unowned on.for.waits)).2 in
@@ -245,8 +257,8 @@ open-failed-step service log server address tables sound on = (let e : Entry = O
       happens = on.happens;
       plain = record { arrives = λ before. refl; stays = λ links. refl };
       quiet = on.quiet;
-      came = open-failed-sound service log server address tables.lends on.for.client on.happens.lawful all (awaited service log e tables sound on) on.covers;
-      calm = λ k apart. calm-other service log e n k concerns apart;
+      came = open-failed-sound server address on.happens.lawful all (awaited service log e tables sound on) on.covers;
+      calm = λ k apart. calm-other concerns apart;
       seats = λ k seat is. leaves-other seat.link log e refl;
       rows = λ link lent turn is of apart. leaves-other link log e refl;
       later = λ seat is unsent i after. (carrier-same n i log e refl ∙ (unsent i after).0, unrefused-more service n i log e (unsent i after).1 (open-spares service log e n i seat.session.client.arrived turn next (in-work seat is) after server address refl));
@@ -254,7 +266,9 @@ open-failed-step service log server address tables sound on = (let e : Entry = O
     }))
 
 -- A link is opened.
-pub opened-step : (service : Service) (log : Log) (server : ServerId) (address : Address) (link : LinkId) (tables : Tables) → Sound service log None tables → OnOpen service log (Opened server address link) tables → Sound service (log ++ Opened server address link ∷ []) None (with_lends (opened link tables.lends) tables)
+pub opened-step : (service : Service) (log : Log) (server : ServerId) (address : Address) (link : LinkId) (tables : Tables)
+    → Sound service log None tables → OnOpen service log (Opened server address link) tables
+    → Sound service (log ++ Opened server address link ∷ []) None (with_lends (opened link tables.lends) tables)
 opened-step service log server address link tables sound on = moved service log e n None tables tables.seats (opened link tables.lends) sound others (mine came.comes) where
   e : Entry
   e = Opened server address link
@@ -269,7 +283,7 @@ opened-step service log server address link tables sound on = moved service log 
   concerns = Opens server address link
 
   came : CameNew service (log ++ e ∷ []) n link tables.lends (record { lends = opened link tables.lends; answer = None })
-  came = opened-sound service log server address link tables.lends on.for.client on.happens.lawful all (awaited service log e tables sound on) on.covers
+  came = opened-sound server address on.happens.lawful all (awaited service log e tables sound on) on.covers
 
   -- the link was none that is open
   shut : (other : LinkId) → other ≡ link → IsOpen other log → ⊥
@@ -285,9 +299,9 @@ opened-step service log server address link tables sound on = moved service log 
   others = record {
     lawful = on.happens.lawful;
     plain = record { arrives = λ before. refl; stays = λ links. refl };
-    calm = λ k apart. calm-other service log e n k concerns apart;
+    calm = λ k apart. calm-other concerns apart;
     seats = λ k seat apart is. seats k seat is;
-    rows = λ other lent turn is of apart. leaves-others service log e n other turn concerns on.happens.fits (sound.lends.rows other lent is).opened of apart;
+    rows = λ other lent turn is of apart. leaves-others turn concerns on.happens.fits (sound.lends.rows other lent is).opened of apart;
     served = on.happens.served;
     unparted = on.quiet.unparted;
     counts = counts-all (log ++ e ∷ []) all;
@@ -298,7 +312,7 @@ opened-step service log server address link tables sound on = moved service log 
   from l (inr same) = inr (ap (λ (k : LinkId). tables.numbers k.0) same ∙ none-if (tables.numbers link.0) (λ client is. (let seat = numbered-seat service log tables link client sound is in shut seat.0.link seat.2 (sound.seats client.0 seat.0 seat.1).stands.opened)))
 
   later : (seat : Seat) → Unsent service n seat.session.client.arrived log → Unsent service n seat.session.client.arrived (log ++ e ∷ [])
-  later seat unsent i after = (carrier-same n i log e refl ∙ (unsent i after).0, unrefused-more service n i log e (unsent i after).1 (λ other is. absurd (open-cause service log server address link other (refusal-cause service log e other is))))
+  later seat unsent i after = (carrier-same n i log e refl ∙ (unsent i after).0, unrefused-more service n i log e (unsent i after).1 (λ other is. absurd (open-cause server address link (refusal-cause service log e other is))))
 
   mine : Comes service (log ++ e ∷ []) n tables.lends (opened link tables.lends) None → Mine service log e n None tables tables.seats (opened link tables.lends)
   mine (Quiet busy free gone none) = record {

@@ -1,9 +1,9 @@
 -- The pieces that were written on a link, and the commands in them.
-use Rattle.router_world.proofs.Names.{common_steps, ◌≡◌, ◌≤◌, ◌<◌, ℕ, zero, suc, ◌+◌, ◌-◌, ◌/◌, ◌%◌, Bool, true, false, not, cond, List, [], ◌∷◌, ◌++◌, length}
-use Rattle.router_world.proofs.Names.{drop, fold, Option, Some, None, refl, list_all, list_any, filter_map, cons_option, sym, ◌∙◌, ap, append-nil, arith}
-use Rattle.router_world.proofs.Names.{length-append, and_parts, and_from, or_parts, list_all-append, filter_map-append, flat_map-append, LinkId, Tag, Log, Fits}
-use Rattle.router_world.proofs.Names.{AllLawful, lawful-each, Entry, Framed, Found, longest, first_message-whole-more, is_empty, Command, piece, pieces_of}
-use Rattle.router_world.proofs.Names.{most_command, whole_by, with_piece, commands_in, behind, place_in, piece_bytes, bytes_in, is_of}
+use Rattle.router_world.proofs.Names.{common_steps, ◌≡◌, ◌≤◌, ◌<◌, ℕ, zero, suc, ◌+◌, ◌-◌, ◌/◌, ◌%◌, Bool, true, false, not, cond, List, [], ◌∷◌, ◌++◌}
+use Rattle.router_world.proofs.Names.{length, drop, fold, Option, Some, None, refl, list_all, list_any, filter_map, cons_option, sym, ◌∙◌, ap, append-nil}
+use Rattle.router_world.proofs.Names.{arith, length-append, and_parts, and_from, or_parts, list_all-append, filter_map-append, flat_map-append, LinkId, Tag}
+use Rattle.router_world.proofs.Names.{Log, Fits, AllLawful, lawful-each, Entry, Framed, Found, longest, first_message-whole-more, is_empty, Command, piece}
+use Rattle.router_world.proofs.Names.{pieces_of, most_command, whole_by, with_piece, commands_in, behind, place_in, piece_bytes, bytes_in, is_of}
 use Rattle.std.specs.Prelude.{nat_le}
 use Rattle.std.proofs.lemmas.Bool.{leb-false, or_from}
 use Rattle.packet_frame.specs.Packets.{Nothing, Whole, Faulty, first_message, spelling}
