@@ -4,7 +4,7 @@ use Rattle.router_world.proofs.Names.{set, ◌⊎◌, [], ◌∷◌, None, sym, 
 use Rattle.router_world.proofs.Names.{turn_of, List, inl, inr, Account, BackendState, is_begun, Command, Forms, LinkAt, Framed, next_id, Answered, Told}
 use Rattle.router_world.proofs.Names.{is_query, Answer, spelt, is_here, Work, message_of, work_of, replied}
 use Rattle.router_world.proofs.Sound.{Enters, Owned, RowStands, Free, Gone, Busy, Waits, Logs, On, Serves, AskStands, CloseStands, AtMostOne, Waiting, Owns}
-use Rattle.router_world.proofs.Sound.{LendsBut, LendsSound}
+use Rattle.router_world.proofs.Sound.{LendsBut, LendsSound, One}
 use Rattle.client_talk.specs.declared.session.Phase.TheVariants as phase
 
 pub no-some : {X : Type 0} {x : X} {o : Option X} → o ≡ None → o ≡ Some x → ⊥
@@ -164,41 +164,78 @@ module _ {service : Service} {log : Log} {n : ℕ} {lends other : Lends} where
       at true same = own stands.owned (nat_eq-true stands.turn.client n same)
 
   -- the rows where one link alone changed
-  pub rows-one : (link : LinkId) → ((k : ℕ) → nat_eq k link.0 ≡ false → other.links k ≡ lends.links k)
-      → ((x : Lent) → other.links link.0 ≡ Some x → RowNow service log n lends other link x)
-      → ((l : LinkId) (x : Lent) → nat_eq l.0 link.0 ≡ false → lends.links l.0 ≡ Some x → RowNow service log n lends other l x)
-      → (l : LinkId) (x : Lent) → other.links l.0 ≡ Some x → RowNow service log n lends other l x
-  rows-one link same here others l x is = link-or-other l link (λ k. other.links k.0 ≡ Some x → RowNow service log n lends other k x) (here x) (λ at now. others l x at (sym (same l.0 at) ∙ now)) is
+pub rows-one : {service : Service} {log : Log} {n : ℕ} {lends other : Lends} (link : LinkId) → ((k : ℕ) → nat_eq k link.0 ≡ false → other.links k ≡ lends.links k)
+    → ((x : Lent) → other.links link.0 ≡ Some x → RowNow service log n lends other link x)
+    → ((l : LinkId) (x : Lent) → nat_eq l.0 link.0 ≡ false → lends.links l.0 ≡ Some x → RowNow service log n lends other l x)
+    → (l : LinkId) (x : Lent) → other.links l.0 ≡ Some x → RowNow service log n lends other l x
+rows-one {service} {log} {n} {lends} {other} link same here others l x is =
+    link-or-other l link (λ k. other.links k.0 ≡ Some x → RowNow service log n lends other k x) (here x) (λ at now. others l x at (sym (same l.0 at) ∙ now)) is
 
-  pub row-now : {link : LinkId} {now : Lent} → other.links link.0 ≡ Some now → RowStands service log other link now → (x : Lent)
-      → other.links link.0 ≡ Some x → RowNow service log n lends other link x
-  row-now {link} {now} here stands x is = Now (subst (RowStands service log other link) (some-same now x (sym here ∙ is)) stands)
+pub row-now : {service : Service} {log : Log} {n : ℕ} {link : LinkId} {lends other : Lends} {now : Lent} → other.links link.0 ≡ Some now
+    → RowStands service log other link now → (x : Lent) → other.links link.0 ≡ Some x → RowNow service log n lends other link x
+row-now {service} {log} {link = link} {other = other} {now} here stands x is = Now (subst (RowStands service log other link) (some-same now x (sym here ∙ is)) stands)
 
--- No link changes.
-pub record NoRow (n : ℕ) (lends other : Lends) : Type 0 where
+-- Then all stands, the others have what they had, and rows come from rows.
+pub record Stood (service : Service) (log : Log) (n : ℕ) (lends other : Lends) : Type 0 where
+  pub sound : LendsSound service log other
+  pub apart : Apart n lends other
+  pub traces : Traces lends other
+
+-- A link that is to be closed stands so where it has no row.
+close-kept : {service : Service} {log : Log} {lends other : Lends} {link : LinkId} → CloseStands service log lends link → other.links link.0 ≡ None → CloseStands service log other link
+close-kept stands unlent = record { opened = stands.opened; unlent = unlent; turn = stands.turn; is_turn = stands.is_turn; may = stands.may }
+
+-- No link changes, and the client has none.
+pub record NoRow (service : Service) (log : Log) (n : ℕ) (lends other : Lends) : Type 0 where
   pub links : (k : ℕ) → other.links k ≡ lends.links k
   pub asks : (k : ℕ) → nat_eq k n ≡ false → other.asks k ≡ lends.asks k
   pub owned : (k : ℕ) → nat_eq k n ≡ false → other.owned k ≡ lends.owned k
+  pub unowned : other.owned n ≡ None
   pub waiting : (k : ℕ) → nat_eq k n ≡ false → lends.waiting ≡ record { 0 = k } ∷ [] → other.waiting ≡ record { 0 = k } ∷ []
   pub closing : other.closing ≡ lends.closing
+  pub ask : (ask : Ask) → other.asks n ≡ Some ask → AskStands service log n ask
+  pub one_waits : AtMostOne other.waiting
+  pub waits : (client : ClientNo) → other.waiting ≡ client ∷ [] → Waiting other client
 
-pub apart-none : {n : ℕ} {lends other : Lends} → NoRow n lends other → Apart n lends other
-apart-none none = record { asks = none.asks; owned = none.owned; links = λ k link differs owns. none.links link.0; waiting = none.waiting }
-
-pub traces-none : {n : ℕ} {lends other : Lends} → NoRow n lends other → Traces lends other
-traces-none none = grind (arith, common_steps)
+pub still-stood : {service : Service} {log : Log} {n : ℕ} {lends other : Lends} → LendsSound service log lends → lends.owned n ≡ None → NoRow service log n lends other
+    → Stood service log n lends other
+still-stood {service} {log} {n} {lends} {other} sound unowned same = record {
+  sound = mended (but-one sound) (record {
+    apart = apart;
+    rows = λ link lent is. kept-row sound (sym (same.links link.0) ∙ is) (λ owns. absurd (no-some unowned owns));
+    ask = same.ask;
+    owns = λ link is. absurd (no-some same.unowned is);
+    one_waits = same.one_waits;
+    waits = same.waits;
+    one_closes = subst AtMostOne (sym same.closing) sound.one_closes;
+    closes = λ link is. (let stands = sound.closes link (sym same.closing ∙ is) in close-kept stands (same.links link.0 ∙ stands.unlent));
+  });
+  apart = apart;
+  traces = record {
+    from = λ link lent is. (lent, sym (same.links link.0) ∙ is);
+    to = λ link lent is. inl (lent, same.links link.0 ∙ is);
+    closed = λ link is. inl (sym same.closing ∙ is);
+    closes = λ link is. same.closing ∙ is;
+  };
+} where
+  apart : Apart n lends other
+  apart = record { asks = same.asks; owned = same.owned; links = λ k link differs owns. same.links link.0; waiting = same.waiting }
 
 -- One link changes, or is to be closed.
-pub data RowGoes (link : LinkId) (lends other : Lends) : Type 0 where
-  Stays : (lent : Lent) → other.links link.0 ≡ Some lent → other.closing ≡ lends.closing → RowGoes link lends other
-  Closes : lends.closing ≡ [] → other.links link.0 ≡ None → other.closing ≡ link ∷ [] → RowGoes link lends other
+pub data RowGoes (service : Service) (log : Log) (link : LinkId) (lends other : Lends) : Type 0 where
+  Stays : (lent : Lent) → other.links link.0 ≡ Some lent → RowStands service log other link lent → other.closing ≡ lends.closing → RowGoes service log link lends other
+  Closes : lends.closing ≡ [] → other.links link.0 ≡ None → CloseStands service log other link → other.closing ≡ link ∷ [] → RowGoes service log link lends other
 
-pub record OneRow (n : ℕ) (link : LinkId) (lends other : Lends) : Type 0 where
+pub record OneRow (service : Service) (log : Log) (n : ℕ) (link : LinkId) (lends other : Lends) : Type 0 where
   pub links : (k : ℕ) → nat_eq k link.0 ≡ false → other.links k ≡ lends.links k
   pub asks : (k : ℕ) → nat_eq k n ≡ false → other.asks k ≡ lends.asks k
   pub owned : (k : ℕ) → nat_eq k n ≡ false → other.owned k ≡ lends.owned k
   pub waiting : (k : ℕ) → nat_eq k n ≡ false → lends.waiting ≡ record { 0 = k } ∷ [] → other.waiting ≡ record { 0 = k } ∷ []
-  pub goes : RowGoes link lends other
+  pub goes : RowGoes service log link lends other
+  pub ask : (ask : Ask) → other.asks n ≡ Some ask → AskStands service log n ask
+  pub owns : (l : LinkId) → other.owned n ≡ Some l → Owns other n l
+  pub one_waits : AtMostOne other.waiting
+  pub waits : (client : ClientNo) → other.waiting ≡ client ∷ [] → Waiting other client
 
 -- nobody else owns the link
 abbrev pub Mine : (n : ℕ) → Lent → Type 0
@@ -209,40 +246,65 @@ owner-mine n lent owner k differs is = (let same : n ≡ k = ap (λ (c : ClientN
     let no' : true ≡ false = sym (same_number k) ∙ ap (nat_eq k) (sym same) ∙ differs in cc)
 
 pub none-mine : (n : ℕ) (lent : Lent) → lent.owner ≡ None → Mine n lent
-none-mine n lent none k differs is = (let no' : None ≡ Some _ = sym none ∙ is in cc)
+none-mine n lent none k differs is = no-some none is
 
-pub others-link : (lends : Lends) (link other : LinkId) (lent : Lent) (n k : ℕ) → ((m : ℕ) (l : LinkId) → lends.owned m ≡ Some l → Owns lends m l)
-    → lends.links link.0 ≡ Some lent → Mine n lent → nat_eq k n ≡ false → lends.owned k ≡ Some other → nat_eq other.0 link.0 ≡ false
-others-link lends link other lent n k owned there mine differs owns = apart-links other link (λ at. (let it = owned k other owns in
-    let same : it.lent ≡ lent = some-same it.lent lent (sym it.there ∙ ap (λ (l : LinkId). lends.links l.0) at ∙ there) in
-    mine k differs (ap (λ (l : Lent). l.owner) (sym same) ∙ it.owner)))
+pub one-stood : {service : Service} {log : Log} {n : ℕ} {link : LinkId} {lends other : Lends} (lent : Lent) → LendsBut service log n lends → AtMostOne lends.closing
+    → ((l : LinkId) → lends.closing ≡ l ∷ [] → CloseStands service log lends l) → lends.links link.0 ≡ Some lent → Mine n lent
+    → ((l : LinkId) (x : Lent) → nat_eq l.0 link.0 ≡ false → lends.links l.0 ≡ Some x → RowNow service log n lends other l x) → OneRow service log n link lends other
+    → Stood service log n lends other
+one-stood {service} {log} {n} {link} {lends} {other} lent but one_closes closes there mine others one = record {
+  sound = mended but (record {
+    apart = apart;
+    rows = rows-one link one.links (here one.goes) others;
+    ask = one.ask;
+    owns = one.owns;
+    one_waits = one.one_waits;
+    waits = one.waits;
+    one_closes = at-most one.goes;
+    closes = closing one.goes;
+  });
+  apart = apart;
+  traces = record {
+    from = λ l now is. link-or-other l link (λ x. other.links x.0 ≡ Some now → (old : Lent) × (lends.links x.0 ≡ Some old)) (λ at. (lent, there)) (λ at row. (now, sym (one.links l.0 at) ∙ row)) is;
+    to = λ l was is. link-or-other l link (λ x. ((now : Lent) × (other.links x.0 ≡ Some now)) ⊎ (other.closing ≡ x ∷ [])) (to one.goes) (λ at. inl (was, one.links l.0 at ∙ is));
+    closed = closed one.goes;
+    closes = stays one.goes;
+  };
+} where
+  -- nobody else's link is this one
+  apart : Apart n lends other
+  apart = record {
+    asks = one.asks;
+    owned = one.owned;
+    links = λ k l differs owns. (let it = but.owned k l owns in one.links l.0 (apart-links l link (λ at. mine k differs
+        (ap (λ (y : Lent). y.owner) (some-same lent it.lent (sym there ∙ ap (λ (x : LinkId). lends.links x.0) (sym at) ∙ it.there)) ∙ it.owner))));
+    waiting = one.waiting;
+  }
 
-pub apart-one : {n : ℕ} {link : LinkId} {lends other : Lends} (lent : Lent) → ((m : ℕ) (l : LinkId) → lends.owned m ≡ Some l → Owns lends m l)
-    → lends.links link.0 ≡ Some lent → Mine n lent → OneRow n link lends other → Apart n lends other
-apart-one lent owned there mine one = grind (arith, common_steps, others-link)
+  here : RowGoes service log link lends other → (x : Lent) → other.links link.0 ≡ Some x → RowNow service log n lends other link x
+  here (Stays now is stands same) x at = row-now is stands x at
+  here (Closes none out stands last) x at = absurd (no-some out at)
 
-pub traces-one : {n : ℕ} {link : LinkId} {lends other : Lends} (lent : Lent) → lends.links link.0 ≡ Some lent → OneRow n link lends other
-    → Traces lends other
-traces-one {link} {lends} {other} lent there one = (let to : RowGoes link lends other → ((now : Lent) × (other.links link.0 ≡ Some now)) ⊎ (other.closing ≡ link ∷ []) = λ h0. grind (arith, common_steps) in
-    let closes : (l : LinkId) → lends.closing ≡ l ∷ [] → RowGoes link lends other → other.closing ≡ l ∷ [] = λ l is h2. grind (arith, common_steps) in
-    record {
-      from = λ l now is. link-or-other l link (λ x. other.links x.0 ≡ Some now → (old : Lent) × (lends.links x.0 ≡ Some old)) (λ at. (lent, there)) (λ at row. (now, sym (one.links l.0 at) ∙ row)) is;
-      to = λ l was is. link-or-other l link (λ x. ((now : Lent) × (other.links x.0 ≡ Some now)) ⊎ (other.closing ≡ x ∷ [])) (to one.goes) (λ at. inl (was, one.links l.0 at ∙ is));
-      closed = λ l is. closed l is one.goes;
-      closes = λ l is. closes l is one.goes;
-    }) where
-      closed : (l : LinkId) → other.closing ≡ l ∷ [] → RowGoes link lends other → (lends.closing ≡ l ∷ []) ⊎ ((was : Lent) × (lends.links l.0 ≡ Some was))
-      closed l is (Stays now is_now same) = inl (sym same ∙ is)
-      closed l is (Closes none out last) = inr (lent, ap (λ (x : LinkId). lends.links x.0) (one-same l link (sym is ∙ last)) ∙ there)
+  at-most : RowGoes service log link lends other → AtMostOne other.closing
+  at-most (Stays now is stands same) = subst AtMostOne (sym same) one_closes
+  at-most (Closes none out stands last) = subst AtMostOne (sym last) (One link)
 
--- A link that is to be closed stands so where it has no row.
-pub close-kept : {service : Service} {log : Log} {lends other : Lends} {link : LinkId} → CloseStands service log lends link
-    → other.links link.0 ≡ None → CloseStands service log other link
-close-kept stands unlent = record { opened = stands.opened; unlent = unlent; turn = stands.turn; is_turn = stands.is_turn; may = stands.may }
+  closing : RowGoes service log link lends other → (l : LinkId) → other.closing ≡ l ∷ [] → CloseStands service log other l
+  closing (Stays now is stands same) l at = (let was = closes l (sym same ∙ at) in
+      close-kept was (one.links l.0 (apart-links l link (λ on. no-some (ap (λ (x : LinkId). lends.links x.0) (sym on) ∙ was.unlent) there)) ∙ was.unlent))
+  closing (Closes none out stands last) l at = subst (CloseStands service log other) (one-same link l (sym last ∙ at)) stands
 
-pub close-other : {service : Service} {log : Log} {n : ℕ} {lends other : Lends} {link closing : LinkId} (lent : Lent) → lends.links link.0 ≡ Some lent
-    → OneRow n link lends other → CloseStands service log lends closing → CloseStands service log other closing
-close-other lent there one stands = grind (arith, common_steps, close-kept, apart-links)
+  to : RowGoes service log link lends other → ((now : Lent) × (other.links link.0 ≡ Some now)) ⊎ (other.closing ≡ link ∷ [])
+  to (Stays now is stands same) = inl (now, is)
+  to (Closes none out stands last) = inr last
+
+  closed : RowGoes service log link lends other → (l : LinkId) → other.closing ≡ l ∷ [] → (lends.closing ≡ l ∷ []) ⊎ ((was : Lent) × (lends.links l.0 ≡ Some was))
+  closed (Stays now is stands same) l at = inl (sym same ∙ at)
+  closed (Closes none out stands last) l at = inr (lent, ap (λ (x : LinkId). lends.links x.0) (one-same l link (sym at ∙ last)) ∙ there)
+
+  stays : RowGoes service log link lends other → (l : LinkId) → lends.closing ≡ l ∷ [] → other.closing ≡ l ∷ []
+  stays (Stays now is stands same) l at = same ∙ at
+  stays (Closes none out stands last) l at = absurd (none-one lends.closing none at)
 
 -- What is done for one client among the links to servers.
 

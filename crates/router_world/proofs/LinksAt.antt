@@ -10,14 +10,14 @@ use Rattle.router_world.proofs.Names.{login_fails, user_of, MayDrop, asks-unrefu
 use Rattle.router_world.proofs.Names.{standing_on, standing_said, Answer, IsEntering, IsInside, is_begun, none-if, inr, is_here, IsOpening, bytes_in, spelt}
 use Rattle.router_world.proofs.Names.{message-stays, in-work, ◌<◌, ◌⊎◌}
 use Rattle.router_world.proofs.Calm.{or-none, Leaves, leaves-other, sent-unrefused, unsent-still, unrefused-more}
-use Rattle.router_world.proofs.Apart.{apart-links, apart-numbers, rows-one, RowNow, Was, Now, mended, OneRow, Mine, owner-mine, none-mine, apart-one}
-use Rattle.router_world.proofs.Apart.{none-one, Comes, Came, traces-one, set-same, put-other, Stays, no-some, set-other, Quiet, Closes, Answers, one-same}
+use Rattle.router_world.proofs.Apart.{apart-links, apart-numbers, RowNow, Was, OneRow, Mine, owner-mine, none-mine, none-one, Comes, Came, set-same}
+use Rattle.router_world.proofs.Apart.{put-other, Stays, no-some, set-other, Quiet, Closes, Answers, one-stood}
 use Rattle.exchange.specs.Logins.{goes_on}
 use Rattle.promises.proofs.Links.{one-each, lost-none}
 use Rattle.promises.proofs.Clean.{heard-more, pieces-more}
 use Rattle.router_world.proofs.Frames.{Calm, row-calm, ask-calm, owner-turn, Unbegun, still-none, user-there, gone-stays, asked-stays, same-ordinal}
 use Rattle.router_world.proofs.Sound.{AskStands, Owned, RowStands, CloseStands, AtMostOne, Waiting, Owns, LendsBut, LendsSound, carried_by, Busy, Waits, Logs}
-use Rattle.router_world.proofs.Sound.{On, IsAsked, HandedStands, Enters, Free, One, Own, Left}
+use Rattle.router_world.proofs.Sound.{On, IsAsked, HandedStands, Enters, Free, Own, Left}
 use Rattle.router_world.proofs.RowsStanding.{unanswered-at}
 use Rattle.router_world.proofs.RowsPieces.{pieces-some}
 use Rattle.router_world.proofs.LinksGone.{standing-unlost}
@@ -89,17 +89,6 @@ same-row {service} {log} {one} {other} n fits lawful row mine second theirs =
 pub row-mine : {service : Service} {log : Log} {lends : Lends} {link : LinkId} {lent : Lent} {n : ℕ} → Owned service log lends link n lent
     → Mine n lent
 row-mine h6 = grind (arith, common_steps, owner-mine, none-mine)
-
--- An entry of a link: what is new of its client.
-pub record RowNews (service : Service) (log : Log) (n : ℕ) (link : LinkId) (lends other : Lends) : Type 0 where
-  pub one : OneRow n link lends other
-  pub row : (lent : Lent) → other.links link.0 ≡ Some lent → RowStands service log other link lent
-  pub ask : (ask : Ask) → other.asks n ≡ Some ask → AskStands service log n ask
-  pub owns : (l : LinkId) → other.owned n ≡ Some l → Owns other n l
-  pub one_waits : AtMostOne other.waiting
-  pub waits : (client : ClientNo) → other.waiting ≡ client ∷ [] → Waiting other client
-  pub one_closes : AtMostOne other.closing
-  pub closes : (l : LinkId) → other.closing ≡ l ∷ [] → CloseStands service log other l
 
 -- An entry of a link to a server: what is read and written there grows, and what comes of the command there.
 
@@ -292,31 +281,16 @@ module _ {service : Service} {log : Log} {e : Entry} {lends : Lends} {link : Lin
   busy-here (On unasked l x c owns there stage has tag) = (let it = sym (own-lent owns there) in
       OnHere (owns ∙ ap Some (own-link owns)) unasked c (ap (λ (y : Lent). y.backend.stage) it ∙ stage) (ap (λ (y : Lent). y.backend.command) it ∙ has) tag)
 
-  -- the other rows are of other clients, and what is new of this one stands
-  row-news : {other : Lends} → RowNews service new n link lends other → LendsSound service new other
-  row-news {other} news = mended (but-client at.lawful at.fits at.sound (OnLink e link at.row.turn at.names at.row.is_turn refl at.writes)) (record {
-    apart = apart-one lent at.sound.owned at.there (row-mine at.row.owned) news.one;
-    rows = rows-one link news.one.links (λ x is. Now (news.row x is)) rows;
-    ask = news.ask;
-    owns = news.owns;
-    one_waits = news.one_waits;
-    waits = news.waits;
-    one_closes = news.one_closes;
-    closes = news.closes;
-  }) where
+  -- what comes of the entry: the other rows are of other clients, and what is new of this one stands
+  pub came-of : {other : Lends} {answer : Option Answered} → OneRow service new n link lends other → Comes service new n lends other answer
+      → Came service new n lends (record { lends = other; answer = answer })
+  came-of {other} one comes = (let stood = one-stood lent (but-client at.lawful at.fits at.sound (OnLink e link at.row.turn at.names at.row.is_turn refl at.writes)) at.sound.one_closes
+      (λ l is. absurd (none-one lends.closing at.unclosed is)) at.there (row-mine at.row.owned) rows one in
+      record { sound = stood.sound; apart = stood.apart; traces = stood.traces; comes = comes }) where
     rows : (l : LinkId) (x : Lent) → nat_eq l.0 link.0 ≡ false → lends.links l.0 ≡ Some x → RowNow service new n lends other l x
     rows l x apart was = (let second = at.sound.rows l x was in Was was second.turn (turn-stays service l log (e ∷ []) second.turn second.is_turn) (apart-numbers second.turn.client n (λ mine.
         (let same = same-row n (lawful-last Fits log e at.fits).0 (lawful-last (IsLawful service) log e at.lawful).0 second mine at.row refl in
         let no' : true ≡ false = sym (same_number link.0) ∙ ap (λ (k : LinkId). nat_eq k.0 link.0) (sym same) ∙ apart in cc))))
-
-  pub came-of : {other : Lends} {answer : Option Answered} → RowNews service new n link lends other → Comes service new n lends other answer
-      → Came service new n lends (record { lends = other; answer = answer })
-  came-of news comes = record {
-    sound = row-news news;
-    apart = apart-one lent at.sound.owned at.there (row-mine at.row.owned) news.one;
-    traces = traces-one lent at.there news.one;
-    comes = comes;
-  }
 
   -- what is said of the link then
   pub opened-new : IsOpen link new
@@ -390,16 +364,17 @@ module _ {service : Service} {log : Log} {e : Entry} {lends : Lends} {link : Lin
   -- The link stays with this row, and maybe the client asks for less.
   pub kept-news : {links : ℕ → Option Lent} {asks : ℕ → Option Ask} {now : Lent} → Puts link now lends links
       → ((k : ℕ) → nat_eq k n ≡ false → asks k ≡ lends.asks k) → now.owner ≡ lent.owner → RowStands service new (record lends { links = links; asks = asks }) link now
-      → ((ask : Ask) → asks n ≡ Some ask → AskStands service new n ask) → RowNews service new n link lends (record lends { links = links; asks = asks })
+      → ((ask : Ask) → asks n ≡ Some ask → AskStands service new n ask) → OneRow service new n link lends (record lends { links = links; asks = asks })
   kept-news {links} {asks} {now} puts others owner row ask = record {
-    one = record { links = puts.others; asks = others; owned = λ k differs. refl; waiting = λ k differs is. is; goes = Stays now puts.here refl };
-    row = λ x is. subst (RowStands service new (record lends { links = links; asks = asks }) link) (some-same now x (sym puts.here ∙ is)) row;
+    links = puts.others;
+    asks = others;
+    owned = λ k differs. refl;
+    waiting = λ k differs is. is;
+    goes = Stays now puts.here row refl;
     ask = ask;
     owns = λ l is. subst (Owns (record lends { links = links; asks = asks }) n) (sym (own-link is)) (record { lent = now; there = puts.here; owner = owner ∙ owner-here (is ∙ ap Some (own-link is)) });
     one_waits = at.sound.one_waits;
     waits = λ someone is. absurd (none-one lends.waiting at.idle is);
-    one_closes = at.sound.one_closes;
-    closes = λ l is. absurd (none-one lends.closing at.unclosed is);
   }
 
   pub own-idle : {links : ℕ → Option Lent} {now : Lent} → Puts link now lends links → now.backend.stage ≡ In → now.backend.command ≡ None
@@ -452,26 +427,18 @@ module _ {service : Service} {log : Log} {e : Entry} {lends : Lends} {link : Lin
       → ((k : ℕ) → nat_eq k n ≡ false → asks k ≡ lends.asks k) → ((k : ℕ) → nat_eq k n ≡ false → owned k ≡ lends.owned k) → owned n ≡ None
       → ((ask : Ask) → asks n ≡ Some ask → AskStands service new n ask) → AtMostOne waiting
       → ((client : ClientNo) → waiting ≡ client ∷ [] → Waiting (shut link lends owned asks waiting) client)
-      → RowNews service new n link lends (shut link lends owned asks waiting)
+      → OneRow service new n link lends (shut link lends owned asks waiting)
   shut-news {owned} {asks} {waiting} may others theirs unowned ask one_waits waits = record {
-    one = record {
-      links = λ k differs. set-other lends.links link.0 k None differs;
-      asks = others;
-      owned = theirs;
-      waiting = λ k differs is. absurd (none-one lends.waiting at.idle is);
-      goes = Closes at.unclosed (set-same lends.links link.0 None) closing;
-    };
-    row = λ x is. absurd (no-some (set-same lends.links link.0 None) is);
+    links = λ k differs. set-other lends.links link.0 k None differs;
+    asks = others;
+    owned = theirs;
+    waiting = λ k differs is. absurd (none-one lends.waiting at.idle is);
+    goes = Closes at.unclosed (set-same lends.links link.0 None) stands (ap (λ l. l ++ link ∷ []) at.unclosed);
     ask = ask;
     owns = λ l is. absurd (no-some unowned is);
     one_waits = one_waits;
     waits = waits;
-    one_closes = subst AtMostOne (sym closing) (One link);
-    closes = λ l is. subst (CloseStands service new (shut link lends owned asks waiting)) (one-same link l (sym closing ∙ is)) stands;
   } where
-    closing : lends.closing ++ link ∷ [] ≡ link ∷ []
-    closing = ap (λ l. l ++ link ∷ []) at.unclosed
-
     stands : CloseStands service new (shut link lends owned asks waiting) link
     stands = record {
       opened = opened-new;
