@@ -141,7 +141,7 @@ command-unreplied {user} service n i link log command never (Inside at) has tag 
   by : (sent : ℕ) → command.sent ≡ sent → replied service n i log ≡ None
   by zero none = unsent-still service n i log (carrier ∙ ap (carried_by link) none) (unrefused none)
   by (suc sent) some = replied-said service n i link user log never (carrier ∙ ap (carried_by link) some) is
-      ∙ unanswered-at n i (was_lost link log) (record { inside = at; is = has; some = omega arith }) (command-is n i command.tag tag)
+      ∙ unanswered-at (record { inside = at; is = has; some = omega arith }) n i (was_lost link log) (command-is n i command.tag tag)
       ∙ ap (λ b. cond b (Some (Rattle.client_session.specs.Errors.connection_lost ∷ [])) None) unlost
 
 -- One answer, as packets.

@@ -302,6 +302,12 @@ pub stands-at : {forms : Forms} {user : Account} {heard : List ℕ} {pieces : Li
     → Stands forms user heard pieces (begun backend.command) at.part
 stands-at at = grind (arith, common_steps)
 
+pub inside-from : {forms : Forms} {user : Account} {heard : List ℕ} {pieces : List Command} {backend : BackendState} {last : List Command} {part : List ℕ}
+    (at : Stands forms user heard pieces last part) → begun backend.command ≡ last → backend.account ≡ user → backend.stage ≡ In
+    → (bytes_in pieces ++ backend.own ≡ at.said) ⊎ ((backend.own ≡ []) × IsPrefix at.said (bytes_in pieces)) → IsHanded forms backend.command
+    → (last ≡ [] → part ≡ []) → HearsPart backend.command part backend.reply → IsInside forms user heard pieces backend
+inside-from at is account stage written command unasked partly = grind (arith, common_steps)
+
 -- bytes that come are behind the others
 pub opening-more : (user : Account) (heard piece said past kept : List ℕ) → opening user heard ≡ LogsIn said (past ++ kept)
     → opening user (heard ++ piece) ≡ LogsIn said (past ++ (kept ++ piece))
@@ -410,51 +416,61 @@ pub record IsBegun (forms : Forms) (user : Account) (heard : List ℕ) (pieces :
   pub is : backend.command ≡ Some command
   pub some : 0 < command.sent
 
+-- what was written of it
 abbrev pub written : Handed → Command
 written command = record { tag = command.tag; bytes = take command.sent command.bytes }
 
-module _ {forms : Forms} {user : Account} {heard : List ℕ} {pieces : List Command} {backend : BackendState} {command : Handed} where
+module _ {forms : Forms} {user : Account} {heard : List ℕ} {pieces : List Command} {backend : BackendState} {command : Handed} (at : IsBegun forms user heard pieces backend command) where
+  pub message : IsMessage forms command
+  message = subst (IsHanded forms) at.is at.inside.command
 
-  handed-is : IsInside forms user heard pieces backend → backend.command ≡ Some command → IsMessage forms command
-  handed-is at is = subst (IsHanded forms) is at.command
+  pub hearing : IsHearing command at.inside.part backend.reply
+  hearing = subst (λ (o : Option Handed). HearsPart o at.inside.part backend.reply) at.is at.inside.partly
 
-  partly-by : (at : IsBegun forms user heard pieces backend command)
-      → replies_by (command_reply forms) (written command ∷ []) at.inside.part ≡ record { whole = []; rest = at.inside.part; bad = None }
-  partly-by at = ap (λ (h : Heard). cut h at.inside.part (replies_by (command_reply forms) []))
-      (hears-partly forms (written command) (handed-is at.inside at.is).form refl
-      (subst (λ (o : Option Handed). HearsPart o at.inside.part backend.reply) at.is at.inside.partly))
+  pub begun-is : begun backend.command ≡ written command ∷ []
+  begun-is = ap begun at.is ∙ begun-some command at.some
 
-  begun-at : (at : IsBegun forms user heard pieces backend command) → Stands forms user heard pieces (written command ∷ []) at.inside.part
-  begun-at at = subst (λ last. Stands forms user heard pieces last at.inside.part) (ap begun at.is ∙ begun-some command at.some) (stands-at at.inside)
+  pub begun-at : Stands forms user heard pieces (written command ∷ []) at.inside.part
+  begun-at = subst (λ last. Stands forms user heard pieces last at.inside.part) begun-is (stands-at at.inside)
+
+  partly-by : replies_by (command_reply forms) (written command ∷ []) at.inside.part ≡ record { whole = []; rest = at.inside.part; bad = None }
+  partly-by = ap (λ (h : Heard). cut h at.inside.part (replies_by (command_reply forms) [])) (hears-partly forms (written command) message.form refl hearing)
+
+  standing-begun : standing_said forms user heard pieces ≡ cond (is_whole (written command)) Runs Sends
+  standing-begun = standing-of begun-at ∙ ap (λ (r : Replies). stands (begun-at.others ++ written command ∷ []) (behind_replies begun-at.whole r)) partly-by
+      ∙ stands-open begun-at.others (written command) begun-at.whole at.inside.part begun-at.all
+
+  -- it has no reply, or the error in its place
+  pub unanswered-at : (n i : ℕ) (lost : Bool) → is_command n i command.tag ≡ true → reply_said forms n i user heard pieces lost ≡ cond lost (Some (connection_lost ∷ [])) None
+  unanswered-at n i lost here = reply-of (written command) begun-at n i lost here
+      ∙ ap (λ (r : Replies). reply_at (length begun-at.others) (behind_replies begun-at.whole r) lost) partly-by ∙ reply-open begun-at.whole at.inside.part None (length begun-at.others) lost begun-at.all
+
+  -- it is whole, or a part of one, as far as it was written
+  pub written-whole : command.sent ≡ length command.bytes → is_whole (written command) ≡ true
+  written-whole all = ap (λ bytes. whole_by (first_message most_command 0 bytes)) (take_all command.sent command.bytes (omega arith) ∙ message.spelt) ∙ whole-spelt message.payload message.short
+
+  pub written-part : command.sent ≢ length command.bytes → is_whole (written command) ≡ false
+  written-part less = part-spelt message.payload (take command.sent command.bytes) (drop command.sent command.bytes) (take-append-drop command.sent command.bytes ∙ message.spelt)
+      (let size : length (drop command.sent command.bytes) ≡ length command.bytes - command.sent = length-drop command.sent command.bytes in let most = message.sent in omega arith) message.short
 
 -- no command, or nothing of it was written
 pub standing-clean : (forms : Forms) (user : Account) (heard : List ℕ) (pieces : List Command) (backend : BackendState)
     → IsInside forms user heard pieces backend → begun backend.command ≡ [] → standing_said forms user heard pieces ≡ Clean
 standing-clean forms user heard pieces backend at none = grind (arith, common_steps, standing-of, stands-answered, length-append, append-nil, stands-at)
 
-standing-begun : {forms : Forms} {user : Account} {heard : List ℕ} {pieces : List Command} {backend : BackendState} {command : Handed}
-    → IsBegun forms user heard pieces backend command → standing_said forms user heard pieces ≡ cond (is_whole (written command)) Runs Sends
-standing-begun {forms} {user} {heard} {pieces} {command} at = (let by : Stands forms user heard pieces (written command ∷ []) at.inside.part → standing_said forms user heard pieces ≡ cond (is_whole (written command)) Runs Sends =
-    λ now. standing-of now
-    ∙ ap (λ (r : Replies). stands (now.others ++ written command ∷ []) (behind_replies now.whole r)) (partly-by at)
-    ∙ stands-open now.others (written command) now.whole at.inside.part now.all in
-    by (begun-at at))
-
 -- a part of it
 pub standing-sends : (forms : Forms) (user : Account) (heard : List ℕ) (pieces : List Command) (backend : BackendState) (command : Handed)
     → IsBegun forms user heard pieces backend command → command.sent < length command.bytes → standing_said forms user heard pieces ≡ Sends
-standing-sends forms user heard pieces backend command at less = (let message = handed-is at.inside at.is in standing-begun at
-    ∙ ap (λ b. cond b Runs Sends) (part-spelt message.payload (take command.sent command.bytes) (drop command.sent command.bytes) (take-append-drop command.sent command.bytes ∙ message.spelt)
-    (let size : length (drop command.sent command.bytes) ≡ length command.bytes - command.sent = length-drop command.sent command.bytes in omega arith) message.short))
+standing-sends forms user heard pieces backend command at less = standing-begun at ∙ ap (λ b. cond b Runs Sends) (written-part at (omega arith))
 
 -- all of it
 pub standing-runs : (forms : Forms) (user : Account) (heard : List ℕ) (pieces : List Command) (backend : BackendState) (command : Handed)
     → IsInside forms user heard pieces backend → backend.command ≡ Some command → command.sent ≡ length command.bytes
     → standing_said forms user heard pieces ≡ Runs
-standing-runs forms user heard pieces backend command at is all = (let by : IsMessage forms command → standing_said forms user heard pieces ≡ Runs =
-    λ message. standing-begun (record { inside = at; is = is; some = (let some : 0 < length (spelling 0 message.payload) = spelling-some 0 message.payload in let size : length command.bytes ≡ length (spelling 0 message.payload) = ap length message.spelt in omega arith) })
-    ∙ ap (λ b. cond b Runs Sends) (ap (λ bytes. whole_by (first_message most_command 0 bytes)) (take_all command.sent command.bytes (omega arith) ∙ message.spelt) ∙ whole-spelt message.payload message.short) in
-    by (handed-is at is))
+standing-runs forms user heard pieces backend command at is all = standing-begun begins ∙ ap (λ b. cond b Runs Sends) (written-whole begins all) where
+  begins : IsBegun forms user heard pieces backend command
+  begins = record { inside = at; is = is; some = (let message : IsMessage forms command = subst (IsHanded forms) is at.command in let some : 0 < length (spelling 0 message.payload) = spelling-some 0 message.payload in
+      let size : length command.bytes ≡ length (spelling 0 message.payload) = ap length message.spelt in omega arith) }
 
 -- So it stands as the command does.
 abbrev pub standing_by : Option Handed → Standing
@@ -467,7 +483,7 @@ standing-inside forms user heard pieces backend at = by backend.command refl whe
   sent : (command : Handed) → backend.command ≡ Some command → (none all : Bool) → nat_eq command.sent 0 ≡ none → nat_eq command.sent (length command.bytes) ≡ all → standing_said forms user heard pieces ≡ (if none then Clean else if all then Runs else Sends)
   sent command is true all unsent is_all = standing-clean forms user heard pieces backend at (ap begun is ∙ ap (λ sent. begun_by sent command) (nat_eq-true command.sent 0 unsent))
   sent command is false true some is_all = standing-runs forms user heard pieces backend command at is (nat_eq-true command.sent (length command.bytes) is_all)
-  sent command is false false some part = (let most : command.sent ≤ length command.bytes = (handed-is at is).sent in
+  sent command is false false some part = (let message : IsMessage forms command = subst (IsHanded forms) is at.command in let most : command.sent ≤ length command.bytes = message.sent in
       let one : command.sent ≢ 0 = nat_eq-false command.sent 0 some in
       let two : command.sent ≢ length command.bytes = nat_eq-false command.sent (length command.bytes) part in
       standing-sends forms user heard pieces backend command (record { inside = at; is = is; some = omega arith }) (omega arith))
@@ -475,13 +491,3 @@ standing-inside forms user heard pieces backend at = by backend.command refl whe
   by : (o : Option Handed) → backend.command ≡ o → standing_said forms user heard pieces ≡ standing_by o
   by None is = standing-clean forms user heard pieces backend at (ap begun is)
   by (Some command) is = sent command is (nat_eq command.sent 0) (nat_eq command.sent (length command.bytes)) refl refl
-
--- The command that is begun has no reply, or the error in its place.
-pub unanswered-at : {forms : Forms} {user : Account} {heard : List ℕ} {pieces : List Command} {backend : BackendState} {command : Handed} (n i : ℕ) (lost : Bool)
-    → IsBegun forms user heard pieces backend command → is_command n i command.tag ≡ true
-    → reply_said forms n i user heard pieces lost ≡ cond lost (Some (connection_lost ∷ [])) None
-unanswered-at {forms} {user} {heard} {pieces} {command} n i lost at here = (let by : Stands forms user heard pieces (written command ∷ []) at.inside.part → reply_said forms n i user heard pieces lost ≡ cond lost (Some (connection_lost ∷ [])) None =
-    λ now. reply-of (written command) now n i lost here
-    ∙ ap (λ (r : Replies). reply_at (length now.others) (behind_replies now.whole r) lost) (partly-by at)
-    ∙ reply-open now.whole at.inside.part None (length now.others) lost now.all in
-    by (begun-at at))

@@ -47,7 +47,7 @@ lost-came {service} {log} {e} {lends} {link} {lent} at loss = rw at.there (faile
       ∙ ap (λ h. reply_said service.forms n i user h (pieces_of link new) (was_lost link new)) (heard-end link log e at.names at.row.unlost loss)
       ∙ ap (λ p. reply_said service.forms n i user (heard_of link log) p (was_lost link new)) (pieces-on link log e at.names at.row.unlost (loss-piece e loss))
       ∙ ap (reply_said service.forms n i user (heard_of link log) (pieces_of link log)) was
-      ∙ unanswered-at n i true (record { inside = inside; is = has; some = some }) (command-is n i c.tag tag);
+      ∙ unanswered-at (record { inside = inside; is = has; some = some }) n i true (command-is n i c.tag tag);
 })) where
   n : ℕ
   n = at.row.turn.client
