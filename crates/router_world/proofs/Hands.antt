@@ -1,16 +1,16 @@
 -- A client's seat is taken out, and put back or not.
 use Rattle.router_world.proofs.Names.{common_steps, ◌≡◌, ◌⊎◌, ℕ, Bool, true, false, nat_eq, [], ◌∷◌, Option, Some, None, refl, sym, ◌∙◌, ap, subst, inl, inr}
 use Rattle.router_world.proofs.Names.{ClientNo, LinkId, Log, nat_eq-true, is_finished, Lent, Lends, set, Service, some-same, none-if, Seat, Tables}
-use Rattle.router_world.proofs.Names.{with_lends, ◌++◌, IsOpen, Arrival, arrival_of, is_traffic, connected, Parting, ◌&&◌, Account, Phase, Query, is_ending}
-use Rattle.router_world.proofs.Names.{Turned, Ask, asked, gone, ◌<◌, ◌≤◌, ◌+◌, is_some, List, length, option_map, option_and_then, arith, append-nil, Framed}
-use Rattle.router_world.proofs.Names.{next_id, FrameFault, ClientState, Opening, WaitsToLogIn, Says, FailsToSay, opening-says-more, is_served, Talk}
-use Rattle.router_world.proofs.Names.{heard_more, opening_of, account, if_known, messages_of, front, front_in, fault_answer, Session, most_command}
-use Rattle.router_world.proofs.Names.{carrier_of, Answer, talk_with, user_of, Work, work_in, work_of, ends_in, ends_by, if_user, messages-grow, replied}
-use Rattle.router_world.proofs.Names.{first_open, answers_by, SeatAt, PhaseAt, IsWorking, due_said, work_said, over_said, in-work, ◌≢◌, is_query, turned}
-use Rattle.router_world.proofs.Names.{Asks, not, nil_from_length, written_of, is_open, was_lost, is_here_as, is_here, due, has_ended}
+use Rattle.router_world.proofs.Names.{with_lends, ◌++◌, IsOpen, Arrival, arrival_of, is_traffic, Parting, ◌&&◌, Account, Phase, Query, is_ending, Turned, Ask}
+use Rattle.router_world.proofs.Names.{asked, gone, ◌<◌, ◌≤◌, ◌+◌, is_some, List, length, option_map, option_and_then, arith, append-nil, Framed, next_id}
+use Rattle.router_world.proofs.Names.{FrameFault, ClientState, Opening, WaitsToLogIn, Says, FailsToSay, opening-says-more, is_served, Talk, heard_more}
+use Rattle.router_world.proofs.Names.{opening_of, account, if_known, messages_of, front, front_in, fault_answer, Session, most_command, carrier_of, Answer}
+use Rattle.router_world.proofs.Names.{talk_with, user_of, Work, work_in, work_of, ends_in, ends_by, if_user, messages-grow, replied, first_open, answers_by}
+use Rattle.router_world.proofs.Names.{SeatAt, PhaseAt, IsWorking, due_said, work_said, over_said, in-work, ◌≢◌, is_query, turned, Asks, not, nil_from_length}
+use Rattle.router_world.proofs.Names.{written_of, is_open, was_lost, is_here_as, is_here, due, has_ended}
 use Rattle.promises.proofs.Staying.{account-more, Grown}
-use Rattle.router_world.proofs.Apart.{none-one, one-or-other, link-or-other, apart-links, apart-numbers, set-same, set-other, Row, row-of, Apart, Traces}
-use Rattle.router_world.proofs.Apart.{serves-apart, gone-apart, Went, Idle}
+use Rattle.router_world.proofs.Apart.{none-one, link-or-other, apart-links, apart-numbers, set-same, set-other, Row, row-of, Apart, Traces, serves-apart}
+use Rattle.router_world.proofs.Apart.{gone-apart, Went, Idle, one-same, Here, There}
 use Rattle.std.proofs.lemmas.Bool.{and_right, and_parts}
 use Rattle.router_world.proofs.Sound.{Sits, SeatStands, LendsSound, Sound, InHand, OnHand, Known, Clients, Servers, Parts, Closes, Gone, Serves, PartAt}
 use Rattle.router_world.proofs.Sound.{PartStands, AtMostOne, One, AskStands, Free, Busy, AreFormed, IsAsked, IsHeard, Done}
@@ -21,7 +21,7 @@ use Rattle.client_session.specs.Answers.{account_in as account_by, commands_in}
 use Rattle.packet_frame.specs.Packets.{spelling}
 use Rattle.client_side.specs.Laws.{opening-fails-more}
 use Rattle.promises.proofs.Moments.{work-due}
-use Rattle.router_world.proofs.Connecting.{is_among, connected-came}
+use Rattle.router_world.proofs.Connecting.{connected-came}
 use Rattle.router_world.proofs.LinksGone.{asked-sound, gone-sound}
 use Rattle.router_world.proofs.Dues.{first-replied, due-unlost}
 use Rattle.router_world.proofs.SeatsAnswers.{goes-all, open-from, open-more, open-due, due-alone, front-more, over-in, SeatTurned}
@@ -65,28 +65,28 @@ pub relend : (service : Service) (log : Log) (n : ℕ) (link : LinkId) (tables :
     → Sound service log (Some (record { client = n; link = link })) tables → tables.seats n ≡ None → tables.parting ≡ []
     → LendsSound service log other → Apart n tables.lends other → Traces tables.lends other
     → Sound service log (Some (record { client = n; link = link })) (with_lends other tables)
-relend service log n hand tables other sound out unparted lends apart traces = (let unclosing : (link : LinkId) → (tables.lends.closing ≡ link ∷ []) ⊎ ((lent : Lent) × (tables.lends.links link.0 ≡ Some lent)) → tables.numbers link.0 ≡ None =
-    λ link h1. grind (arith, common_steps, none-if) in
-    let away : (k : ℕ) → InHand (Some (record { client = n; link = hand })) k ⊎ Gone tables.lends k → nat_eq k n ≡ false → InHand (Some (record { client = n; link = hand })) k ⊎ Gone other k =
-    λ k h1 at. grind (arith, common_steps, gone-apart) in
-    (let sits : (k : ℕ) (seat : Seat) → nat_eq k n ≡ false → tables.seats k ≡ Some seat → Sits service log tables.numbers other k seat =
-    λ k seat at is. (let was = sound.seats k seat is in
-    record { stands = was.stands; serves = serves-apart seat.session.phase n k seat.session.client.arrived tables.lends other apart at was.serves; unfinished = was.unfinished; numbered = was.numbered }) in
-    record {
-      came = sound.came;
-      here = sound.here;
-      counts = sound.counts;
-      seats = λ k seat is. one-or-other k n (λ m. tables.seats m ≡ Some seat → Sits service log tables.numbers other m seat) (λ at. absurd (none-some (tables.seats n) out at)) (sits k seat) is;
-      numbers = sound.numbers;
-      unlent = λ link client is. none-if (other.links link.0) (λ lent at. (let old = traces.from link lent at in none-some (tables.lends.links link.0) (sound.unlent link client is) old.1));
-      unclosing = λ link is. unclosing link (traces.closed link is);
-      away = λ k is. one-or-other k n (λ m. InHand (Some (record { client = n; link = hand })) m ⊎ Gone other m) (inl refl) (away k (sound.away k is));
-      lends = lends;
-      one_parts = sound.one_parts;
-      parts = λ parting is. absurd (let none : [] ≡ parting ∷ [] = sym unparted ∙ is in cc);
-      known = λ link opened. known-later tables.numbers tables.lends other tables.parting link (traces.to link) (traces.closes link) (sound.known link opened);
-      served = sound.served;
-    }))
+relend service log n hand tables other sound out unparted lends apart traces = record {
+  came = sound.came;
+  here = sound.here;
+  counts = sound.counts;
+  seats = λ k seat is. (let was = sound.seats k seat is in record {
+    stands = was.stands;
+    serves = serves-apart seat.session.phase n k seat.session.client.arrived tables.lends other apart (apart-numbers k n (λ same. none-some (tables.seats n) out (ap tables.seats (sym same) ∙ is))) was.serves;
+    unfinished = was.unfinished;
+    numbered = was.numbered;
+  });
+  numbers = sound.numbers;
+  unlent = λ link client is. none-if (other.links link.0) (λ lent at. (let old = traces.from link lent at in none-some (tables.lends.links link.0) (sound.unlent link client is) old.1));
+  unclosing = λ link is. unclosing link (traces.closed link is);
+  away = λ k is. grind (arith, common_steps, nat_eq-true, gone-apart);
+  lends = lends;
+  one_parts = sound.one_parts;
+  parts = λ parting is. absurd (none-one tables.parting unparted is);
+  known = λ link opened. known-later tables.numbers tables.lends other tables.parting link (traces.to link) (traces.closes link) (sound.known link opened);
+  served = sound.served;
+} where
+  unclosing : (link : LinkId) → (tables.lends.closing ≡ link ∷ []) ⊎ ((lent : Lent) × (tables.lends.links link.0 ≡ Some lent)) → tables.numbers link.0 ≡ None
+  unclosing link h1 = grind (arith, common_steps, none-if)
 
 -- The seat is put back.
 pub put-back : {service : Service} {log : Log} {seat : Seat} {tables : Tables} (client : ClientNo)
@@ -94,29 +94,31 @@ pub put-back : {service : Service} {log : Log} {seat : Seat} {tables : Tables} (
     → tables.numbers seat.link.0 ≡ Some client → SeatStands service log client.0 seat
     → Serves seat.session.phase tables.lends client.0 seat.session.client.arrived → is_finished seat.session ≡ false
     → Sound service log None (with_seat client seat tables)
-put-back {service} {log} {seat} {tables} client sound out number stands serves unfinished = (let back : set tables.seats client.0 (Some seat) client.0 ≡ Some seat = set-same tables.seats client.0 (Some seat) in
-    let numbers : (link : LinkId) (other : ClientNo) → OnHand (Some (record { client = client.0; link = seat.link })) other.0 link ⊎ ((s : Seat) × (tables.seats other.0 ≡ Some s) × (s.link ≡ link)) → (s : Seat) × (set tables.seats client.0 (Some seat) other.0 ≡ Some s) × (s.link ≡ link) =
-    λ link other h2. grind (arith, common_steps, set-other, apart-numbers) in
-    let away : (k : ℕ) → nat_eq k client.0 ≡ false → InHand (Some (record { client = client.0; link = seat.link })) k ⊎ Gone tables.lends k → Gone tables.lends k =
-    λ k at h2. grind (arith, common_steps) in
-    (let mine : (other : Seat) → set tables.seats client.0 (Some seat) client.0 ≡ Some other → Sits service log tables.numbers tables.lends client.0 other =
-    λ other is. subst (Sits service log tables.numbers tables.lends client.0) (some-same seat other (sym back ∙ is)) (record { stands = stands; serves = serves; unfinished = unfinished; numbered = number }) in
-    record {
-      came = sound.came;
-      here = sound.here;
-      counts = sound.counts;
-      seats = λ k other is. one-or-other k client.0 (λ m. set tables.seats client.0 (Some seat) m ≡ Some other → Sits service log tables.numbers tables.lends m other) (mine other) (λ at now. sound.seats k other (sym (set-other tables.seats client.0 k (Some seat) at) ∙ now)) is;
-      numbers = λ link other is. inr (numbers link other (sound.numbers link other is));
-      unlent = sound.unlent;
-      unclosing = sound.unclosing;
-      away = λ k is. inr (one-or-other k client.0 (λ m. set tables.seats client.0 (Some seat) m ≡ None → Gone tables.lends m) (λ none. absurd (none-some (set tables.seats client.0 (Some seat) client.0) none back))
-          (λ at none. away k at (sound.away k (sym (set-other tables.seats client.0 k (Some seat) at) ∙ none))) is);
-      lends = sound.lends;
-      one_parts = sound.one_parts;
-      parts = sound.parts;
-      known = sound.known;
-      served = sound.served;
-    }))
+put-back {service} {log} {seat} {tables} client sound out number stands serves unfinished = record {
+  came = sound.came;
+  here = sound.here;
+  counts = sound.counts;
+  seats = λ k other is. sits k other (row-of tables.seats client.0 (Some seat) k other is);
+  numbers = λ link other is. inr (numbers link other (sound.numbers link other is));
+  unlent = sound.unlent;
+  unclosing = sound.unclosing;
+  away = λ k is. inr (away k is);
+  lends = sound.lends;
+  one_parts = sound.one_parts;
+  parts = sound.parts;
+  known = sound.known;
+  served = sound.served;
+} where
+  sits : (k : ℕ) (other : Seat) → Row tables.seats client.0 (Some seat) k other → Sits service log tables.numbers tables.lends k other
+  sits k other (There apart was) = sound.seats k other was
+  sits k other (Here same is) = rw (same, ← some-same seat other is) (record { stands = stands; serves = serves; unfinished = unfinished; numbered = number })
+
+  numbers : (link : LinkId) (other : ClientNo) → OnHand (Some (record { client = client.0; link = seat.link })) other.0 link ⊎ ((s : Seat) × (tables.seats other.0 ≡ Some s) × (s.link ≡ link))
+      → (s : Seat) × (set tables.seats client.0 (Some seat) other.0 ≡ Some s) × (s.link ≡ link)
+  numbers link other h2 = grind (arith, common_steps, set-other, apart-numbers)
+
+  away : (k : ℕ) → set tables.seats client.0 (Some seat) k ≡ None → Gone tables.lends k
+  away k is = grind (arith, common_steps, nat_eq-true, sound.away)
 
 -- A client's link is to be closed.
 
@@ -132,50 +134,62 @@ pub record Parted (service : Service) (log : Log) (n : ℕ) (link : LinkId) : Ty
 pub part-with : (service : Service) (log : Log) (client : ClientNo) (link : LinkId) (tables : Tables)
     → Sound service log (Some (record { client = client.0; link = link })) tables → tables.seats client.0 ≡ None → tables.numbers link.0 ≡ Some client
     → Gone tables.lends client.0 → tables.parting ≡ [] → Parted service log client.0 link → Sound service log None (parts link tables)
-part-with service log client link tables sound out number gone none parted = (let new : Tables = parts link tables in
-    let apart : (k : ℕ) (seat : Seat) → tables.seats k ≡ Some seat → nat_eq seat.link.0 link.0 ≡ false =
-    λ k seat is. apart-links seat.link link (λ at. (let both : Some client ≡ Some (record { 0 = k }) = sym number ∙ ap (λ (l : LinkId). tables.numbers l.0) (sym at) ∙ (sound.seats k seat is).numbered in
-    none-some (tables.seats client.0) out (ap (λ (c : ClientNo). tables.seats c.0) (some-same client (record { 0 = k }) both) ∙ is))) in
-    let numbers : (other : LinkId) (someone : ClientNo) → Row tables.numbers link.0 None other.0 someone → OnHand None someone.0 other ⊎ ((seat : Seat) × (tables.seats someone.0 ≡ Some seat) × (seat.link ≡ other)) =
-    λ other someone h2. grind (arith, common_steps) in
-    let unlent : (other : LinkId) (someone : ClientNo) → Row tables.numbers link.0 None other.0 someone → tables.lends.links other.0 ≡ None =
-    λ other someone h2. grind (arith, common_steps) in
-    let away : (k : ℕ) → InHand (Some (record { client = client.0; link = link })) k ⊎ Gone tables.lends k → InHand None k ⊎ Gone tables.lends k =
-    λ k h1. grind (arith, common_steps) in
-    (let mine : Parting = record { link = link; bytes = []; is_client = true } in
-    let the : new.parting ≡ mine ∷ [] = ap (λ p. p ++ mine ∷ []) none in
-    let closing : (other : LinkId) → tables.lends.closing ≡ other ∷ [] → nat_eq other.0 link.0 ≡ false =
-    λ other is. apart-links other link (λ at. none-some (tables.numbers other.0) (sound.unclosing other is) (ap (λ (l : LinkId). tables.numbers l.0) at ∙ number)) in
-    let stands : PartStands service log new.numbers tables.lends mine = record {
-      opened = parted.opened;
-      unnumbered = set-same tables.numbers link.0 None;
-      unlent = sound.unlent link client number;
-      unclosing = closing;
-      alone = λ some. absurd (some refl);
-      n = client.0;
-      came = parted.came;
-      is_came = parted.is_came;
-      link = parted.on;
-      counted = ap (λ (l : LinkId). is_among l (connected log)) (sym parted.on) ∙ connected-came client.0 parted.came log sound.counts parted.is_came parted.client (subst (λ (l : LinkId). IsOpen l log) (sym parted.on) parted.opened);
-      is_client = sym parted.client;
-      at = parted.at;
-    } in
-    record {
-      came = sound.came;
-      here = sound.here;
-      counts = sound.counts;
-      seats = λ k seat is. (let was = sound.seats k seat is in record { stands = was.stands; serves = was.serves; unfinished = was.unfinished; numbered = set-other tables.numbers link.0 seat.link.0 None (apart k seat is) ∙ was.numbered });
-      numbers = λ other someone is. numbers other someone (row-of tables.numbers link.0 None other.0 someone is);
-      unlent = λ other someone is. unlent other someone (row-of tables.numbers link.0 None other.0 someone is);
-      unclosing = λ other is. set-other tables.numbers link.0 other.0 None (closing other is) ∙ sound.unclosing other is;
-      away = λ k is. away k (sound.away k is);
-      lends = sound.lends;
-      one_parts = subst AtMostOne (sym the) (One mine);
-      parts = λ parting is. subst (PartStands service log new.numbers tables.lends) (some-same mine parting (let both : mine ∷ [] ≡ parting ∷ [] = sym the ∙ is in let head : Some mine ≡ Some parting = cc in head)) stands;
-      known = λ other opened. link-or-other other link (Known new.numbers tables.lends new.parting) (Parts mine the refl)
-          (λ at. known-as tables.numbers new.numbers tables.lends tables.parting new.parting other (set-other tables.numbers link.0 other.0 None at) (λ p is on. absurd (none-one tables.parting none is)) (sound.known other opened));
-      served = sound.served;
-    }))
+part-with service log client link tables sound out number gone none parted = record {
+  came = sound.came;
+  here = sound.here;
+  counts = sound.counts;
+  seats = λ k seat is. (let was = sound.seats k seat is in record { stands = was.stands; serves = was.serves; unfinished = was.unfinished; numbered = set-other tables.numbers link.0 seat.link.0 None (apart k seat is) ∙ was.numbered });
+  numbers = λ other someone is. numbers other someone (row-of tables.numbers link.0 None other.0 someone is);
+  unlent = λ other someone is. unlent other someone (row-of tables.numbers link.0 None other.0 someone is);
+  unclosing = λ other is. set-other tables.numbers link.0 other.0 None (closing other is) ∙ sound.unclosing other is;
+  away = λ k is. away k (sound.away k is);
+  lends = sound.lends;
+  one_parts = subst AtMostOne (sym the) (One mine);
+  parts = λ parting is. subst (PartStands service log new.numbers tables.lends) (one-same mine parting (sym the ∙ is)) stands;
+  known = λ other opened. link-or-other other link (Known new.numbers tables.lends new.parting) (Parts mine the refl)
+      (λ at. known-as tables.numbers new.numbers tables.lends tables.parting new.parting other (set-other tables.numbers link.0 other.0 None at) (λ p is on. absurd (none-one tables.parting none is)) (sound.known other opened));
+  served = sound.served;
+} where
+  new : Tables
+  new = parts link tables
+
+  mine : Parting
+  mine = record { link = link; bytes = []; is_client = true }
+
+  the : new.parting ≡ mine ∷ []
+  the = ap (λ p. p ++ mine ∷ []) none
+
+  apart : (k : ℕ) (seat : Seat) → tables.seats k ≡ Some seat → nat_eq seat.link.0 link.0 ≡ false
+  apart k seat is = apart-links seat.link link (λ at. none-some (tables.seats client.0) out (ap (λ (c : ClientNo). tables.seats c.0)
+      (some-same client (record { 0 = k }) (sym number ∙ ap (λ (l : LinkId). tables.numbers l.0) (sym at) ∙ (sound.seats k seat is).numbered)) ∙ is))
+
+  numbers : (other : LinkId) (someone : ClientNo) → Row tables.numbers link.0 None other.0 someone → OnHand None someone.0 other ⊎ ((seat : Seat) × (tables.seats someone.0 ≡ Some seat) × (seat.link ≡ other))
+  numbers other someone h2 = grind (arith, common_steps)
+
+  unlent : (other : LinkId) (someone : ClientNo) → Row tables.numbers link.0 None other.0 someone → tables.lends.links other.0 ≡ None
+  unlent other someone h2 = grind (arith, common_steps)
+
+  away : (k : ℕ) → InHand (Some (record { client = client.0; link = link })) k ⊎ Gone tables.lends k → InHand None k ⊎ Gone tables.lends k
+  away k h1 = grind (arith, common_steps)
+
+  closing : (other : LinkId) → tables.lends.closing ≡ other ∷ [] → nat_eq other.0 link.0 ≡ false
+  closing other is = apart-links other link (λ at. none-some (tables.numbers other.0) (sound.unclosing other is) (ap (λ (l : LinkId). tables.numbers l.0) at ∙ number))
+
+  stands : PartStands service log new.numbers tables.lends mine
+  stands = record {
+    opened = parted.opened;
+    unnumbered = set-same tables.numbers link.0 None;
+    unlent = sound.unlent link client number;
+    unclosing = closing;
+    alone = λ some. absurd (some refl);
+    n = client.0;
+    came = parted.came;
+    is_came = parted.is_came;
+    link = parted.on;
+    counted = rw (← parted.on) (connected-came client.0 parted.came log sound.counts parted.is_came parted.client (subst (λ (l : LinkId). IsOpen l log) (sym parted.on) parted.opened));
+    is_client = sym parted.client;
+    at = parted.at;
+  }
 
 -- A client's session goes on: its query is asked for, and where it ends nothing more is.
 
