@@ -183,7 +183,7 @@ pub record Stood (service : Service) (log : Log) (n : ℕ) (lends other : Lends)
 
 -- A link that is to be closed stands so where it has no row.
 close-kept : {service : Service} {log : Log} {lends other : Lends} {link : LinkId} → CloseStands service log lends link → other.links link.0 ≡ None → CloseStands service log other link
-close-kept stands unlent = record { opened = stands.opened; unlent = unlent; turn = stands.turn; is_turn = stands.is_turn; may = stands.may }
+close-kept stands unlent = grind (arith, common_steps)
 
 -- No link changes, and the client has none.
 pub record NoRow (service : Service) (log : Log) (n : ℕ) (lends other : Lends) : Type 0 where
@@ -219,7 +219,7 @@ still-stood {service} {log} {n} {lends} {other} sound unowned same = record {
   };
 } where
   apart : Apart n lends other
-  apart = record { asks = same.asks; owned = same.owned; links = λ k link differs owns. same.links link.0; waiting = same.waiting }
+  apart = grind (arith, common_steps)
 
 -- One link changes, or is to be closed.
 pub data RowGoes (service : Service) (log : Log) (link : LinkId) (lends other : Lends) : Type 0 where
@@ -242,8 +242,7 @@ abbrev pub Mine : (n : ℕ) → Lent → Type 0
 Mine n lent = (k : ℕ) → nat_eq k n ≡ false → lent.owner ≡ Some (record { 0 = k }) → ⊥
 
 pub owner-mine : (n : ℕ) (lent : Lent) → lent.owner ≡ Some (record { 0 = n }) → Mine n lent
-owner-mine n lent owner k differs is = (let same : n ≡ k = ap (λ (c : ClientNo). c.0) (some-same (record { 0 = n }) (record { 0 = k }) (sym owner ∙ is)) in
-    let no' : true ≡ false = sym (same_number k) ∙ ap (nat_eq k) (sym same) ∙ differs in cc)
+owner-mine n lent owner k differs is = grind (arith, common_steps, some-same)
 
 pub none-mine : (n : ℕ) (lent : Lent) → lent.owner ≡ None → Mine n lent
 none-mine n lent none k differs is = no-some none is

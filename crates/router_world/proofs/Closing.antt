@@ -30,7 +30,7 @@ passes-closed link shut = record { silence = silence-closed link; fits = shut.fi
 
 bystands-closed : {service : Service} {log : Log} {link : LinkId} {tables : Tables} → Happens service log (Closed link) tables
     → tables.numbers link.0 ≡ None → tables.lends.links link.0 ≡ None → Bystands service log (Closed link) link tables
-bystands-closed {service} {log} {link} shut unnumbered unlent = record { names = refl; unnumbered = unnumbered; unlent = unlent; calm = silent-calm service log (Closed link) (silence-closed {log = log} link).silent; fits = shut.fits; lawful = shut.lawful }
+bystands-closed {service} {log} {link} shut unnumbered unlent = grind (arith, common_steps, silent-calm, silence-closed)
 
 -- another link is open behind it
 opened-behind : (log : Log) (link other : LinkId) → IsOpen other (log ++ Closed link ∷ []) → (IsOpen other log) × (other.0 ≢ link.0)

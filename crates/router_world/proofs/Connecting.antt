@@ -5,7 +5,7 @@ use Rattle.router_world.proofs.Names.{Traffic, Admin, Log, link_of, open_step, i
 use Rattle.router_world.proofs.Names.{Entry, Accepted, Opened, Closed, Arrival, arrivals_behind, arrival_of, is_traffic, connected_step, connected, some-same}
 use Rattle.router_world.proofs.Names.{came_as, came-names, named-none, same-link, or-inl, or-inr}
 use Rattle.router_world.proofs.Calm.{or-none, any-still}
-use Rattle.std.proofs.lemmas.Bool.{or_parts, or_from, false_from_ne_true, eqb-true}
+use Rattle.std.proofs.lemmas.Bool.{or_parts, or_from, eqb-true}
 use Rattle.promises.proofs.Causes.{or-cases}
 use Rattle.mx_wire.specs.Growth.{nat_eq-sym}
 
@@ -99,7 +99,7 @@ traffic-came link [] is = is
 traffic-came link (e ∷ log) is = grind (arith, common_steps, or-cases, or-inl, or-inr, (traffic-came link log))
 
 new-untrafficked : (link : LinkId) (log : Log) → IsNew link log → list_any (traffic_as link) log ≡ false
-new-untrafficked link log new = false_from_ne_true (list_any (traffic_as link) log) (λ is. named-none link (came_as link) log (came-names link) new (traffic-came link log is))
+new-untrafficked link log new = grind (arith, common_steps, named-none, came-names, traffic-came)
 
 counts-opened : (log : Log) (e : Entry) (new : LinkId) → link_of e ≡ Some new → IsNew new log → ((links : List LinkId) → connected_step links e ≡ links) → ((link : LinkId) → traffic_as link e ≡ false) → Counts log → Counts (log ++ e ∷ [])
 counts-opened log e new names fresh stays none counts = grind (arith, common_steps, counts-plain, new-untrafficked, same-link, step-other)

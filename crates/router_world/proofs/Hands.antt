@@ -1,17 +1,17 @@
 -- A client's seat is taken out, and put back or not.
 use Rattle.router_world.proofs.Names.{common_steps, ◌≡◌, ◌⊎◌, ℕ, Bool, true, false, nat_eq, [], ◌∷◌, Option, Some, None, refl, sym, ◌∙◌, ap, subst, inl, inr}
 use Rattle.router_world.proofs.Names.{ClientNo, LinkId, Log, nat_eq-true, is_finished, Lent, Lends, set, Service, some-same, none-if, Seat, Tables}
-use Rattle.router_world.proofs.Names.{with_lends, ◌++◌, IsOpen, Arrival, arrival_of, is_traffic, Parting, ◌&&◌, Account, Phase, Query, is_ending, Turned, Ask}
-use Rattle.router_world.proofs.Names.{asked, gone, ◌<◌, ◌≤◌, ◌+◌, is_some, List, length, option_map, option_and_then, arith, append-nil, Framed, next_id}
-use Rattle.router_world.proofs.Names.{FrameFault, ClientState, Opening, WaitsToLogIn, Says, FailsToSay, opening-says-more, is_served, Talk, heard_more}
-use Rattle.router_world.proofs.Names.{opening_of, account, if_known, messages_of, front, front_in, fault_answer, Session, most_command, carrier_of, Answer}
-use Rattle.router_world.proofs.Names.{talk_with, user_of, Work, work_in, work_of, ends_in, ends_by, if_user, messages-grow, replied, first_open, answers_by}
-use Rattle.router_world.proofs.Names.{SeatAt, PhaseAt, IsWorking, due_said, work_said, over_said, in-work, ◌≢◌, is_query, turned, Asks, not, nil_from_length}
-use Rattle.router_world.proofs.Names.{written_of, is_open, was_lost, is_here_as, is_here, due, has_ended}
+use Rattle.router_world.proofs.Names.{with_lends, ◌++◌, IsOpen, Arrival, arrival_of, is_traffic, Parting, Account, Phase, Query, is_ending, Turned, Ask}
+use Rattle.router_world.proofs.Names.{asked, gone, ◌<◌, ◌≤◌, is_some, List, length, arith, append-nil, Framed, next_id, FrameFault, ClientState, Opening}
+use Rattle.router_world.proofs.Names.{WaitsToLogIn, Says, FailsToSay, opening-says-more, is_served, Talk, heard_more, opening_of, account, if_known}
+use Rattle.router_world.proofs.Names.{messages_of, front, front_in, fault_answer, Session, most_command, carrier_of, Answer, talk_with, user_of, Work}
+use Rattle.router_world.proofs.Names.{work_of, ends_in, ends_by, if_user, messages-grow, replied, first_open, answers_by, SeatAt, PhaseAt, IsWorking}
+use Rattle.router_world.proofs.Names.{due_said, work_said, over_said, in-work, ◌≢◌, is_query, turned, Asks, nil_from_length, written_of, was_lost, is_here}
+use Rattle.router_world.proofs.Names.{due, has_ended}
 use Rattle.promises.proofs.Staying.{account-more, Grown}
 use Rattle.router_world.proofs.Apart.{none-one, link-or-other, apart-links, apart-numbers, set-same, set-other, Row, row-of, Apart, Traces, serves-apart}
-use Rattle.router_world.proofs.Apart.{gone-apart, Went, Idle, one-same, Here, There}
-use Rattle.std.proofs.lemmas.Bool.{and_right, and_parts}
+use Rattle.router_world.proofs.Apart.{gone-apart, Went, Idle, one-same, Here, There, no-some}
+use Rattle.std.proofs.lemmas.Bool.{and_parts}
 use Rattle.router_world.proofs.Sound.{Sits, SeatStands, LendsSound, Sound, InHand, OnHand, Known, Clients, Servers, Parts, Closes, Gone, Serves, PartAt}
 use Rattle.router_world.proofs.Sound.{PartStands, AtMostOne, One, AskStands, Free, Busy, AreFormed, IsAsked, IsHeard, Done}
 use Rattle.router_world.specs.Tables.{with_seat}
@@ -29,7 +29,7 @@ use Rattle.router_world.proofs.Frames.{over-no-query}
 use Rattle.client_talk.specs.declared.session.Phase.TheVariants as phase
 
 pub none-some : {X : Type 0} {x : X} (o : Option X) → o ≡ None → o ≡ Some x → ⊥
-none-some o none some = (let no' : None ≡ Some _ = sym none ∙ some in cc)
+none-some o none some = (no-some none some)
 
 pub away-gone : (lends : Lends) (n : ℕ) → InHand None n ⊎ Gone lends n → Gone lends n
 away-gone lends n h2 = grind (arith, common_steps)
@@ -213,10 +213,10 @@ pub record Turns (service : Service) (log : Log) (n arrived : ℕ) (at : Phase) 
   pub traces : Traces lends other
 
 pub apart-self : (n : ℕ) (lends : Lends) → Apart n lends lends
-apart-self n lends = record { asks = λ k differs. refl; owned = λ k differs. refl; links = λ k link differs owns. refl; waiting = λ k differs is. is }
+apart-self n lends = grind (arith, common_steps)
 
 pub traces-self : (lends : Lends) → Traces lends lends
-traces-self lends = record { from = λ link lent is. (lent, is); to = λ link lent is. inl (lent, is); closed = λ link is. inl is; closes = λ link is. is }
+traces-self lends = grind (arith, common_steps)
 
 turns : {service : Service} {log : Log} {n arrived : ℕ} {at : Phase} {query : Option Query} {lends : Lends} → LendsSound service log lends
     → Next service log n lends at arrived query
@@ -251,16 +251,16 @@ goes-on service log client link turned tables sound out number unparted stands n
 -- Behind messages that are all answered the one in work comes later.
 pub later-work : (talk : Talk) (reply : ℕ → Option Answer) (past later : List Framed) (work : Work) → (messages_of talk).messages ≡ past ++ later
     → first_open talk.setup reply 1 past ≡ None → work_said reply talk ≡ Some work → length past < work.ordinal
-later-work talk reply past later work messages all is = (let from : 1 + length past ≤ work.ordinal = open-from talk.setup reply (1 + length past) later work (sym (goes-all talk.setup reply 1 past later all) ∙ sym (ap (first_open talk.setup reply 1) messages) ∙ is) in omega arith)
+later-work talk reply past later work messages all is = grind (arith, common_steps, open-from, goes-all)
 
 -- The message in work, by the promises.
 pub work-is : (service : Service) (n : ℕ) (came : Arrival) (log : Log) → arrival_of n log ≡ Some came
     → work_of service n log ≡ work_said (λ i. replied service n i log) (talk_with service n came log)
-work-is service n came log is = ap (λ (o : Option Arrival). work_in service n log (option_map (λ (came : Arrival). talk_with service n came log) o)) is ∙ first-replied service n came log is
+work-is service n came log is = grind (arith, common_steps, first-replied)
 
 pub user-is : (service : Service) (n : ℕ) (came : Arrival) (log : Log) → arrival_of n log ≡ Some came
     → user_of service n log ≡ account (talk_with service n came log)
-user-is service n came log is = ap (λ (o : Option Arrival). option_and_then account (option_map (λ (came : Arrival). talk_with service n came log) o)) is
+user-is service n came log is = grind (arith, common_steps)
 
 pub working-asked : {service : Service} {n : ℕ} {log : Log} {user : Account} {client : ClientState} {bytes : List ℕ} {id : ℕ} (came : Arrival)
     → arrival_of n log ≡ Some came → is_served service.setup came ≡ true → service.setup.limit ≤ most_command → AreFormed service log
@@ -351,7 +351,7 @@ ending-more {talk} {reply} {written} {session} more ends seat = (let over : Stay
 -- Bytes of a client come.
 
 pub free-gone : (lends : Lends) (n : ℕ) → Gone lends n → Free lends n
-free-gone lends n gone = record { unasked = gone.unasked; idle = λ link lent owns is. absurd (let none : None ≡ Some link = sym gone.unowned ∙ owns in cc) }
+free-gone lends n gone = grind (arith, common_steps)
 
 -- A client that ends by what it says may go.
 pub ends-so : (service : Service) (log : Log) (n : ℕ) (came : Arrival) (written : List ℕ) (session : Session) (lends : Lends)
@@ -360,7 +360,7 @@ pub ends-so : (service : Service) (log : Log) (n : ℕ) (came : Arrival) (writte
     → Went service log n lends (gone (record { 0 = n }) lends)
 ends-so service log n came written session lends sound none is free ends seat = gone-sound service log n lends sound none (Idle free (λ work at. quits work (sym (work-is service n came log is) ∙ at) (is_query work.message.payload) refl)) where
   over : over_said (λ i. replied service n i log) (talk_with service n came log) ≡ true
-  over = subst (λ (p : Phase). PhaseAt p (talk_with service n came log) (λ i. replied service n i log) (written ++ session.client.outgoing) session.client) ends seat.at
+  over = grind (arith, common_steps)
 
   quits : (work : Work) → work_said (λ i. replied service n i log) (talk_with service n came log) ≡ Some work → (b : Bool) → is_query work.message.payload ≡ b → is_query work.message.payload ≡ false
   quits work at false no-query = no-query
@@ -382,7 +382,7 @@ next-turned service log n came written old turned lends sound none idle is serve
 
   asks : (query : Query) → turned.query ≡ Some query → Asks (Some query) talk reply old turned.session → (p : Phase) → turned.session.phase ≡ p → Next service log n lends p turned.session.client.arrived (Some query)
   asks query same so p phase-is = (let stands : AskStands service log n (ask_for so.0 query) =
-      working-ask came query is served at.seat.mine.short formed so.1 so.3 so.4 so.5 (unsent (λ none. (let no' : None ≡ Some query = sym none ∙ same in cc))) in
+      working-ask came query is served at.seat.mine.short formed so.1 so.3 so.4 so.5 (unsent (λ none. (no-some none same))) in
       subst (λ (q : Phase). Next service log n lends q turned.session.client.arrived (Some query)) (sym so.2 ∙ phase-is)
       (Comes so.0 query free (idle (Rattle.router_world.proofs.Calm.asks-server service n (ask_for so.0 query).ordinal stands.asked.message stands.asked.due log stands.asked.asks)) stands so.3))
 
@@ -435,4 +435,4 @@ finished-parted service log n seat stands finished = (let both = and_parts (is_e
 
 -- A client whose link is lost isn't connected.
 pub lost-away : (n : ℕ) (came : Arrival) (log : Log) → arrival_of n log ≡ Some came → was_lost came.link log ≡ true → is_here n log ≡ false
-lost-away n came log is lost = ap (λ o. is_here_as o log) is ∙ ap (λ b. is_open came.link log && not b) lost ∙ and_right (is_open came.link log) false refl
+lost-away n came log is lost = grind (arith, common_steps)

@@ -1,14 +1,13 @@
 -- What an entry of one client's link to a server, or an open for a client, leaves of the links and the commands of others.
-use Rattle.router_world.proofs.Names.{common_steps, ◌≡◌, ℕ, Bool, true, false, ◌&&◌, nat_eq, [], ◌∷◌, ◌++◌, Some, None, refl, option_map, sym, ◌∙◌, ap, subst}
-use Rattle.router_world.proofs.Names.{ServerId, Address, ClientNo, LinkId, Log, link_of, is_link, is_open, open_step, IsOpen, Fits, AllLawful, lawful-last}
-use Rattle.router_world.proofs.Names.{same_number, Entry, Opened, OpenFailed, Ask, Lent, Lends, was_lost, login_on, carries, Turn, Service, next_turn}
-use Rattle.router_world.proofs.Names.{turn_of, owner_of, is_turn, IsLawful, Cause, NotOpened, NotLoggedIn, some-same, refusal-cause, turn-stays, ◌≢◌, zero}
-use Rattle.router_world.proofs.Names.{suc, ◌||◌, cond, List, list_any, append-nil, arith, list_any-append, Tag, For, of_link, got_bytes, of_link-same}
-use Rattle.router_world.proofs.Names.{step-same, Wrote, Account, BackendState, Handed, In, is_loss, heard_of, piece, pieces_of, is_command, carrier_of}
-use Rattle.router_world.proofs.Names.{user_on, is_refused, RefusedOrSent, replied, reply_said, LinkAt, Entering, Inside, Option, Answered, breaks_off}
-use Rattle.router_world.proofs.Names.{login_fails, user_of, MayDrop, asks-unrefused, refused-or-sent, user-stays, Got, set, Command, Forms, Standing}
-use Rattle.router_world.proofs.Names.{standing_on, standing_said, Answer, IsEntering, IsInside, is_begun, none-if, inr, is_here, IsOpening, bytes_in, spelt}
-use Rattle.router_world.proofs.Names.{message-stays, in-work, ◌<◌, ◌⊎◌}
+use Rattle.router_world.proofs.Names.{common_steps, ◌≡◌, ℕ, Bool, true, false, ◌&&◌, nat_eq, [], ◌∷◌, ◌++◌, Some, None, refl, sym, ◌∙◌, ap, subst, ServerId}
+use Rattle.router_world.proofs.Names.{Address, ClientNo, LinkId, Log, link_of, is_link, is_open, open_step, IsOpen, Fits, AllLawful, lawful-last, same_number}
+use Rattle.router_world.proofs.Names.{Entry, Opened, OpenFailed, Ask, Lent, Lends, was_lost, login_on, carries, Turn, Service, next_turn, turn_of, owner_of}
+use Rattle.router_world.proofs.Names.{is_turn, IsLawful, Cause, NotOpened, NotLoggedIn, some-same, refusal-cause, turn-stays, ◌≢◌, zero, suc, cond, List}
+use Rattle.router_world.proofs.Names.{append-nil, arith, list_any-append, Tag, For, got_bytes, of_link-same, step-same, Wrote, Account, BackendState, Handed}
+use Rattle.router_world.proofs.Names.{In, is_loss, heard_of, piece, pieces_of, is_command, carrier_of, user_on, is_refused, RefusedOrSent, replied}
+use Rattle.router_world.proofs.Names.{reply_said, LinkAt, Entering, Inside, Option, Answered, breaks_off, login_fails, user_of, MayDrop, asks-unrefused}
+use Rattle.router_world.proofs.Names.{refused-or-sent, user-stays, Got, set, Command, Forms, Standing, standing_on, standing_said, Answer, IsEntering}
+use Rattle.router_world.proofs.Names.{IsInside, is_begun, none-if, inr, is_here, IsOpening, bytes_in, spelt, message-stays, in-work, ◌<◌, ◌⊎◌}
 use Rattle.router_world.proofs.Calm.{or-none, Leaves, leaves-other, sent-unrefused, unsent-still, unrefused-more}
 use Rattle.router_world.proofs.Apart.{apart-links, apart-numbers, RowNow, Was, OneRow, Mine, owner-mine, none-mine, none-one, Comes, Came, set-same}
 use Rattle.router_world.proofs.Apart.{put-other, Stays, no-some, set-other, Quiet, Closes, Answers, one-stood}
@@ -77,7 +76,7 @@ module _ {service : Service} {log : Log} where
   -- No two rows are of one client.
   row-owner : {lends : Lends} {link : LinkId} {lent : Lent} (n : ℕ) (row : RowStands service log lends link lent) → row.turn.client ≡ n
       → owner_of service link log ≡ Some (record { client = n; hostgroup = 0 })
-  row-owner n row mine = ap (option_map (λ (turn : Turn). record { client = turn.client; hostgroup = turn.hostgroup })) row.is_turn ∙ ap (λ m. Some (record { client = m; hostgroup = row.turn.hostgroup })) mine ∙ ap (λ h. Some (record { client = n; hostgroup = h })) row.hostgroup
+  row-owner n row mine = grind (arith, common_steps)
 
 pub same-row : {service : Service} {log : Log} {lends : Lends} {one other : LinkId} {lent another : Lent} (n : ℕ) → AllLawful Fits log
     → AllLawful (IsLawful service) log → (row : RowStands service log lends one lent) → row.turn.client ≡ n
@@ -101,7 +100,7 @@ pub opened-on : (link : LinkId) (log : Log) (e : Entry) → link_of e ≡ Some l
 opened-on link log e names stays opened = step-same open_step false link log e (is-here link e names) ∙ stays (is_open link log) ∙ opened
 
 pub lost-on : (link : LinkId) (log : Log) (e : Entry) → link_of e ≡ Some link → was_lost link log ≡ false → was_lost link (log ++ e ∷ []) ≡ is_loss e
-lost-on link log e names unlost = ap (list_any is_loss) (of_link-same link log e (is-here link e names)) ∙ list_any-append is_loss (of_link link log) (e ∷ []) ∙ ap (λ b. b || (is_loss e || false)) unlost ∙ or-none (is_loss e)
+lost-on link log e names unlost = grind (arith, common_steps, of_link-same, is-here, list_any-append, or-none)
 
 alone : {X : Type 0} (f : Log → X) (link : LinkId) (e : Entry) → link_of e ≡ Some link → f (cond (is_link link (link_of e)) (e ∷ []) []) ≡ f (e ∷ [])
 alone f link e names = ap (λ b. f (cond b (e ∷ []) [])) (is-here link e names)
@@ -136,7 +135,7 @@ pub command-unreplied : {user : Account} {backend : BackendState} (service : Ser
     → RefusedOrSent service log → LinkAt service.forms user (heard_of link log) (pieces_of link log) backend → backend.command ≡ Some command
     → command.tag ≡ For (record { 0 = n }) i → carrier_of n i log ≡ carried_by link command.sent → user_on service link log ≡ Some user
     → was_lost link log ≡ false → (command.sent ≡ 0 → is_refused service n i log ≡ false) → replied service n i log ≡ None
-command-unreplied service n i link log command never (Entering at) has tag carrier is unlost unrefused = absurd (let no' : None ≡ Some command = sym at.login.idle ∙ has in cc)
+command-unreplied service n i link log command never (Entering at) has tag carrier is unlost unrefused = absurd (no-some at.login.idle has)
 command-unreplied {user} service n i link log command never (Inside at) has tag carrier is unlost unrefused = by command.sent refl where
   by : (sent : ℕ) → command.sent ≡ sent → replied service n i log ≡ None
   by zero none = unsent-still service n i log (carrier ∙ ap (carried_by link) none) (unrefused none)
@@ -156,18 +155,25 @@ answers-one {service} {log} {n} {i} {answer = answer} e is busy asked told free 
 pub error-spelt : (id : ℕ) (payload : List ℕ) → spelling id payload ≡ spelt id (payload ∷ [])
 error-spelt id payload = sym (append-nil (spelling id payload))
 
+-- how the row of a link stands: its login goes on, or it is logged in
+abbrev pub LogsInAt : LinkId → Log → Lent → Type 0
+LogsInAt link log lent = IsEntering lent.backend.account (heard_of link log) (pieces_of link log) lent.backend
+
+abbrev pub InsideAt : Service → LinkId → Log → Lent → Type 0
+InsideAt service link log lent = IsInside service.forms lent.backend.account (heard_of link log) (pieces_of link log) lent.backend
+
 -- How a link stands with its client: its login goes on for the client's command; it has no command, or one of which nothing is written, or some is; or
 -- its client has gone.
 pub data Held (service : Service) (log : Log) (lends : Lends) (link : LinkId) (lent : Lent) (turn : Turn) : Type 0 where
-  HoldsLogin : IsEntering lent.backend.account (heard_of link log) (pieces_of link log) lent.backend → lent.owner ≡ Some (record { 0 = turn.client })
+  HoldsLogin : LogsInAt link log lent → lent.owner ≡ Some (record { 0 = turn.client })
       → lends.owned turn.client ≡ Some link → (ask : Ask) → lends.asks turn.client ≡ Some ask → ask.ordinal ≡ turn.ordinal → Held service log lends link lent turn
-  HoldsNone : IsInside service.forms lent.backend.account (heard_of link log) (pieces_of link log) lent.backend → lent.owner ≡ Some (record { 0 = turn.client })
+  HoldsNone : InsideAt service link log lent → lent.owner ≡ Some (record { 0 = turn.client })
       → lends.owned turn.client ≡ Some link → lent.backend.command ≡ None → Held service log lends link lent turn
-  HoldsUnsent : IsInside service.forms lent.backend.account (heard_of link log) (pieces_of link log) lent.backend → lent.owner ≡ Some (record { 0 = turn.client })
+  HoldsUnsent : InsideAt service link log lent → lent.owner ≡ Some (record { 0 = turn.client })
       → lends.owned turn.client ≡ Some link → (c : Handed) → lent.backend.command ≡ Some c → c.sent ≡ 0 → Held service log lends link lent turn
-  HoldsBegun : IsInside service.forms lent.backend.account (heard_of link log) (pieces_of link log) lent.backend → lent.owner ≡ Some (record { 0 = turn.client })
+  HoldsBegun : InsideAt service link log lent → lent.owner ≡ Some (record { 0 = turn.client })
       → lends.owned turn.client ≡ Some link → (c : Handed) → lent.backend.command ≡ Some c → 0 < c.sent → Held service log lends link lent turn
-  HoldsLeft : IsInside service.forms lent.backend.account (heard_of link log) (pieces_of link log) lent.backend → lent.owner ≡ None
+  HoldsLeft : InsideAt service link log lent → lent.owner ≡ None
       → is_here turn.client log ≡ false → (c : Handed) → lent.backend.command ≡ Some c → 0 < c.sent → Held service log lends link lent turn
 
 pub outside-at : {user : Account} {heard : List ℕ} {pieces : List Command} {backend : BackendState} → IsEntering user heard pieces backend → backend.stage ≢ In
@@ -179,13 +185,13 @@ held {service} {log} {lends} {link} {lent} row = by row.at row.owned where
   begins : (c : Handed) → lent.backend.command ≡ Some c → is_begun lent.backend.command ≡ true → 0 < c.sent
   begins c has begun = grind (arith, common_steps)
 
-  sent : (c : Handed) → lent.backend.command ≡ Some c → (k : ℕ) → c.sent ≡ k → IsInside service.forms lent.backend.account (heard_of link log) (pieces_of link log) lent.backend
+  sent : (c : Handed) → lent.backend.command ≡ Some c → (k : ℕ) → c.sent ≡ k → InsideAt service link log lent
       → Owned service log lends link row.turn.client lent → Held service log lends link lent row.turn
   sent c has zero none at (Own own owns) = HoldsUnsent at own owns c has none
   sent c has (suc k) some at (Own own owns) = HoldsBegun at own owns c has (omega arith)
   sent c has k some at (Left none gone begun) = HoldsLeft at none gone c has (begins c has begun)
 
-  inside : (o : Option Handed) → lent.backend.command ≡ o → IsInside service.forms lent.backend.account (heard_of link log) (pieces_of link log) lent.backend
+  inside : (o : Option Handed) → lent.backend.command ≡ o → InsideAt service link log lent
       → Owned service log lends link row.turn.client lent → Held service log lends link lent row.turn
   inside (Some c) has at owned = sent c has c.sent refl at owned
   inside None has at (Own own owns) = HoldsNone at own owns has
@@ -229,7 +235,7 @@ pub record Puts (link : LinkId) (now : Lent) (lends : Lends) (links : ℕ → Op
   pub here : links link.0 ≡ Some now
 
 pub puts : (link : LinkId) (now : Lent) (lends : Lends) → Puts link now lends (set (set lends.links link.0 None) link.0 (Some now))
-puts link now lends = record { others = λ k differs. put-other lends.links link.0 k (Some now) differs; here = set-same (set lends.links link.0 None) link.0 (Some now) }
+puts link now lends = grind (arith, common_steps, put-other, set-same)
 
 -- the command there stays, but for how much of it is written and how far its reply is, and nothing comes of it
 pub data Commands (service : Service) (log : Log) (n : ℕ) (link : LinkId) (was now : Option Handed) : Type 0 where
@@ -261,6 +267,9 @@ module _ {service : Service} {log : Log} {e : Entry} {lends : Lends} {link : Lin
 
   abbrev new : Log
   new = log ++ e ∷ []
+
+  abbrev pub Drops : Type 0
+  Drops = MayDrop service (record { client = n; hostgroup = at.row.turn.hostgroup }) user link new
 
   -- the client's own link is this one, if it has one
   own-link : {l : LinkId} → lends.owned n ≡ Some l → l ≡ link
@@ -335,7 +344,7 @@ module _ {service : Service} {log : Log} {e : Entry} {lends : Lends} {link : Lin
         ap (λ (u : Account). login_fails u link log e) user_is ∙ ap (λ (l : LinkId). login_fails breaks.user l log e) on ∙ breaks.fails)
 
   pub calm-own : login_fails user link log e ≡ false → ((i : ℕ) → carries n i e ≡ None) → Calm service log e n
-  calm-own stays writes = record { writes = writes; spares = λ i other is. absurd (let no' : false ≡ true = sym stays ∙ cause-fails (refusal-cause service log e other is) in cc) }
+  calm-own stays writes = grind (arith, common_steps, cause-fails, refusal-cause)
 
   -- a command that waits stays so
   pub ask-later : Calm service log e n → (ask : Ask) → lends.asks n ≡ Some ask → AskStands service new n ask × (replied service n ask.ordinal new ≡ None)
@@ -377,6 +386,9 @@ module _ {service : Service} {log : Log} {e : Entry} {lends : Lends} {link : Lin
     waits = λ someone is. absurd (none-one lends.waiting at.idle is);
   }
 
+  abbrev Alike : Lent → Type 0
+  Alike now = Commands service new n link lent.backend.command now.backend.command
+
   pub own-idle : {links : ℕ → Option Lent} {now : Lent} → Puts link now lends links → now.backend.stage ≡ In → now.backend.command ≡ None
       → (l : LinkId) (x : Lent) → lends.owned n ≡ Some l → links l.0 ≡ Some x → (x.backend.stage ≡ In) × (x.backend.command ≡ None)
   own-idle {links} {now} puts inside none l x owns is = subst (λ (y : Lent). (y.backend.stage ≡ In) × (y.backend.command ≡ None))
@@ -389,15 +401,15 @@ module _ {service : Service} {log : Log} {e : Entry} {lends : Lends} {link : Lin
     other : Lends
     other = record lends { links = links }
 
-    command : Commands service new n link lent.backend.command now.backend.command → (c : Handed) → now.backend.command ≡ Some c → HandedStands service new n link c
+    command : Alike now → (c : Handed) → now.backend.command ≡ Some c → HandedStands service new n link c
     command (NoCommand was none) c is = absurd (no-some none is)
     command (OneCommand _ d was is tag begun stands none) c now_is = subst (HandedStands service new n link) (some-same d c (sym is ∙ now_is)) stands
 
-    begins : Commands service new n link lent.backend.command now.backend.command → is_begun lent.backend.command ≡ true → is_begun now.backend.command ≡ true
+    begins : Alike now → is_begun lent.backend.command ≡ true → is_begun now.backend.command ≡ true
     begins (NoCommand was none) begun = absurd (let no' : false ≡ true = sym (ap is_begun was) ∙ begun in cc)
     begins (OneCommand c d was is tag more stands none) begun = more begun
 
-    idle : Commands service new n link lent.backend.command now.backend.command → lent.backend.command ≡ None → now.backend.command ≡ None
+    idle : Alike now → lent.backend.command ≡ None → now.backend.command ≡ None
     idle (NoCommand was none) has = none
     idle (OneCommand c d was is tag more stands none) has = absurd (no-some has was)
 
@@ -409,7 +421,7 @@ module _ {service : Service} {log : Log} {e : Entry} {lends : Lends} {link : Lin
     row = row-later like.goes_on like.account like.at (command like.commands)
         (λ out. (let it = at.row.enters (λ inside. out (like.inside inside)) in record { ask = it.ask; is = it.is; same = it.same })) (owned at.row.owned)
 
-    busy : {i : ℕ} → Commands service new n link lent.backend.command now.backend.command → BusyHere lends n i link lent → Busy other n i × (replied service n i new ≡ None)
+    busy : {i : ℕ} → Alike now → BusyHere lends n i link lent → Busy other n i × (replied service n i new ≡ None)
     busy {i} commands (LogsHere owns ask is same out) = (Logs ask is same link now owns puts.here (like.outside out), subst (λ k. replied service n k new ≡ None) same (like.asked ask is).1)
     busy {i} (NoCommand was none) (OnHere owns unasked c inside has tag) = absurd (no-some was has)
     busy {i} (OneCommand x d was is same begun stands none) (OnHere owns unasked c inside has tag) = (On unasked link now d owns puts.here (like.inside inside) is tagged,
@@ -423,7 +435,7 @@ module _ {service : Service} {log : Log} {e : Entry} {lends : Lends} {link : Lin
 
   -- The link is to be closed, with these tables.
   pub shut-news : {owned : ℕ → Option LinkId} {asks : ℕ → Option Ask} {waiting : List ClientNo}
-      → MayDrop service (record { client = n; hostgroup = at.row.turn.hostgroup }) user link new
+      → Drops
       → ((k : ℕ) → nat_eq k n ≡ false → asks k ≡ lends.asks k) → ((k : ℕ) → nat_eq k n ≡ false → owned k ≡ lends.owned k) → owned n ≡ None
       → ((ask : Ask) → asks n ≡ Some ask → AskStands service new n ask) → AtMostOne waiting
       → ((client : ClientNo) → waiting ≡ client ∷ [] → Waiting (shut link lends owned asks waiting) client)
@@ -440,16 +452,10 @@ module _ {service : Service} {log : Log} {e : Entry} {lends : Lends} {link : Lin
     waits = waits;
   } where
     stands : CloseStands service new (shut link lends owned asks waiting) link
-    stands = record {
-      opened = opened-new;
-      unlent = set-same lends.links link.0 None;
-      turn = at.row.turn;
-      is_turn = turn-new;
-      may = λ other is. subst (λ (u : Account). MayDrop service (record { client = n; hostgroup = at.row.turn.hostgroup }) u link new) (some-same user other (sym user-new ∙ is)) may;
-    }
+    stands = grind (arith, common_steps, set-same, turn-new, some-same, user-new)
 
   -- nothing of its client's was under way there
-  pub shut-idle : {owned : ℕ → Option LinkId} → MayDrop service (record { client = n; hostgroup = at.row.turn.hostgroup }) user link new → Calm service log e n
+  pub shut-idle : {owned : ℕ → Option LinkId} → Drops → Calm service log e n
       → ((k : ℕ) → nat_eq k n ≡ false → owned k ≡ lends.owned k) → owned n ≡ None → ((i : ℕ) → BusyHere lends n i link lent → ⊥)
       → Came service new n lends (record { lends = shut link lends owned lends.asks lends.waiting; answer = None })
   shut-idle may calm theirs unowned idle = came-of
@@ -459,7 +465,7 @@ module _ {service : Service} {log : Log} {e : Entry} {lends : Lends} {link : Lin
 
   -- its client's command there is answered
   pub shut-answered : {asks : ℕ → Option Ask} {i id : ℕ} {bytes packets : List ℕ} {answer : Answer}
-      → MayDrop service (record { client = n; hostgroup = at.row.turn.hostgroup }) user link new → ((k : ℕ) → nat_eq k n ≡ false → asks k ≡ lends.asks k) → asks n ≡ None
+      → Drops → ((k : ℕ) → nat_eq k n ≡ false → asks k ≡ lends.asks k) → asks n ≡ None
       → packets ≡ spelt id answer → Busy lends n i → IsAsked service n i bytes id log → replied service n i new ≡ Some answer
       → Came service new n lends (record { lends = shut link lends (set lends.owned n None) asks lends.waiting; answer = Some (record { client = record { 0 = n }; packets = packets }) })
   shut-answered may others unasked is busy asked told = came-of
@@ -491,7 +497,7 @@ login-stays user link log e stays = grind (arith, common_steps)
 -- What a link says grows by the piece.
 pub said-got : {X : Type 0} (f : List ℕ → List Command → X) (link : LinkId) (log : Log) (bytes : List ℕ) → was_lost link log ≡ false
     → f (heard_of link (log ++ Got link bytes ∷ [])) (pieces_of link (log ++ Got link bytes ∷ [])) ≡ f (heard_of link log ++ bytes) (pieces_of link log)
-said-got f link log bytes unlost = ap (λ h. f h (pieces_of link (log ++ Got link bytes ∷ []))) (heard-on link log (Got link bytes) refl unlost refl) ∙ ap (f (heard_of link log ++ bytes)) (pieces-on link log (Got link bytes) refl unlost refl)
+said-got f link log bytes unlost = grind (arith, common_steps, heard-on, pieces-on)
 
 pub got-at : {forms : Forms} {user : Account} {backend : BackendState} (link : LinkId) (log : Log) (bytes : List ℕ) → was_lost link log ≡ false
     → LinkAt forms user (heard_of link log ++ bytes) (pieces_of link log) backend

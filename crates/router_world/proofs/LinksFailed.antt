@@ -1,10 +1,9 @@
 -- A link to a server fails: its login does, or bytes come that no reply goes on with, or it is lost.
-use Rattle.router_world.proofs.Names.{common_steps, ◌≡◌, ◌<◌, ℕ, true, false, not, is_some, ◌||◌, ◌&&◌, cond, nat_eq, List, [], ◌∷◌, ◌++◌, Option, Some, None}
-use Rattle.router_world.proofs.Names.{refl, list_any, sym, ◌∙◌, ap, subst, arith, list_any-append, ClientNo, LinkId, For, Log, same_number, Entry}
-use Rattle.router_world.proofs.Names.{BackendState, IsOpening, Handed, payload_of, connection_refused, Ask, Lent, Lends, without_link, due_on, queued}
-use Rattle.router_world.proofs.Names.{login_fails, heard_of, pieces_of, carries, carrier_of, Spoilt, standing_on, Turn, Service, is_turn, refused, Work}
-use Rattle.router_world.proofs.Names.{reply_to, MayDrop, IsSpoilt, some-same, or-inr, refused-or-sent, user-stays, replied, IsInside, IsEntering, none-if}
-use Rattle.router_world.proofs.Names.{set}
+use Rattle.router_world.proofs.Names.{common_steps, ◌≡◌, ◌<◌, ℕ, true, false, not, is_some, ◌||◌, cond, List, [], ◌∷◌, ◌++◌, Option, Some, None, refl}
+use Rattle.router_world.proofs.Names.{list_any, sym, ◌∙◌, ap, subst, arith, list_any-append, ClientNo, LinkId, For, Log, Entry, BackendState, IsOpening}
+use Rattle.router_world.proofs.Names.{Handed, payload_of, connection_refused, Ask, Lent, Lends, without_link, due_on, queued, login_fails, carries}
+use Rattle.router_world.proofs.Names.{carrier_of, Spoilt, standing_on, Turn, Service, is_turn, refused, Work, reply_to, IsSpoilt, some-same, or-inr}
+use Rattle.router_world.proofs.Names.{refused-or-sent, user-stays, replied, none-if, set}
 use Rattle.server_side.specs.Handing.{id_begun}
 use Rattle.client_session.specs.declared.refusal.Refusal.{Refusal}
 use Rattle.lend_core.specs.declared.lent.Due.TheVariants.{Login}
@@ -17,7 +16,7 @@ use Rattle.router_world.proofs.Frames.{Calm, Unbegun, still-none, asked-calm, sa
 use Rattle.router_world.proofs.Sound.{AskStands, HandedStands, carried_by, AtMostOne, One, Waiting, LendsSound, Busy, Waits, Logs, On}
 use Rattle.router_world.proofs.LinksAt.{BusyHere, LogsHere, OnHere, AtRow, came-of, calm-own, inside-stays, shut, Held, held, HoldsLogin, HoldsNone}
 use Rattle.router_world.proofs.LinksAt.{HoldsUnsent, HoldsBegun, HoldsLeft, outside-at, shut-news, shut-idle, shut-answered, busy-here, none-busy, left-busy}
-use Rattle.router_world.proofs.LinksAt.{unowned-left, error-spelt}
+use Rattle.router_world.proofs.LinksAt.{unowned-left, error-spelt, LogsInAt, InsideAt, Drops}
 use Rattle.server_side.specs.declared.stage.Stage.TheVariants as stage
 
 -- What is due on a link.
@@ -44,8 +43,8 @@ begun-alone {log = log} {lends} {n} sound stands some = none-if (lends.asks n) (
 pub record Fails (service : Service) (log : Log) (e : Entry) (link : LinkId) (lent : Lent) (n : ℕ) (refusal : Refusal) : Type 0 where
   pub spoilt : standing_on service.forms lent.backend.account link (log ++ e ∷ []) ≡ Spoilt
   pub silent : (i : ℕ) → carries n i e ≡ None
-  pub fails : IsEntering lent.backend.account (heard_of link log) (pieces_of link log) lent.backend → login_fails lent.backend.account link log e ≡ true
-  pub told : (command : Handed) (i : ℕ) → IsInside service.forms lent.backend.account (heard_of link log) (pieces_of link log) lent.backend
+  pub fails : LogsInAt link log lent → login_fails lent.backend.account link log e ≡ true
+  pub told : (command : Handed) (i : ℕ) → InsideAt service link log lent
       → lent.backend.command ≡ Some command → 0 < command.sent → command.tag ≡ For (record { 0 = n }) i → carrier_of n i log ≡ Some link
       → replied service n i (log ++ e ∷ []) ≡ Some (payload_of refusal ∷ [])
 
@@ -77,11 +76,11 @@ module _ {service : Service} {log : Log} {e : Entry} {lends : Lends} {link : Lin
     turn = at.row.turn
 
     here : is_turn n ask.ordinal turn ≡ true
-    here = ap (λ b. b && nat_eq ask.ordinal turn.ordinal) (same_number n) ∙ ap (λ i. nat_eq i turn.ordinal) same ∙ same_number turn.ordinal
+    here = grind (arith, common_steps)
 
   -- a command of which no byte was written waits for another link
   waits-again : (c : Handed) → lent.backend.stage ≡ stage.In → lent.backend.command ≡ Some c → c.sent ≡ 0 → lends.owned n ≡ Some link → (stands : HandedStands service log n link c)
-      → MayDrop service (record { client = n; hostgroup = at.row.turn.hostgroup }) lent.backend.account link new → Calm service log e n
+      → Drops at → Calm service log e n
       → Came service new n lends (record { lends = queued client (record { ordinal = stands.ordinal; first = c.first; packets = c.bytes; account = lent.backend.account }) (shut link lends (set lends.owned n None) lends.asks lends.waiting); answer = None })
   waits-again c inside has none owns stands may calm = came-of at
       (shut-news at may (λ k differs. set-other lends.asks n k (Some ask) differs) (λ k differs. set-other lends.owned n k None differs) unowned
@@ -108,11 +107,7 @@ module _ {service : Service} {log : Log} {e : Entry} {lends : Lends} {link : Lin
     unsent = stands.carrier ∙ ap (carried_by link) none
 
     later : AskStands service new n ask
-    later = record {
-      asked = asked-calm service log e n stands.ordinal c.bytes c.first at.lawful stands.asked calm (Unbegun unsent);
-      account = user-stays service n log (e ∷ []) lent.backend.account at.row.user;
-      unsent = carrier-same n stands.ordinal log e (calm.writes stands.ordinal) ∙ unsent;
-    }
+    later = grind (arith, common_steps, asked-calm, user-stays, carrier-same)
 
     busy : (i : ℕ) → BusyHere lends n i link lent → Busy other n i × (replied service n i new ≡ None)
     busy i (LogsHere owns a is same outside) = absurd (outside inside)
@@ -122,10 +117,10 @@ module _ {service : Service} {log : Log} {e : Entry} {lends : Lends} {link : Lin
 
   pub failed-came : {refusal : Refusal} → Fails service log e link lent n refusal → Came service new n lends (failed link lent refusal (without_link link lends))
   failed-came {refusal} why = by (held at.row) where
-    may : MayDrop service (record { client = n; hostgroup = at.row.turn.hostgroup }) lent.backend.account link new
+    may : Drops at
     may = IsSpoilt why.spoilt
 
-    calm : IsInside service.forms lent.backend.account (heard_of link log) (pieces_of link log) lent.backend → Calm service log e n
+    calm : InsideAt service link log lent → Calm service log e n
     calm inside = calm-own at (inside-stays lent.backend.account link log e (ap goes_on inside.is)) why.silent
 
     by : Held service log lends link lent at.row.turn → Came service new n lends (failed link lent refusal (without_link link lends))

@@ -44,7 +44,7 @@ code-spelt (suc full) id (b ∷ payload) fits = refl
 
 kind-coded : (payload : List ℕ) → kind_to (spelling 0 payload) ≡ cond (nat_eq (slice_index_or payload 0 0) 4) Fields Results
 unfolding spelling
-kind-coded payload = ap (λ code. cond (nat_eq code 4) Fields Results) (code-spelt (length payload / longest) 0 payload (omega arith))
+kind-coded payload = grind (arith, common_steps, code-spelt)
 
 kind-parsed : (payload : List ℕ) → cond (nat_eq (slice_index_or payload 0 0) 4) Fields Results ≡ kind_asked (parsed payload)
 kind-parsed payload = grind (arith, common_steps, nat_eq-true)
@@ -133,7 +133,7 @@ gone-sound service log n lends sound closable may = by (lends.owned n) refl wher
   waits client is = (let was = waited n client sound.one_waits is in (sound.waits client was.0, was.1))
 
   went : (links : ℕ → Option Lent) (closing : List LinkId) → Stood service log n lends (without n lends links closing) → Went service log n lends (without n lends links closing)
-  went links closing stood = record { sound = stood.sound; gone = record { unasked = set-same lends.asks n None; unowned = set-same lends.owned n None }; apart = stood.apart; traces = stood.traces }
+  went links closing stood = grind (arith, common_steps, set-same)
 
   nothing : lends.owned n ≡ None → Went service log n lends (without n lends lends.links lends.closing)
   nothing unowned = went lends.links lends.closing (still-stood sound unowned (record {

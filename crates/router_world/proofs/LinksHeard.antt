@@ -24,7 +24,7 @@ use Rattle.router_world.proofs.LinksGone.{handed-row}
 use Rattle.router_world.proofs.LinksAt.{replied-said, command-is, BusyHere, LogsHere, OnHere, AtRow, came-of, row-later, user-later, calm-own, inside-stays}
 use Rattle.router_world.proofs.LinksAt.{login-stays, kept-news, said-got, got-at, got-standing, Held, held, HoldsLogin, HoldsNone, HoldsUnsent, HoldsBegun}
 use Rattle.router_world.proofs.LinksAt.{HoldsLeft, outside-at, shut-idle, shut-answered, busy-here, left-busy, unowned-left, alike-came, puts, NoCommand}
-use Rattle.router_world.proofs.LinksAt.{handed-later, ask-later, own-idle, answers-one}
+use Rattle.router_world.proofs.LinksAt.{handed-later, ask-later, own-idle, answers-one, LogsInAt, InsideAt, Drops}
 use Rattle.router_world.proofs.LinksFailed.{failed-came, begun-alone, carried, id-begun}
 use Rattle.router_world.proofs.RowsStanding.{standing-clean, reply-moved, IsPiece}
 use Rattle.server_side.specs.declared.stage.Stage.TheVariants as stage
@@ -58,10 +58,10 @@ module _ {service : Service} {log : Log} {bytes : List ℕ} {lends : Lends} {lin
   pieces = pieces_of link log
 
   -- what the bytes tell of a login, and inside
-  tells-entering : IsEntering user heard_here pieces lent.backend → (gets : Gets) → got_of bytes lent.backend ≡ gets → TellsEntering service.forms user (heard_here ++ bytes) pieces gets
+  tells-entering : LogsInAt link log lent → (gets : Gets) → got_of bytes lent.backend ≡ gets → TellsEntering service.forms user (heard_here ++ bytes) pieces gets
   tells-entering enters gets is = subst (TellsEntering service.forms user (heard_here ++ bytes) pieces) is (heard-entering service.forms bytes enters at.row.some)
 
-  tells-inside : IsInside service.forms user heard_here pieces lent.backend → (gets : Gets) → got_of bytes lent.backend ≡ gets
+  tells-inside : InsideAt service link log lent → (gets : Gets) → got_of bytes lent.backend ≡ gets
       → TellsInside service.forms user (heard_here ++ bytes) pieces lent.backend (length bytes) gets
   tells-inside inside gets is = subst (TellsInside service.forms user (heard_here ++ bytes) pieces lent.backend (length bytes)) is (heard-inside inside piece)
 
@@ -76,11 +76,11 @@ module _ {service : Service} {log : Log} {bytes : List ℕ} {lends : Lends} {lin
   calm-entering : has_failed (opening user (heard_here ++ bytes)) ≡ false → Calm service log e n
   calm-entering stays = calm-own at (login-stays user link log e stays) (λ i. refl)
 
-  calm-inside : IsInside service.forms user heard_here pieces lent.backend → Calm service log e n
+  calm-inside : InsideAt service link log lent → Calm service log e n
   calm-inside inside = calm-own at (inside-stays user link log e (ap goes_on inside.is)) (λ i. refl)
 
   -- the login goes on
-  quiet : (left : BackendState) → IsEntering user heard_here pieces lent.backend → got_of bytes lent.backend ≡ Hears GoesOn left
+  quiet : (left : BackendState) → LogsInAt link log lent → got_of bytes lent.backend ≡ Hears GoesOn left
       → Came service new n lends (record { lends = with_link link (record lent { backend = left }) (without_link link lends); answer = None })
   quiet left enters is = (let goes_in = tells-entering enters (Hears GoesOn left) is in
       alike-came at (puts link (record lent { backend = left }) lends) (record {
@@ -95,7 +95,7 @@ module _ {service : Service} {log : Log} {bytes : List ℕ} {lends : Lends} {lin
       }))
 
   -- it is done, and the client's command goes there
-  logs_in : (left : BackendState) → IsEntering user heard_here pieces lent.backend → got_of bytes lent.backend ≡ Hears LoggedIn left
+  logs_in : (left : BackendState) → LogsInAt link log lent → got_of bytes lent.backend ≡ Hears LoggedIn left
       → lent.owner ≡ Some client → lends.owned n ≡ Some link → (ask : Ask) → lends.asks n ≡ Some ask
       → Came service new n lends (record { lends = logged_in link (record lent { backend = left }) lent.owner (without_link link lends); answer = None })
   logs_in left enters is own owns ask asks = simp (own, asks, takes) (came-of at (kept-news at (puts link carrying lends) (λ k differs. set-other lends.asks n k None differs) (sym own)
@@ -131,7 +131,7 @@ module _ {service : Service} {log : Log} {bytes : List ℕ} {lends : Lends} {lin
     busy i (OnHere _ none c staged has tag) = absurd (outside-at enters staged)
 
   -- a reply goes on
-  part : (left : BackendState) (used : ℕ) → IsInside service.forms user heard_here pieces lent.backend → got_of bytes lent.backend ≡ Hears (Part used) left
+  part : (left : BackendState) (used : ℕ) → InsideAt service link log lent → got_of bytes lent.backend ≡ Hears (Part used) left
       → Came service new n lends (record { lends = with_link link (record lent { backend = left }) (without_link link lends); answer = None })
   part left used inside is = (let goes_in = tells-inside inside (Hears (Part used) left) is in let stands = at.row.command goes_in.command goes_in.was in
       let now_at = got-at link log bytes at.row.unlost (Inside goes_in.inside) in
@@ -148,7 +148,7 @@ module _ {service : Service} {log : Log} {bytes : List ℕ} {lends : Lends} {lin
       }))
 
   -- a reply is whole: it is handed on, and the link serves on or is closed
-  whole : (left : BackendState) (used : ℕ) → IsInside service.forms user heard_here pieces lent.backend → got_of bytes lent.backend ≡ Hears (Whole used) left
+  whole : (left : BackendState) (used : ℕ) → InsideAt service link log lent → got_of bytes lent.backend ≡ Hears (Whole used) left
       → Came service new n lends (answers link (due_on lent.backend) (nat_eq used (length bytes)) lent.owner left (without_link link lends))
   whole left used inside is = by (held at.row) where
     rep : IsReplied service.forms user (heard_here ++ bytes) pieces lent.backend left (nat_eq used (length bytes))
@@ -185,7 +185,7 @@ module _ {service : Service} {log : Log} {bytes : List ℕ} {lends : Lends} {lin
         (answers-one e rep.reply (on owns) stands.asked told (record { unasked = unasked; idle = own-idle at (puts link now lends) in_left.stage rep.idle }) at.idle (inl at.unclosed)))
 
     -- its client has gone
-    drops : is_here n log ≡ false → (b : Bool) → clean ≡ b → MayDrop service (record { client = n; hostgroup = at.row.turn.hostgroup }) user link new
+    drops : is_here n log ≡ false → (b : Bool) → clean ≡ b → Drops at
     drops gone false unclean = spoilt unclean
     drops gone true is_clean = HasGone (gone-stays service n user log e (lawful-last Fits log e at.fits).1 at.row.user gone) (λ runs. (let no' : Clean ≡ Runs =
         sym (standing (standing-clean service.forms user (heard_here ++ bytes) pieces left (rep.inside is_clean) (ap begun rep.idle))) ∙ runs in cc))
@@ -212,7 +212,7 @@ module _ {service : Service} {log : Log} {bytes : List ℕ} {lends : Lends} {lin
 
   pub heard-came : Came service new n lends (told_by link lent (length bytes) (got_of bytes lent.backend) (without_link link lends))
   heard-came = by (held at.row) where
-    entering : IsEntering user heard_here pieces lent.backend → lent.owner ≡ Some client → lends.owned n ≡ Some link → (ask : Ask) → lends.asks n ≡ Some ask
+    entering : LogsInAt link log lent → lent.owner ≡ Some client → lends.owned n ≡ Some link → (ask : Ask) → lends.asks n ≡ Some ask
         → (gets : Gets) → got_of bytes lent.backend ≡ gets → Came service new n lends (told_by link lent (length bytes) gets (without_link link lends))
     entering enters own owns ask asks (Hears GoesOn left) is = quiet left enters is
     entering enters own owns ask asks (Hears LoggedIn left) is = logs_in left enters is own owns ask asks
@@ -220,7 +220,7 @@ module _ {service : Service} {log : Log} {bytes : List ℕ} {lends : Lends} {lin
     entering enters own owns ask asks (Hears (Whole used) left) is = absurd (tells-entering enters (Hears (Whole used) left) is)
     entering enters own owns ask asks (GotFault fault) is = broken fault is (tells-entering enters (GotFault fault) is).1
 
-    inside : IsInside service.forms user heard_here pieces lent.backend → (gets : Gets) → got_of bytes lent.backend ≡ gets
+    inside : InsideAt service link log lent → (gets : Gets) → got_of bytes lent.backend ≡ gets
         → Came service new n lends (told_by link lent (length bytes) gets (without_link link lends))
     inside at_in (Hears GoesOn left) is = absurd (tells-inside at_in (Hears GoesOn left) is)
     inside at_in (Hears LoggedIn left) is = absurd (tells-inside at_in (Hears LoggedIn left) is)

@@ -1,9 +1,9 @@
 -- Bytes are written on a link to a server.
 use Rattle.router_world.proofs.Names.{common_steps, ◌≡◌, ◌⊎◌, ◌≤◌, ◌<◌, ℕ, zero, suc, ◌+◌, Bool, true, false, nat_lt, ◌&&◌, cond, nat_eq, List, [], ◌∷◌, ◌++◌}
-use Rattle.router_world.proofs.Names.{length, take, drop, Option, Some, None, refl, list_any, option_map, sym, ◌∙◌, ap, subst, append-nil, arith}
-use Rattle.router_world.proofs.Names.{length-take-le, LinkId, Tag, Own, Log, Entry, Wrote, nat_eq-true, Sent, BackendState, command_left, left_by, left}
-use Rattle.router_world.proofs.Names.{command_taken, taken_by, Handed, Ask, Lent, Lends, taken_on, heard_of, pieces_of, is_command, carries, carrier_of}
-use Rattle.router_world.proofs.Names.{first_some, Service, some-same, and-true, carrier-more, IsFront, replied, is_of, LinkAt}
+use Rattle.router_world.proofs.Names.{length, take, drop, Option, Some, None, refl, list_any, option_map, sym, ◌∙◌, ap, append-nil, arith, length-take-le}
+use Rattle.router_world.proofs.Names.{LinkId, Tag, Own, Log, Entry, Wrote, nat_eq-true, Sent, BackendState, command_left, left_by, left, command_taken}
+use Rattle.router_world.proofs.Names.{taken_by, Handed, Ask, Lent, Lends, taken_on, heard_of, pieces_of, is_command, carries, carrier_of, first_some, Service}
+use Rattle.router_world.proofs.Names.{some-same, and-true, carrier-more, IsFront, replied, is_of, LinkAt}
 use Rattle.std.proofs.lemmas.Bool.{false_from_ne_true}
 use Rattle.server_side.specs.Backend.{taken}
 use Rattle.lend_core.specs.Changes.{took}
@@ -106,9 +106,7 @@ module _ {service : Service} {log : Log} {tag : Tag} {bytes : List ℕ} {lends :
       ∙ ap (λ k. carrier_of n k log) (nat_eq-true i stands.ordinal both.1) ∙ stands.carrier ∙ ap (carried_by link) none)))
 
   now-at : LinkAt service.forms lent.backend.account (heard_of link new) (pieces_of link new) now.backend
-  now-at = rw (heard-on link log e refl at.row.unlost refl ∙ append-nil (heard_of link log), piece-on link log tag bytes at.row.unlost, wrote.same)
-      (subst (λ b. LinkAt service.forms lent.backend.account (heard_of link log) (pieces_of link log ++ record { tag = wrote.l.tag; bytes = b } ∷ []) now.backend) wrote.front
-      (taken-at wrote.l (length bytes) at.row.at wrote.is wrote.some wrote.fits fresh))
+  now-at = grind (arith, common_steps, heard-on, append-nil, piece-on, taken-at, fresh)
 
   like : ((ask : Ask) → lends.asks n ≡ Some ask → AskStands service new n ask × (replied service n ask.ordinal new ≡ None))
       → Commands service new n link lent.backend.command now.backend.command → IsLike service log e lends link lent now n

@@ -1,12 +1,12 @@
 -- A link to a server is opened for the client that waits, or can't be.
-use Rattle.router_world.proofs.Names.{common_steps, ◌≡◌, ◌⊎◌, ℕ, Bool, true, false, ◌||◌, ◌&&◌, cond, nat_eq, List, [], ◌∷◌, ◌++◌, length, fold, slice_get}
-use Rattle.router_world.proofs.Names.{Option, Some, None, refl, flat_map, filter_map, list_any, cons_option, sym, ◌∙◌, ap, subst, arith, inl, inr}
-use Rattle.router_world.proofs.Names.{list_any-append, ServerId, Address, ClientNo, LinkId, Log, is_link, of_link, got_bytes, open_step, is_open, Fits}
-use Rattle.router_world.proofs.Names.{AllLawful, lawful-last, same_number, of_link-same, step-same, Entry, Opened, OpenFailed, new_backend, In}
-use Rattle.router_world.proofs.Names.{connection_refused, ServerAt, Ask, Lent, Lends, oldest, with_link, without_ask, opened, open_failed, is_loss}
-use Rattle.router_world.proofs.Names.{until_loss, piece, Turn, Service, open_tries, next_turn, turn_by, is_turn, refused, reply_to, MayOpen, IsLawful}
-use Rattle.router_world.proofs.Names.{some-same, refused-more, refusal-cause, or-inr, tries-more, turn-stays, user-stays, turn_at, turns, tables_after}
-use Rattle.router_world.proofs.Names.{replied, ◌<◌, lawful-more, IsOpen, step-other, Phase, none-if, Seat, Tables, with_lends, told}
+use Rattle.router_world.proofs.Names.{common_steps, ◌≡◌, ◌⊎◌, ℕ, Bool, false, ◌||◌, ◌&&◌, cond, nat_eq, List, [], ◌∷◌, ◌++◌, length, slice_get, Option, Some}
+use Rattle.router_world.proofs.Names.{None, refl, flat_map, filter_map, list_any, cons_option, sym, ◌∙◌, ap, subst, arith, inl, inr, list_any-append}
+use Rattle.router_world.proofs.Names.{ServerId, Address, LinkId, Log, is_link, of_link, got_bytes, open_step, Fits, AllLawful, lawful-last, same_number}
+use Rattle.router_world.proofs.Names.{of_link-same, step-same, Entry, Opened, OpenFailed, new_backend, In, connection_refused, ServerAt, Ask, Lent, Lends}
+use Rattle.router_world.proofs.Names.{oldest, with_link, without_ask, opened, open_failed, is_loss, until_loss, piece, Turn, Service, open_tries, next_turn}
+use Rattle.router_world.proofs.Names.{turn_by, is_turn, refused, reply_to, MayOpen, IsLawful, some-same, refused-more, refusal-cause, or-inr, tries-more}
+use Rattle.router_world.proofs.Names.{turn-stays, user-stays, turn_at, turns, tables_after, replied, ◌<◌, lawful-more, IsOpen, step-other, Phase, none-if}
+use Rattle.router_world.proofs.Names.{Seat, Tables, with_lends, told, true, is_open}
 use Rattle.router_world.proofs.Hands.{numbered-seat, away-gone}
 use Rattle.router_world.proofs.Apart.{link-or-other, apart-links, apart-numbers, rows-one, row-now, set-same, set-other, Apart, RowNow, Was, mended, Came}
 use Rattle.router_world.proofs.Apart.{none-one, one-same, no-some}
@@ -72,8 +72,7 @@ module _ {service : Service} {log : Log} {e : Entry} {tables : Tables} {at : Ser
   fits = lawful-more Fits log e on.happens.told on.happens.fits
 
   alone : (k : ℕ) → nat_eq k n ≡ false → tables.lends.waiting ≡ record { 0 = k } ∷ [] → ⊥
-  alone k differs is = (let one : on.for.client ≡ record { 0 = k } = one-same on.for.client (record { 0 = k }) (sym on.for.waits ∙ is) in
-      let no' : true ≡ false = sym (same_number k) ∙ ap (λ (c : ClientNo). nat_eq k c.0) (sym one) ∙ differs in cc)
+  alone k differs is = grind (arith, common_steps, one-same)
 
   unwaiting : others tables.lends.waiting ≡ []
   unwaiting = ap others on.for.waits
@@ -144,7 +143,7 @@ open-failed-step service log server address tables sound on = server-step servic
   unasked = set-same tables.lends.asks n None
 
   apart : Apart n tables.lends other
-  apart = record { asks = λ k differs. set-other tables.lends.asks n k None differs; owned = λ k differs. refl; links = λ k l differs is. refl; waiting = λ k differs is. absurd (alone sound on may k differs is) }
+  apart = grind (arith, common_steps, set-other, alone)
 
   -- the command that it was for is refused
   refused-now : replied service n ask.ordinal (log ++ e ∷ []) ≡ Some (connection_refused ∷ [])
@@ -211,7 +210,7 @@ opened-step service log server address link tables sound on = subst (λ (l : Len
 
   -- the link was none that is open
   shut : (l : LinkId) → IsOpen l log → nat_eq l.0 link.0 ≡ false
-  shut l opened = apart-links l link (λ same. (let no' : false ≡ true = sym (ap (fold open_step false) on.happens.fits) ∙ ap (λ (k : LinkId). is_open k log) (sym same) ∙ opened in cc))
+  shut l opened = grind (arith, common_steps, apart-links)
 
   link-was : {l : LinkId} {x : Lent} → lends.links l.0 ≡ Some x → other.links l.0 ≡ lends.links l.0
   link-was {l} {x} is = set-other lends.links link.0 l.0 (Some now) (shut l (sound.lends.rows l x is).opened)

@@ -6,7 +6,7 @@ use Rattle.router_world.proofs.Names.{Going, Ended, Failed, run, renumbered, Acc
 use Rattle.router_world.proofs.Names.{GotFault, got_of, TellsOf, Handed, BackendFault, LoggedIn, Part, bad_server_bytes, is_empty, has_failed, Command}
 use Rattle.router_world.proofs.Names.{is_whole, is_command, commands_in, Forms, Answer, spelt, Replies, Never, command_reply, cut, replies_by, Clean, Spoilt}
 use Rattle.router_world.proofs.Names.{stands, standing_in, reply_at, behind_replies, some-same, bytes_in, commands_said, replies_said, standing_said}
-use Rattle.router_world.proofs.Names.{reply_said, begun_by, begun, IsHanded, IsEntering, HearsPart, IsInside, IsPrefix}
+use Rattle.router_world.proofs.Names.{reply_said, begun_by, begun, IsHanded, IsEntering, HearsPart, IsInside, IsPrefix, common_steps}
 use Rattle.std.proofs.lemmas.Bool.{and_left, and_cases}
 use Rattle.std.proofs.lemmas.List.{length_push}
 use Rattle.server_side.specs.Login.{Opening, opening}
@@ -36,6 +36,9 @@ spoilt-by {kept} at some = standing-of at
     ∙ stands-answered (at.others ++ []) (at.whole ++ []) kept (let one : length (at.others ++ []) ≡ length at.others + 0 = length-append at.others [] in let two : length (at.whole ++ []) ≡ length at.whole + 0 = length-append at.whole [] in let same : length at.whole ≡ length at.others = at.all in omega arith)
     ∙ ap (λ b. cond b Clean Spoilt) (and_left (is_empty kept) (list_all is_whole (at.others ++ [])) (empty-not kept some))
 
+none-new : {b : Bool} → false ≡ true → b ≡ false
+none-new not = cc
+
 -- a login that is there, before any command
 abbrev first-inside : {forms : Forms} {user : Account} {read : List ℕ} {pieces : List Command} {rest : List ℕ} (said : List ℕ)
     → opening user read ≡ LogsIn said rest → list_all has_bytes pieces ≡ true → length (bytes_in pieces) ≤ length said
@@ -47,7 +50,7 @@ first-inside {pieces} said is some fits = record {
   others = [];
   wholes = refl;
   commands = ap commands_in (behind-all (length said) pieces some fits);
-  new = λ n i any. absurd (let no : false ≡ true = any in cc);
+  new = λ n i any. none-new any;
   whole = [];
   replies = refl;
   all = refl;
@@ -63,7 +66,7 @@ failed-by forms user read pieces fault (Fails said why) is failed some fits = (a
 quiet-at : {user : Account} {heard : List ℕ} {pieces : List Command} {backend left : BackendState} (piece : List ℕ)
     → IsEntering user heard pieces backend → TellsOf (Hears Quiet left) backend (bytes_in pieces) (heard ++ piece)
     → IsEntering user (heard ++ piece) pieces left
-quiet-at {heard} piece at tells = record { account = tells.1 ∙ at.account; login = tells.0; goes = ap (λ (u : Account). opening u (heard ++ piece)) (sym at.account) ∙ tells.2 }
+quiet-at {heard} piece at tells = grind (arith, common_steps)
 
 pub heard-entering : {user : Account} {heard : List ℕ} {pieces : List Command} {backend : BackendState} (forms : Forms) (piece : List ℕ)
     → IsEntering user heard pieces backend → list_all has_bytes pieces ≡ true
@@ -218,7 +221,7 @@ module _ {forms : Forms} {user : Account} {heard : List ℕ} {pieces : List Comm
       others = now.others ++ c ∷ [];
       wholes = list_all-append is_whole now.others (c ∷ []) ∙ and_from (list_all is_whole now.others) (is_whole c && true) now.wholes (and_from (is_whole c) true wholly refl);
       commands = now.commands ∙ sym (append-nil (now.others ++ c ∷ []));
-      new = λ n i any. absurd (let no : false ≡ true = any in cc);
+      new = λ n i any. none-new any;
       whole = now.whole ++ reply ∷ [];
       replies = replies-both forms now.others (c ∷ []) now.past bytes now.whole now.replies now.all ∙ ap (behind_replies now.whole) one
           ∙ ap (λ r. record { whole = now.whole ++ reply ∷ []; rest = r; bad = None }) empty;

@@ -13,7 +13,7 @@ use Rattle.router_world.proofs.Names.{spelling-some, In, whole_by, cut, Standing
 use Rattle.promises.proofs.Clean.{with-piece-behind, behind-append, command-reply-grammar, replies-behind}
 use Rattle.std.proofs.Common.{take-add, lit<}
 use Rattle.packet_frame.specs.Packets.{spelling, spellings, first_message}
-use Rattle.server_side.specs.Login.{most_payload, greeting_by, opening, Opening}
+use Rattle.server_side.specs.Login.{opening, Opening}
 use Rattle.server_side.specs.Laws.{opening-new, opening-logged_in}
 use Rattle.server_side.specs.Backend.{taken}
 use Rattle.server_side.specs.Handing.{handed}
@@ -27,7 +27,7 @@ use Rattle.reply_track.proofs.Replying.{run-more, renumbered-more, length-renumb
 use Rattle.exchange.specs.Replies.{Wholly, heard_as, rest_of, stands_by, error_by, or_else, Heard, Partly}
 use Rattle.std.proofs.lemmas.Bool.{or_left}
 use Rattle.std.proofs.lemmas.Option.{slice_get_past, slice_get_read}
-use Rattle.std.proofs.lemmas.List.{drop_at, get_or_push}
+use Rattle.std.proofs.lemmas.List.{get_or_push}
 use Rattle.std.specs.Prelude.{if◌then◌else◌}
 use Rattle.client_session.specs.Errors.{connection_lost}
 use Rattle.router_world.proofs.RowsPieces.{bytes-more, behind-past, behind-short, behind-one, part-spelt, with-piece-on, of-commands, place-last, whole-spelt}
@@ -35,7 +35,7 @@ use Rattle.router_world.proofs.RowsPieces.{bytes-more, behind-past, behind-short
 -- nothing was heard or written yet
 pub first-at : {forms : Forms} {user : Account} → LinkAt forms user [] [] (new_backend user)
 unfolding opening
-first-at {user} = Entering (record { account = refl; login = opening-new user; goes = ap (greeting_by user) (first_message-empty most_payload 0) })
+first-at {user} = grind (arith, common_steps, opening-new, first_message-empty)
 
 no-bytes : AreBytes []
 no-bytes i = lit< tt
@@ -82,7 +82,7 @@ IsFresh handed pieces = (n i : ℕ) (command : Handed) → handed ≡ Some comma
 -- The bytes of a login that are written and those that are left are the same.
 same-said : (pieces : List Command) (tag : Tag) (n : ℕ) (own : List ℕ)
     → bytes_in (pieces ++ record { tag = tag; bytes = take n own } ∷ []) ++ drop n own ≡ bytes_in pieces ++ own
-same-said pieces tag n own = ap (λ xs. xs ++ drop n own) (bytes-more pieces (record { tag = tag; bytes = take n own })) ∙ append_assoc (bytes_in pieces) (take n own) (drop n own) ∙ ap (λ xs. bytes_in pieces ++ xs) (take-append-drop n own)
+same-said pieces tag n own = grind (arith, common_steps, bytes-more, take-append-drop)
 
 left-alone : {backend : BackendState} {read said : List ℕ} (own : List ℕ) → IsLoggingIn backend read said
     → IsLoggingIn (record backend { own = own }) read said
@@ -103,7 +103,7 @@ module _ {user : Account} {heard : List ℕ} {pieces : List Command} {backend : 
   said-longer at some = ap length (sym (own-left at some)) ∙ length-append (bytes_in pieces) backend.own
 
   none-behind : {forms : Forms} (at : IsInside forms user heard pieces backend) → 0 < length backend.own → [] ≡ at.others ++ begun backend.command
-  none-behind at some = ap commands_in (sym (behind-short (length at.said) pieces (let sum : length at.said ≡ length (bytes_in pieces) + length backend.own = said-longer at some in omega arith))) ∙ at.commands
+  none-behind at some = grind (arith, common_steps, behind-short, said-longer)
 
   own-taken : {forms : Forms} (n : ℕ) → IsInside forms user heard pieces backend → 0 < n → n ≤ length backend.own
       → IsInside forms user heard (pieces ++ record { tag = Own; bytes = take n backend.own } ∷ []) (record backend { own = drop n backend.own })
@@ -122,10 +122,10 @@ pub said-written : (forms : Forms) (user : Account) (heard : List ℕ) (pieces :
 said-written forms user heard pieces backend at none = grind (arith, common_steps, append-nil)
 
 prefix-fits : {front whole : List ℕ} → IsPrefix front whole → length front ≤ length whole
-prefix-fits {front} {whole} at = (let sum : length (front ++ at.rest) ≡ length front + length at.rest = length-append front at.rest in let same : length (front ++ at.rest) ≡ length whole = ap length at.is in omega arith)
+prefix-fits {front} {whole} at = grind (arith, common_steps, length-append)
 
 prefix-more : {front whole longer : List ℕ} (more : List ℕ) → IsPrefix front whole → longer ≡ whole ++ more → IsPrefix front longer
-prefix-more {front} more at same = record { rest = at.rest ++ more; is = sym (append_assoc front at.rest more) ∙ ap (λ xs. xs ++ more) at.is ∙ sym same }
+prefix-more {front} more at same = grind (arith, common_steps)
 
 -- Bytes of the command are written.
 command-taken : {forms : Forms} {user : Account} {heard : List ℕ} {pieces : List Command} {backend : BackendState} (command : Handed) (n : ℕ)
@@ -369,7 +369,7 @@ stands-answered commands whole rest all = ap (stands_by None (is_empty rest && l
 -- and where the last is open
 pub stands-open : (others : List Command) (c : Command) (whole : List Answer) (kept : List ℕ) → length whole ≡ length others
     → stands (others ++ c ∷ []) (behind_replies whole (record { whole = []; rest = kept; bad = None })) ≡ cond (is_whole c) Runs Sends
-stands-open others c whole kept all = ap (stands_by None (is_empty kept && list_all is_whole (others ++ c ∷ []))) (drop_at others (c ∷ []) (length (whole ++ [])) (let sum : length (whole ++ []) ≡ length whole + 0 = length-append whole [] in omega arith))
+stands-open others c whole kept all = grind (arith, common_steps, length-append)
 
 -- How a link to a server stands, and the reply that a command on it has.
 
@@ -385,7 +385,7 @@ entering-at forms user heard pieces backend h5 other = grind (arith, common_step
 -- the login goes on
 pub standing-entering : (forms : Forms) (user : Account) (heard : List ℕ) (pieces : List Command) (backend : BackendState)
     → IsEntering user heard pieces backend → standing_said forms user heard pieces ≡ Enters
-standing-entering forms user heard pieces backend at = ap (λ (o : Opening). standing_in o (commands_said user heard pieces) (replies_said forms user heard pieces)) at.goes
+standing-entering forms user heard pieces backend at = grind (arith, common_steps)
 
 -- Inside the commands are the others and the one that is begun.
 pub commands-inside : (forms : Forms) (user : Account) (heard : List ℕ) (pieces : List Command) (backend : BackendState) (at : IsInside forms user heard pieces backend)

@@ -2,9 +2,9 @@
 use Rattle.router_world.proofs.Names.{common_steps, ◌≡◌, ℕ, true, false, cond, List, [], ◌∷◌, ◌++◌, Option, Some, None, refl, sym, ◌∙◌, ap, subst, AreBytes}
 use Rattle.router_world.proofs.Names.{LinkId, Log, Fits, Entry, Got, Wrote, Account, Lent, Lends, heard, lost, is_loss, was_lost, heard_of, login_on}
 use Rattle.router_world.proofs.Names.{breaks_off, piece, pieces_of, carries, Spoilt, Turn, Service, some-same, refused-or-sent, carrier-stays, standing_said}
-use Rattle.router_world.proofs.Names.{reply_said, ◌≤◌, ◌<◌, nat_eq, arith, Tag, nat_eq-true, login_fails, is_command, carrier_of, is_turn, and-true}
-use Rattle.router_world.proofs.Names.{refusal-cause, is_some, ◌&&◌, length, ClientNo, is_link, lawful-more, has_server, Phase, Told, taken_on, is_waiting}
-use Rattle.router_world.proofs.Names.{left_in, Seat, Tables, with_lends, told, IsFront, closes, opens, asks, IsInside, Handed}
+use Rattle.router_world.proofs.Names.{reply_said, ◌≤◌, ◌<◌, nat_eq, arith, Tag, nat_eq-true, login_fails, is_command, is_turn, and-true, refusal-cause}
+use Rattle.router_world.proofs.Names.{is_some, ◌&&◌, length, ClientNo, is_link, lawful-more, has_server, Phase, Told, taken_on, is_waiting, left_in, Seat}
+use Rattle.router_world.proofs.Names.{Tables, with_lends, told, IsFront, closes, opens, asks, Handed}
 use Rattle.router_world.proofs.Stepping.{OnLink as IsOnLink, done}
 use Rattle.router_world.proofs.Hands.{away-gone}
 use Rattle.std.proofs.lemmas.Bool.{or_parts, false_from_ne_true}
@@ -15,7 +15,7 @@ use Rattle.router_world.proofs.Sound.{HandedStands, Unsent, Busy, Logs, On, Soun
 use Rattle.router_world.proofs.Apart.{Came, apart-numbers, no-some}
 use Rattle.router_world.proofs.LinksAt.{lost-on, heard-end, pieces-on, replied-said, command-is, AtRow, user-later, link-cause, inside-stays, Concerns}
 use Rattle.router_world.proofs.LinksAt.{OnLink, calm-other, leaves-others, Held, held, HoldsLogin, HoldsNone, HoldsUnsent, HoldsBegun, HoldsLeft, outside-at}
-use Rattle.router_world.proofs.LinksAt.{cause-fails}
+use Rattle.router_world.proofs.LinksAt.{cause-fails, InsideAt}
 use Rattle.router_world.proofs.LinksFailed.{failed-came, carried}
 use Rattle.router_world.proofs.LinksHeard.{heard-came}
 use Rattle.router_world.proofs.Calm.{Spares, carrier-same, unrefused-more, Leaves, leaves-other, asks-server}
@@ -68,8 +68,8 @@ module _ {service : Service} {log : Log} {e : Entry} {lends : Lends} {link : Lin
   -- a login that fails was for the command in work
   fails-early : login_fails lent.backend.account link log e ≡ true → at.row.turn.ordinal ≤ arrived
   fails-early fails = by (held at.row) where
-    out : IsInside service.forms lent.backend.account (heard_of link log) (pieces_of link log) lent.backend → at.row.turn.ordinal ≤ arrived
-    out inside = absurd (let no' : false ≡ true = sym (inside-stays lent.backend.account link log e (ap goes_on inside.is)) ∙ fails in cc)
+    out : InsideAt service link log lent → at.row.turn.ordinal ≤ arrived
+    out inside = grind (arith, common_steps, inside-stays)
 
     by : Held service log lends link lent at.row.turn → at.row.turn.ordinal ≤ arrived
     by (HoldsLogin enters own owns ask asks same) = subst (λ i. i ≤ arrived) same (early ask.ordinal (Logs ask asks refl link lent owns at.there (outside-at enters)))
@@ -86,8 +86,7 @@ module _ {service : Service} {log : Log} {e : Entry} {lends : Lends} {link : Lin
 
   later-row : ((i : ℕ) → arrived < i → carries at.row.turn.client i e ≡ None) → Unsent service at.row.turn.client arrived log
       → Unsent service at.row.turn.client arrived (log ++ e ∷ [])
-  later-row silent unsent i later = (carrier-same at.row.turn.client i log e (silent i later) ∙ (unsent i later).0,
-      unrefused-more service at.row.turn.client i log e (unsent i later).1 (row-spares i later))
+  later-row silent unsent i later = grind (arith, common_steps, carrier-same, unrefused-more, row-spares)
 
 -- what is written is of no later command
 wrote-early : {service : Service} {log : Log} {tag : Tag} {bytes : List ℕ} {lends : Lends} {link : LinkId} {lent : Lent} (arrived : ℕ)
@@ -98,8 +97,7 @@ wrote-early {service} {log} {tag} {bytes} {lends} {link} {lent} arrived wrote ea
   n = wrote.at.row.turn.client
 
   begun : (c d : Handed) → lent.backend.command ≡ Some c → (stands : HandedStands service log n link c) → i ≡ stands.ordinal → lent.backend.command ≡ Some d → 0 < d.sent → ⊥
-  begun c d has stands same holds some = no-some (unsent i later).0 (ap (λ k. carrier_of n k log) same
-      ∙ carried stands (subst (λ (h : Handed). 0 < h.sent) (some-same d c (sym holds ∙ has)) some))
+  begun c d has stands same holds some = grind (arith, common_steps, no-some, carried, some-same)
 
   first : (c : Handed) → lent.backend.command ≡ Some c → (stands : HandedStands service log n link c) → i ≡ stands.ordinal → Held service log lends link lent wrote.at.row.turn → ⊥
   first c has stands same (HoldsLogin enters own owns ask asks is) = no-some enters.login.idle has
