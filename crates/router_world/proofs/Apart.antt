@@ -308,11 +308,8 @@ one-stood {service} {log} {n} {link} {lends} {other} lent but one_closes closes 
 -- What is done for one client among the links to servers.
 
 -- its query was asked for
-pub record Asked (service : Service) (log : Log) (n i : ℕ) (lends other : Lends) : Type 0 where
-  pub sound : LendsSound service log other
-  pub busy : Busy other n i
-  pub apart : Apart n lends other
-  pub traces : Traces lends other
+abbrev pub Asked : Service → Log → (n i : ℕ) → (lends other : Lends) → Type 0
+Asked service log n i lends other = Stood service log n lends other × Busy other n i
 
 -- it may go: it isn't connected any more, or it asks for nothing
 pub data MayGo (service : Service) (log : Log) (n : ℕ) (lends : Lends) : Type 0 where

@@ -4,13 +4,12 @@ use Rattle.router_world.proofs.Names.{ClientNo, LinkId, Log, nat_eq-true, is_fin
 use Rattle.router_world.proofs.Names.{with_lends, ◌++◌, IsOpen, Arrival, arrival_of, is_traffic, Parting, Account, Phase, Query, is_ending, Turned, Ask}
 use Rattle.router_world.proofs.Names.{asked, gone, ◌<◌, ◌≤◌, is_some, List, length, arith, append-nil, Framed, next_id, FrameFault, ClientState, Opening}
 use Rattle.router_world.proofs.Names.{WaitsToLogIn, Says, FailsToSay, opening-says-more, is_served, Talk, heard_more, opening_of, account, if_known}
-use Rattle.router_world.proofs.Names.{messages_of, front, front_in, fault_answer, Session, most_command, carrier_of, Answer, talk_with, user_of, Work}
-use Rattle.router_world.proofs.Names.{work_of, ends_in, ends_by, if_user, messages-grow, replied, first_open, answers_by, SeatAt, PhaseAt, IsWorking}
-use Rattle.router_world.proofs.Names.{due_said, work_said, over_said, in-work, ◌≢◌, is_query, turned, Asks, nil_from_length, written_of, was_lost, is_here}
-use Rattle.router_world.proofs.Names.{due, has_ended}
+use Rattle.router_world.proofs.Names.{messages_of, front, front_in, Session, most_command, carrier_of, Answer, talk_with, user_of, Work, work_of, ends_in}
+use Rattle.router_world.proofs.Names.{ends_by, if_user, messages-grow, replied, first_open, SeatAt, PhaseAt, IsWorking, due_said, work_said, over_said}
+use Rattle.router_world.proofs.Names.{in-work, ◌≢◌, is_query, turned, Asks, nil_from_length, written_of, was_lost, is_here, due, has_ended}
 use Rattle.promises.proofs.Staying.{account-more, Grown}
 use Rattle.router_world.proofs.Apart.{none-one, link-or-other, apart-links, apart-numbers, set-same, set-other, Row, row-of, Apart, Traces, serves-apart}
-use Rattle.router_world.proofs.Apart.{gone-apart, Went, Idle, one-same, Here, There, no-some}
+use Rattle.router_world.proofs.Apart.{gone-apart, Went, Idle, one-same, Here, There, no-some, Stood}
 use Rattle.std.proofs.lemmas.Bool.{and_parts}
 use Rattle.router_world.proofs.Sound.{Sits, SeatStands, LendsSound, Sound, InHand, OnHand, Known, Clients, Servers, Parts, Closes, Gone, Serves, PartAt}
 use Rattle.router_world.proofs.Sound.{PartStands, AtMostOne, One, AskStands, Free, Busy, AreFormed, IsAsked, IsHeard, Done}
@@ -205,28 +204,24 @@ pub data Next (service : Service) (log : Log) (n : ℕ) (lends : Lends) : Phase 
   LogsIn : {arrived : ℕ} → Gone lends n → Next service log n lends phase.LoggingIn arrived None
   Ends : {arrived : ℕ} (o : Option Query) → Went service log n lends (gone (record { 0 = n }) lends) → Next service log n lends phase.Ending arrived None
 
--- the links to servers behind it
-pub record Turns (service : Service) (log : Log) (n arrived : ℕ) (at : Phase) (lends other : Lends) : Type 0 where
-  pub sound : LendsSound service log other
-  pub serves : Serves at other n arrived
-  pub apart : Apart n lends other
-  pub traces : Traces lends other
-
 pub apart-self : (n : ℕ) (lends : Lends) → Apart n lends lends
 apart-self n lends = grind (arith, common_steps)
 
 pub traces-self : (lends : Lends) → Traces lends lends
 traces-self lends = grind (arith, common_steps)
 
-turns : {service : Service} {log : Log} {n arrived : ℕ} {at : Phase} {query : Option Query} {lends : Lends} → LendsSound service log lends
-    → Next service log n lends at arrived query
-    → Turns service log n arrived at lends (leaving (is_ending at) (record { 0 = n }) (asking (record { 0 = n }) (account_in at) query lends))
-turns {n} {lends} sound (Comes user asks free idle stands same) = (let now = asked-sound sound free idle stands in
-    record { sound = now.sound; serves = subst (Busy (asked (record { 0 = n }) (ask_for user asks) lends) n) same now.busy; apart = now.apart; traces = now.traces })
-turns {n} {lends} sound (Works user busy) = record { sound = sound; serves = busy; apart = apart-self n lends; traces = traces-self lends }
-turns {n} {lends} sound (Rests user free) = record { sound = sound; serves = free; apart = apart-self n lends; traces = traces-self lends }
-turns {n} {lends} sound (LogsIn gone) = record { sound = sound; serves = gone; apart = apart-self n lends; traces = traces-self lends }
-turns sound (Ends o went) = record { sound = went.sound; serves = went.gone; apart = went.apart; traces = went.traces }
+same-stood : {service : Service} {log : Log} {n : ℕ} {lends : Lends} → LendsSound service log lends → Stood service log n lends lends
+same-stood {n = n} {lends} sound = record { sound = sound; apart = apart-self n lends; traces = traces-self lends }
+
+-- the links to servers behind it
+turns : {service : Service} {log : Log} {n arrived : ℕ} {at : Phase} {query : Option Query} {lends : Lends} → LendsSound service log lends → Next service log n lends at arrived query
+    → Stood service log n lends (leaving (is_ending at) (record { 0 = n }) (asking (record { 0 = n }) (account_in at) query lends))
+    × Serves at (leaving (is_ending at) (record { 0 = n }) (asking (record { 0 = n }) (account_in at) query lends)) n arrived
+turns {n = n} {lends = lends} sound (Comes user asks free idle stands same) = (let now = asked-sound sound free idle stands in (now.0, subst (Busy (asked (record { 0 = n }) (ask_for user asks) lends) n) same now.1))
+turns sound (Works user busy) = (same-stood sound, busy)
+turns sound (Rests user free) = (same-stood sound, free)
+turns sound (LogsIn gone) = (same-stood sound, gone)
+turns sound (Ends o went) = (record { sound = went.sound; apart = went.apart; traces = went.traces }, went.gone)
 
 pub goes-on : (service : Service) (log : Log) (client : ClientNo) (link : LinkId) (turned : Turned) (tables : Tables)
     → Sound service log (Some (record { client = client.0; link = link })) tables → tables.seats client.0 ≡ None → tables.numbers link.0 ≡ Some client
@@ -237,14 +232,15 @@ goes-on service log client link turned tables sound out number unparted stands n
   lends : Lends
   lends = leaving (is_ending turned.session.phase) client (asking client (account_in turned.session.phase) turned.query tables.lends)
 
-  by : Turns service log client.0 turned.session.client.arrived turned.session.phase tables.lends lends → Sound service log None (goes_on client link turned tables)
-  by now = at (is_finished turned.session) refl (relend service log client.0 link tables lends sound out unparted now.sound now.apart now.traces) where
+  by : Stood service log client.0 tables.lends lends × Serves turned.session.phase lends client.0 turned.session.client.arrived → Sound service log None (goes_on client link turned tables)
+  by now = at (is_finished turned.session) refl (relend service log client.0 link tables lends sound out unparted now.0.sound now.0.apart now.0.traces) where
     gone-at : (at : Phase) → is_ending at ≡ true → Serves at lends client.0 turned.session.client.arrived → Gone lends client.0
     gone-at at is serves = grind (arith, common_steps)
 
-    at : (b : Bool) → is_finished turned.session ≡ b → Sound service log (Some (record { client = client.0; link = link })) (with_lends lends tables) → Sound service log None (seated_or_parts b client (record { link = link; session = turned.session }) (with_lends lends tables))
-    at false going sound = put-back client sound out number stands now.serves going
-    at true is sound = part-with service log client link (with_lends lends tables) sound out number (gone-at turned.session.phase (and_parts (is_ending turned.session.phase) _ is).0 now.serves) unparted (parted is)
+    at : (b : Bool) → is_finished turned.session ≡ b → Sound service log (Some (record { client = client.0; link = link })) (with_lends lends tables)
+        → Sound service log None (seated_or_parts b client (record { link = link; session = turned.session }) (with_lends lends tables))
+    at false going sound = put-back client sound out number stands now.1 going
+    at true is sound = part-with service log client link (with_lends lends tables) sound out number (gone-at turned.session.phase (and_parts (is_ending turned.session.phase) _ is).0 now.1) unparted (parted is)
 
 -- A query that came up for work is in work, by the promises; and a client at its end stays so.
 
@@ -311,19 +307,15 @@ over-known {reply} {talk} more user is over = by (work_said reply talk) refl (me
 
   by : (w : Option Work) → work_said reply talk ≡ w → (fault : Option FrameFault) → (messages_of talk).fault ≡ fault → ends_by (work_said reply talk) (is_some (messages_of talk).fault) ≡ true → StaysOver reply talk now
   by (Some work) at fault here ends = (let further : work_said reply now ≡ Some work = ap (first_open talk.setup reply 1) grows.messages ∙ open-more talk.setup reply 1 (messages_of talk).messages grows.later work at in record {
-    due = ap (λ l. l ++ answers_by talk.setup reply 1 (messages_of now).messages (fault_answer talk.setup.limit (messages_of now).fault)) (front-more talk more user is)
-        ∙ ap (λ l. front talk ++ answers_by talk.setup reply 1 l (fault_answer talk.setup.limit (messages_of now).fault)) grows.messages
-        ∙ ap (λ l. front talk ++ l) (open-due talk.setup reply 1 (messages_of talk).messages grows.later (fault_answer talk.setup.limit (messages_of talk).fault) (fault_answer talk.setup.limit (messages_of now).fault) work at);
+    due = simp (front-more talk more user is, grows.messages) (ap (λ l. front talk ++ l) (open-due talk.setup reply 1 (messages_of talk).messages grows.later _ _ work at));
     over = over-in reply now user (account-more talk more user is) ∙ ap (λ w. ends_by w (is_some (messages_of now).fault)) further ∙ sym (ap (λ w. ends_by w (is_some (messages_of talk).fault)) at) ∙ ends;
   })
   by None at None here ends = absurd (let none : false ≡ true = sym (ap (λ w. ends_by w (is_some (messages_of talk).fault)) at ∙ ap (λ f. is_some f) here) ∙ ends in cc)
   by None at (Some fault) here ends = (let stays = grows.ended fault here in
       let same : (messages_of now).messages ≡ (messages_of talk).messages = grows.messages ∙ ap (λ l. (messages_of talk).messages ++ l) stays.0 ∙ append-nil (messages_of talk).messages in
       let faulty : (messages_of now).fault ≡ (messages_of talk).fault = stays.1 ∙ sym here in record {
-        due = ap (λ l. l ++ answers_by talk.setup reply 1 (messages_of now).messages (fault_answer talk.setup.limit (messages_of now).fault)) (front-more talk more user is)
-            ∙ ap (λ l. front talk ++ answers_by talk.setup reply 1 l (fault_answer talk.setup.limit (messages_of now).fault)) same
-            ∙ ap (λ f. front talk ++ answers_by talk.setup reply 1 (messages_of talk).messages (fault_answer talk.setup.limit f)) faulty;
-        over = over-in reply now user (account-more talk more user is) ∙ ap (λ l. ends_by (first_open talk.setup reply 1 l) (is_some (messages_of now).fault)) same ∙ ap (λ f. ends_by (work_said reply talk) (is_some f)) faulty ∙ ends;
+        due = simp (front-more talk more user is, same, faulty);
+        over = over-in reply now user (account-more talk more user is) ∙ simp (same, faulty) ends;
       })
 
 stays-over : {reply : ℕ → Option Answer} {talk : Talk} (more : List ℕ) → over_said reply talk ≡ true → StaysOver reply talk (heard_more talk more)

@@ -208,7 +208,7 @@ module _ {service : Service} {log : Log} {n : ℕ} {ask : Ask} {lends : Lends} w
     ask = λ another is. subst (AskStands service log n) (some-same ask another (sym asks ∙ is)) stands;
     one_waits = subst AtMostOne (sym waits) (One client);
     waits = λ someone is. subst (Waiting other) (one-same client someone (sym waits ∙ is)) (record { ask = ask; asks = asks; unowned = unowned });
-  }) in record { sound = stood.sound; busy = Waits ask asks refl unowned waits; apart = stood.apart; traces = stood.traces }) where
+  }) in (stood, Waits ask asks refl unowned waits)) where
     client : ClientNo
     client = record { 0 = n }
 
@@ -257,12 +257,7 @@ module _ {service : Service} {log : Log} {n : ℕ} {ask : Ask} {lends : Lends} w
     owns = λ l is. subst (Owns other n) (some-same link l (sym owns ∙ is)) (record { lent = now; there = here; owner = owner });
     one_waits = sound.one_waits;
     waits = λ someone is. absurd (none-one lends.waiting idle is);
-  }) in record {
-    sound = stood.sound;
-    busy = On unasked link now (command_of (For client ask.ordinal) ask.packets ask.first) owns here inside refl refl;
-    apart = stood.apart;
-    traces = stood.traces;
-  }) where
+  }) in (stood, On unasked link now (command_of (For client ask.ordinal) ask.packets ask.first) owns here inside refl refl)) where
     client : ClientNo
     client = record { 0 = n }
 
