@@ -4,13 +4,13 @@ use Rattle.router_world.proofs.Names.{option_and_then, list_any, sym, ◌∙◌,
 use Rattle.router_world.proofs.Names.{is_open, written_of, wrote_bytes, lawful-more, IsOpen, Fits, of_link-same, step-same, step-other, bytes-idle, Entry}
 use Rattle.router_world.proofs.Names.{Closed, Arrival, connected, is_served, Lent, Lends, Service, is_write, was_offered, or-inr, clients-unowned}
 use Rattle.router_world.proofs.Names.{arrival-stays, Parting, Tables, with_lends, closed_by, Phase, too_many_connections, carries, refused_by, refused_on}
-use Rattle.router_world.proofs.Names.{turn_of}
+use Rattle.router_world.proofs.Names.{turn_of, suc}
 use Rattle.router_world.proofs.Hands.{away-gone, known-as}
 use Rattle.std.proofs.lemmas.Bool.{false_from_ne_true}
-use Rattle.router_world.proofs.Apart.{link-or-other, row-among, one-same}
+use Rattle.router_world.proofs.Apart.{link-or-other, row-among, one-same, serves-apart, apart-numbers}
 use Rattle.router_world.proofs.Connecting.{open-kept, is_among, counts-all, closed-fewer, closed-same, traffic_as, traffic-came}
-use Rattle.router_world.proofs.Sound.{Happens, CloseStands, RowStands, LendsSound, PartAt, Refused, Offered, PartStands, Sound, Serves, Waits, Logs, On}
-use Rattle.router_world.proofs.Sound.{Known, Clients, Servers, Parts, Closes, AtMostOne, Nobody, One}
+use Rattle.router_world.proofs.Sound.{Happens, CloseStands, RowStands, LendsSound, PartAt, Refused, Offered, PartStands, Sound, Serves, Known, Clients}
+use Rattle.router_world.proofs.Sound.{Servers, Parts, Closes, AtMostOne, Nobody, One}
 use Rattle.router_world.proofs.Stepping.{client-spares, arrivals-plain, IsPlain, connected-plain}
 use Rattle.lend_core.specs.Changes.{without_close}
 use Rattle.promises.proofs.Causes.{not-both, turn-opened}
@@ -68,12 +68,8 @@ closed-client service log link parting tables sound shut is same = (let then : L
 
 -- The links to servers without the one that was to be closed.
 serves-closed : (at : Phase) (lends : Lends) (n i : ℕ) → Serves at lends n i → Serves at (without_close lends) n i
-serves-closed phase.LoggingIn lends n i gone = record { unasked = gone.unasked; unowned = gone.unowned }
-serves-closed (phase.Idle user) lends n i free = record { unasked = free.unasked; idle = free.idle }
-serves-closed (phase.Working user) lends n i (Waits ask is same unowned waits) = Waits ask is same unowned waits
-serves-closed (phase.Working user) lends n i (Logs ask is same link lent owns at stage) = Logs ask is same link lent owns at stage
-serves-closed (phase.Working user) lends n i (On unasked link lent command owns at stage has tag) = On unasked link lent command owns at stage has tag
-serves-closed phase.Ending lends n i gone = record { unasked = gone.unasked; unowned = gone.unowned }
+serves-closed at lends n i serves = serves-apart at (suc n) n i lends (without_close lends)
+    (record { asks = λ k differs. refl; owned = λ k differs. refl; links = λ k link differs owns. refl; waiting = λ k differs is. is }) (apart-numbers n (suc n) (omega arith)) serves
 
 row-closed : {service : Service} {log : Log} {lends : Lends} {link : LinkId} {lent : Lent} → RowStands service log lends link lent
     → RowStands service log (without_close lends) link lent
@@ -85,7 +81,6 @@ pub closed-server : (service : Service) (log : Log) (link : LinkId) (tables : Ta
     → Sound service (log ++ Closed link ∷ []) None (with_lends (without_close tables.lends) tables)
 closed-server service log link tables sound shut unparted is = (let among : is_among link (connected log) ≡ false =
     sound.counts.among link ∙ ap (λ b. b && is_open link log) (false_from_ne_true (list_any (traffic_as link) log) (λ came. not-both link log shut.told (traffic-came link log came) (turn-opened service link log stands.turn stands.is_turn))) in
-    let passes : Passes service log (Closed link) = passes-closed link shut in
     record {
       came = sound.came ∙ ap length (sym (arrivals-plain log (Closed link) (λ before. refl)));
       here = sound.here ∙ sym (closed-same log link among);
