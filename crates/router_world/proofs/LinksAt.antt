@@ -162,19 +162,18 @@ LogsInAt link log lent = IsEntering lent.backend.account (heard_of link log) (pi
 abbrev pub InsideAt : Service → LinkId → Log → Lent → Type 0
 InsideAt service link log lent = IsInside service.forms lent.backend.account (heard_of link log) (pieces_of link log) lent.backend
 
--- How a link stands with its client: its login goes on for the client's command; it has no command, or one of which nothing is written, or some is; or
--- its client has gone.
+-- How a link stands with its client: its login goes on for the client's command; or the router is logged in, and it has no command, or one of which nothing
+-- is written, or some is, or its client has gone.
+pub data HoldsIn (log : Log) (lends : Lends) (link : LinkId) (lent : Lent) (n : ℕ) : Type 0 where
+  HoldsNone : lent.owner ≡ Some (record { 0 = n }) → lends.owned n ≡ Some link → lent.backend.command ≡ None → HoldsIn log lends link lent n
+  HoldsUnsent : lent.owner ≡ Some (record { 0 = n }) → lends.owned n ≡ Some link → (c : Handed) → lent.backend.command ≡ Some c → c.sent ≡ 0 → HoldsIn log lends link lent n
+  HoldsBegun : lent.owner ≡ Some (record { 0 = n }) → lends.owned n ≡ Some link → (c : Handed) → lent.backend.command ≡ Some c → 0 < c.sent → HoldsIn log lends link lent n
+  HoldsLeft : lent.owner ≡ None → is_here n log ≡ false → (c : Handed) → lent.backend.command ≡ Some c → 0 < c.sent → HoldsIn log lends link lent n
+
 pub data Held (service : Service) (log : Log) (lends : Lends) (link : LinkId) (lent : Lent) (turn : Turn) : Type 0 where
-  HoldsLogin : LogsInAt link log lent → lent.owner ≡ Some (record { 0 = turn.client })
-      → lends.owned turn.client ≡ Some link → (ask : Ask) → lends.asks turn.client ≡ Some ask → ask.ordinal ≡ turn.ordinal → Held service log lends link lent turn
-  HoldsNone : InsideAt service link log lent → lent.owner ≡ Some (record { 0 = turn.client })
-      → lends.owned turn.client ≡ Some link → lent.backend.command ≡ None → Held service log lends link lent turn
-  HoldsUnsent : InsideAt service link log lent → lent.owner ≡ Some (record { 0 = turn.client })
-      → lends.owned turn.client ≡ Some link → (c : Handed) → lent.backend.command ≡ Some c → c.sent ≡ 0 → Held service log lends link lent turn
-  HoldsBegun : InsideAt service link log lent → lent.owner ≡ Some (record { 0 = turn.client })
-      → lends.owned turn.client ≡ Some link → (c : Handed) → lent.backend.command ≡ Some c → 0 < c.sent → Held service log lends link lent turn
-  HoldsLeft : InsideAt service link log lent → lent.owner ≡ None
-      → is_here turn.client log ≡ false → (c : Handed) → lent.backend.command ≡ Some c → 0 < c.sent → Held service log lends link lent turn
+  HoldsLogin : LogsInAt link log lent → lent.owner ≡ Some (record { 0 = turn.client }) → lends.owned turn.client ≡ Some link
+      → (ask : Ask) → lends.asks turn.client ≡ Some ask → ask.ordinal ≡ turn.ordinal → Held service log lends link lent turn
+  HoldsInside : InsideAt service link log lent → HoldsIn log lends link lent turn.client → Held service log lends link lent turn
 
 pub outside-at : {user : Account} {heard : List ℕ} {pieces : List Command} {backend : BackendState} → IsEntering user heard pieces backend → backend.stage ≢ In
 outside-at {heard} {pieces} {backend} at inside = subst (λ s. IsOpening s backend heard (bytes_in pieces ++ backend.own)) inside at.login.is
@@ -185,21 +184,19 @@ held {service} {log} {lends} {link} {lent} row = by row.at row.owned where
   begins : (c : Handed) → lent.backend.command ≡ Some c → is_begun lent.backend.command ≡ true → 0 < c.sent
   begins c has begun = grind (arith, common_steps)
 
-  sent : (c : Handed) → lent.backend.command ≡ Some c → (k : ℕ) → c.sent ≡ k → InsideAt service link log lent
-      → Owned service log lends link row.turn.client lent → Held service log lends link lent row.turn
-  sent c has zero none at (Own own owns) = HoldsUnsent at own owns c has none
-  sent c has (suc k) some at (Own own owns) = HoldsBegun at own owns c has (omega arith)
-  sent c has k some at (Left none gone begun) = HoldsLeft at none gone c has (begins c has begun)
+  sent : (c : Handed) → lent.backend.command ≡ Some c → (k : ℕ) → c.sent ≡ k → Owned service log lends link row.turn.client lent → HoldsIn log lends link lent row.turn.client
+  sent c has zero none (Own own owns) = HoldsUnsent own owns c has none
+  sent c has (suc k) some (Own own owns) = HoldsBegun own owns c has (omega arith)
+  sent c has k some (Left none gone begun) = HoldsLeft none gone c has (begins c has begun)
 
-  inside : (o : Option Handed) → lent.backend.command ≡ o → InsideAt service link log lent
-      → Owned service log lends link row.turn.client lent → Held service log lends link lent row.turn
-  inside (Some c) has at owned = sent c has c.sent refl at owned
-  inside None has at (Own own owns) = HoldsNone at own owns has
-  inside None has at (Left none gone begun) = absurd (let no' : false ≡ true = sym (ap is_begun has) ∙ begun in cc)
+  inside : (o : Option Handed) → lent.backend.command ≡ o → Owned service log lends link row.turn.client lent → HoldsIn log lends link lent row.turn.client
+  inside (Some c) has owned = sent c has c.sent refl owned
+  inside None has (Own own owns) = HoldsNone own owns has
+  inside None has (Left none gone begun) = absurd (let no' : false ≡ true = sym (ap is_begun has) ∙ begun in cc)
 
   by : LinkAt service.forms lent.backend.account (heard_of link log) (pieces_of link log) lent.backend → Owned service log lends link row.turn.client lent
       → Held service log lends link lent row.turn
-  by (Inside at) owned = inside lent.backend.command refl at owned
+  by (Inside at) owned = HoldsInside at (inside lent.backend.command refl owned)
   by (Entering at) (Own own owns) = (let it = row.enters (outside-at at) in HoldsLogin at own owns it.ask it.is it.same)
   by (Entering at) (Left none gone begun) = absurd (let no' : false ≡ true = sym (ap is_begun at.login.idle) ∙ begun in cc)
 

@@ -16,7 +16,7 @@ use Rattle.router_world.proofs.Frames.{Calm, Unbegun, still-none, asked-calm, sa
 use Rattle.router_world.proofs.Sound.{AskStands, HandedStands, carried_by, AtMostOne, One, Waiting, LendsSound, Busy, Waits, Logs, On}
 use Rattle.router_world.proofs.LinksAt.{BusyHere, LogsHere, OnHere, AtRow, came-of, calm-own, inside-stays, shut, Held, held, HoldsLogin, HoldsNone}
 use Rattle.router_world.proofs.LinksAt.{HoldsUnsent, HoldsBegun, HoldsLeft, outside-at, shut-news, shut-idle, shut-answered, busy-here, none-busy, left-busy}
-use Rattle.router_world.proofs.LinksAt.{unowned-left, error-spelt, LogsInAt, InsideAt, Drops}
+use Rattle.router_world.proofs.LinksAt.{unowned-left, error-spelt, LogsInAt, InsideAt, Drops, HoldsInside}
 use Rattle.server_side.specs.declared.stage.Stage.TheVariants as stage
 
 -- What is due on a link.
@@ -127,12 +127,12 @@ module _ {service : Service} {log : Log} {e : Entry} {lends : Lends} {link : Lin
     by (HoldsLogin enters own owns ask asks same) = (let stands = at.sound.asks n ask asks in simp (due-entering lent.backend _ _ enters.login.is, own, asks)
         (shut-answered at may (λ k differs. set-other lends.asks n k None differs) (set-same lends.asks n None) (error-spelt ask.first connection_refused)
         (Logs ask asks refl link lent owns at.there (outside-at enters)) stands.asked (refused-now ask same stands.unsent (why.fails enters))))
-    by (HoldsNone inside own owns none) = simp (inside.stage, none, own)
+    by (HoldsInside inside (HoldsNone own owns none)) = simp (inside.stage, none, own)
         (shut-idle at may (calm inside) (λ k differs. set-other lends.owned n k None differs) (set-same lends.owned n None) (none-busy at inside.stage none))
-    by (HoldsUnsent inside own owns c has none) = (let stands = at.row.command c has in simp (inside.stage, has, own, none, stands.tag)
+    by (HoldsInside inside (HoldsUnsent own owns c has none)) = (let stands = at.row.command c has in simp (inside.stage, has, own, none, stands.tag)
         (waits-again c inside.stage has none owns stands may (calm inside)))
-    by (HoldsBegun inside own owns c has some) = (let stands = at.row.command c has in simp (inside.stage, has, id-begun c.sent c.first some, own)
+    by (HoldsInside inside (HoldsBegun own owns c has some)) = (let stands = at.row.command c has in simp (inside.stage, has, id-begun c.sent c.first some, own)
         (shut-answered at may (λ k differs. refl) (begun-alone at.sound stands some) (error-spelt c.first (payload_of refusal))
         (On (begun-alone at.sound stands some) link lent c owns at.there inside.stage has stands.tag) stands.asked (why.told c stands.ordinal inside has some stands.tag (carried stands some))))
-    by (HoldsLeft inside none gone c has some) = simp (inside.stage, has, id-begun c.sent c.first some, none)
+    by (HoldsInside inside (HoldsLeft none gone c has some)) = simp (inside.stage, has, id-begun c.sent c.first some, none)
         (shut-idle at may (calm inside) (λ k differs. refl) (unowned-left at none) (left-busy at none))

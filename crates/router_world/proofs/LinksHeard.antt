@@ -24,7 +24,7 @@ use Rattle.router_world.proofs.LinksGone.{handed-row}
 use Rattle.router_world.proofs.LinksAt.{replied-said, command-is, BusyHere, LogsHere, OnHere, AtRow, came-of, row-later, user-later, calm-own, inside-stays}
 use Rattle.router_world.proofs.LinksAt.{login-stays, kept-news, said-got, got-at, got-standing, Held, held, HoldsLogin, HoldsNone, HoldsUnsent, HoldsBegun}
 use Rattle.router_world.proofs.LinksAt.{HoldsLeft, outside-at, shut-idle, shut-answered, busy-here, left-busy, unowned-left, alike-came, puts, NoCommand}
-use Rattle.router_world.proofs.LinksAt.{handed-later, ask-later, own-idle, answers-one, LogsInAt, InsideAt, Drops}
+use Rattle.router_world.proofs.LinksAt.{handed-later, ask-later, own-idle, answers-one, LogsInAt, InsideAt, Drops, HoldsInside}
 use Rattle.router_world.proofs.LinksFailed.{failed-came, begun-alone, carried, id-begun}
 use Rattle.router_world.proofs.RowsStanding.{standing-clean, reply-moved, IsPiece}
 use Rattle.server_side.specs.declared.stage.Stage.TheVariants as stage
@@ -192,10 +192,10 @@ module _ {service : Service} {log : Log} {bytes : List ℕ} {lends : Lends} {lin
 
     by : Held service log lends link lent at.row.turn → Came service new n lends (answers link (due_on lent.backend) (nat_eq used (length bytes)) lent.owner left (without_link link lends))
     by (HoldsLogin enters own owns ask asks same) = absurd (outside-at enters inside.stage)
-    by (HoldsNone _ own owns none) = absurd (no-some none rep.is)
-    by (HoldsUnsent _ own owns d has none) = (let same : d.sent ≡ c.sent = ap (λ (h : Handed). h.sent) (some-same d c (sym has ∙ rep.is)) in let some : 0 < c.sent = rep.sent in absurd (omega arith))
-    by (HoldsBegun _ own owns d has some) = simp (inside.stage, rep.is, id-begun c.sent c.first rep.sent, own, and-true clean) (finish own owns clean refl)
-    by (HoldsLeft _ none gone d has some) = simp (inside.stage, rep.is, id-begun c.sent c.first rep.sent, none, and_right clean false refl)
+    by (HoldsInside _ (HoldsNone own owns none)) = absurd (no-some none rep.is)
+    by (HoldsInside _ (HoldsUnsent own owns d has none)) = (let same : d.sent ≡ c.sent = ap (λ (h : Handed). h.sent) (some-same d c (sym has ∙ rep.is)) in let some : 0 < c.sent = rep.sent in absurd (omega arith))
+    by (HoldsInside _ (HoldsBegun own owns d has some)) = simp (inside.stage, rep.is, id-begun c.sent c.first rep.sent, own, and-true clean) (finish own owns clean refl)
+    by (HoldsInside _ (HoldsLeft none gone d has some)) = simp (inside.stage, rep.is, id-begun c.sent c.first rep.sent, none, and_right clean false refl)
         (shut-idle at (drops gone clean refl) (calm-inside inside) (λ k differs. refl) (unowned-left at none) (left-busy at none))
 
   -- no reply goes on so
@@ -230,7 +230,4 @@ module _ {service : Service} {log : Log} {bytes : List ℕ} {lends : Lends} {lin
 
     by : Held service log lends link lent at.row.turn → Came service new n lends (told_by link lent (length bytes) (got_of bytes lent.backend) (without_link link lends))
     by (HoldsLogin enters own owns ask asks same) = entering enters own owns ask asks (got_of bytes lent.backend) refl
-    by (HoldsNone at_in own owns none) = inside at_in (got_of bytes lent.backend) refl
-    by (HoldsUnsent at_in own owns c has none) = inside at_in (got_of bytes lent.backend) refl
-    by (HoldsBegun at_in own owns c has some) = inside at_in (got_of bytes lent.backend) refl
-    by (HoldsLeft at_in none gone c has some) = inside at_in (got_of bytes lent.backend) refl
+    by (HoldsInside at_in what) = inside at_in (got_of bytes lent.backend) refl

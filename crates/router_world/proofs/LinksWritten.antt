@@ -13,9 +13,8 @@ use Rattle.router_world.proofs.Apart.{set-same, set-other, Came, no-some, apart-
 use Rattle.router_world.proofs.Calm.{carrier-same}
 use Rattle.router_world.proofs.Frames.{Calm}
 use Rattle.router_world.proofs.Sound.{AskStands, HandedStands, carried_by, RowStands, Free, Gone, Busy}
-use Rattle.router_world.proofs.LinksAt.{heard-on, piece-on, BusyHere, LogsHere, OnHere, AtRow, calm-own, login-stays, Held, held, HoldsLogin, HoldsNone}
-use Rattle.router_world.proofs.LinksAt.{HoldsUnsent, HoldsBegun, HoldsLeft, busy-here, alike-came, NoCommand, Commands, IsLike, handed-later, ask-later}
-use Rattle.router_world.proofs.LinksAt.{command-is}
+use Rattle.router_world.proofs.LinksAt.{heard-on, piece-on, BusyHere, LogsHere, OnHere, AtRow, calm-own, login-stays, Held, held, HoldsLogin, busy-here}
+use Rattle.router_world.proofs.LinksAt.{alike-came, NoCommand, Commands, IsLike, handed-later, ask-later, command-is, HoldsInside}
 use Rattle.server_side.specs.declared.stage.Stage.TheVariants as stage
 
 -- Of what a link has to write its bytes are, and what is left then.
@@ -64,10 +63,7 @@ unasked-beside {service} {log} {lends = lends} {link} {lent} at has (Works i bus
   by : Held service log lends link lent at.row.turn → BusyHere lends at.row.turn.client i link lent → lends.asks at.row.turn.client ≡ None
   by (HoldsLogin enters own owns ask asks same) on = absurd (no-some enters.login.idle has)
   by row (OnHere owns unasked c staged holds tag) = unasked
-  by (HoldsNone inside own owns none) (LogsHere _ a is same out) = absurd (out inside.stage)
-  by (HoldsUnsent inside own owns c holds none) (LogsHere _ a is same out) = absurd (out inside.stage)
-  by (HoldsBegun inside own owns c holds some) (LogsHere _ a is same out) = absurd (out inside.stage)
-  by (HoldsLeft inside none gone c holds some) (LogsHere _ a is same out) = absurd (out inside.stage)
+  by (HoldsInside inside what) (LogsHere _ a is same out) = absurd (out inside.stage)
 unasked-beside at has (Idles free) = free.unasked
 unasked-beside at has (Parts gone) = gone.unasked
 

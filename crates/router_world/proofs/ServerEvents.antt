@@ -15,7 +15,7 @@ use Rattle.router_world.proofs.Sound.{HandedStands, Unsent, Busy, Logs, On, Soun
 use Rattle.router_world.proofs.Apart.{Came, apart-numbers, no-some}
 use Rattle.router_world.proofs.LinksAt.{lost-on, heard-end, pieces-on, replied-said, command-is, AtRow, user-later, link-cause, inside-stays, Concerns}
 use Rattle.router_world.proofs.LinksAt.{OnLink, calm-other, leaves-others, Held, held, HoldsLogin, HoldsNone, HoldsUnsent, HoldsBegun, HoldsLeft, outside-at}
-use Rattle.router_world.proofs.LinksAt.{cause-fails, InsideAt}
+use Rattle.router_world.proofs.LinksAt.{cause-fails, InsideAt, HoldsInside}
 use Rattle.router_world.proofs.LinksFailed.{failed-came, carried}
 use Rattle.router_world.proofs.LinksHeard.{heard-came}
 use Rattle.router_world.proofs.Calm.{Spares, carrier-same, unrefused-more, Leaves, leaves-other, asks-server}
@@ -73,10 +73,7 @@ module _ {service : Service} {log : Log} {e : Entry} {lends : Lends} {link : Lin
 
     by : Held service log lends link lent at.row.turn → at.row.turn.ordinal ≤ arrived
     by (HoldsLogin enters own owns ask asks same) = subst (λ i. i ≤ arrived) same (early ask.ordinal (Logs ask asks refl link lent owns at.there (outside-at enters)))
-    by (HoldsNone inside own owns none) = out inside
-    by (HoldsUnsent inside own owns c has none) = out inside
-    by (HoldsBegun inside own owns c has some) = out inside
-    by (HoldsLeft inside none gone c has some) = out inside
+    by (HoldsInside inside what) = out inside
 
   row-spares : (i : ℕ) → arrived < i → Spares service log e at.row.turn.client i
   row-spares i later other is = false_from_ne_true (is_turn at.row.turn.client i other) (λ same. (let cause = refusal-cause service log e other is in
@@ -101,11 +98,11 @@ wrote-early {service} {log} {tag} {bytes} {lends} {link} {lent} arrived wrote ea
 
   first : (c : Handed) → lent.backend.command ≡ Some c → (stands : HandedStands service log n link c) → i ≡ stands.ordinal → Held service log lends link lent wrote.at.row.turn → ⊥
   first c has stands same (HoldsLogin enters own owns ask asks is) = no-some enters.login.idle has
-  first c has stands same (HoldsNone inside own owns none) = no-some none has
-  first c has stands same (HoldsUnsent inside own owns d holds none) = (let most : stands.ordinal ≤ arrived =
+  first c has stands same (HoldsInside inside (HoldsNone own owns none)) = no-some none has
+  first c has stands same (HoldsInside inside (HoldsUnsent own owns d holds none)) = (let most : stands.ordinal ≤ arrived =
       early stands.ordinal (On (unasked-beside wrote.at has wrote.holds) link lent c owns wrote.at.there inside.stage has stands.tag) in omega arith)
-  first c has stands same (HoldsBegun inside own owns d holds some) = begun c d has stands same holds some
-  first c has stands same (HoldsLeft inside none gone d holds some) = begun c d has stands same holds some
+  first c has stands same (HoldsInside inside (HoldsBegun own owns d holds some)) = begun c d has stands same holds some
+  first c has stands same (HoldsInside inside (HoldsLeft none gone d holds some)) = begun c d has stands same holds some
 
   by : LeftIn lent.backend wrote.l → carries n i (Wrote link tag bytes) ≡ None
   by (OfLogin own stays) = ap (λ (t : Tag). cond (is_command n i t) (Some link) None) (wrote.same ∙ own)
