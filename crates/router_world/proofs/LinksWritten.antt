@@ -12,9 +12,9 @@ use Rattle.router_world.proofs.RowsStanding.{taken-at}
 use Rattle.router_world.proofs.Apart.{set-same, set-other, Came, no-some, apart-numbers}
 use Rattle.router_world.proofs.Calm.{carrier-same}
 use Rattle.router_world.proofs.Frames.{Calm}
-use Rattle.router_world.proofs.Sound.{AskStands, HandedStands, carried_by, RowStands, Free, Gone, Busy}
-use Rattle.router_world.proofs.LinksAt.{heard-on, piece-on, BusyHere, LogsHere, OnHere, AtRow, calm-own, login-stays, Held, held, HoldsLogin, busy-here}
-use Rattle.router_world.proofs.LinksAt.{alike-came, NoCommand, Commands, IsLike, handed-later, ask-later, command-is, HoldsInside}
+use Rattle.router_world.proofs.Sound.{AskStands, HandedStands, carried_by, RowStands}
+use Rattle.router_world.proofs.LinksAt.{heard-on, piece-on, AtRow, calm-own, login-stays, alike-came, NoCommand, Commands, IsLike, handed-later, ask-later}
+use Rattle.router_world.proofs.LinksAt.{command-is}
 use Rattle.server_side.specs.declared.stage.Stage.TheVariants as stage
 
 -- Of what a link has to write its bytes are, and what is left then.
@@ -50,23 +50,6 @@ more-or-not n k = search arith
 pub front-size : (bytes front : List ℕ) (n : ℕ) → front ≡ take n bytes → (length front ≤ length bytes) × (take (length front) bytes ≡ front)
 front-size bytes front n is = grind (arith, common_steps, more-or-not, length-take-le)
 
--- What the client of the link has there: a command, or none is asked for.
-pub data Holds (lends : Lends) (n : ℕ) : Type 0 where
-  Works : (i : ℕ) → Busy lends n i → Holds lends n
-  Idles : Free lends n → Holds lends n
-  Parts : Gone lends n → Holds lends n
-
--- beside a command on the link none is asked for
-pub unasked-beside : {service : Service} {log : Log} {e : Entry} {lends : Lends} {link : LinkId} {lent : Lent} {command : Handed} (at : AtRow service log e lends link lent)
-    → lent.backend.command ≡ Some command → Holds lends at.row.turn.client → lends.asks at.row.turn.client ≡ None
-unasked-beside {service} {log} {lends = lends} {link} {lent} at has (Works i busy) = by (held at.row) (busy-here at busy) where
-  by : Held service log lends link lent at.row.turn → BusyHere lends at.row.turn.client i link lent → lends.asks at.row.turn.client ≡ None
-  by (HoldsLogin enters own owns ask asks same) on = absurd (no-some enters.login.idle has)
-  by row (OnHere owns unasked c staged holds tag) = unasked
-  by (HoldsInside inside what) (LogsHere _ a is same out) = absurd (out inside.stage)
-unasked-beside at has (Idles free) = free.unasked
-unasked-beside at has (Parts gone) = gone.unasked
-
 -- The bytes are of what is left on the row of the link.
 pub record WroteAt (service : Service) (log : Log) (tag : Tag) (bytes : List ℕ) (lends : Lends) (link : LinkId) (lent : Lent) : Type 0 where
   pub at : AtRow service log (Wrote link tag bytes) lends link lent
@@ -76,7 +59,7 @@ pub record WroteAt (service : Service) (log : Log) (tag : Tag) (bytes : List ℕ
   pub some : 0 < length bytes
   pub fits : length bytes ≤ length l.bytes
   pub front : take (length bytes) l.bytes ≡ bytes
-  pub holds : Holds lends at.row.turn.client
+  pub unasked : (command : Handed) → lent.backend.command ≡ Some command → lends.asks at.row.turn.client ≡ None
 
 module _ {service : Service} {log : Log} {tag : Tag} {bytes : List ℕ} {lends : Lends} {link : LinkId} {lent : Lent} (wrote : WroteAt service log tag bytes lends link lent) where
   abbrev at : AtRow service log (Wrote link tag bytes) lends link lent
@@ -134,7 +117,7 @@ module _ {service : Service} {log : Log} {tag : Tag} {bytes : List ℕ} {lends :
   -- more of the command is written
   command-like : (c : Handed) → lent.backend.command ≡ Some c → wrote.l.tag ≡ c.tag → now.backend.command ≡ Some (record c { sent = c.sent + length bytes })
       → IsLike service log e lends link lent now n
-  command-like c has of goes_on = like (λ ask is. absurd (no-some (unasked-beside at has wrote.holds) is))
+  command-like c has of goes_on = like (λ ask is. absurd (no-some (wrote.unasked c has) is))
       (handed-later at c has (c.sent + length bytes) c.tracker goes_on (λ begun. apart-numbers (c.sent + length bytes) 0 (λ none. more none)) refl now-at carrier (λ none. absurd (more none))) where
     stands : HandedStands service log n link c
     stands = at.row.command c has

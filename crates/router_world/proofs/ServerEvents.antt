@@ -10,17 +10,16 @@ use Rattle.router_world.proofs.Hands.{away-gone}
 use Rattle.std.proofs.lemmas.Bool.{or_parts, false_from_ne_true}
 use Rattle.router_world.proofs.Connecting.{open-kept}
 use Rattle.exchange.specs.Logins.{goes_on}
-use Rattle.router_world.proofs.RowsStanding.{unanswered-at}
+use Rattle.router_world.proofs.RowsStanding.{unanswered-at, entering-at}
 use Rattle.router_world.proofs.Sound.{HandedStands, Unsent, Busy, Logs, On, Sound, Serves, AtMostOne, Nobody, One}
 use Rattle.router_world.proofs.Apart.{Came, apart-numbers, no-some}
 use Rattle.router_world.proofs.LinksAt.{lost-on, heard-end, pieces-on, replied-said, command-is, AtRow, user-later, link-cause, inside-stays, Concerns}
 use Rattle.router_world.proofs.LinksAt.{OnLink, calm-other, leaves-others, Held, held, HoldsLogin, HoldsNone, HoldsUnsent, HoldsBegun, HoldsLeft, outside-at}
-use Rattle.router_world.proofs.LinksAt.{cause-fails, InsideAt, HoldsInside}
+use Rattle.router_world.proofs.LinksAt.{cause-fails, InsideAt, HoldsInside, BusyHere, LogsHere, OnHere, busy-here}
 use Rattle.router_world.proofs.LinksFailed.{failed-came, carried}
 use Rattle.router_world.proofs.LinksHeard.{heard-came}
 use Rattle.router_world.proofs.Calm.{Spares, carrier-same, unrefused-more, Leaves, leaves-other, asks-server}
-use Rattle.router_world.proofs.LinksWritten.{LeftIn, OfLogin, OfCommand, left-in, unasked-beside, Holds, Works, Idles, Parts as PartsWith, wrote-came}
-use Rattle.router_world.proofs.LinksWritten.{front-left, wrote-others, WroteAt}
+use Rattle.router_world.proofs.LinksWritten.{LeftIn, OfLogin, OfCommand, left-in, wrote-came, front-left, wrote-others, WroteAt}
 use Rattle.router_world.proofs.Answered.{working-busy, server-step}
 use Rattle.server_side.specs.declared.stage.Stage.TheVariants as stage
 use Rattle.client_talk.specs.declared.session.Phase.TheVariants as phase
@@ -100,7 +99,7 @@ wrote-early {service} {log} {tag} {bytes} {lends} {link} {lent} arrived wrote ea
   first c has stands same (HoldsLogin enters own owns ask asks is) = no-some enters.login.idle has
   first c has stands same (HoldsInside inside (HoldsNone own owns none)) = no-some none has
   first c has stands same (HoldsInside inside (HoldsUnsent own owns d holds none)) = (let most : stands.ordinal ≤ arrived =
-      early stands.ordinal (On (unasked-beside wrote.at has wrote.holds) link lent c owns wrote.at.there inside.stage has stands.tag) in omega arith)
+      early stands.ordinal (On (wrote.unasked c has) link lent c owns wrote.at.there inside.stage has stands.tag) in omega arith)
   first c has stands same (HoldsInside inside (HoldsBegun own owns d holds some)) = begun c d has stands same holds some
   first c has stands same (HoldsInside inside (HoldsLeft none gone d holds some)) = begun c d has stands same holds some
 
@@ -181,18 +180,23 @@ pub lost-step : (service : Service) (log : Log) (e : Entry) (link : LinkId) (len
 lost-step service log e link lent tables sound on loss silent = (let at = at-row sound on (λ k i apart. silent k i) in
     row-step sound on at (λ seat is unsent i later. silent at.row.turn.client i) (lost-came at loss))
 
--- what the client of a link has there
-holds : (service : Service) (log : Log) (tables : Tables) (n : ℕ) → Sound service log None tables → Holds tables.lends n
-holds service log tables n sound = by (tables.seats n) refl where
-  serves : (at : Phase) (arrived : ℕ) → Serves at tables.lends n arrived → Holds tables.lends n
-  serves phase.LoggingIn arrived gone = PartsWith gone
-  serves (phase.Idle user) arrived free = Idles free
-  serves (phase.Working user) arrived busy = Works arrived busy
-  serves phase.Ending arrived gone = PartsWith gone
+-- beside a command on a link its client has none that waits
+unasked-beside : {service : Service} {log : Log} {e : Entry} {link : LinkId} {lent : Lent} {tables : Tables} → Sound service log None tables
+    → (at : AtRow service log e tables.lends link lent) → (c : Handed) → lent.backend.command ≡ Some c → tables.lends.asks at.row.turn.client ≡ None
+unasked-beside {link = link} {lent} {tables} sound at c has = by (tables.seats at.row.turn.client) refl where
+  there : {i : ℕ} → BusyHere tables.lends at.row.turn.client i link lent → tables.lends.asks at.row.turn.client ≡ None
+  there (LogsHere owns ask is same outside) = absurd (no-some (entering-at _ _ _ _ lent.backend at.row.at outside).login.idle has)
+  there (OnHere owns unasked d staged holds tag) = unasked
 
-  by : (o : Option Seat) → tables.seats n ≡ o → Holds tables.lends n
-  by None none = PartsWith (away-gone tables.lends n (sound.away n none))
-  by (Some seat) is = serves seat.session.phase seat.session.client.arrived ((sound.seats n seat is).serves)
+  serves : (p : Phase) (arrived : ℕ) → Serves p tables.lends at.row.turn.client arrived → tables.lends.asks at.row.turn.client ≡ None
+  serves phase.LoggingIn arrived gone = gone.unasked
+  serves (phase.Idle user) arrived free = free.unasked
+  serves (phase.Working user) arrived busy = there (busy-here at busy)
+  serves phase.Ending arrived gone = gone.unasked
+
+  by : (o : Option Seat) → tables.seats at.row.turn.client ≡ o → tables.lends.asks at.row.turn.client ≡ None
+  by None none = (away-gone tables.lends at.row.turn.client (sound.away at.row.turn.client none)).unasked
+  by (Some seat) is = serves seat.session.phase seat.session.client.arrived (sound.seats at.row.turn.client seat is).serves
 
 -- Bytes are written to a server.
 pub wrote-step : (service : Service) (log : Log) (link : LinkId) (tag : Tag) (bytes : List ℕ) (lent : Lent) (tables : Tables) → Sound service log None tables
@@ -208,6 +212,6 @@ wrote-step service log link tag bytes lent tables sound on front = (let parts = 
       some = on.on.happens.fits.some;
       fits = parts.3;
       front = parts.4;
-      holds = holds service log tables at.row.turn.client sound;
+      unasked = unasked-beside sound at;
     } in
     row-step sound on at (λ seat is unsent. wrote-early seat.session.client.arrived wrote (early-seat sound is) unsent) (wrote-came wrote))
