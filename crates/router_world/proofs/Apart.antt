@@ -112,7 +112,7 @@ mended {service} {log} {n} {lends} {other} before now = (let owned : (k : ℕ) (
     record {
       rows = λ link lent is. row link lent (now.rows link lent is);
       asks = λ k ask is. one-or-other k n (λ m. other.asks m ≡ Some ask → AskStands service log m ask) (now.ask ask) (λ at was. before.asks k ask at (sym (now.apart.asks k at) ∙ was)) is;
-      owned = λ k link is. one-or-other k n (λ m. other.owned m ≡ Some link → Owns other m link) (now.owns link) (owned k link) is;
+      owned = λ k link is. grind (arith, common_steps, owned);
       one_waits = now.one_waits;
       waits = now.waits;
       one_closes = now.one_closes;
@@ -264,8 +264,8 @@ one-stood {service} {log} {n} {link} {lends} {other} lent but one_closes closes 
   });
   apart = apart;
   traces = record {
-    from = λ l now is. link-or-other l link (λ x. other.links x.0 ≡ Some now → (old : Lent) × (lends.links x.0 ≡ Some old)) (λ at. (lent, there)) (λ at row. (now, sym (one.links l.0 at) ∙ row)) is;
-    to = λ l was is. link-or-other l link (λ x. ((now : Lent) × (other.links x.0 ≡ Some now)) ⊎ (other.closing ≡ x ∷ [])) (to one.goes) (λ at. inl (was, one.links l.0 at ∙ is));
+    from = λ l now is. grind (arith, common_steps);
+    to = λ l was is. grind (arith, common_steps, to);
     closed = closed one.goes;
     closes = stays one.goes;
   };

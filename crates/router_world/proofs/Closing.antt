@@ -158,7 +158,7 @@ offered-step service log e parting later tables sound offer same client kind = (
     let by-standing : Bystands service log e parting.link tables =
     record { names = offer.names; unnumbered = stands.unnumbered; unlent = stands.unlent; calm = λ k. record { writes = offer.silent k; spares = λ i. client-spares service log e parting.link offer.refuses unowned k i }; fits = offer.happens.fits; lawful = offer.happens.lawful } in
     let mine : PartStands service then tables.numbers tables.lends later = record {
-      opened = open-kept later.link log e offer.opens ∙ ap (λ (l : LinkId). is_open l log) same ∙ stands.opened;
+      opened = grind (arith, common_steps, open-kept);
       unnumbered = ap (λ (l : LinkId). tables.numbers l.0) same ∙ stands.unnumbered;
       unlent = ap (λ (l : LinkId). tables.lends.links l.0) same ∙ stands.unlent;
       unclosing = λ link closes. ap (λ (l : LinkId). nat_eq link.0 l.0) same ∙ stands.unclosing link closes;
@@ -174,7 +174,7 @@ offered-step service log e parting later tables sound offer same client kind = (
     record {
       came = sound.came ∙ ap length (sym (arrivals-plain log e offer.plain.arrives));
       here = sound.here ∙ ap length (sym (connected-plain log e offer.plain));
-      counts = counts-all then (lawful-more Fits log e offer.happens.told offer.happens.fits);
+      counts = grind (arith, common_steps, counts-all, lawful-more);
       seats = seats-left service log e parting.link tables sound by-standing;
       numbers = sound.numbers;
       unlent = sound.unlent;
@@ -182,7 +182,7 @@ offered-step service log e parting later tables sound offer same client kind = (
       away = sound.away;
       lends = lends-left service log e parting.link tables sound by-standing (stands.alone offer.some);
       one_parts = One later;
-      parts = λ other at. subst (PartStands service then tables.numbers tables.lends) (one-same later other at) mine;
+      parts = λ other at. grind (arith, common_steps, one-same);
       known = λ link opened. known-as tables.numbers tables.numbers tables.lends tables.parting (later ∷ []) link refl (λ p is on. Parts later refl (same ∙ ap (λ (q : Parting). q.link) (one-same parting p (sym offer.is ∙ is)) ∙ on))
           (sound.known link (sym (open-kept link log e offer.opens) ∙ opened));
       served = offer.happens.served;

@@ -1,8 +1,8 @@
 -- Lists of links.
-use Rattle.router_world.proofs.Names.{common_steps, ◌≡◌, ℕ, ◌+◌, Bool, true, false, nat_eq, not, ◌&&◌, ◌||◌, List, [], ◌∷◌, ◌++◌, length, refl, sym, ◌∙◌, ap}
-use Rattle.router_world.proofs.Names.{inl, inr, arith, LinkId, bool_cases, without, ◌-◌, slice_get, Some, None, list_any, list_any-append, fold-append}
-use Rattle.router_world.proofs.Names.{Traffic, Admin, Log, link_of, open_step, is_open, AllLawful, lawful-each, IsNew, IsOpen, Fits, step-same, step-other}
-use Rattle.router_world.proofs.Names.{Entry, Accepted, Opened, Closed, Arrival, arrivals_behind, arrival_of, is_traffic, connected_step, connected, some-same}
+use Rattle.router_world.proofs.Names.{common_steps, ◌≡◌, ℕ, ◌+◌, Bool, true, false, nat_eq, not, ◌&&◌, ◌||◌, List, [], ◌∷◌, ◌++◌, length, refl, ◌∙◌, ap, inl}
+use Rattle.router_world.proofs.Names.{inr, arith, LinkId, bool_cases, without, ◌-◌, slice_get, Some, None, list_any, list_any-append, fold-append, Traffic}
+use Rattle.router_world.proofs.Names.{Admin, Log, link_of, open_step, is_open, AllLawful, lawful-each, IsNew, IsOpen, Fits, step-same, step-other, Entry}
+use Rattle.router_world.proofs.Names.{Accepted, Opened, Closed, Arrival, arrivals_behind, arrival_of, is_traffic, connected_step, connected, some-same}
 use Rattle.router_world.proofs.Names.{came_as, came-names, named-none, same-link, or-inl, or-inr}
 use Rattle.router_world.proofs.Calm.{or-none, any-still}
 use Rattle.std.proofs.lemmas.Bool.{or_parts, or_from, eqb-true}
@@ -43,10 +43,10 @@ pub length-without : (link : LinkId) (links : List LinkId) → AreDistinct links
 length-without link [] distinct among = cc
 length-without link (other ∷ links) distinct among = elim (bool_cases (nat_eq other.0 link.0)) [
   | inl same ↦ (
-      let apart : is_among link links ≡ false = ap (λ (n : ℕ). is_among (record { 0 = n }) links) (sym (eqb-true other.0 link.0 same)) ∙ distinct.0 in
+      let apart : is_among link links ≡ false = grind (arith, common_steps, eqb-true) in
       rw same (let rest : length (without link links) ≡ length links = ap length (without-apart link links apart) in omega arith))
   | inr apart ↦ (
-      let later : is_among link links ≡ true = ap (λ b. b || is_among link links) (sym (nat_eq-sym other.0 link.0 apart)) ∙ among in
+      let later : is_among link links ≡ true = grind (arith, common_steps, nat_eq-sym, among) in
       rw apart (let rest : length (without link links) + 1 ≡ length links = length-without link links distinct.1 later in omega arith))
 ]
 
@@ -112,10 +112,10 @@ counts-closed log link counts = grind (arith, common_steps, connected-more, dist
 
 counts-step : (log : Log) (e : Entry) → Fits log e → Counts log → Counts (log ++ e ∷ [])
 counts-step log (Accepted Traffic link salt) fits counts = counts-came log link salt fits.fresh counts
-counts-step log (Accepted Admin link salt) fits counts = counts-opened log (Accepted Admin link salt) link refl fits.fresh (λ links. refl) (λ other. refl) counts
-counts-step log (Opened server address link) fits counts = counts-opened log (Opened server address link) link refl fits (λ links. refl) (λ other. refl) counts
+counts-step log (Accepted Admin link salt) fits counts = grind (arith, common_steps, counts-opened)
+counts-step log (Opened server address link) fits counts = grind (arith, common_steps, counts-opened)
 counts-step log (Closed link) fits counts = counts-closed log link counts
-counts-step log e fits counts = counts-plain log e (λ links. refl) (λ other. refl) (λ other. ap (λ b. list_any (traffic_as other) log && b) (open-kept other log e (λ was. refl))) counts
+counts-step log e fits counts = grind (arith, common_steps, counts-plain, open-kept)
 
 pub counts-all : (log : Log) → AllLawful Fits log → Counts log
 counts-all log told = lawful-each Fits Counts log counts-step (record { distinct = tt; among = λ link. refl }) told

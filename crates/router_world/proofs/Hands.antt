@@ -6,7 +6,7 @@ use Rattle.router_world.proofs.Names.{asked, gone, ◌<◌, ◌≤◌, is_some, 
 use Rattle.router_world.proofs.Names.{WaitsToLogIn, Says, FailsToSay, opening-says-more, is_served, Talk, heard_more, opening_of, account, if_known}
 use Rattle.router_world.proofs.Names.{messages_of, front, front_in, Session, most_command, carrier_of, Answer, talk_with, user_of, Work, work_of, ends_in}
 use Rattle.router_world.proofs.Names.{ends_by, if_user, messages-grow, replied, first_open, SeatAt, PhaseAt, IsWorking, due_said, work_said, over_said}
-use Rattle.router_world.proofs.Names.{in-work, ◌≢◌, is_query, turned, Asks, nil_from_length, written_of, was_lost, is_here, due, has_ended}
+use Rattle.router_world.proofs.Names.{in-work, ◌≢◌, is_query, turned, Asks, written_of, was_lost, is_here, due, has_ended}
 use Rattle.promises.proofs.Staying.{account-more, Grown}
 use Rattle.router_world.proofs.Apart.{none-one, link-or-other, apart-links, apart-numbers, set-same, set-other, Row, row-of, Apart, Traces, serves-apart}
 use Rattle.router_world.proofs.Apart.{gone-apart, Went, Idle, one-same, Here, There, no-some, Stood}
@@ -70,12 +70,12 @@ relend service log n hand tables other sound out unparted lends apart traces = r
   counts = sound.counts;
   seats = λ k seat is. (let was = sound.seats k seat is in record {
     stands = was.stands;
-    serves = serves-apart seat.session.phase n k seat.session.client.arrived tables.lends other apart (apart-numbers k n (λ same. none-some (tables.seats n) out (ap tables.seats (sym same) ∙ is))) was.serves;
+    serves = grind (arith, common_steps, serves-apart, apart, apart-numbers);
     unfinished = was.unfinished;
     numbered = was.numbered;
   });
   numbers = sound.numbers;
-  unlent = λ link client is. none-if (other.links link.0) (λ lent at. (let old = traces.from link lent at in none-some (tables.lends.links link.0) (sound.unlent link client is) old.1));
+  unlent = λ link client is. grind (arith, common_steps, none-if, client);
   unclosing = λ link is. unclosing link (traces.closed link is);
   away = λ k is. grind (arith, common_steps, nat_eq-true, gone-apart);
   lends = lends;
@@ -110,7 +110,7 @@ put-back {service} {log} {seat} {tables} client sound out number stands serves u
 } where
   sits : (k : ℕ) (other : Seat) → Row tables.seats client.0 (Some seat) k other → Sits service log tables.numbers tables.lends k other
   sits k other (There apart was) = sound.seats k other was
-  sits k other (Here same is) = rw (same, ← some-same seat other is) (record { stands = stands; serves = serves; unfinished = unfinished; numbered = number })
+  sits k other (Here same is) = grind (arith, common_steps, some-same)
 
   numbers : (link : LinkId) (other : ClientNo) → OnHand (Some (record { client = client.0; link = seat.link })) other.0 link ⊎ ((s : Seat) × (tables.seats other.0 ≡ Some s) × (s.link ≡ link))
       → (s : Seat) × (set tables.seats client.0 (Some seat) other.0 ≡ Some s) × (s.link ≡ link)
@@ -138,9 +138,9 @@ part-with service log client link tables sound out number gone none parted = rec
   here = sound.here;
   counts = sound.counts;
   seats = λ k seat is. (let was = sound.seats k seat is in record { stands = was.stands; serves = was.serves; unfinished = was.unfinished; numbered = set-other tables.numbers link.0 seat.link.0 None (apart k seat is) ∙ was.numbered });
-  numbers = λ other someone is. numbers other someone (row-of tables.numbers link.0 None other.0 someone is);
+  numbers = λ other someone is. grind (arith, common_steps, numbers, row-of);
   unlent = λ other someone is. unlent other someone (row-of tables.numbers link.0 None other.0 someone is);
-  unclosing = λ other is. set-other tables.numbers link.0 other.0 None (closing other is) ∙ sound.unclosing other is;
+  unclosing = λ other is. grind (arith, common_steps, set-other, closing);
   away = λ k is. away k (sound.away k is);
   lends = sound.lends;
   one_parts = subst AtMostOne (sym the) (One mine);
@@ -172,7 +172,7 @@ part-with service log client link tables sound out number gone none parted = rec
   away k h1 = grind (arith, common_steps)
 
   closing : (other : LinkId) → tables.lends.closing ≡ other ∷ [] → nat_eq other.0 link.0 ≡ false
-  closing other is = apart-links other link (λ at. none-some (tables.numbers other.0) (sound.unclosing other is) (ap (λ (l : LinkId). tables.numbers l.0) at ∙ number))
+  closing other is = grind (arith, common_steps, apart-links)
 
   stands : PartStands service log new.numbers tables.lends mine
   stands = record {
@@ -185,7 +185,7 @@ part-with service log client link tables sound out number gone none parted = rec
     came = parted.came;
     is_came = parted.is_came;
     link = parted.on;
-    counted = rw (← parted.on) (connected-came client.0 parted.came log sound.counts parted.is_came parted.client (subst (λ (l : LinkId). IsOpen l log) (sym parted.on) parted.opened));
+    counted = grind (arith, common_steps, connected-came, client);
     is_client = sym parted.client;
     at = parted.at;
   }
@@ -308,11 +308,11 @@ over-known {reply} {talk} more user is over = by (work_said reply talk) refl (me
   by : (w : Option Work) → work_said reply talk ≡ w → (fault : Option FrameFault) → (messages_of talk).fault ≡ fault → ends_by (work_said reply talk) (is_some (messages_of talk).fault) ≡ true → StaysOver reply talk now
   by (Some work) at fault here ends = (let further : work_said reply now ≡ Some work = ap (first_open talk.setup reply 1) grows.messages ∙ open-more talk.setup reply 1 (messages_of talk).messages grows.later work at in record {
     due = simp (front-more talk more user is, grows.messages) (ap (λ l. front talk ++ l) (open-due talk.setup reply 1 (messages_of talk).messages grows.later _ _ work at));
-    over = over-in reply now user (account-more talk more user is) ∙ ap (λ w. ends_by w (is_some (messages_of now).fault)) further ∙ sym (ap (λ w. ends_by w (is_some (messages_of talk).fault)) at) ∙ ends;
+    over = grind (arith, common_steps, over-in, reply, account-more);
   })
   by None at None here ends = absurd (let none : false ≡ true = sym (ap (λ w. ends_by w (is_some (messages_of talk).fault)) at ∙ ap (λ f. is_some f) here) ∙ ends in cc)
   by None at (Some fault) here ends = (let stays = grows.ended fault here in
-      let same : (messages_of now).messages ≡ (messages_of talk).messages = grows.messages ∙ ap (λ l. (messages_of talk).messages ++ l) stays.0 ∙ append-nil (messages_of talk).messages in
+      let same : (messages_of now).messages ≡ (messages_of talk).messages = grind (arith, common_steps, append-nil) in
       let faulty : (messages_of now).fault ≡ (messages_of talk).fault = stays.1 ∙ sym here in record {
         due = simp (front-more talk more user is, same, faulty);
         over = over-in reply now user (account-more talk more user is) ∙ simp (same, faulty) ends;
@@ -325,7 +325,7 @@ stays-over {reply} {talk} more over = by (opening_of talk) refl (account talk) r
 
   by : (o : Opening) → opening_of talk ≡ o → (a : Option Account) → account talk ≡ a → over_said reply talk ≡ true → StaysOver reply talk now
   by (WaitsToLogIn switched) at a who over = absurd (let none : false ≡ true = sym (ap (λ (o : Opening). ends_in o (account talk) (ends_by (work_said reply talk) (is_some (messages_of talk).fault))) at) ∙ over in cc)
-  by (FailsToSay switched fault id) at a who over = over-alone (FailsToSay switched fault id) (FailsToSay switched fault id) at (opening-fails-more talk.setup.limit talk.read more switched fault id at) refl refl refl true (λ other. refl)
+  by (FailsToSay switched fault id) at a who over = grind (arith, common_steps, over-alone, opening-fails-more)
   by (Says switched response id rest) at (Some user) who over = over-known more user who over
   by (Says switched response id rest) at None who over = (let says : opening_of now ≡ Says switched response id (rest ++ more) = opening-says-more talk.setup.limit talk.read more switched response id rest at in
       let unknown : account_by talk (Says switched response id rest) ≡ None = sym (ap (account_by talk) at) ∙ who in
@@ -337,7 +337,7 @@ pub ending-more : {talk : Talk} {reply : ℕ → Option Answer} {written : List 
 ending-more {talk} {reply} {written} {session} more ends seat = (let over : StaysOver reply talk (heard_more talk more) = stays-over more (subst (λ (p : Phase). PhaseAt p talk reply (written ++ session.client.outgoing) session.client) ends seat.at) in record {
   mine = seat.mine;
   due = seat.due ∙ sym over.due;
-  at = subst (λ (p : Phase). PhaseAt p (heard_more talk more) reply (written ++ session.client.outgoing) session.client) (sym ends) over.over;
+  at = grind (arith, common_steps, reply, over);
 })
 
 -- Bytes of a client come.
@@ -412,7 +412,7 @@ pub finished-parted : (service : Service) (log : Log) (n : ℕ) (seat : Seat) �
     → Parted service log n seat.link
 finished-parted service log n seat stands finished = (let both = and_parts (is_ending seat.session.phase) (nat_eq (length seat.session.client.outgoing) 0) finished in
     let ends : seat.session.phase ≡ phase.Ending = ending-is seat.session.phase both.0 in
-    let none : seat.session.client.outgoing ≡ [] = nil_from_length seat.session.client.outgoing (nat_eq-true (length seat.session.client.outgoing) 0 both.1) in
+    let none : seat.session.client.outgoing ≡ [] = grind (arith, common_steps, nat_eq-true) in
     record {
       came = stands.came;
       is_came = stands.is_came;

@@ -1,13 +1,13 @@
 -- What an entry of one client's link to a server, or an open for a client, leaves of the links and the commands of others.
 use Rattle.router_world.proofs.Names.{common_steps, ◌≡◌, ℕ, Bool, true, false, ◌&&◌, nat_eq, [], ◌∷◌, ◌++◌, Some, None, refl, sym, ◌∙◌, ap, subst, ServerId}
-use Rattle.router_world.proofs.Names.{Address, ClientNo, LinkId, Log, link_of, is_link, is_open, open_step, IsOpen, Fits, AllLawful, lawful-last, same_number}
-use Rattle.router_world.proofs.Names.{Entry, Opened, OpenFailed, Ask, Lent, Lends, was_lost, login_on, carries, Turn, Service, next_turn, turn_of, owner_of}
-use Rattle.router_world.proofs.Names.{is_turn, IsLawful, Cause, NotOpened, NotLoggedIn, some-same, refusal-cause, turn-stays, ◌≢◌, zero, suc, cond, List}
-use Rattle.router_world.proofs.Names.{append-nil, arith, list_any-append, Tag, For, got_bytes, of_link-same, step-same, Wrote, Account, BackendState, Handed}
-use Rattle.router_world.proofs.Names.{In, is_loss, heard_of, piece, pieces_of, is_command, carrier_of, user_on, is_refused, RefusedOrSent, replied}
-use Rattle.router_world.proofs.Names.{reply_said, LinkAt, Entering, Inside, Option, Answered, breaks_off, login_fails, user_of, MayDrop, asks-unrefused}
-use Rattle.router_world.proofs.Names.{refused-or-sent, user-stays, Got, set, Command, Forms, Standing, standing_on, standing_said, Answer, IsEntering}
-use Rattle.router_world.proofs.Names.{IsInside, is_begun, none-if, inr, is_here, IsOpening, bytes_in, spelt, message-stays, in-work, ◌<◌, ◌⊎◌}
+use Rattle.router_world.proofs.Names.{Address, ClientNo, LinkId, Log, link_of, is_link, open_step, IsOpen, Fits, AllLawful, lawful-last, same_number, Entry}
+use Rattle.router_world.proofs.Names.{Opened, OpenFailed, Ask, Lent, Lends, was_lost, login_on, carries, Turn, Service, next_turn, turn_of, owner_of, is_turn}
+use Rattle.router_world.proofs.Names.{IsLawful, Cause, NotOpened, NotLoggedIn, some-same, refusal-cause, turn-stays, ◌≢◌, zero, suc, cond, List, append-nil}
+use Rattle.router_world.proofs.Names.{arith, list_any-append, Tag, For, got_bytes, of_link-same, step-same, Wrote, Account, BackendState, Handed, In, is_loss}
+use Rattle.router_world.proofs.Names.{heard_of, piece, pieces_of, is_command, carrier_of, user_on, is_refused, RefusedOrSent, replied, reply_said, LinkAt}
+use Rattle.router_world.proofs.Names.{Entering, Inside, Option, Answered, breaks_off, login_fails, user_of, MayDrop, asks-unrefused, refused-or-sent}
+use Rattle.router_world.proofs.Names.{user-stays, Got, set, Command, Forms, Standing, standing_on, standing_said, Answer, IsEntering, IsInside, is_begun}
+use Rattle.router_world.proofs.Names.{none-if, inr, is_here, IsOpening, bytes_in, spelt, message-stays, in-work, ◌<◌, ◌⊎◌}
 use Rattle.router_world.proofs.Calm.{or-none, Leaves, leaves-other, sent-unrefused, unsent-still, unrefused-more}
 use Rattle.router_world.proofs.Apart.{apart-links, apart-numbers, RowNow, Was, OneRow, Mine, owner-mine, none-mine, none-one, Comes, Came, set-same}
 use Rattle.router_world.proofs.Apart.{put-other, Stays, no-some, set-other, Quiet, Closes, Answers, one-stood}
@@ -32,7 +32,7 @@ pub data Concerns (service : Service) (log : Log) (n : ℕ) : Entry → Type 0 w
 
 -- a command of another client isn't the one that is refused
 other-turn : (n k i : ℕ) (turn : Turn) → turn.client ≡ n → nat_eq k n ≡ false → is_turn k i turn ≡ false
-other-turn n k i turn same differs = ap (λ m. nat_eq k m && nat_eq i turn.ordinal) same ∙ ap (λ b. b && nat_eq i turn.ordinal) differs
+other-turn n k i turn same differs = grind (arith, common_steps)
 
 -- what the entry refuses is the command that its link was opened for
 module _ {service : Service} {log : Log} where
@@ -42,12 +42,12 @@ module _ {service : Service} {log : Log} where
   link-cause link turn names opened h8 = grind (arith, common_steps, some-same)
 
   pub open-cause : {other : Turn} (server : ServerId) (address : Address) (link : LinkId) → Cause service log other (Opened server address link) → ⊥
-  open-cause server address link (NotLoggedIn _ breaks) = lost-none (was_lost breaks.link log) (goes_on (login_on breaks.user breaks.link log)) breaks.fails
+  open-cause server address link (NotLoggedIn _ breaks) = grind (arith, common_steps, lost-none, goes_on)
 
   pub calm-other : {e : Entry} {n k : ℕ} → Concerns service log n e → nat_eq k n ≡ false → Calm service log e k
   calm-other {n} {k} (OnLink e link turn names opened mine writes) differs = record {
     writes = λ i. writes k i differs;
-    spares = λ i other is. other-turn n k i other (ap (λ (t : Turn). t.client) (sym (link-cause link turn names opened (refusal-cause service log e other is))) ∙ mine) differs;
+    spares = λ i other is. grind (arith, common_steps, other-turn, link-cause, names, refusal-cause);
   }
   calm-other (Opens server address link) differs = record { writes = λ i. refl; spares = λ i other is. absurd (open-cause server address link (refusal-cause service log (Opened server address link) other is)) }
   calm-other {n} {k} (OpensNone server address turn next mine) differs = record { writes = λ i. refl; spares = λ i other is. other-turn n k i other (ap (λ (t : Turn). t.client) (some-same other turn (sym is ∙ next)) ∙ mine) differs }
@@ -97,7 +97,7 @@ is-here link e names = ap (is_link link) names ∙ same_number link.0
 
 pub opened-on : (link : LinkId) (log : Log) (e : Entry) → link_of e ≡ Some link → ((was : Bool) → open_step was e ≡ was) → IsOpen link log
     → IsOpen link (log ++ e ∷ [])
-opened-on link log e names stays opened = step-same open_step false link log e (is-here link e names) ∙ stays (is_open link log) ∙ opened
+opened-on link log e names stays opened = grind (arith, common_steps, step-same, is-here, names, stays)
 
 pub lost-on : (link : LinkId) (log : Log) (e : Entry) → link_of e ≡ Some link → was_lost link log ≡ false → was_lost link (log ++ e ∷ []) ≡ is_loss e
 lost-on link log e names unlost = grind (arith, common_steps, of_link-same, is-here, list_any-append, or-none)
@@ -324,7 +324,7 @@ module _ {service : Service} {log : Log} {e : Entry} {lends : Lends} {link : Lin
     hostgroup = at.row.hostgroup;
     user = user-new ∙ ap Some (sym same);
     some = pieces-some link new at.fits;
-    at = subst (λ (u : Account). LinkAt service.forms u (heard_of link new) (pieces_of link new) now.backend) (sym same) stands;
+    at = grind (arith, common_steps);
     command = command;
     enters = enters;
     owned = owned;
@@ -336,8 +336,8 @@ module _ {service : Service} {log : Log} {e : Entry} {lends : Lends} {link : Lin
     by : (e : Entry) → link_of e ≡ Some link → Cause service log other e → login_fails user link log e ≡ true
     by _ names (NotOpened server address next) = absurd (let no' : None ≡ Some link = names in cc)
     by _ names (NotLoggedIn e breaks) = (let on : link ≡ breaks.link = some-same link breaks.link (sym names ∙ breaks.names) in
-        let turn : at.row.turn ≡ other = some-same at.row.turn other (sym at.row.is_turn ∙ ap (λ (l : LinkId). turn_of service l log) on ∙ breaks.opened_for) in
-        let user_is : user ≡ breaks.user = some-same user breaks.user (sym at.row.user ∙ ap (λ (t : Turn). user_of service t.client log) turn ∙ breaks.is_user) in
+        let turn : at.row.turn ≡ other = grind (arith, common_steps, some-same) in
+        let user_is : user ≡ breaks.user = grind (arith, common_steps, some-same) in
         ap (λ (u : Account). login_fails u link log e) user_is ∙ ap (λ (l : LinkId). login_fails breaks.user l log e) on ∙ breaks.fails)
 
   pub calm-own : login_fails user link log e ≡ false → ((i : ℕ) → carries n i e ≡ None) → Calm service log e n
@@ -412,7 +412,7 @@ module _ {service : Service} {log : Log} {e : Entry} {lends : Lends} {link : Lin
 
     owned : Owned service log lends link n lent → Owned service new other link n now
     owned (Own own owns) = Own (like.owner ∙ own) owns
-    owned (Left none gone begun) = Left (like.owner ∙ none) (gone-stays service n user log e (lawful-last Fits log e at.fits).1 at.row.user gone) (begins like.commands begun)
+    owned (Left none gone begun) = grind (arith, common_steps, gone-stays, lawful-last, begins)
 
     row : RowStands service new other link now
     row = row-later like.goes_on like.account like.at (command like.commands)

@@ -1,14 +1,13 @@
 -- A link to a server fails: its login does, or bytes come that no reply goes on with, or it is lost.
-use Rattle.router_world.proofs.Names.{common_steps, ◌≡◌, ◌<◌, ℕ, true, false, not, is_some, ◌||◌, cond, List, [], ◌∷◌, ◌++◌, Option, Some, None, refl}
-use Rattle.router_world.proofs.Names.{list_any, sym, ◌∙◌, ap, subst, arith, list_any-append, ClientNo, LinkId, For, Log, Entry, BackendState, IsOpening}
-use Rattle.router_world.proofs.Names.{Handed, payload_of, connection_refused, Ask, Lent, Lends, without_link, due_on, queued, login_fails, carries}
-use Rattle.router_world.proofs.Names.{carrier_of, Spoilt, standing_on, Turn, Service, is_turn, refused, Work, reply_to, IsSpoilt, some-same, or-inr}
-use Rattle.router_world.proofs.Names.{refused-or-sent, user-stays, replied, none-if, set}
+use Rattle.router_world.proofs.Names.{common_steps, ◌≡◌, ◌<◌, ℕ, true, false, ◌||◌, cond, List, [], ◌∷◌, ◌++◌, Some, None, refl, list_any, sym, ◌∙◌, ap}
+use Rattle.router_world.proofs.Names.{subst, arith, list_any-append, ClientNo, LinkId, For, Log, Entry, BackendState, IsOpening, Handed, payload_of}
+use Rattle.router_world.proofs.Names.{connection_refused, Ask, Lent, Lends, without_link, due_on, queued, login_fails, carries, carrier_of, Spoilt}
+use Rattle.router_world.proofs.Names.{standing_on, Turn, Service, is_turn, refused, Work, reply_to, IsSpoilt, some-same, or-inr, refused-or-sent, user-stays}
+use Rattle.router_world.proofs.Names.{replied, none-if, set}
 use Rattle.server_side.specs.Handing.{id_begun}
 use Rattle.client_session.specs.declared.refusal.Refusal.{Refusal}
 use Rattle.lend_core.specs.declared.lent.Due.TheVariants.{Login}
 use Rattle.lend_core.specs.Decisions.{failed}
-use Rattle.exchange.specs.Logins.{goes_on}
 use Rattle.promises.proofs.Causes.{login-refuses}
 use Rattle.router_world.proofs.Apart.{set-same, set-other, Quiet, Came, one-same, no-some}
 use Rattle.router_world.proofs.Calm.{carrier-same}
@@ -68,7 +67,7 @@ module _ {service : Service} {log : Log} {e : Entry} {lends : Lends} {link : Lin
         opened_for = at.row.is_turn;
         user = lent.backend.account;
         is_user = at.row.user;
-        unsent = ap (λ i. not (is_some (carrier_of n i log))) (sym same) ∙ ap (λ (o : Option LinkId). not (is_some o)) unsent;
+        unsent = grind (arith, common_steps);
         fails = fails;
       })) ∙ list_any-append (is_turn n ask.ordinal) (refused service log) (turn ∷ [])
       ∙ or-inr (list_any (is_turn n ask.ordinal) (refused service log)) (is_turn n ask.ordinal turn || false) (ap (λ b. b || false) here)) where
@@ -121,7 +120,7 @@ module _ {service : Service} {log : Log} {e : Entry} {lends : Lends} {link : Lin
     may = IsSpoilt why.spoilt
 
     calm : InsideAt service link log lent → Calm service log e n
-    calm inside = calm-own at (inside-stays lent.backend.account link log e (ap goes_on inside.is)) why.silent
+    calm inside = grind (arith, common_steps, calm-own, inside-stays)
 
     by : Held service log lends link lent at.row.turn → Came service new n lends (failed link lent refusal (without_link link lends))
     by (HoldsLogin enters own owns ask asks same) = (let stands = at.sound.asks n ask asks in simp (due-entering lent.backend _ _ enters.login.is, own, asks)

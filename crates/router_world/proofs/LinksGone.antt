@@ -3,7 +3,7 @@ use Rattle.router_world.proofs.Names.{common_steps, ◌∙◌, sym, ap, arith, l
 use Rattle.router_world.proofs.Names.{Results, Fields, kind_to, id_after, parsed, form_of, form_at, ◌≡◌, ◌≤◌, ℕ, zero, suc, ◌+◌, ◌-◌, ◌*◌, ◌/◌, Bool, true}
 use Rattle.router_world.proofs.Names.{false, nat_eq, cond, List, [], ◌∷◌, length, take, drop, slice_index_or, refl, ◌≢◌, ◌⊎◌, not, ◌++◌, Option, Some, None}
 use Rattle.router_world.proofs.Names.{subst, ClientNo, LinkId, Log, same_number, Account, is_begun, Handed, Lent, Lends, set, with_link, without_link, gone}
-use Rattle.router_world.proofs.Names.{was_lost, heard_of, pieces_of, Forms, Enters, Clean, Runs, Spoilt, standing_on, Service, is_here, MayDrop, some-same}
+use Rattle.router_world.proofs.Names.{was_lost, heard_of, pieces_of, Forms, Enters, Clean, Runs, standing_on, Service, is_here, MayDrop, some-same}
 use Rattle.router_world.proofs.Names.{standing_said, begun, LinkAt, Entering, Inside, is_some, For, command_of, Ask, takes_at, takes_command, commanded}
 use Rattle.router_world.proofs.Names.{queued, offered_at, asked, asked_by}
 use Rattle.std.proofs.lemmas.Bool.{not-false}
@@ -15,7 +15,7 @@ use Rattle.std.specs.Prelude.{filter}
 use Rattle.lend_core.specs.Events.{left_at, left_on, left_by, asked_on}
 use Rattle.router_world.proofs.RowsStanding.{inside-at, standing-entering, standing-clean, packets-handed}
 use Rattle.router_world.proofs.Frames.{owner-turn}
-use Rattle.router_world.proofs.Sound.{RowStands, AtMostOne, Nobody, One, LendsSound, AskStands, HandedStands, Own, Waiting, Owns, Free, Waits, On}
+use Rattle.router_world.proofs.Sound.{RowStands, AtMostOne, Nobody, One, LendsSound, AskStands, HandedStands, Waiting, Free, Waits, On, Own, Owns}
 use Rattle.server_side.specs.declared.stage.Stage.TheVariants as stage
 
 -- each packet has four bytes beside its body
@@ -76,7 +76,7 @@ waited n client h3 is = grind (arith, common_steps, none-one, one-same)
 -- How a link stands on which no command is begun.
 pub standing-unlost : (forms : Forms) (user : Account) (link : LinkId) (log : Log) → was_lost link log ≡ false
     → standing_on forms user link log ≡ standing_said forms user (heard_of link log) (pieces_of link log)
-standing-unlost forms user link log unlost = ap (λ b. cond b Spoilt (standing_said forms user (heard_of link log) (pieces_of link log))) unlost
+standing-unlost forms user link log unlost = grind (arith, common_steps)
 
 pub not-begun : (sent : ℕ) → not (nat_eq sent 0) ≡ false → sent ≡ 0
 not-begun sent none = nat_eq-true sent 0 (not-false (nat_eq sent 0) none)

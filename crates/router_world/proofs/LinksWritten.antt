@@ -1,9 +1,9 @@
 -- Bytes are written on a link to a server.
 use Rattle.router_world.proofs.Names.{common_steps, ◌≡◌, ◌⊎◌, ◌≤◌, ◌<◌, ℕ, zero, suc, ◌+◌, Bool, true, false, nat_lt, ◌&&◌, cond, nat_eq, List, [], ◌∷◌, ◌++◌}
-use Rattle.router_world.proofs.Names.{length, take, drop, Option, Some, None, refl, list_any, option_map, sym, ◌∙◌, ap, append-nil, arith, length-take-le}
-use Rattle.router_world.proofs.Names.{LinkId, Tag, Own, Log, Entry, Wrote, nat_eq-true, Sent, BackendState, command_left, left_by, left, command_taken}
-use Rattle.router_world.proofs.Names.{taken_by, Handed, Ask, Lent, Lends, taken_on, heard_of, pieces_of, is_command, carries, carrier_of, first_some, Service}
-use Rattle.router_world.proofs.Names.{some-same, and-true, carrier-more, IsFront, replied, is_of, LinkAt}
+use Rattle.router_world.proofs.Names.{length, take, drop, Option, Some, None, refl, list_any, sym, ◌∙◌, ap, append-nil, arith, length-take-le, LinkId, Tag}
+use Rattle.router_world.proofs.Names.{Own, Log, Entry, Wrote, nat_eq-true, Sent, BackendState, command_left, left_by, left, command_taken, taken_by, Handed}
+use Rattle.router_world.proofs.Names.{Ask, Lent, Lends, taken_on, heard_of, pieces_of, is_command, carries, carrier_of, first_some, Service, some-same}
+use Rattle.router_world.proofs.Names.{and-true, carrier-more, IsFront, replied, is_of, LinkAt}
 use Rattle.std.proofs.lemmas.Bool.{false_from_ne_true}
 use Rattle.server_side.specs.Backend.{taken}
 use Rattle.lend_core.specs.Changes.{took}
@@ -35,7 +35,7 @@ left-in {backend} {l} is = by backend.own refl is where
 
   by : (own : List ℕ) → backend.own ≡ own → left_by own backend.command ≡ Some l → LeftIn backend l
   by [] same is = commanded same backend.command refl is
-  by (byte ∷ bytes) same is = OfLogin (ap (λ (x : Sent). x.tag) (sym (some-same (record { tag = Own; bytes = byte ∷ bytes }) l is))) (λ n. ap (λ own. (taken_by n own backend).command) same)
+  by (byte ∷ bytes) same is = grind (arith, common_steps, some-same, is, same)
 
 taken-account : (n : ℕ) (backend : BackendState) → (taken n backend).account ≡ backend.account
 taken-account n backend = grind (arith, common_steps)
@@ -142,8 +142,8 @@ module _ {service : Service} {log : Log} {tag : Tag} {bytes : List ℕ} {lends :
 
   pub wrote-came : Came service new n lends (record { lends = taken_on link (length bytes) lends; answer = None })
   wrote-came = alike-came at (record {
-    others = λ k differs. set-other lends.links link.0 k (option_map (took (length bytes)) (lends.links link.0)) differs;
-    here = set-same lends.links link.0 (option_map (took (length bytes)) (lends.links link.0)) ∙ ap (option_map (took (length bytes))) at.there;
+    others = λ k differs. grind (arith, common_steps, set-other);
+    here = grind (arith, common_steps, set-same);
   }) (by (left-in wrote.is)) where
     by : LeftIn lent.backend wrote.l → IsLike service log e lends link lent now n
     by (OfLogin own stays) = login-like own (stays (length bytes))

@@ -1,12 +1,11 @@
 -- A link to a server is opened for the client that waits, or can't be.
 use Rattle.router_world.proofs.Names.{common_steps, ◌≡◌, ◌⊎◌, ℕ, Bool, false, ◌||◌, ◌&&◌, cond, nat_eq, List, [], ◌∷◌, ◌++◌, length, slice_get, Option, Some}
-use Rattle.router_world.proofs.Names.{None, refl, flat_map, filter_map, list_any, cons_option, sym, ◌∙◌, ap, subst, arith, inl, inr, list_any-append}
-use Rattle.router_world.proofs.Names.{ServerId, Address, LinkId, Log, is_link, of_link, got_bytes, open_step, Fits, AllLawful, lawful-last, same_number}
-use Rattle.router_world.proofs.Names.{of_link-same, step-same, Entry, Opened, OpenFailed, new_backend, In, connection_refused, ServerAt, Ask, Lent, Lends}
-use Rattle.router_world.proofs.Names.{oldest, with_link, without_ask, opened, open_failed, is_loss, until_loss, piece, Turn, Service, open_tries, next_turn}
-use Rattle.router_world.proofs.Names.{turn_by, is_turn, refused, reply_to, MayOpen, IsLawful, some-same, refused-more, refusal-cause, or-inr, tries-more}
-use Rattle.router_world.proofs.Names.{turn-stays, user-stays, turn_at, turns, tables_after, replied, ◌<◌, lawful-more, IsOpen, step-other, Phase, none-if}
-use Rattle.router_world.proofs.Names.{Seat, Tables, with_lends, told, true, is_open}
+use Rattle.router_world.proofs.Names.{None, refl, list_any, cons_option, sym, ◌∙◌, ap, subst, arith, inl, inr, list_any-append, ServerId, Address, LinkId}
+use Rattle.router_world.proofs.Names.{Log, is_link, of_link, open_step, Fits, AllLawful, lawful-last, same_number, of_link-same, step-same, Entry, Opened}
+use Rattle.router_world.proofs.Names.{OpenFailed, new_backend, In, connection_refused, ServerAt, Ask, Lent, Lends, oldest, with_link, without_ask, opened}
+use Rattle.router_world.proofs.Names.{open_failed, is_loss, Turn, Service, open_tries, next_turn, turn_by, is_turn, refused, reply_to, MayOpen, IsLawful}
+use Rattle.router_world.proofs.Names.{some-same, refused-more, refusal-cause, or-inr, tries-more, turn-stays, user-stays, turn_at, turns, tables_after}
+use Rattle.router_world.proofs.Names.{replied, ◌<◌, lawful-more, IsOpen, step-other, Phase, none-if, Seat, Tables, with_lends, told, true, is_open}
 use Rattle.router_world.proofs.Hands.{numbered-seat, away-gone}
 use Rattle.router_world.proofs.Apart.{link-or-other, apart-links, apart-numbers, rows-one, row-now, set-same, set-other, Apart, RowNow, Was, mended, Came}
 use Rattle.router_world.proofs.Apart.{none-one, one-same, no-some}
@@ -118,7 +117,7 @@ open-failed-step service log server address tables sound on = server-step servic
   calm = λ k apart. calm-other concerns apart;
   seats = λ k seat is. leaves-other seat.link log e refl;
   rows = λ link lent turn is of apart. leaves-other link log e refl;
-  later = λ seat is unsent i after. (carrier-same n i log e refl ∙ (unsent i after).0, unrefused-more service n i log e (unsent i after).1 (spares seat is i after));
+  later = λ seat is unsent i after. grind (arith, common_steps, carrier-same, unrefused-more, spares);
   opens = λ link opened. sym (open-kept link log e (λ was. refl)) ∙ opened;
 }) where
   e : Entry
@@ -216,7 +215,7 @@ opened-step service log server address link tables sound on = subst (λ (l : Len
   link-was {l} {x} is = set-other lends.links link.0 l.0 (Some now) (shut l (sound.lends.rows l x is).opened)
 
   entries : of_link link new ≡ e ∷ []
-  entries = of_link-same link log e (same_number link.0) ∙ ap (λ (l : Log). l ++ e ∷ []) on.happens.fits
+  entries = grind (arith, common_steps, of_link-same)
 
   first-row : RowStands service new other link now
   first-row = record {
@@ -228,7 +227,7 @@ opened-step service log server address link tables sound on = subst (λ (l : Len
     hostgroup = refl;
     user = user-stays service n log (e ∷ []) ask.account (lends-asks.account);
     some = pieces-some link new (fits sound on may);
-    at = rw (ap (λ (l : Log). flat_map got_bytes (until_loss l)) entries, ap (λ (l : Log). filter_map piece (until_loss l)) entries) first-at;
+    at = grind (arith, common_steps, entries, first-at);
     command = λ c has. absurd (let no' : None ≡ Some c = has in cc);
     enters = λ outside. record { ask = ask; is = on.for.waiting.asks; same = refl };
     owned = Own refl owned;
@@ -283,7 +282,7 @@ opened-step service log server address link tables sound on = subst (λ (l : Len
       unfinished = was.unfinished;
       numbered = was.numbered;
     });
-    away = λ is. absurd (no-some (away-gone lends n (sound.away n is)).unasked on.for.waiting.asks);
+    away = λ is. grind (arith, common_steps, away-gone);
     numbers = λ l seat is at. inr is;
     known = λ l there. link-or-other l link (λ k. IsOpen k new → IsOpen k log ⊎ Known tables.numbers other tables.parting k) (λ opened. inr (Servers now here))
         (λ at opened. inl (sym (step-other open_step false l log e at) ∙ opened)) there;

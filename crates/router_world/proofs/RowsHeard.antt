@@ -1,12 +1,12 @@
 -- A link to a server as a piece is heard there.
-use Rattle.router_world.proofs.Names.{◌≡◌, ◌≢◌, ◌⊎◌, ◌≤◌, ◌<◌, ℕ, zero, suc, ◌+◌, ◌-◌, Bool, true, false, not, nat_eq, ◌&&◌, cond, List, [], ◌∷◌, ◌++◌}
-use Rattle.router_world.proofs.Names.{length, take, Option, Some, None, refl, list_all, sym, ◌∙◌, ap, subst, append-nil, arith, length-append, inl, inr}
-use Rattle.router_world.proofs.Names.{and_parts, and_from, and_right, nil_from_length, list_all-append, AreBytes, nat_eq-true, nat_eq-false, State, Ending}
-use Rattle.router_world.proofs.Names.{Going, Ended, Failed, run, renumbered, Account, Goes, LogsIn, Fails, said_of, opening-got, BackendState, Hears}
-use Rattle.router_world.proofs.Names.{GotFault, got_of, TellsOf, Handed, BackendFault, LoggedIn, Part, bad_server_bytes, is_empty, has_failed, Command}
-use Rattle.router_world.proofs.Names.{is_whole, is_command, commands_in, Forms, Answer, spelt, Replies, Never, command_reply, cut, replies_by, Clean, Spoilt}
-use Rattle.router_world.proofs.Names.{stands, standing_in, reply_at, behind_replies, some-same, bytes_in, commands_said, replies_said, standing_said}
-use Rattle.router_world.proofs.Names.{reply_said, begun_by, begun, IsHanded, IsEntering, HearsPart, IsInside, IsPrefix, common_steps}
+use Rattle.router_world.proofs.Names.{◌≡◌, ◌⊎◌, ◌≤◌, ◌<◌, ℕ, zero, suc, ◌+◌, ◌-◌, Bool, true, false, not, nat_eq, ◌&&◌, cond, List, [], ◌∷◌, ◌++◌, length}
+use Rattle.router_world.proofs.Names.{take, Option, Some, None, refl, list_all, sym, ◌∙◌, ap, subst, append-nil, arith, length-append, inl, inr, and_parts}
+use Rattle.router_world.proofs.Names.{and_right, nil_from_length, list_all-append, AreBytes, nat_eq-true, nat_eq-false, State, Ending, Going, Ended, Failed}
+use Rattle.router_world.proofs.Names.{run, renumbered, Account, Goes, LogsIn, Fails, said_of, opening-got, BackendState, Hears, GotFault, got_of, TellsOf}
+use Rattle.router_world.proofs.Names.{Handed, BackendFault, LoggedIn, Part, bad_server_bytes, is_empty, has_failed, Command, is_whole, is_command}
+use Rattle.router_world.proofs.Names.{commands_in, Forms, Answer, spelt, Replies, Never, command_reply, cut, replies_by, Clean, Spoilt, stands, reply_at}
+use Rattle.router_world.proofs.Names.{behind_replies, some-same, bytes_in, standing_said, reply_said, begun_by, begun, IsHanded, IsEntering, HearsPart}
+use Rattle.router_world.proofs.Names.{IsInside, IsPrefix, common_steps}
 use Rattle.std.proofs.lemmas.Bool.{and_left, and_cases}
 use Rattle.std.proofs.lemmas.List.{length_push}
 use Rattle.server_side.specs.Login.{Opening, opening}
@@ -61,7 +61,7 @@ failed-by : (forms : Forms) (user : Account) (read : List ℕ) (pieces : List Co
     → (has_failed (opening user read) ≡ true) × (standing_said forms user read pieces ≡ Spoilt)
 failed-by forms user read pieces fault (Goes said) is failed some fits = absurd failed
 failed-by forms user read pieces fault (LogsIn said rest) is failed some fits = (ap has_failed is ∙ ap not (empty-not rest failed.0), spoilt-by (first-inside said is some fits) failed.0)
-failed-by forms user read pieces fault (Fails said why) is failed some fits = (ap has_failed is, ap (λ (o : Opening). standing_in o (commands_said user read pieces) (replies_said forms user read pieces)) is)
+failed-by forms user read pieces fault (Fails said why) is failed some fits = grind (arith, common_steps, is)
 
 quiet-at : {user : Account} {heard : List ℕ} {pieces : List Command} {backend left : BackendState} (piece : List ℕ)
     → IsEntering user heard pieces backend → TellsOf (Hears Quiet left) backend (bytes_in pieces) (heard ++ piece)
@@ -138,7 +138,7 @@ unasked-at : {forms : Forms} {user : Account} {heard : List ℕ} {pieces : List 
 unasked-at {forms} {user} {heard} {pieces} piece at some none = record {
   place = 0;
   bad_bytes = refl;
-  told = λ command n i lost is sent here. absurd (let no : record { tag = command.tag; bytes = take command.sent command.bytes } ∷ [] ≡ [] = sym (begun-some command sent) ∙ sym (ap begun is) ∙ none in cc);
+  told = λ command n i lost is sent here. grind (arith, common_steps, begun-some, is);
   spoilt = spoilt-by
       (subst (λ last. Stands forms user (heard ++ piece) pieces last (at.part ++ piece)) none (stands-more piece (stands-at at)))
       (let sum : length (at.part ++ piece) ≡ length at.part + length piece = length-append at.part piece in omega arith);
@@ -219,13 +219,13 @@ module _ {forms : Forms} {user : Account} {heard : List ℕ} {pieces : List Comm
       past = now.past ++ bytes;
       is = now.is ∙ ap (LogsIn now.said) (sym (append-nil (now.past ++ bytes)));
       others = now.others ++ c ∷ [];
-      wholes = list_all-append is_whole now.others (c ∷ []) ∙ and_from (list_all is_whole now.others) (is_whole c && true) now.wholes (and_from (is_whole c) true wholly refl);
+      wholes = grind (arith, common_steps, list_all-append);
       commands = now.commands ∙ sym (append-nil (now.others ++ c ∷ []));
       new = λ n i any. none-new any;
       whole = now.whole ++ reply ∷ [];
       replies = replies-both forms now.others (c ∷ []) now.past bytes now.whole now.replies now.all ∙ ap (behind_replies now.whole) one
           ∙ ap (λ r. record { whole = now.whole ++ reply ∷ []; rest = r; bad = None }) empty;
-      all = length_push now.whole reply ∙ ap (λ n. n + 1) now.all ∙ sym (length_push now.others c);
+      all = grind (arith, common_steps, reply);
     }
 
     inside : (nat_eq command.sent (length command.bytes) && nat_eq used (length piece)) ≡ true
@@ -239,7 +239,7 @@ module _ {forms : Forms} {user : Account} {heard : List ℕ} {pieces : List Comm
         ∙ stands-answered (now.others ++ c ∷ []) (now.whole ++ reply ∷ []) rest (let a = length_push now.others c in let b = length_push now.whole reply in let same = now.all in omega arith)
         ∙ ap (λ b. cond b Clean Spoilt) (unclean (and_cases (nat_eq command.sent (length command.bytes)) (nat_eq used (length piece)) either)) where
       unclean : (nat_eq command.sent (length command.bytes) ≡ false) ⊎ (nat_eq used (length piece) ≡ false) → (is_empty rest && list_all is_whole (now.others ++ c ∷ [])) ≡ false
-      unclean (inr more) = and_left (is_empty rest) (list_all is_whole (now.others ++ c ∷ [])) (empty-not rest (let other : used ≢ length piece = nat_eq-false used (length piece) more in omega arith))
+      unclean (inr more) = grind (arith, common_steps, empty-not, nat_eq-false)
       unclean (inl unsent) = and_right (is_empty rest) (list_all is_whole (now.others ++ c ∷ [])) (list_all-append is_whole now.others (c ∷ [])
           ∙ and_right (list_all is_whole now.others) (is_whole c && true) (and_left (is_whole c) true (written-part at (nat_eq-false command.sent (length command.bytes) unsent))))
 

@@ -3,7 +3,7 @@ use Rattle.router_world.proofs.Names.{common_steps, ◌≡◌, ◌≤◌, ◌<�
 use Rattle.router_world.proofs.Names.{length, drop, fold, Option, Some, None, refl, list_all, list_any, filter_map, cons_option, sym, ◌∙◌, ap, append-nil}
 use Rattle.router_world.proofs.Names.{arith, length-append, and_parts, and_from, or_parts, list_all-append, filter_map-append, flat_map-append, LinkId, Tag}
 use Rattle.router_world.proofs.Names.{Log, Fits, AllLawful, lawful-each, Entry, Framed, Found, longest, first_message-whole-more, is_empty, Command, piece}
-use Rattle.router_world.proofs.Names.{pieces_of, most_command, whole_by, with_piece, commands_in, behind, place_in, piece_bytes, bytes_in, is_of}
+use Rattle.router_world.proofs.Names.{pieces_of, most_command, whole_by, with_piece, commands_in, behind, place_in, bytes_in, is_of}
 use Rattle.std.specs.Prelude.{nat_le}
 use Rattle.std.proofs.lemmas.Bool.{leb-false, or_from}
 use Rattle.packet_frame.specs.Packets.{Nothing, Whole, Faulty, first_message, spelling}
@@ -48,7 +48,7 @@ pieces-some link log told = sound-some link log (told-some log told)
 
 -- One piece more has its bytes behind the others'.
 pub bytes-more : (pieces : List Command) (piece : Command) → bytes_in (pieces ++ piece ∷ []) ≡ bytes_in pieces ++ piece.bytes
-bytes-more pieces piece = flat_map-append piece_bytes pieces (piece ∷ []) ∙ ap (λ xs. bytes_in pieces ++ xs) (append-nil piece.bytes)
+bytes-more pieces piece = grind (arith, common_steps, flat_map-append, append-nil)
 
 -- More bytes than the pieces have are theirs and some of the next.
 pub behind-past : (n : ℕ) (pieces more : List Command) → length (bytes_in pieces) < n → behind n (pieces ++ more) ≡ behind (n - length (bytes_in pieces)) more

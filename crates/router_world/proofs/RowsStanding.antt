@@ -6,13 +6,13 @@ use Rattle.router_world.proofs.Names.{Tag, Own, AreBytes, first_message-empty, r
 use Rattle.router_world.proofs.Names.{new_backend, left, Handed, IsPrefix, Forms, Command, most_command, with_piece, is_command, behind, commands_in}
 use Rattle.router_world.proofs.Names.{some-same, form_at, bytes_in, is_of, begun_by, begun, IsMessage, IsHanded, IsEntering, IsHearing, HearsPart, IsInside}
 use Rattle.router_world.proofs.Names.{LinkAt, Entering, Inside, nat_eq, State, Ending, Going, Ended, Failed, ReplyKind, kind_to, id_after, SameEnd, same-end}
-use Rattle.router_world.proofs.Names.{Answer, spelt, Never, Form, heard_by, command_reply, ◌&&◌, slice_get, list_all, option_and_then, drop_all, LogsIn}
-use Rattle.router_world.proofs.Names.{is_empty, is_whole, place_in, commands_behind, Replies, replies_by, Clean, Sends, Runs, Spoilt, stands, standing_in}
-use Rattle.router_world.proofs.Names.{reply_at, behind_replies, commands_said, replies_said, standing_said, reply_said, take_all, nat_eq-true, nat_eq-false}
-use Rattle.router_world.proofs.Names.{spelling-some, In, whole_by, cut, Standing, Enters}
+use Rattle.router_world.proofs.Names.{Answer, spelt, Never, Form, heard_by, command_reply, ◌&&◌, slice_get, list_all, option_and_then, LogsIn, is_empty}
+use Rattle.router_world.proofs.Names.{is_whole, place_in, commands_behind, Replies, replies_by, Clean, Sends, Runs, Spoilt, stands, standing_in, reply_at}
+use Rattle.router_world.proofs.Names.{behind_replies, commands_said, replies_said, standing_said, reply_said, nat_eq-true, nat_eq-false, spelling-some, In}
+use Rattle.router_world.proofs.Names.{cut, Standing, Enters}
 use Rattle.promises.proofs.Clean.{with-piece-behind, behind-append, command-reply-grammar, replies-behind}
 use Rattle.std.proofs.Common.{take-add, lit<}
-use Rattle.packet_frame.specs.Packets.{spelling, spellings, first_message}
+use Rattle.packet_frame.specs.Packets.{spelling, spellings}
 use Rattle.server_side.specs.Login.{opening, Opening}
 use Rattle.server_side.specs.Laws.{opening-new, opening-logged_in}
 use Rattle.server_side.specs.Backend.{taken}
@@ -24,7 +24,7 @@ use Rattle.reply_track.specs.Grammar.{renamed}
 use Rattle.reply_track.specs.Replying.{replied, payloads_in}
 use Rattle.reply_track.proofs.Finishing.{AreBytes-append}
 use Rattle.reply_track.proofs.Replying.{run-more, renumbered-more, length-renumbered, ended-shorter, failed-shorter, IsHandedOn, handed-on}
-use Rattle.exchange.specs.Replies.{Wholly, heard_as, rest_of, stands_by, error_by, or_else, Heard, Partly}
+use Rattle.exchange.specs.Replies.{Wholly, heard_as, rest_of, error_by, or_else, Heard, Partly}
 use Rattle.std.proofs.lemmas.Bool.{or_left}
 use Rattle.std.proofs.lemmas.Option.{slice_get_past, slice_get_read}
 use Rattle.std.proofs.lemmas.List.{get_or_push}
@@ -201,7 +201,7 @@ pub record IsPiece (piece : List ℕ) : Type 0 where
 -- all that was read of the reply ends as the piece does, also by the ids that the definition has
 ends-as : {command : Handed} {part kept : List ℕ} (piece : List ℕ) → IsHearing command part kept
     → run (started (to_command command.bytes command.first)) (part ++ piece) ≡ run command.tracker.state piece
-ends-as {command} {part} piece hears = run-more (started (to_command command.bytes command.first)) command.tracker.state part piece hears.goes
+ends-as {command} {part} piece hears = grind (arith, common_steps, run-more)
 
 same-ended : (one two : Ending) (end : ReplyEnd) (rest : List ℕ) → SameEnd one two → one ≡ Ended end rest → two ≡ Ended end rest
 same-ended one two end rest same is = grind (arith, common_steps)
@@ -210,7 +210,7 @@ same-failed : (one two : Ending) (behind : List ℕ) → SameEnd one two → one
 same-failed one two behind same is = grind (arith, common_steps)
 
 length-kept : {command : Handed} {part kept : List ℕ} → IsHearing command part kept → length kept ≡ length part
-length-kept {command} {part} hears = ap length hears.made ∙ length-renumbered part (started (to_command command.bytes command.first))
+length-kept {command} {part} hears = grind (arith, common_steps, length-renumbered)
 
 -- the reply goes on
 pub hearing-more : {command : Handed} {part kept : List ℕ} (piece : List ℕ) (state : State) → IsHearing command part kept → AreBytes piece
@@ -218,7 +218,7 @@ pub hearing-more : {command : Handed} {part kept : List ℕ} (piece : List ℕ) 
     → IsHearing (record command { tracker = record { state = state } }) (part ++ piece) (kept ++ renumbered command.tracker.state piece)
 hearing-more {command} {part} piece state hears are is = record {
   goes = ends-as piece hears ∙ is;
-  made = ap (λ l. l ++ renumbered command.tracker.state piece) hears.made ∙ sym (renumbered-more (started (to_command command.bytes command.first)) command.tracker.state part piece hears.goes);
+  made = grind (arith, common_steps, renumbered-more);
   are = AreBytes-append part piece hears.are are;
 }
 
@@ -311,7 +311,7 @@ inside-from at is account stage written command unasked partly = grind (arith, c
 -- bytes that come are behind the others
 pub opening-more : (user : Account) (heard piece said past kept : List ℕ) → opening user heard ≡ LogsIn said (past ++ kept)
     → opening user (heard ++ piece) ≡ LogsIn said (past ++ (kept ++ piece))
-opening-more user heard piece said past kept is = opening-logged_in user heard piece said (past ++ kept) is ∙ ap (LogsIn said) (append_assoc past kept piece)
+opening-more user heard piece said past kept is = grind (arith, common_steps, opening-logged_in, said, is)
 
 pub stands-more : {forms : Forms} {user : Account} {heard : List ℕ} {pieces last : List Command} {kept : List ℕ} (piece : List ℕ)
     → Stands forms user heard pieces last kept → Stands forms user (heard ++ piece) pieces last (kept ++ piece)
@@ -364,7 +364,7 @@ reply-there whole reply rest place lost same = ap (λ o. or_else o (error_by Non
 -- how the link stands where all commands are answered
 pub stands-answered : (commands : List Command) (whole : List Answer) (rest : List ℕ) → length commands ≤ length whole
     → stands commands (record { whole = whole; rest = rest; bad = None }) ≡ cond (is_empty rest && list_all is_whole commands) Clean Spoilt
-stands-answered commands whole rest all = ap (stands_by None (is_empty rest && list_all is_whole commands)) (drop_all (length whole) commands all)
+stands-answered commands whole rest all = grind (arith, common_steps, commands, all)
 
 -- and where the last is open
 pub stands-open : (others : List Command) (c : Command) (whole : List Answer) (kept : List ℕ) → length whole ≡ length others
@@ -425,13 +425,13 @@ module _ {forms : Forms} {user : Account} {heard : List ℕ} {pieces : List Comm
   message = subst (IsHanded forms) at.is at.inside.command
 
   pub hearing : IsHearing command at.inside.part backend.reply
-  hearing = subst (λ (o : Option Handed). HearsPart o at.inside.part backend.reply) at.is at.inside.partly
+  hearing = grind (arith, common_steps)
 
   pub begun-is : begun backend.command ≡ written command ∷ []
   begun-is = ap begun at.is ∙ begun-some command at.some
 
   pub begun-at : Stands forms user heard pieces (written command ∷ []) at.inside.part
-  begun-at = subst (λ last. Stands forms user heard pieces last at.inside.part) begun-is (stands-at at.inside)
+  begun-at = grind (arith, common_steps, begun-is)
 
   partly-by : replies_by (command_reply forms) (written command ∷ []) at.inside.part ≡ record { whole = []; rest = at.inside.part; bad = None }
   partly-by = ap (λ (h : Heard). cut h at.inside.part (replies_by (command_reply forms) [])) (hears-partly forms (written command) message.form refl hearing)
@@ -447,7 +447,7 @@ module _ {forms : Forms} {user : Account} {heard : List ℕ} {pieces : List Comm
 
   -- it is whole, or a part of one, as far as it was written
   pub written-whole : command.sent ≡ length command.bytes → is_whole (written command) ≡ true
-  written-whole all = ap (λ bytes. whole_by (first_message most_command 0 bytes)) (take_all command.sent command.bytes (omega arith) ∙ message.spelt) ∙ whole-spelt message.payload message.short
+  written-whole all = grind (arith, common_steps, whole-spelt)
 
   pub written-part : command.sent ≢ length command.bytes → is_whole (written command) ≡ false
   written-part less = part-spelt message.payload (take command.sent command.bytes) (drop command.sent command.bytes) (take-append-drop command.sent command.bytes ∙ message.spelt)

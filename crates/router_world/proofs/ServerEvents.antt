@@ -1,10 +1,10 @@
 -- What comes of bytes on a link to a server, and of its loss.
 use Rattle.router_world.proofs.Names.{common_steps, ◌≡◌, ℕ, true, false, cond, List, [], ◌∷◌, ◌++◌, Option, Some, None, refl, sym, ◌∙◌, ap, subst, AreBytes}
 use Rattle.router_world.proofs.Names.{LinkId, Log, Fits, Entry, Got, Wrote, Account, Lent, Lends, heard, lost, is_loss, was_lost, heard_of, login_on}
-use Rattle.router_world.proofs.Names.{breaks_off, piece, pieces_of, carries, Spoilt, Turn, Service, some-same, refused-or-sent, carrier-stays, standing_said}
-use Rattle.router_world.proofs.Names.{reply_said, ◌≤◌, ◌<◌, nat_eq, arith, Tag, nat_eq-true, login_fails, is_command, is_turn, and-true, refusal-cause}
-use Rattle.router_world.proofs.Names.{is_some, ◌&&◌, length, ClientNo, is_link, lawful-more, has_server, Phase, Told, taken_on, is_waiting, left_in, Seat}
-use Rattle.router_world.proofs.Names.{Tables, with_lends, told, IsFront, closes, opens, asks, Handed}
+use Rattle.router_world.proofs.Names.{breaks_off, piece, pieces_of, carries, Turn, Service, some-same, refused-or-sent, carrier-stays, reply_said, ◌≤◌, ◌<◌}
+use Rattle.router_world.proofs.Names.{nat_eq, arith, Tag, nat_eq-true, login_fails, is_command, is_turn, and-true, refusal-cause, is_some, ◌&&◌, length}
+use Rattle.router_world.proofs.Names.{ClientNo, is_link, lawful-more, has_server, Phase, Told, taken_on, is_waiting, left_in, Seat, Tables, with_lends, told}
+use Rattle.router_world.proofs.Names.{IsFront, closes, opens, asks, Handed}
 use Rattle.router_world.proofs.Stepping.{OnLink as IsOnLink, done}
 use Rattle.router_world.proofs.Hands.{away-gone}
 use Rattle.std.proofs.lemmas.Bool.{or_parts, false_from_ne_true}
@@ -37,7 +37,7 @@ loss-breaks e user link log is = grind (arith, common_steps)
 lost-came : {service : Service} {log : Log} {e : Entry} {lends : Lends} {link : LinkId} {lent : Lent} (at : AtRow service log e lends link lent) → is_loss e ≡ true
     → Came service (log ++ e ∷ []) at.row.turn.client lends (lost link lends)
 lost-came {service} {log} {e} {lends} {link} {lent} at loss = rw at.there (failed-came at (record {
-  spoilt = ap (λ b. cond b Spoilt (standing_said service.forms user (heard_of link new) (pieces_of link new))) was;
+  spoilt = grind (arith, common_steps, was);
   silent = λ i. loss-silent e n i loss;
   fails = λ enters. ap (λ b. cond b false (cond (goes_on (login_on user link log)) (breaks_off user link log e) false)) at.row.unlost
       ∙ ap (λ b. cond b (breaks_off user link log e) false) (ap goes_on enters.goes) ∙ loss-breaks e user link log loss;
@@ -76,7 +76,7 @@ module _ {service : Service} {log : Log} {e : Entry} {lends : Lends} {link : Lin
 
   row-spares : (i : ℕ) → arrived < i → Spares service log e at.row.turn.client i
   row-spares i later other is = false_from_ne_true (is_turn at.row.turn.client i other) (λ same. (let cause = refusal-cause service log e other is in
-      let here : i ≡ other.ordinal = nat_eq-true i other.ordinal (and-true (nat_eq at.row.turn.client other.client) (nat_eq i other.ordinal) same).1 in
+      let here : i ≡ other.ordinal = grind (arith, common_steps, nat_eq-true, and-true) in
       let last : other.ordinal ≤ arrived = subst (λ (t : Turn). t.ordinal ≤ arrived) (link-cause link at.row.turn at.names at.row.is_turn cause) (fails-early (cause-fails at cause)) in
       omega arith))
 
