@@ -52,9 +52,12 @@ pub free-apart : {n k : ℕ} {lends other : Lends} → Apart n lends other → n
 free-apart apart differs free = grind (arith, common_steps)
 
 pub busy-apart : {n k i : ℕ} {lends other : Lends} → Apart n lends other → nat_eq k n ≡ false → Busy lends k i → Busy other k i
-busy-apart {k} apart differs (Waits ask is same unowned waits) = Waits ask (apart.asks k differs ∙ is) same (apart.owned k differs ∙ unowned) (apart.waiting k differs waits)
-busy-apart {k} apart differs (Logs ask is same link lent owns at stage) = Logs ask (apart.asks k differs ∙ is) same link lent (apart.owned k differs ∙ owns) (apart.links k link differs owns ∙ at) stage
-busy-apart {k} apart differs (On unasked link lent command owns at stage has tag) = On (apart.asks k differs ∙ unasked) link lent command (apart.owned k differs ∙ owns) (apart.links k link differs owns ∙ at) stage has tag
+busy-apart {k} apart differs (Waits ask is same unowned waits) = Waits ask (apart.asks k differs ∙ is) same (apart.owned k differs ∙ unowned)
+    (apart.waiting k differs waits)
+busy-apart {k} apart differs (Logs ask is same link lent owns at stage) = Logs ask (apart.asks k differs ∙ is) same link lent (apart.owned k differs ∙ owns)
+    (apart.links k link differs owns ∙ at) stage
+busy-apart {k} apart differs (On unasked link lent command owns at stage has tag) = On (apart.asks k differs ∙ unasked) link lent command
+    (apart.owned k differs ∙ owns) (apart.links k link differs owns ∙ at) stage has tag
 
 pub serves-apart : (at : Phase) (n k i : ℕ) (lends other : Lends) → Apart n lends other → nat_eq k n ≡ false → Serves at lends k i
     → Serves at other k i
@@ -64,7 +67,8 @@ serves-apart (phase.Working user) n k i lends other apart differs serves = busy-
 serves-apart phase.Ending n k i lends other apart differs serves = gone-apart n k lends other apart differs serves
 
 -- what stands of a link stands of it among other links and with another owner, where the ask of its login and its owner are there
-pub row-among : {service : Service} {log : Log} {lends other : Lends} {link : LinkId} {lent : Lent} (owner : Option ClientNo) (stands : RowStands service log lends link lent)
+pub row-among : {service : Service} {log : Log} {lends other : Lends} {link : LinkId} {lent : Lent} (owner : Option ClientNo)
+    (stands : RowStands service log lends link lent)
     → (lent.backend.stage ≢ In → Enters other stands.turn) → Owned service log other link stands.turn.client (record lent { owner = owner })
     → RowStands service log other link (record lent { owner = owner })
 row-among owner stands enters owned = grind (arith, common_steps)
@@ -90,7 +94,8 @@ pub record Traces (lends other : Lends) : Type 0 where
 
 -- a row that is there was so, and is another client's; or it stands
 pub data RowNow (service : Service) (log : Log) (n : ℕ) (lends other : Lends) (link : LinkId) (lent : Lent) : Type 0 where
-  Was : lends.links link.0 ≡ Some lent → (turn : Turn) → turn_of service link log ≡ Some turn → nat_eq turn.client n ≡ false → RowNow service log n lends other link lent
+  Was : lends.links link.0 ≡ Some lent → (turn : Turn) → turn_of service link log ≡ Some turn → nat_eq turn.client n ≡ false
+      → RowNow service log n lends other link lent
   Now : RowStands service log other link lent → RowNow service log n lends other link lent
 
 -- what is new of one client
@@ -111,7 +116,8 @@ mended {service} {log} {n} {lends} {other} before now = (let owned : (k : ℕ) (
     let owns = before.owned k link was in record { lent = owns.lent; there = now.apart.links k link at was ∙ owns.there; owner = owns.owner }) in
     record {
       rows = λ link lent is. row link lent (now.rows link lent is);
-      asks = λ k ask is. one-or-other k n (λ m. other.asks m ≡ Some ask → AskStands service log m ask) (now.ask ask) (λ at was. before.asks k ask at (sym (now.apart.asks k at) ∙ was)) is;
+      asks = λ k ask is. one-or-other k n (λ m. other.asks m ≡ Some ask → AskStands service log m ask)
+          (now.ask ask) (λ at was. before.asks k ask at (sym (now.apart.asks k at) ∙ was)) is;
       owned = λ k link is. grind (arith, common_steps, owned);
       one_waits = now.one_waits;
       waits = now.waits;
@@ -121,7 +127,7 @@ mended {service} {log} {n} {lends} {other} before now = (let owned : (k : ℕ) (
       row : (link : LinkId) (lent : Lent) → RowNow service log n lends other link lent → RowStands service log other link lent
       row link lent (Now stands) = stands
       row link lent (Was is turn is_turn differs) = (let stands = before.rows link lent is turn is_turn differs in
-          row-apart now.apart stands (subst (λ (t : Turn). nat_eq t.client n ≡ false) (some-same turn stands.turn (sym is_turn ∙ stands.is_turn)) differs))
+          row-apart now.apart stands (rw (some-same turn stands.turn (sym is_turn ∙ stands.is_turn)) at differs))
 
 -- What is done for one client among the links to servers, of which it changes one at most.
 
@@ -173,7 +179,8 @@ rows-one {service} {log} {n} {lends} {other} link same here others l x is =
 
 pub row-now : {service : Service} {log : Log} {n : ℕ} {link : LinkId} {lends other : Lends} {now : Lent} → other.links link.0 ≡ Some now
     → RowStands service log other link now → (x : Lent) → other.links link.0 ≡ Some x → RowNow service log n lends other link x
-row-now {service} {log} {link = link} {other = other} {now} here stands x is = Now (subst (RowStands service log other link) (some-same now x (sym here ∙ is)) stands)
+row-now {service} {log} {link = link} {other = other} {now} here stands x is = Now
+    (subst (RowStands service log other link) (some-same now x (sym here ∙ is)) stands)
 
 -- Then all stands, the others have what they had, and rows come from rows.
 pub record Stood (service : Service) (log : Log) (n : ℕ) (lends other : Lends) : Type 0 where
@@ -182,7 +189,8 @@ pub record Stood (service : Service) (log : Log) (n : ℕ) (lends other : Lends)
   pub traces : Traces lends other
 
 -- A link that is to be closed stands so where it has no row.
-close-kept : {service : Service} {log : Log} {lends other : Lends} {link : LinkId} → CloseStands service log lends link → other.links link.0 ≡ None → CloseStands service log other link
+close-kept : {service : Service} {log : Log} {lends other : Lends} {link : LinkId} → CloseStands service log lends link → other.links link.0 ≡ None
+    → CloseStands service log other link
 close-kept stands unlent = grind (arith, common_steps)
 
 -- No link changes, and the client has none.
@@ -197,7 +205,8 @@ pub record NoRow (service : Service) (log : Log) (n : ℕ) (lends other : Lends)
   pub one_waits : AtMostOne other.waiting
   pub waits : (client : ClientNo) → other.waiting ≡ client ∷ [] → Waiting other client
 
-pub still-stood : {service : Service} {log : Log} {n : ℕ} {lends other : Lends} → LendsSound service log lends → lends.owned n ≡ None → NoRow service log n lends other
+pub still-stood : {service : Service} {log : Log} {n : ℕ} {lends other : Lends} → LendsSound service log lends → lends.owned n ≡ None
+    → NoRow service log n lends other
     → Stood service log n lends other
 still-stood {service} {log} {n} {lends} {other} sound unowned same = record {
   sound = mended (but-one sound) (record {
@@ -223,7 +232,8 @@ still-stood {service} {log} {n} {lends} {other} sound unowned same = record {
 
 -- One link changes, or is to be closed.
 pub data RowGoes (service : Service) (log : Log) (link : LinkId) (lends other : Lends) : Type 0 where
-  Stays : (lent : Lent) → other.links link.0 ≡ Some lent → RowStands service log other link lent → other.closing ≡ lends.closing → RowGoes service log link lends other
+  Stays : (lent : Lent) → other.links link.0 ≡ Some lent → RowStands service log other link lent → other.closing ≡ lends.closing
+      → RowGoes service log link lends other
   Closes : lends.closing ≡ [] → other.links link.0 ≡ None → CloseStands service log other link → other.closing ≡ link ∷ [] → RowGoes service log link lends other
 
 pub record OneRow (service : Service) (log : Log) (n : ℕ) (link : LinkId) (lends other : Lends) : Type 0 where
@@ -249,7 +259,8 @@ none-mine n lent none k differs is = no-some none is
 
 pub one-stood : {service : Service} {log : Log} {n : ℕ} {link : LinkId} {lends other : Lends} (lent : Lent) → LendsBut service log n lends → AtMostOne lends.closing
     → ((l : LinkId) → lends.closing ≡ l ∷ [] → CloseStands service log lends l) → lends.links link.0 ≡ Some lent → Mine n lent
-    → ((l : LinkId) (x : Lent) → nat_eq l.0 link.0 ≡ false → lends.links l.0 ≡ Some x → RowNow service log n lends other l x) → OneRow service log n link lends other
+    → ((l : LinkId) (x : Lent) → nat_eq l.0 link.0 ≡ false → lends.links l.0 ≡ Some x → RowNow service log n lends other l x)
+        → OneRow service log n link lends other
     → Stood service log n lends other
 one-stood {service} {log} {n} {link} {lends} {other} lent but one_closes closes there mine others one = record {
   sound = mended but (record {
@@ -324,9 +335,12 @@ pub record Went (service : Service) (log : Log) (n : ℕ) (lends other : Lends) 
 
 -- Something came of the client's command, or nothing did.
 pub data Comes (service : Service) (log : Log) (n : ℕ) (lends other : Lends) : Option Answered → Type 0 where
-  Quiet : ((i : ℕ) → Busy lends n i → Busy other n i) → (Free lends n → Free other n) → (Gone lends n → Gone other n) → ((i : ℕ) → Busy lends n i → replied service n i log ≡ None) → Comes service log n lends other None
-  Answers : (i : ℕ) (answer : Answer) (message : Framed) → Busy lends n i → message_of service n i log ≡ Some message → replied service n i log ≡ Some answer → Free other n
-      → other.waiting ≡ [] → (other.closing ≡ []) ⊎ (other.owned n ≡ None) → Comes service log n lends other (Some (record { client = record { 0 = n }; packets = spelt (next_id message.last) answer }))
+  Quiet : ((i : ℕ) → Busy lends n i → Busy other n i) → (Free lends n → Free other n) → (Gone lends n → Gone other n) →
+      ((i : ℕ) → Busy lends n i → replied service n i log ≡ None) → Comes service log n lends other None
+  Answers : (i : ℕ) (answer : Answer) (message : Framed) → Busy lends n i → message_of service n i log ≡ Some message → replied service n i log ≡ Some answer
+      → Free other n
+      → other.waiting ≡ [] → (other.closing ≡ []) ⊎ (other.owned n ≡ None) → Comes service log n lends other
+          (Some (record { client = record { 0 = n }; packets = spelt (next_id message.last) answer }))
 
 -- `before` is the log before the entry; the tables were sound for that, and what came is sound for the log with the entry
 pub record Came (service : Service) (log : Log) (n : ℕ) (lends : Lends) (told : Told) : Type 0 where

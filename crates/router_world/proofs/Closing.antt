@@ -58,18 +58,21 @@ closed-client service log link parting tables sound shut is same = (let then : L
       unlent = sound.unlent;
       unclosing = sound.unclosing;
       away = sound.away;
-      lends = lends-pass service log (Closed link) tables.lends (passes-closed link shut) (rows-left service log (Closed link) link tables by-standing) closing sound.lends;
+      lends = lends-pass service log (Closed link) tables.lends (passes-closed link shut)
+          (rows-left service log (Closed link) link tables by-standing) closing sound.lends;
       one_parts = Nobody;
       parts = λ other none. absurd (let no' : [] ≡ other ∷ [] = none in cc);
       known = λ other opened. (let was = opened-behind log link other opened in known-as tables.numbers tables.numbers tables.lends tables.parting [] other refl
-          (λ p at on. absurd (was.1 (ap (λ (l : LinkId). l.0) (sym on ∙ ap (λ (q : Parting). q.link) (one-same p parting (sym at ∙ is)) ∙ same)))) (sound.known other was.0));
+          (λ p at on. absurd (was.1 (ap (λ (l : LinkId). l.0) (sym on ∙ ap (λ (q : Parting). q.link) (one-same p parting (sym at ∙ is)) ∙ same))))
+              (sound.known other was.0));
       served = shut.served;
     }))
 
 -- The links to servers without the one that was to be closed.
 serves-closed : (at : Phase) (lends : Lends) (n i : ℕ) → Serves at lends n i → Serves at (without_close lends) n i
 serves-closed at lends n i serves = serves-apart at (suc n) n i lends (without_close lends)
-    (record { asks = λ k differs. refl; owned = λ k differs. refl; links = λ k link differs owns. refl; waiting = λ k differs is. is }) (apart-numbers n (suc n) (omega arith)) serves
+    (record { asks = λ k differs. refl; owned = λ k differs. refl; links = λ k link differs owns. refl; waiting = λ k differs is. is })
+        (apart-numbers n (suc n) (omega arith)) serves
 
 row-closed : {service : Service} {log : Log} {lends : Lends} {link : LinkId} {lent : Lent} → RowStands service log lends link lent
     → RowStands service log (without_close lends) link lent
@@ -80,7 +83,9 @@ pub closed-server : (service : Service) (log : Log) (link : LinkId) (tables : Ta
     → Happens service log (Closed link) tables → tables.parting ≡ [] → tables.lends.closing ≡ link ∷ []
     → Sound service (log ++ Closed link ∷ []) None (with_lends (without_close tables.lends) tables)
 closed-server service log link tables sound shut unparted is = (let among : is_among link (connected log) ≡ false =
-    sound.counts.among link ∙ ap (λ b. b && is_open link log) (false_from_ne_true (list_any (traffic_as link) log) (λ came. not-both link log shut.told (traffic-came link log came) (turn-opened service link log stands.turn stands.is_turn))) in
+    sound.counts.among link ∙ ap (λ b. b && is_open link log) (false_from_ne_true
+        (list_any (traffic_as link) log) (λ came. not-both link log shut.told (traffic-came link log came)
+        (turn-opened service link log stands.turn stands.is_turn))) in
     record {
       came = sound.came ∙ ap length (sym (arrivals-plain log (Closed link) (λ before. refl)));
       here = sound.here ∙ sym (closed-same log link among);
@@ -115,7 +120,8 @@ closed-server service log link tables sound shut unparted is = (let among : is_a
       lends : LendsSound service then (without_close tables.lends)
       lends = record {
         rows = λ other lent row. (let at = sound.lends.rows other lent row in
-            row-closed (row-calm service log (Closed link) tables.lends other lent shut.lawful shut.fits at (by-standing.calm at.turn.client) (rows-left service log (Closed link) link tables by-standing other lent row)));
+            row-closed (row-calm service log (Closed link) tables.lends other lent shut.lawful shut.fits at (by-standing.calm at.turn.client)
+                (rows-left service log (Closed link) link tables by-standing other lent row)));
         asks = λ k ask at. ask-calm service log (Closed link) k ask shut.lawful (sound.lends.asks k ask at) (by-standing.calm k);
         owned = λ k other at. (let owns = sound.lends.owned k other at in record { lent = owns.lent; there = owns.there; owner = owns.owner });
         one_waits = sound.lends.one_waits;
@@ -124,7 +130,8 @@ closed-server service log link tables sound shut unparted is = (let among : is_a
         closes = λ other closes. absurd (none-closes other closes);
       }
 
-      known : (other : LinkId) → other.0 ≢ link.0 → Known tables.numbers tables.lends tables.parting other → Known tables.numbers (without_close tables.lends) tables.parting other
+      known : (other : LinkId) → other.0 ≢ link.0 → Known tables.numbers tables.lends tables.parting other → Known tables.numbers
+          (without_close tables.lends) tables.parting other
       known other apart (Clients client at) = Clients client at
       known other apart (Servers lent at) = Servers lent at
       known other apart (Parts p at on) = absurd (let no' : [] ≡ p ∷ [] = sym unparted ∙ at in cc)
@@ -167,7 +174,8 @@ offered-step service log e parting later tables sound offer same client kind = (
       came = stands.came;
       is_came = arrival-stays stands.n log (e ∷ []) stands.came stands.is_came;
       link = stands.link ∙ sym same;
-      counted = ap (λ (l : LinkId). is_among l (connected then)) same ∙ ap (is_among parting.link) (connected-plain log e offer.plain) ∙ stands.counted ∙ sym client;
+      counted = ap (λ (l : LinkId). is_among l (connected then)) same ∙ ap (is_among parting.link) (connected-plain log e offer.plain) ∙ stands.counted
+          ∙ sym client;
       is_client = client ∙ stands.is_client;
       at = at kind;
     } in
@@ -183,7 +191,8 @@ offered-step service log e parting later tables sound offer same client kind = (
       lends = lends-left service log e parting.link tables sound by-standing (stands.alone offer.some);
       one_parts = One later;
       parts = λ other at. grind (arith, common_steps, one-same);
-      known = λ link opened. known-as tables.numbers tables.numbers tables.lends tables.parting (later ∷ []) link refl (λ p is on. Parts later refl (same ∙ ap (λ (q : Parting). q.link) (one-same parting p (sym offer.is ∙ is)) ∙ on))
+      known = λ link opened. known-as tables.numbers tables.numbers tables.lends tables.parting
+          (later ∷ []) link refl (λ p is on. Parts later refl (same ∙ ap (λ (q : Parting). q.link) (one-same parting p (sym offer.is ∙ is)) ∙ on))
           (sound.known link (sym (open-kept link log e offer.opens) ∙ opened));
       served = offer.happens.served;
     })) where
@@ -198,4 +207,5 @@ offered-step service log e parting later tables sound offer same client kind = (
 
       at : (later.bytes ≡ []) ⊎ ((later.bytes ≡ parting.bytes) × (wrote_bytes e ≡ [])) → PartAt service then stands.n stands.came later.bytes
       at (inl none) = (let was = refused-part offer.some stands.at in subst (PartAt service then stands.n stands.came) (sym none) (Offered was.0 was.1 offered))
-      at (inr keeps) = (let was = refused-part offer.some stands.at in subst (PartAt service then stands.n stands.came) (sym (keeps.0 ∙ was.3)) (Refused was.0 was.1 (bytes-idle wrote_bytes stands.came.link log e keeps.1 ∙ was.2)))
+      at (inr keeps) = (let was = refused-part offer.some stands.at in subst (PartAt service then stands.n stands.came) (sym (keeps.0 ∙ was.3))
+          (Refused was.0 was.1 (bytes-idle wrote_bytes stands.came.link log e keeps.1 ∙ was.2)))

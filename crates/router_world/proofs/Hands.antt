@@ -5,8 +5,8 @@ use Rattle.router_world.proofs.Names.{with_lends, ◌++◌, IsOpen, Arrival, arr
 use Rattle.router_world.proofs.Names.{asked, gone, ◌<◌, ◌≤◌, is_some, List, length, arith, append-nil, Framed, next_id, FrameFault, ClientState, Opening}
 use Rattle.router_world.proofs.Names.{WaitsToLogIn, Says, FailsToSay, opening-says-more, is_served, Talk, heard_more, opening_of, account, if_known}
 use Rattle.router_world.proofs.Names.{messages_of, front, front_in, Session, most_command, carrier_of, Answer, talk_with, user_of, Work, work_of, ends_in}
-use Rattle.router_world.proofs.Names.{ends_by, if_user, messages-grow, replied, first_open, SeatAt, PhaseAt, IsWorking, due_said, work_said, over_said}
-use Rattle.router_world.proofs.Names.{in-work, ◌≢◌, is_query, turned, Asks, written_of, was_lost, is_here, due, has_ended}
+use Rattle.router_world.proofs.Names.{ends_by, if_user, messages-grow, replied, first_open, SeatAt, IsWorking, due_said, work_said, over_said, in-work, ◌≢◌}
+use Rattle.router_world.proofs.Names.{is_query, turned, Asks, written_of, was_lost, is_here, due, has_ended}
 use Rattle.promises.proofs.Staying.{account-more, Grown}
 use Rattle.router_world.proofs.Apart.{none-one, link-or-other, apart-links, apart-numbers, set-same, set-other, Row, row-of, Apart, Traces, serves-apart}
 use Rattle.router_world.proofs.Apart.{gone-apart, Went, Idle, one-same, Here, There, no-some, Stood}
@@ -112,7 +112,8 @@ put-back {service} {log} {seat} {tables} client sound out number stands serves u
   sits k other (There apart was) = sound.seats k other was
   sits k other (Here same is) = grind (arith, common_steps, some-same)
 
-  numbers : (link : LinkId) (other : ClientNo) → OnHand (Some (record { client = client.0; link = seat.link })) other.0 link ⊎ ((s : Seat) × (tables.seats other.0 ≡ Some s) × (s.link ≡ link))
+  numbers : (link : LinkId) (other : ClientNo) → OnHand (Some (record { client = client.0; link = seat.link })) other.0 link ⊎
+      ((s : Seat) × (tables.seats other.0 ≡ Some s) × (s.link ≡ link))
       → (s : Seat) × (set tables.seats client.0 (Some seat) other.0 ≡ Some s) × (s.link ≡ link)
   numbers link other h2 = grind (arith, common_steps, set-other, apart-numbers)
 
@@ -146,7 +147,8 @@ part-with service log client link tables sound out number gone none parted = rec
   one_parts = subst AtMostOne (sym the) (One mine);
   parts = λ parting is. subst (PartStands service log new.numbers tables.lends) (one-same mine parting (sym the ∙ is)) stands;
   known = λ other opened. link-or-other other link (Known new.numbers tables.lends new.parting) (Parts mine the refl)
-      (λ at. known-as tables.numbers new.numbers tables.lends tables.parting new.parting other (set-other tables.numbers link.0 other.0 None at) (λ p is on. absurd (none-one tables.parting none is)) (sound.known other opened));
+      (λ at. known-as tables.numbers new.numbers tables.lends tables.parting new.parting other
+          (set-other tables.numbers link.0 other.0 None at) (λ p is on. absurd (none-one tables.parting none is)) (sound.known other opened));
   served = sound.served;
 } where
   new : Tables
@@ -162,7 +164,8 @@ part-with service log client link tables sound out number gone none parted = rec
   apart k seat is = apart-links seat.link link (λ at. none-some (tables.seats client.0) out (ap (λ (c : ClientNo). tables.seats c.0)
       (some-same client (record { 0 = k }) (sym number ∙ ap (λ (l : LinkId). tables.numbers l.0) (sym at) ∙ (sound.seats k seat is).numbered)) ∙ is))
 
-  numbers : (other : LinkId) (someone : ClientNo) → Row tables.numbers link.0 None other.0 someone → OnHand None someone.0 other ⊎ ((seat : Seat) × (tables.seats someone.0 ≡ Some seat) × (seat.link ≡ other))
+  numbers : (other : LinkId) (someone : ClientNo) → Row tables.numbers link.0 None other.0 someone → OnHand None someone.0 other ⊎
+      ((seat : Seat) × (tables.seats someone.0 ≡ Some seat) × (seat.link ≡ other))
   numbers other someone h2 = grind (arith, common_steps)
 
   unlent : (other : LinkId) (someone : ClientNo) → Row tables.numbers link.0 None other.0 someone → tables.lends.links other.0 ≡ None
@@ -198,7 +201,8 @@ ask_for user query = record { ordinal = query.ordinal; first = query.first; pack
 
 -- What is to be of a session that goes on: a query that came up is asked for; a command in work stays so; and one at its end may go.
 pub data Next (service : Service) (log : Log) (n : ℕ) (lends : Lends) : Phase → (arrived : ℕ) → Option Query → Type 0 where
-  Comes : {arrived : ℕ} (user : Account) (query : Query) → Free lends n → lends.waiting ≡ [] → AskStands service log n (ask_for user query) → query.ordinal ≡ arrived → Next service log n lends (phase.Working user) arrived (Some query)
+  Comes : {arrived : ℕ} (user : Account) (query : Query) → Free lends n → lends.waiting ≡ [] → AskStands service log n (ask_for user query)
+      → query.ordinal ≡ arrived → Next service log n lends (phase.Working user) arrived (Some query)
   Works : {arrived : ℕ} (user : Account) → Busy lends n arrived → Next service log n lends (phase.Working user) arrived None
   Rests : {arrived : ℕ} (user : Account) → Free lends n → Next service log n lends (phase.Idle user) arrived None
   LogsIn : {arrived : ℕ} → Gone lends n → Next service log n lends phase.LoggingIn arrived None
@@ -214,10 +218,12 @@ same-stood : {service : Service} {log : Log} {n : ℕ} {lends : Lends} → Lends
 same-stood {n = n} {lends} sound = record { sound = sound; apart = apart-self n lends; traces = traces-self lends }
 
 -- the links to servers behind it
-turns : {service : Service} {log : Log} {n arrived : ℕ} {at : Phase} {query : Option Query} {lends : Lends} → LendsSound service log lends → Next service log n lends at arrived query
+turns : {service : Service} {log : Log} {n arrived : ℕ} {at : Phase} {query : Option Query} {lends : Lends} → LendsSound service log lends
+    → Next service log n lends at arrived query
     → Stood service log n lends (leaving (is_ending at) (record { 0 = n }) (asking (record { 0 = n }) (account_in at) query lends))
     × Serves at (leaving (is_ending at) (record { 0 = n }) (asking (record { 0 = n }) (account_in at) query lends)) n arrived
-turns {n = n} {lends = lends} sound (Comes user asks free idle stands same) = (let now = asked-sound sound free idle stands in (now.0, subst (Busy (asked (record { 0 = n }) (ask_for user asks) lends) n) same now.1))
+turns {n = n} {lends = lends} sound (Comes user asks free idle stands same) =
+    (let now = asked-sound sound free idle stands in (now.0, subst (Busy (asked (record { 0 = n }) (ask_for user asks) lends) n) same now.1))
 turns sound (Works user busy) = (same-stood sound, busy)
 turns sound (Rests user free) = (same-stood sound, free)
 turns sound (LogsIn gone) = (same-stood sound, gone)
@@ -232,7 +238,8 @@ goes-on service log client link turned tables sound out number unparted stands n
   lends : Lends
   lends = leaving (is_ending turned.session.phase) client (asking client (account_in turned.session.phase) turned.query tables.lends)
 
-  by : Stood service log client.0 tables.lends lends × Serves turned.session.phase lends client.0 turned.session.client.arrived → Sound service log None (goes_on client link turned tables)
+  by : Stood service log client.0 tables.lends lends × Serves turned.session.phase lends client.0 turned.session.client.arrived → Sound service log None
+      (goes_on client link turned tables)
   by now = at (is_finished turned.session) refl (relend service log client.0 link tables lends sound out unparted now.0.sound now.0.apart now.0.traces) where
     gone-at : (at : Phase) → is_ending at ≡ true → Serves at lends client.0 turned.session.client.arrived → Gone lends client.0
     gone-at at is serves = grind (arith, common_steps)
@@ -240,7 +247,8 @@ goes-on service log client link turned tables sound out number unparted stands n
     at : (b : Bool) → is_finished turned.session ≡ b → Sound service log (Some (record { client = client.0; link = link })) (with_lends lends tables)
         → Sound service log None (seated_or_parts b client (record { link = link; session = turned.session }) (with_lends lends tables))
     at false going sound = put-back client sound out number stands now.1 going
-    at true is sound = part-with service log client link (with_lends lends tables) sound out number (gone-at turned.session.phase (and_parts (is_ending turned.session.phase) _ is).0 now.1) unparted (parted is)
+    at true is sound = part-with service log client link (with_lends lends tables) sound out number
+        (gone-at turned.session.phase (and_parts (is_ending turned.session.phase) _ is).0 now.1) unparted (parted is)
 
 -- A query that came up for work is in work, by the promises; and a client at its end stays so.
 
@@ -262,7 +270,8 @@ pub working-asked : {service : Service} {n : ℕ} {log : Log} {user : Account} {
     → arrival_of n log ≡ Some came → is_served service.setup came ≡ true → service.setup.limit ≤ most_command → AreFormed service log
     → (working : IsWorking (talk_with service n came log) (λ i. replied service n i log) user client) → bytes ≡ spelling 0 working.message.payload
     → id ≡ next_id working.message.last → IsAsked service n client.arrived bytes id log
-working-asked {service} {n} {log} {client} came is served short formed working packets first = (let work : work_of service n log ≡ Some (record { ordinal = client.arrived; message = working.message }) = work-is service n came log is ∙ working.work in
+working-asked {service} {n} {log} {client} came is served short formed working packets first =
+    (let work : work_of service n log ≡ Some (record { ordinal = client.arrived; message = working.message }) = work-is service n came log is ∙ working.work in
     let due = work-due service n log (record { ordinal = client.arrived; message = working.message }) work in
     record {
       message = working.message;
@@ -281,7 +290,7 @@ pub working-ask : {service : Service} {n : ℕ} {log : Log} {user : Account} {cl
     → query.first ≡ next_id working.message.last → query.packets ≡ spelling 0 working.message.payload → carrier_of n client.arrived log ≡ None
     → AskStands service log n (ask_for user query)
 working-ask {service} {n} {log} came query is served short formed working ordinal first packets none = record {
-  asked = subst (λ i. IsAsked service n i query.packets query.first log) (sym ordinal) (working-asked came is served short formed working packets first);
+  asked = rw ordinal (working-asked came is served short formed working packets first);
   account = user-is service n came log is ∙ working.account;
   unsent = ap (λ i. carrier_of n i log) ordinal ∙ none;
 }
@@ -305,12 +314,16 @@ over-known {reply} {talk} more user is over = by (work_said reply talk) refl (me
   grows : Grown (messages_of talk) (messages_of now)
   grows = messages-grow talk more
 
-  by : (w : Option Work) → work_said reply talk ≡ w → (fault : Option FrameFault) → (messages_of talk).fault ≡ fault → ends_by (work_said reply talk) (is_some (messages_of talk).fault) ≡ true → StaysOver reply talk now
-  by (Some work) at fault here ends = (let further : work_said reply now ≡ Some work = ap (first_open talk.setup reply 1) grows.messages ∙ open-more talk.setup reply 1 (messages_of talk).messages grows.later work at in record {
-    due = simp (front-more talk more user is, grows.messages) (ap (λ l. front talk ++ l) (open-due talk.setup reply 1 (messages_of talk).messages grows.later _ _ work at));
+  by : (w : Option Work) → work_said reply talk ≡ w → (fault : Option FrameFault) → (messages_of talk).fault ≡ fault → ends_by (work_said reply talk)
+      (is_some (messages_of talk).fault) ≡ true → StaysOver reply talk now
+  by (Some work) at fault here ends = (let further : work_said reply now ≡ Some work = ap (first_open talk.setup reply 1) grows.messages
+      ∙ open-more talk.setup reply 1 (messages_of talk).messages grows.later work at in record {
+    due = simp (front-more talk more user is, grows.messages) (ap (λ l. front talk ++ l)
+        (open-due talk.setup reply 1 (messages_of talk).messages grows.later _ _ work at));
     over = grind (arith, common_steps, over-in, reply, account-more);
   })
-  by None at None here ends = absurd (let none : false ≡ true = sym (ap (λ w. ends_by w (is_some (messages_of talk).fault)) at ∙ ap (λ f. is_some f) here) ∙ ends in cc)
+  by None at None here ends = absurd (let none : false ≡ true = sym (ap (λ w. ends_by w (is_some (messages_of talk).fault)) at ∙ ap (λ f. is_some f) here)
+      ∙ ends in cc)
   by None at (Some fault) here ends = (let stays = grows.ended fault here in
       let same : (messages_of now).messages ≡ (messages_of talk).messages = grind (arith, common_steps, append-nil) in
       let faulty : (messages_of now).fault ≡ (messages_of talk).fault = stays.1 ∙ sym here in record {
@@ -324,17 +337,21 @@ stays-over {reply} {talk} more over = by (opening_of talk) refl (account talk) r
   now = heard_more talk more
 
   by : (o : Opening) → opening_of talk ≡ o → (a : Option Account) → account talk ≡ a → over_said reply talk ≡ true → StaysOver reply talk now
-  by (WaitsToLogIn switched) at a who over = absurd (let none : false ≡ true = sym (ap (λ (o : Opening). ends_in o (account talk) (ends_by (work_said reply talk) (is_some (messages_of talk).fault))) at) ∙ over in cc)
+  by (WaitsToLogIn switched) at a who over = absurd (let none : false ≡ true = sym
+      (ap (λ (o : Opening). ends_in o (account talk) (ends_by (work_said reply talk) (is_some (messages_of talk).fault))) at) ∙ over in cc)
   by (FailsToSay switched fault id) at a who over = grind (arith, common_steps, over-alone, opening-fails-more)
   by (Says switched response id rest) at (Some user) who over = over-known more user who over
-  by (Says switched response id rest) at None who over = (let says : opening_of now ≡ Says switched response id (rest ++ more) = opening-says-more talk.setup.limit talk.read more switched response id rest at in
+  by (Says switched response id rest) at None who over = (let says : opening_of now ≡ Says switched response id
+      (rest ++ more) = opening-says-more talk.setup.limit talk.read more switched response id rest at in
       let unknown : account_by talk (Says switched response id rest) ≡ None = sym (ap (account_by talk) at) ∙ who in
-      over-alone (Says switched response id rest) (Says switched response id (rest ++ more)) at says (ap (λ a. if_known a rest) unknown) (ap (λ a. if_known a (rest ++ more)) unknown) refl true
+      over-alone (Says switched response id rest) (Says switched response id (rest ++ more)) at says (ap (λ a. if_known a rest) unknown)
+          (ap (λ a. if_known a (rest ++ more)) unknown) refl true
       (λ other. ap (λ a. if_user a other) (ap (account_by now) says ∙ unknown)))
 
 pub ending-more : {talk : Talk} {reply : ℕ → Option Answer} {written : List ℕ} {session : Session} (more : List ℕ) → session.phase ≡ phase.Ending
     → SeatAt talk reply written session → SeatAt (heard_more talk more) reply written session
-ending-more {talk} {reply} {written} {session} more ends seat = (let over : StaysOver reply talk (heard_more talk more) = stays-over more (subst (λ (p : Phase). PhaseAt p talk reply (written ++ session.client.outgoing) session.client) ends seat.at) in record {
+ending-more {talk} {reply} {written} {session} more ends seat = (let over : StaysOver reply talk (heard_more talk more) = stays-over more
+    (rw ends at seat.at) in record {
   mine = seat.mine;
   due = seat.due ∙ sym over.due;
   at = grind (arith, common_steps, reply, over);
@@ -350,11 +367,13 @@ pub ends-so : (service : Service) (log : Log) (n : ℕ) (came : Arrival) (writte
     → LendsSound service log lends → (lends.closing ≡ []) ⊎ (lends.owned n ≡ None) → arrival_of n log ≡ Some came → Free lends n
     → session.phase ≡ phase.Ending → SeatAt (talk_with service n came log) (λ i. replied service n i log) written session
     → Went service log n lends (gone (record { 0 = n }) lends)
-ends-so service log n came written session lends sound none is free ends seat = gone-sound service log n lends sound none (Idle free (λ work at. quits work (sym (work-is service n came log is) ∙ at) (is_query work.message.payload) refl)) where
+ends-so service log n came written session lends sound none is free ends seat = gone-sound service log n lends sound none
+    (Idle free (λ work at. quits work (sym (work-is service n came log is) ∙ at) (is_query work.message.payload) refl)) where
   over : over_said (λ i. replied service n i log) (talk_with service n came log) ≡ true
   over = grind (arith, common_steps)
 
-  quits : (work : Work) → work_said (λ i. replied service n i log) (talk_with service n came log) ≡ Some work → (b : Bool) → is_query work.message.payload ≡ b → is_query work.message.payload ≡ false
+  quits : (work : Work) → work_said (λ i. replied service n i log) (talk_with service n came log) ≡ Some work → (b : Bool) → is_query work.message.payload ≡ b
+      → is_query work.message.payload ≡ false
   quits work at false no-query = no-query
   quits work at true query = absurd (over-no-query (λ i. replied service n i log) (talk_with service n came log) work over at query)
 
@@ -372,13 +391,16 @@ next-turned service log n came written old turned lends sound none idle is serve
   reply : ℕ → Option Answer
   reply i = replied service n i log
 
-  asks : (query : Query) → turned.query ≡ Some query → Asks (Some query) talk reply old turned.session → (p : Phase) → turned.session.phase ≡ p → Next service log n lends p turned.session.client.arrived (Some query)
+  asks : (query : Query) → turned.query ≡ Some query → Asks (Some query) talk reply old turned.session → (p : Phase) → turned.session.phase ≡ p
+      → Next service log n lends p turned.session.client.arrived (Some query)
   asks query same so p phase-is = (let stands : AskStands service log n (ask_for so.0 query) =
       working-ask came query is served at.seat.mine.short formed so.1 so.3 so.4 so.5 (unsent (λ none. (no-some none same))) in
       subst (λ (q : Phase). Next service log n lends q turned.session.client.arrived (Some query)) (sym so.2 ∙ phase-is)
-      (Comes so.0 query free (idle (Rattle.router_world.proofs.Calm.asks-server service n (ask_for so.0 query).ordinal stands.asked.message stands.asked.due log stands.asked.asks)) stands so.3))
+      (Comes so.0 query free (idle (Rattle.router_world.proofs.Calm.asks-server service n
+          (ask_for so.0 query).ordinal stands.asked.message stands.asked.due log stands.asked.asks)) stands so.3))
 
-  by : (q : Option Query) → turned.query ≡ q → Asks q talk reply old turned.session → (p : Phase) → turned.session.phase ≡ p → Next service log n lends p turned.session.client.arrived q
+  by : (q : Option Query) → turned.query ≡ q → Asks q talk reply old turned.session → (p : Phase) → turned.session.phase ≡ p
+      → Next service log n lends p turned.session.client.arrived q
   by (Some query) same so p phase-is = asks query same so p phase-is
   by None same so phase.LoggingIn phase-is = LogsIn (entering phase-is)
   by None same so (phase.Idle user) phase-is = Rests user free
@@ -410,7 +432,8 @@ told-seat service log n seat stands = grind (arith, common_steps, due-unlost)
 
 pub finished-parted : (service : Service) (log : Log) (n : ℕ) (seat : Seat) → SeatStands service log n seat → is_finished seat.session ≡ true
     → Parted service log n seat.link
-finished-parted service log n seat stands finished = (let both = and_parts (is_ending seat.session.phase) (nat_eq (length seat.session.client.outgoing) 0) finished in
+finished-parted service log n seat stands finished = (let both = and_parts (is_ending seat.session.phase)
+    (nat_eq (length seat.session.client.outgoing) 0) finished in
     let ends : seat.session.phase ≡ phase.Ending = ending-is seat.session.phase both.0 in
     let none : seat.session.client.outgoing ≡ [] = grind (arith, common_steps, nat_eq-true) in
     record {
@@ -421,7 +444,8 @@ finished-parted service log n seat stands finished = (let both = and_parts (is_e
       opened = stands.opened;
       at = Done stands.served (inr (record {
         ended = ended-seat service log n seat stands ends;
-        told = sym (append-nil (written_of stands.came.link log)) ∙ ap (λ bytes. written_of stands.came.link log ++ bytes) (sym none) ∙ told-seat service log n seat stands;
+        told = sym (append-nil (written_of stands.came.link log)) ∙ ap (λ bytes. written_of stands.came.link log ++ bytes) (sym none)
+            ∙ told-seat service log n seat stands;
       }));
     })
 

@@ -51,7 +51,8 @@ short-more : (link : LinkId) (log : Log) (e : Entry) → Fits log e → IsShort 
 short-more link log e fits was = grind (arith, common_steps, length-append, bytes-same, bytes-other)
 
 pub read-short : (link : LinkId) (log : Log) → AllLawful Fits log → length log < 281474976710656 → length (read_of link log) < 18446744073709551616
-read-short link log told few = (let all : IsShort link log = lawful-each Fits (IsShort link) log (short-more link) (record { short = omega arith }) told in let most : length (read_of link log) ≤ 65536 * length log = all.short in omega arith)
+read-short link log told few = (let all : IsShort link log = lawful-each Fits (IsShort link) log (short-more link)
+    (record { short = omega arith }) told in let most : length (read_of link log) ≤ 65536 * length log = all.short in omega arith)
 
 -- Bytes of a client come, and its session goes on.
 
@@ -95,7 +96,8 @@ module _ {reply : ℕ → Option Answer} {written : List ℕ} where
       → session.client.arrived < next.session.client.arrived
   first-query {talk} {session} {next} {now} {bytes} is seat at some = (let work = work-of-query at some in
       let none : session.client.arrived ≡ 0 = (rw is at seat.at).arrived in
-      let from : 1 ≤ next.session.client.arrived = open-from now.setup reply 1 (messages_of now).messages (record { ordinal = next.session.client.arrived; message = work.message }) work.work in omega arith)
+      let from : 1 ≤ next.session.client.arrived = open-from now.setup reply 1 (messages_of now).messages
+          (record { ordinal = next.session.client.arrived; message = work.message }) work.work in omega arith)
 
   later-query : {talk : Talk} {old : Session} {user : Account} {next : Turned} (bytes : List ℕ) (session : Session)
       → IsIdle talk reply user session.client → SeatTurned (heard_more talk bytes) reply written old next → next.query ≢ None
@@ -103,8 +105,11 @@ module _ {reply : ℕ → Option Answer} {written : List ℕ} where
   later-query {talk} {user} {next} bytes session idle at some = (let work = work-of-query at some in
       let messages : (messages_of (heard_more talk bytes)).messages ≡ idle.taken.past ++ (split talk.setup.limit 0 (session.client.framer.kept ++ bytes)).messages =
       ap (λ c. (split talk.setup.limit 0 c).messages) (commands-more talk bytes user idle.account) ∙ ap (λ (s : Split). s.messages) (idle.taken.whatever bytes) in
-      let all : first_open talk.setup reply 1 idle.taken.past ≡ None = ap (first_open talk.setup reply 1) (sym (append-nil idle.taken.past)) ∙ sym (ap (λ (s : Split). first_open talk.setup reply 1 s.messages) (taken-nothing talk session.client idle.taken idle.none)) ∙ idle.all in
-      let more : length idle.taken.past < next.session.client.arrived = later-work (heard_more talk bytes) reply idle.taken.past (split talk.setup.limit 0 (session.client.framer.kept ++ bytes)).messages (record { ordinal = next.session.client.arrived; message = work.message }) messages all work.work in
+      let all : first_open talk.setup reply 1 idle.taken.past ≡ None = ap (first_open talk.setup reply 1) (sym (append-nil idle.taken.past))
+          ∙ sym (ap (λ (s : Split). first_open talk.setup reply 1 s.messages) (taken-nothing talk session.client idle.taken idle.none)) ∙ idle.all in
+      let more : length idle.taken.past < next.session.client.arrived = later-work (heard_more talk bytes) reply idle.taken.past
+          (split talk.setup.limit 0 (session.client.framer.kept ++ bytes)).messages
+          (record { ordinal = next.session.client.arrived; message = work.message }) messages all work.work in
       let count : session.client.arrived ≡ length idle.taken.past = idle.taken.arrived in omega arith)
 
   never-entering : {session : Session} (talk : Talk) (more : List ℕ) (user : Account) → account talk ≡ Some user
@@ -125,20 +130,25 @@ said-by service log n came talk bytes written session lends coming seat unanswer
   next = turned talk.setup (kept_with bytes session)
 
   -- what a session says that isn't at its end
-  said : (p : Phase) → session.phase ≡ p → session.phase ≢ phase.Ending → SeatTurned (heard_more talk bytes) reply written session (said_in p talk.setup bytes session)
+  said : (p : Phase) → session.phase ≡ p → session.phase ≢ phase.Ending → SeatTurned (heard_more talk bytes) reply written session
+      (said_in p talk.setup bytes session)
   said p is going = subst (λ (p : Phase). SeatTurned (heard_more talk bytes) reply written session (said_in p talk.setup bytes session)) is
       (said-seat talk reply written bytes session seat unanswered going coming.few)
 
   over : session.phase ≡ phase.Ending → SeatAt (talk_with service n came log) reply written session
   over ends = rw coming.now (ending-more bytes ends seat)
 
-  by : (at : Phase) → session.phase ≡ at → Serves at lends n session.client.arrived → Says service log n came written session lends (said_in at talk.setup bytes session)
-  by phase.LoggingIn is gone = (let at : SeatTurned (heard_more talk bytes) reply written session next = said phase.LoggingIn is (λ ends. (let no' : phase.LoggingIn ≡ phase.Ending = sym is ∙ ends in cc)) in
+  by : (at : Phase) → session.phase ≡ at → Serves at lends n session.client.arrived → Says service log n came written session lends
+      (said_in at talk.setup bytes session)
+  by phase.LoggingIn is gone = (let at : SeatTurned (heard_more talk bytes) reply written session next = said phase.LoggingIn is (λ ends.
+      (let no' : phase.LoggingIn ≡ phase.Ending = sym is ∙ ends in cc)) in
       says-turned coming (free-gone lends n gone) (λ entering. gone) (λ user working. (let no' : phase.LoggingIn ≡ phase.Working user = sym is ∙ working in cc))
       (turned-more talk.setup (kept_with bytes session)) (first-query is seat at) unsent at)
   by (phase.Idle user) is free = (let idle : IsIdle talk reply user session.client = rw is at seat.at in
-      let at : SeatTurned (heard_more talk bytes) reply written session next = said (phase.Idle user) is (λ ends. (let no' : phase.Idle user ≡ phase.Ending = sym is ∙ ends in cc)) in
-      says-turned coming free (λ entering. absurd (never-entering talk bytes user idle.account at.seat entering)) (λ other working. (let no' : phase.Idle user ≡ phase.Working other = sym is ∙ working in cc))
+      let at : SeatTurned (heard_more talk bytes) reply written session next = said
+          (phase.Idle user) is (λ ends. (let no' : phase.Idle user ≡ phase.Ending = sym is ∙ ends in cc)) in
+      says-turned coming free (λ entering. absurd (never-entering talk bytes user idle.account at.seat entering)) (λ other working.
+          (let no' : phase.Idle user ≡ phase.Working other = sym is ∙ working in cc))
       (turned-more talk.setup (kept_with bytes session)) (later-query bytes session idle at) unsent at)
   by (phase.Working user) is busy = record {
     seat = rw coming.now (said (phase.Working user) is (λ ends. (let no' : phase.Working user ≡ phase.Ending = sym is ∙ ends in cc))).seat;

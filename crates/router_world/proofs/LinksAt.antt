@@ -7,7 +7,7 @@ use Rattle.router_world.proofs.Names.{arith, list_any-append, Tag, For, got_byte
 use Rattle.router_world.proofs.Names.{heard_of, piece, pieces_of, is_command, carrier_of, user_on, is_refused, RefusedOrSent, replied, reply_said, LinkAt}
 use Rattle.router_world.proofs.Names.{Entering, Inside, Option, Answered, breaks_off, login_fails, user_of, MayDrop, asks-unrefused, refused-or-sent}
 use Rattle.router_world.proofs.Names.{user-stays, Got, set, Command, Forms, Standing, standing_on, standing_said, Answer, IsEntering, IsInside, is_begun}
-use Rattle.router_world.proofs.Names.{none-if, inr, is_here, IsOpening, bytes_in, spelt, message-stays, in-work, ◌<◌, ◌⊎◌}
+use Rattle.router_world.proofs.Names.{none-if, inr, is_here, spelt, message-stays, in-work, ◌<◌, ◌⊎◌}
 use Rattle.router_world.proofs.Calm.{or-none, Leaves, leaves-other, sent-unrefused, unsent-still, unrefused-more}
 use Rattle.router_world.proofs.Apart.{apart-links, apart-numbers, RowNow, Was, OneRow, Mine, owner-mine, none-mine, none-one, Comes, Came, set-same}
 use Rattle.router_world.proofs.Apart.{put-other, Stays, no-some, set-other, Quiet, Closes, Answers, one-stood}
@@ -26,9 +26,11 @@ use Rattle.server_side.specs.declared.stage.Stage.TheVariants as stage
 
 -- The entry is of a link that was opened for client n, and writes no other client's command; or it is an open, which was for that client where it fails.
 pub data Concerns (service : Service) (log : Log) (n : ℕ) : Entry → Type 0 where
-  OnLink : (e : Entry) (link : LinkId) (turn : Turn) → link_of e ≡ Some link → turn_of service link log ≡ Some turn → turn.client ≡ n → ((k i : ℕ) → nat_eq k n ≡ false → carries k i e ≡ None) → Concerns service log n e
+  OnLink : (e : Entry) (link : LinkId) (turn : Turn) → link_of e ≡ Some link → turn_of service link log ≡ Some turn → turn.client ≡ n →
+      ((k i : ℕ) → nat_eq k n ≡ false → carries k i e ≡ None) → Concerns service log n e
   Opens : (server : ServerId) (address : Address) (link : LinkId) → Concerns service log n (Opened server address link)
-  OpensNone : (server : ServerId) (address : Address) (turn : Turn) → next_turn service log ≡ Some turn → turn.client ≡ n → Concerns service log n (OpenFailed server address)
+  OpensNone : (server : ServerId) (address : Address) (turn : Turn) → next_turn service log ≡ Some turn → turn.client ≡ n → Concerns service log n
+      (OpenFailed server address)
 
 -- a command of another client isn't the one that is refused
 other-turn : (n k i : ℕ) (turn : Turn) → turn.client ≡ n → nat_eq k n ≡ false → is_turn k i turn ≡ false
@@ -49,8 +51,10 @@ module _ {service : Service} {log : Log} where
     writes = λ i. writes k i differs;
     spares = λ i other is. grind (arith, common_steps, other-turn, link-cause, names, refusal-cause);
   }
-  calm-other (Opens server address link) differs = record { writes = λ i. refl; spares = λ i other is. absurd (open-cause server address link (refusal-cause service log (Opened server address link) other is)) }
-  calm-other {n} {k} (OpensNone server address turn next mine) differs = record { writes = λ i. refl; spares = λ i other is. other-turn n k i other (ap (λ (t : Turn). t.client) (some-same other turn (sym is ∙ next)) ∙ mine) differs }
+  calm-other (Opens server address link) differs = record { writes = λ i. refl; spares = λ i other is. absurd
+      (open-cause server address link (refusal-cause service log (Opened server address link) other is)) }
+  calm-other {n} {k} (OpensNone server address turn next mine) differs = record { writes = λ i. refl; spares = λ i other is. other-turn n k i other
+      (ap (λ (t : Turn). t.client) (some-same other turn (sym is ∙ next)) ∙ mine) differs }
 
   -- Links of others are left.
   pub leaves-others : {e : Entry} {n : ℕ} {link : LinkId} (turn : Turn) → Concerns service log n e → Fits log e → IsOpen link log
@@ -62,10 +66,13 @@ module _ {service : Service} {log : Log} where
   pub but-client : {e : Entry} {n : ℕ} {lends : Lends} → AllLawful (IsLawful service) (log ++ e ∷ []) → AllLawful Fits (log ++ e ∷ [])
       → LendsSound service log lends → Concerns service log n e → LendsBut service (log ++ e ∷ []) n lends
   but-client {e} {n} {lends} lawful fits sound concerns = (let last : Fits log e = (lawful-last Fits log e fits).1 in
-      let row : (link : LinkId) (lent : Lent) → lends.links link.0 ≡ Some lent → (turn : Turn) → turn_of service link (log ++ e ∷ []) ≡ Some turn → nat_eq turn.client n ≡ false → RowStands service log lends link lent → RowStands service (log ++ e ∷ []) lends link lent =
-      λ link lent is turn is_turn differs stands. (let same : turn ≡ stands.turn = some-same turn stands.turn (sym is_turn ∙ turn-stays service link log (e ∷ []) stands.turn stands.is_turn) in
+      let row : (link : LinkId) (lent : Lent) → lends.links link.0 ≡ Some lent → (turn : Turn) → turn_of service link (log ++ e ∷ []) ≡ Some turn
+          → nat_eq turn.client n ≡ false → RowStands service log lends link lent → RowStands service (log ++ e ∷ []) lends link lent =
+      λ link lent is turn is_turn differs stands. (let same : turn ≡ stands.turn = some-same turn stands.turn (sym is_turn
+          ∙ turn-stays service link log (e ∷ []) stands.turn stands.is_turn) in
       let other : nat_eq stands.turn.client n ≡ false = ap (λ (t : Turn). nat_eq t.client n) (sym same) ∙ differs in
-      row-calm service log e lends link lent lawful last stands (calm-other concerns other) (leaves-others stands.turn concerns last stands.opened stands.is_turn other)) in
+      row-calm service log e lends link lent lawful last stands (calm-other concerns other)
+          (leaves-others stands.turn concerns last stands.opened stands.is_turn other)) in
       record {
         rows = λ link lent is turn is_turn differs. row link lent is turn is_turn differs (sound.rows link lent is);
         turns = λ link lent is. (let stands = sound.rows link lent is in (stands.turn, turn-stays service link log (e ∷ []) stands.turn stands.is_turn));
@@ -149,7 +156,8 @@ pub answers-one : {service : Service} {log : Log} {n i id : ℕ} {lends other : 
     → other.waiting ≡ [] → (other.closing ≡ []) ⊎ (other.owned n ≡ None)
     → Comes service (log ++ e ∷ []) n lends other (Some (record { client = record { 0 = n }; packets = packets }))
 answers-one {service} {log} {n} {i} {answer = answer} e is busy asked told free unwaiting closes = rw (is ∙ ap (λ k. spelt k answer) asked.first)
-    (Answers i answer asked.message busy (message-stays service n i log (e ∷ []) asked.message (in-work service n log (record { ordinal = i; message = asked.message }) asked.asks.work).0) told free unwaiting closes)
+    (Answers i answer asked.message busy (message-stays service n i log (e ∷ []) asked.message
+        (in-work service n log (record { ordinal = i; message = asked.message }) asked.asks.work).0) told free unwaiting closes)
 
 -- an error of the router's is an answer of one payload
 pub error-spelt : (id : ℕ) (payload : List ℕ) → spelling id payload ≡ spelt id (payload ∷ [])
@@ -166,8 +174,10 @@ InsideAt service link log lent = IsInside service.forms lent.backend.account (he
 -- is written, or some is, or its client has gone.
 pub data HoldsIn (log : Log) (lends : Lends) (link : LinkId) (lent : Lent) (n : ℕ) : Type 0 where
   HoldsNone : lent.owner ≡ Some (record { 0 = n }) → lends.owned n ≡ Some link → lent.backend.command ≡ None → HoldsIn log lends link lent n
-  HoldsUnsent : lent.owner ≡ Some (record { 0 = n }) → lends.owned n ≡ Some link → (c : Handed) → lent.backend.command ≡ Some c → c.sent ≡ 0 → HoldsIn log lends link lent n
-  HoldsBegun : lent.owner ≡ Some (record { 0 = n }) → lends.owned n ≡ Some link → (c : Handed) → lent.backend.command ≡ Some c → 0 < c.sent → HoldsIn log lends link lent n
+  HoldsUnsent : lent.owner ≡ Some (record { 0 = n }) → lends.owned n ≡ Some link → (c : Handed) → lent.backend.command ≡ Some c → c.sent ≡ 0
+      → HoldsIn log lends link lent n
+  HoldsBegun : lent.owner ≡ Some (record { 0 = n }) → lends.owned n ≡ Some link → (c : Handed) → lent.backend.command ≡ Some c → 0 < c.sent
+      → HoldsIn log lends link lent n
   HoldsLeft : lent.owner ≡ None → is_here n log ≡ false → (c : Handed) → lent.backend.command ≡ Some c → 0 < c.sent → HoldsIn log lends link lent n
 
 pub data Held (service : Service) (log : Log) (lends : Lends) (link : LinkId) (lent : Lent) (turn : Turn) : Type 0 where
@@ -176,7 +186,7 @@ pub data Held (service : Service) (log : Log) (lends : Lends) (link : LinkId) (l
   HoldsInside : InsideAt service link log lent → HoldsIn log lends link lent turn.client → Held service log lends link lent turn
 
 pub outside-at : {user : Account} {heard : List ℕ} {pieces : List Command} {backend : BackendState} → IsEntering user heard pieces backend → backend.stage ≢ In
-outside-at {heard} {pieces} {backend} at inside = subst (λ s. IsOpening s backend heard (bytes_in pieces ++ backend.own)) inside at.login.is
+outside-at {heard} {pieces} {backend} at inside = rw inside at at.login.is
 
 pub held : {service : Service} {log : Log} {lends : Lends} {link : LinkId} {lent : Lent} (row : RowStands service log lends link lent)
     → Held service log lends link lent row.turn
@@ -184,7 +194,8 @@ held {service} {log} {lends} {link} {lent} row = by row.at row.owned where
   begins : (c : Handed) → lent.backend.command ≡ Some c → is_begun lent.backend.command ≡ true → 0 < c.sent
   begins c has begun = grind (arith, common_steps)
 
-  sent : (c : Handed) → lent.backend.command ≡ Some c → (k : ℕ) → c.sent ≡ k → Owned service log lends link row.turn.client lent → HoldsIn log lends link lent row.turn.client
+  sent : (c : Handed) → lent.backend.command ≡ Some c → (k : ℕ) → c.sent ≡ k → Owned service log lends link row.turn.client lent
+      → HoldsIn log lends link lent row.turn.client
   sent c has zero none (Own own owns) = HoldsUnsent own owns c has none
   sent c has (suc k) some (Own own owns) = HoldsBegun own owns c has (omega arith)
   sent c has k some (Left none gone begun) = HoldsLeft none gone c has (begins c has begun)
@@ -290,11 +301,13 @@ module _ {service : Service} {log : Log} {e : Entry} {lends : Lends} {link : Lin
   -- what comes of the entry: the other rows are of other clients, and what is new of this one stands
   pub came-of : {other : Lends} {answer : Option Answered} → OneRow service new n link lends other → Comes service new n lends other answer
       → Came service new n lends (record { lends = other; answer = answer })
-  came-of {other} one comes = (let stood = one-stood lent (but-client at.lawful at.fits at.sound (OnLink e link at.row.turn at.names at.row.is_turn refl at.writes)) at.sound.one_closes
+  came-of {other} one comes = (let stood = one-stood lent (but-client at.lawful at.fits at.sound
+      (OnLink e link at.row.turn at.names at.row.is_turn refl at.writes)) at.sound.one_closes
       (λ l is. absurd (none-one lends.closing at.unclosed is)) at.there (row-mine at.row.owned) rows one in
       record { sound = stood.sound; apart = stood.apart; traces = stood.traces; comes = comes }) where
     rows : (l : LinkId) (x : Lent) → nat_eq l.0 link.0 ≡ false → lends.links l.0 ≡ Some x → RowNow service new n lends other l x
-    rows l x apart was = (let second = at.sound.rows l x was in Was was second.turn (turn-stays service l log (e ∷ []) second.turn second.is_turn) (apart-numbers second.turn.client n (λ mine.
+    rows l x apart was = (let second = at.sound.rows l x was in Was was second.turn (turn-stays service l log (e ∷ []) second.turn second.is_turn)
+        (apart-numbers second.turn.client n (λ mine.
         (let same = same-row n (lawful-last Fits log e at.fits).0 (lawful-last (IsLawful service) log e at.lawful).0 second mine at.row refl in
         let no' : true ≡ false = sym (same_number link.0) ∙ ap (λ (k : LinkId). nat_eq k.0 link.0) (sym same) ∙ apart in cc))))
 
@@ -364,12 +377,15 @@ module _ {service : Service} {log : Log} {e : Entry} {lends : Lends} {link : Lin
     later begins = grind (arith, common_steps)
 
     unreplied : replied service n was.ordinal new ≡ None
-    unreplied = command-unreplied service n was.ordinal link new d (refused-or-sent service new at.lawful) stands is was.tag carrier user-later (lost-on link log e at.names at.row.unlost ∙ goes_on)
-        (λ none. unrefused-more service n was.ordinal log e (asks-unrefused service n was.ordinal was.asked.message was.asked.due log was.asked.asks) ((calm none).spares was.ordinal))
+    unreplied = command-unreplied service n was.ordinal link new d (refused-or-sent service new at.lawful) stands is was.tag carrier user-later
+        (lost-on link log e at.names at.row.unlost ∙ goes_on)
+        (λ none. unrefused-more service n was.ordinal log e (asks-unrefused service n was.ordinal was.asked.message was.asked.due log was.asked.asks)
+            ((calm none).spares was.ordinal))
 
   -- The link stays with this row, and maybe the client asks for less.
   pub kept-news : {links : ℕ → Option Lent} {asks : ℕ → Option Ask} {now : Lent} → Puts link now lends links
-      → ((k : ℕ) → nat_eq k n ≡ false → asks k ≡ lends.asks k) → now.owner ≡ lent.owner → RowStands service new (record lends { links = links; asks = asks }) link now
+      → ((k : ℕ) → nat_eq k n ≡ false → asks k ≡ lends.asks k) → now.owner ≡ lent.owner → RowStands service new
+          (record lends { links = links; asks = asks }) link now
       → ((ask : Ask) → asks n ≡ Some ask → AskStands service new n ask) → OneRow service new n link lends (record lends { links = links; asks = asks })
   kept-news {links} {asks} {now} puts others owner row ask = record {
     links = puts.others;
@@ -378,7 +394,8 @@ module _ {service : Service} {log : Log} {e : Entry} {lends : Lends} {link : Lin
     waiting = λ k differs is. is;
     goes = Stays now puts.here row refl;
     ask = ask;
-    owns = λ l is. subst (Owns (record lends { links = links; asks = asks }) n) (sym (own-link is)) (record { lent = now; there = puts.here; owner = owner ∙ owner-here (is ∙ ap Some (own-link is)) });
+    owns = λ l is. subst (Owns (record lends { links = links; asks = asks }) n) (sym (own-link is))
+        (record { lent = now; there = puts.here; owner = owner ∙ owner-here (is ∙ ap Some (own-link is)) });
     one_waits = at.sound.one_waits;
     waits = λ someone is. absurd (none-one lends.waiting at.idle is);
   }
@@ -394,7 +411,8 @@ module _ {service : Service} {log : Log} {e : Entry} {lends : Lends} {link : Lin
   pub alike-came : {links : ℕ → Option Lent} {now : Lent} → Puts link now lends links → IsLike service log e lends link lent now n
       → Came service new n lends (record { lends = record lends { links = links }; answer = None })
   alike-came {links} {now} puts like = came-of (kept-news puts (λ k differs. refl) like.owner row (λ ask is. (like.asked ask is).0))
-      (Quiet (λ i was. (busy like.commands (busy-here was)).0) free (λ gone. record { unasked = gone.unasked; unowned = gone.unowned }) (λ i was. (busy like.commands (busy-here was)).1)) where
+      (Quiet (λ i was. (busy like.commands (busy-here was)).0) free (λ gone. record { unasked = gone.unasked; unowned = gone.unowned }) (λ i was.
+          (busy like.commands (busy-here was)).1)) where
     other : Lends
     other = record lends { links = links }
 
@@ -419,10 +437,11 @@ module _ {service : Service} {log : Log} {e : Entry} {lends : Lends} {link : Lin
         (λ out. (let it = at.row.enters (λ inside. out (like.inside inside)) in record { ask = it.ask; is = it.is; same = it.same })) (owned at.row.owned)
 
     busy : {i : ℕ} → Alike now → BusyHere lends n i link lent → Busy other n i × (replied service n i new ≡ None)
-    busy {i} commands (LogsHere owns ask is same out) = (Logs ask is same link now owns puts.here (like.outside out), subst (λ k. replied service n k new ≡ None) same (like.asked ask is).1)
+    busy {i} commands (LogsHere owns ask is same out) = (Logs ask is same link now owns puts.here (like.outside out), rw same at (like.asked ask is).1)
     busy {i} (NoCommand was none) (OnHere owns unasked c inside has tag) = absurd (no-some was has)
-    busy {i} (OneCommand x d was is same begun stands none) (OnHere owns unasked c inside has tag) = (On unasked link now d owns puts.here (like.inside inside) is tagged,
-        subst (λ k. replied service n k new ≡ None) (same-ordinal n stands.ordinal i d.tag stands.tag tagged) none) where
+    busy {i} (OneCommand x d was is same begun stands none) (OnHere owns unasked c inside has tag) =
+        (On unasked link now d owns puts.here (like.inside inside) is tagged,
+        rw (same-ordinal n stands.ordinal i d.tag stands.tag tagged) at none) where
       tagged : d.tag ≡ For (record { 0 = n }) i
       tagged = same ∙ ap (λ (h : Handed). h.tag) (some-same x c (sym was ∙ has)) ∙ tag
 
@@ -456,7 +475,8 @@ module _ {service : Service} {log : Log} {e : Entry} {lends : Lends} {link : Lin
       → ((k : ℕ) → nat_eq k n ≡ false → owned k ≡ lends.owned k) → owned n ≡ None → ((i : ℕ) → BusyHere lends n i link lent → ⊥)
       → Came service new n lends (record { lends = shut link lends owned lends.asks lends.waiting; answer = None })
   shut-idle may calm theirs unowned idle = came-of
-      (shut-news may (λ k differs. refl) theirs unowned (λ ask is. (ask-later calm ask is).0) at.sound.one_waits (λ someone is. absurd (none-one lends.waiting at.idle is)))
+      (shut-news may (λ k differs. refl) theirs unowned (λ ask is. (ask-later calm ask is).0) at.sound.one_waits (λ someone is. absurd
+          (none-one lends.waiting at.idle is)))
       (Quiet (λ i busy. absurd (idle i (busy-here busy))) (λ free. record { unasked = free.unasked; idle = λ l x owns is. absurd (no-some unowned owns) })
       (λ gone. record { unasked = gone.unasked; unowned = unowned }) (λ i busy. absurd (idle i (busy-here busy))))
 
@@ -464,11 +484,14 @@ module _ {service : Service} {log : Log} {e : Entry} {lends : Lends} {link : Lin
   pub shut-answered : {asks : ℕ → Option Ask} {i id : ℕ} {bytes packets : List ℕ} {answer : Answer}
       → Drops → ((k : ℕ) → nat_eq k n ≡ false → asks k ≡ lends.asks k) → asks n ≡ None
       → packets ≡ spelt id answer → Busy lends n i → IsAsked service n i bytes id log → replied service n i new ≡ Some answer
-      → Came service new n lends (record { lends = shut link lends (set lends.owned n None) asks lends.waiting; answer = Some (record { client = record { 0 = n }; packets = packets }) })
+      → Came service new n lends (record { lends = shut link lends (set lends.owned n None) asks lends.waiting; answer = Some
+          (record { client = record { 0 = n }; packets = packets }) })
   shut-answered may others unasked is busy asked told = came-of
-      (shut-news may others (λ k differs. set-other lends.owned n k None differs) (set-same lends.owned n None) (λ ask is. absurd (no-some unasked is)) at.sound.one_waits
+      (shut-news may others (λ k differs. set-other lends.owned n k None differs)
+          (set-same lends.owned n None) (λ ask is. absurd (no-some unasked is)) at.sound.one_waits
       (λ someone is. absurd (none-one lends.waiting at.idle is)))
-      (answers-one e is busy asked told (record { unasked = unasked; idle = λ l x owns is. absurd (no-some (set-same lends.owned n None) owns) }) at.idle (inr (set-same lends.owned n None)))
+      (answers-one e is busy asked told (record { unasked = unasked; idle = λ l x owns is. absurd (no-some (set-same lends.owned n None) owns) }) at.idle
+          (inr (set-same lends.owned n None)))
 
   -- where the client has gone the link isn't its own
   pub unowned-left : lent.owner ≡ None → lends.owned n ≡ None
@@ -504,4 +527,5 @@ got-at link log bytes unlost at = grind (arith, common_steps, heard-on, pieces-o
 pub got-standing : (forms : Forms) (user : Account) (link : LinkId) (log : Log) (bytes : List ℕ) (standing : Standing) → was_lost link log ≡ false
     → standing_said forms user (heard_of link log ++ bytes) (pieces_of link log) ≡ standing
     → standing_on forms user link (log ++ Got link bytes ∷ []) ≡ standing
-got-standing forms user link log bytes standing unlost is = standing-unlost forms user link (log ++ Got link bytes ∷ []) (lost-on link log (Got link bytes) refl unlost) ∙ said-got (standing_said forms user) link log bytes unlost ∙ is
+got-standing forms user link log bytes standing unlost is = standing-unlost forms user link (log ++ Got link bytes ∷ [])
+    (lost-on link log (Got link bytes) refl unlost) ∙ said-got (standing_said forms user) link log bytes unlost ∙ is

@@ -5,7 +5,7 @@ use Rattle.router_world.proofs.Names.{false, nat_eq, cond, List, [], ◌∷◌, 
 use Rattle.router_world.proofs.Names.{subst, ClientNo, LinkId, Log, same_number, Account, is_begun, Handed, Lent, Lends, set, with_link, without_link, gone}
 use Rattle.router_world.proofs.Names.{was_lost, heard_of, pieces_of, Forms, Enters, Clean, Runs, standing_on, Service, is_here, MayDrop, some-same}
 use Rattle.router_world.proofs.Names.{standing_said, begun, LinkAt, Entering, Inside, is_some, For, command_of, Ask, takes_at, takes_command, commanded}
-use Rattle.router_world.proofs.Names.{queued, offered_at, asked, asked_by}
+use Rattle.router_world.proofs.Names.{queued, asked, asked_by}
 use Rattle.std.proofs.lemmas.Bool.{not-false}
 use Rattle.router_world.proofs.Apart.{set-same, set-other, row-among, MayGo, Went, none-one, one-same, but-one, put-other, begun-inside, kept-row, Stays}
 use Rattle.router_world.proofs.Apart.{Closes, OneRow, owner-mine, Asked, one-stood, still-stood, Stood, no-some, RowGoes}
@@ -24,7 +24,8 @@ packets-size zero id payload fits = omega arith
 packets-size (suc full) id payload fits =
     let one : length (take longest payload) ≡ longest = length-take-le longest payload (omega arith) in
     let left : length (drop longest payload) ≡ length payload - longest = length-drop longest payload in
-    let others : length (packets full (next_id id) (drop longest payload)) ≡ length (drop longest payload) + 4 * (full + 1) = packets-size full (next_id id) (drop longest payload) (omega arith) in
+    let others : length (packets full (next_id id) (drop longest payload)) ≡ length (drop longest payload) + 4 * (full + 1) = packets-size full (next_id id)
+        (drop longest payload) (omega arith) in
     let both = length-append (packet id (take longest payload)) (packets full (next_id id) (drop longest payload)) in
     omega arith
 
@@ -87,8 +88,11 @@ unbegun o none = grind (arith, common_steps, not-begun)
 unbegun-idle : {forms : Forms} {user : Account} (link : LinkId) (log : Log) (lent : Lent) → was_lost link log ≡ false
     → LinkAt forms user (heard_of link log) (pieces_of link log) lent.backend → is_begun lent.backend.command ≡ false
     → standing_on forms user link log ≢ Runs
-unbegun-idle {forms} {user} link log lent unlost (Entering at) none runs = (let no' : Enters ≡ Runs = sym (standing-unlost forms user link log unlost ∙ standing-entering forms user (heard_of link log) (pieces_of link log) lent.backend at) ∙ runs in cc)
-unbegun-idle {forms} {user} link log lent unlost (Inside at) none runs = (let no' : Clean ≡ Runs = sym (standing-unlost forms user link log unlost ∙ standing-clean forms user (heard_of link log) (pieces_of link log) lent.backend at (unbegun lent.backend.command none)) ∙ runs in cc)
+unbegun-idle {forms} {user} link log lent unlost (Entering at) none runs =
+    (let no' : Enters ≡ Runs = sym (standing-unlost forms user link log unlost
+    ∙ standing-entering forms user (heard_of link log) (pieces_of link log) lent.backend at) ∙ runs in cc)
+unbegun-idle {forms} {user} link log lent unlost (Inside at) none runs = (let no' : Clean ≡ Runs = sym (standing-unlost forms user link log unlost
+    ∙ standing-clean forms user (heard_of link log) (pieces_of link log) lent.backend at (unbegun lent.backend.command none)) ∙ runs in cc)
 
 -- the link may be closed
 may-drop : {service : Service} {log : Log} {link : LinkId} (n : ℕ) (lends : Lends) (lent : Lent) (hostgroup : ℕ) → MayGo service log n lends
@@ -108,14 +112,18 @@ left-row : {service : Service} {log : Log} {lends other : Lends} {link : LinkId}
 left-row n row mine away begins = grind (arith, common_steps, row-among, begun-inside)
 
 -- the client's own link
-owner-of : {service : Service} {log : Log} {n : ℕ} {lends : Lends} {link : LinkId} {lent : Lent} → LendsSound service log lends → lends.owned n ≡ Some link → lends.links link.0 ≡ Some lent
+owner-of : {service : Service} {log : Log} {n : ℕ} {lends : Lends} {link : LinkId} {lent : Lent} → LendsSound service log lends → lends.owned n ≡ Some link
+    → lends.links link.0 ≡ Some lent
     → lent.owner ≡ Some (record { 0 = n })
-owner-of {n = n} {link = link} {lent} sound owns there = (let it = sound.owned n link owns in ap (λ (l : Lent). l.owner) (some-same lent it.lent (sym there ∙ it.there)) ∙ it.owner)
+owner-of {n = n} {link = link} {lent} sound owns there = (let it = sound.owned n link owns in ap (λ (l : Lent). l.owner)
+    (some-same lent it.lent (sym there ∙ it.there)) ∙ it.owner)
 
 -- what is done for one client on its link
-own-stood : {service : Service} {log : Log} {n : ℕ} {lends other : Lends} {link : LinkId} {lent : Lent} → LendsSound service log lends → lends.owned n ≡ Some link → lends.links link.0 ≡ Some lent
+own-stood : {service : Service} {log : Log} {n : ℕ} {lends other : Lends} {link : LinkId} {lent : Lent} → LendsSound service log lends
+    → lends.owned n ≡ Some link → lends.links link.0 ≡ Some lent
     → OneRow service log n link lends other → Stood service log n lends other
-own-stood {n = n} {lends = lends} {link = link} {lent} sound owns there one = one-stood lent (but-one sound) sound.one_closes sound.closes there (owner-mine n lent (owner-of sound owns there))
+own-stood {n = n} {lends = lends} {link = link} {lent} sound owns there one = one-stood lent (but-one sound) sound.one_closes sound.closes there
+    (owner-mine n lent (owner-of sound owns there))
     (λ l x differs was. kept-row sound was (λ is. absurd (let same : link ≡ l = some-same link l (sym owns ∙ is) in
     let no' : true ≡ false = sym (same_number link.0) ∙ ap (λ (k : LinkId). nat_eq k.0 link.0) same ∙ differs in cc))) one
 
@@ -132,7 +140,8 @@ gone-sound service log n lends sound closable may = by (lends.owned n) refl wher
   waits : (client : ClientNo) → waiting_but n lends.waiting ≡ client ∷ [] → (Waiting lends client) × (nat_eq client.0 n ≡ false)
   waits client is = (let was = waited n client sound.one_waits is in (sound.waits client was.0, was.1))
 
-  went : (links : ℕ → Option Lent) (closing : List LinkId) → Stood service log n lends (without n lends links closing) → Went service log n lends (without n lends links closing)
+  went : (links : ℕ → Option Lent) (closing : List LinkId) → Stood service log n lends (without n lends links closing) → Went service log n lends
+      (without n lends links closing)
   went links closing stood = grind (arith, common_steps, set-same)
 
   nothing : lends.owned n ≡ None → Went service log n lends (without n lends lends.links lends.closing)
@@ -145,7 +154,8 @@ gone-sound service log n lends sound closable may = by (lends.owned n) refl wher
     closing = refl;
     ask = λ ask is. absurd (no-some (set-same lends.asks n None) is);
     one_waits = one-but n sound.one_waits;
-    waits = λ client is. (let it = waits client is in record { ask = it.0.ask; asks = set-other lends.asks n client.0 None it.1 ∙ it.0.asks; unowned = set-other lends.owned n client.0 None it.1 ∙ it.0.unowned });
+    waits = λ client is. (let it = waits client is in record { ask = it.0.ask; asks = set-other lends.asks n client.0 None it.1
+        ∙ it.0.asks; unowned = set-other lends.owned n client.0 None it.1 ∙ it.0.unowned });
   }))
 
   on : (link : LinkId) (lent : Lent) → lends.owned n ≡ Some link → lends.links link.0 ≡ Some lent
@@ -157,7 +167,8 @@ gone-sound service log n lends sound closable may = by (lends.owned n) refl wher
     mine : row.turn.client ≡ n
     mine = owner-turn service log lends link lent n row.turn.client row.owned (owner-of sound owns there)
 
-    changed : (links : ℕ → Option Lent) (closing : List LinkId) → ((k : ℕ) → nat_eq k link.0 ≡ false → links k ≡ lends.links k) → RowGoes service log link lends (without n lends links closing)
+    changed : (links : ℕ → Option Lent) (closing : List LinkId) → ((k : ℕ) → nat_eq k link.0 ≡ false → links k ≡ lends.links k)
+        → RowGoes service log link lends (without n lends links closing)
         → Went service log n lends (without n lends links closing)
     changed links closing same goes = went links closing (own-stood sound owns there (record {
       links = same;
@@ -168,23 +179,29 @@ gone-sound service log n lends sound closable may = by (lends.owned n) refl wher
       ask = λ ask is. absurd (no-some (set-same lends.asks n None) is);
       owns = λ l is. absurd (no-some (set-same lends.owned n None) is);
       one_waits = one-but n sound.one_waits;
-      waits = λ client is. (let it = waits client is in record { ask = it.0.ask; asks = set-other lends.asks n client.0 None it.1 ∙ it.0.asks; unowned = set-other lends.owned n client.0 None it.1 ∙ it.0.unowned });
+      waits = λ client is. (let it = waits client is in record { ask = it.0.ask; asks = set-other lends.asks n client.0 None it.1
+          ∙ it.0.asks; unowned = set-other lends.owned n client.0 None it.1 ∙ it.0.unowned });
     }))
 
-    begins : (b : Bool) → is_begun lent.backend.command ≡ b → Went service log n lends (left_at b link lent (without_link link (without n lends lends.links lends.closing)))
-    begins true begun_is = (let now : Lent = record lent { owner = None } in changed (set (set lends.links link.0 None) link.0 (Some now)) lends.closing (λ k differs. put-other lends.links link.0 k (Some now) differs)
-        (Stays now (set-same (set lends.links link.0 None) link.0 (Some now)) (left-row n row mine (begun-away service log n lends link lent may owns there begun_is) begun_is) refl))
+    begins : (b : Bool) → is_begun lent.backend.command ≡ b → Went service log n lends
+        (left_at b link lent (without_link link (without n lends lends.links lends.closing)))
+    begins true begun_is = (let now : Lent = record lent { owner = None } in changed
+        (set (set lends.links link.0 None) link.0 (Some now)) lends.closing (λ k differs. put-other lends.links link.0 k (Some now) differs)
+        (Stays now (set-same (set lends.links link.0 None) link.0 (Some now))
+            (left-row n row mine (begun-away service log n lends link lent may owns there begun_is) begun_is) refl))
     begins false begun_is = changed (set lends.links link.0 None) (lends.closing ++ link ∷ []) (λ k differs. set-other lends.links link.0 k None differs)
         (Closes (none-closes link owns) (set-same lends.links link.0 None) (record {
           opened = row.opened;
           unlent = set-same lends.links link.0 None;
           turn = row.turn;
           is_turn = row.is_turn;
-          may = λ user is. subst (λ (u : Account). MayDrop service (record { client = row.turn.client; hostgroup = row.turn.hostgroup }) u link log) (some-same lent.backend.account user (sym row.user ∙ is))
+          may = λ user is. subst (λ (u : Account). MayDrop service (record { client = row.turn.client; hostgroup = row.turn.hostgroup }) u link log)
+              (some-same lent.backend.account user (sym row.user ∙ is))
               (rw mine (may-drop n lends lent row.turn.hostgroup may owns there row.unlost row.at begun_is));
         }) (ap (λ l. l ++ link ∷ []) (none-closes link owns)))
 
-  at : (link : LinkId) → lends.owned n ≡ Some link → (o : Option Lent) → lends.links link.0 ≡ o → Went service log n lends (left_on link o (without_link link (without n lends lends.links lends.closing)))
+  at : (link : LinkId) → lends.owned n ≡ Some link → (o : Option Lent) → lends.links link.0 ≡ o → Went service log n lends
+      (left_on link o (without_link link (without n lends lends.links lends.closing)))
   at link owns None out = absurd (no-some out (sound.owned n link owns).there)
   at link owns (Some lent) there = on link lent owns there
 
@@ -237,9 +254,10 @@ module _ {service : Service} {log : Log} {n : ℕ} {ask : Ask} {lends : Lends} w
         hostgroup = row.hostgroup;
         user = row.user;
         some = row.some;
-        at = Inside (packets-handed (For client ask.ordinal) ask.packets stands.asked.message.payload ask.first (inside-at row.at inside) idle stands.asked.packets stands.asked.short
+        at = Inside (packets-handed (For client ask.ordinal) ask.packets stands.asked.message.payload ask.first
+            (inside-at row.at inside) idle stands.asked.packets stands.asked.short
             (stands.asked.form ∙ sym (form-spelt stands.asked.message stands.asked.begins) ∙ ap form_at (sym stands.asked.packets)));
-        command = λ command is. subst (λ (k : ℕ). HandedStands service log k link command) (sym mine) (subst (HandedStands service log n link) (some-same the command is) handed_stands);
+        command = λ command is. rw mine (subst (HandedStands service log n link) (some-same the command is) handed_stands);
         enters = λ outside. absurd (outside inside);
         owned = Own (owner ∙ ap (λ k. Some (record { 0 = k })) (sym mine)) (ap other.owned mine ∙ owns);
       })
@@ -282,11 +300,11 @@ module _ {service : Service} {log : Log} {n : ℕ} {ask : Ask} {lends : Lends} w
     takes : (lent : Lent) → lent.backend.stage ≡ stage.In → lent.backend.command ≡ None → takes_command lent.backend ≡ true
     takes lent inside none = ap (λ s. takes_at s lent.backend.command) inside ∙ ap (λ c. not (is_some c)) none
 
-    on : (link : LinkId) → lends.owned n ≡ Some link → (o : Option Lent) → lends.links link.0 ≡ o → Asked service log n ask.ordinal lends (asked_on client ask link o (without_link link lends))
+    on : (link : LinkId) → lends.owned n ≡ Some link → (o : Option Lent) → lends.links link.0 ≡ o → Asked service log n ask.ordinal lends
+        (asked_on client ask link o (without_link link lends))
     on link owns None out = absurd (no-some out (sound.owned n link owns).there)
     on link owns (Some lent) there = (let at = free.idle link lent owns there in
-        subst (λ b. Asked service log n ask.ordinal lends (offered_at b client ask link lent (without_link link lends))) (sym (takes lent at.0 at.1))
-        (taken-sound link lent sound idle free.unasked stands owns there at.0 at.1))
+        rw (takes lent at.0 at.1) (taken-sound link lent sound idle free.unasked stands owns there at.0 at.1))
 
     by : (o : Option LinkId) → lends.owned n ≡ o → Asked service log n ask.ordinal lends (asked_by client ask o lends)
     by None unowned = waits-sound sound idle unowned stands

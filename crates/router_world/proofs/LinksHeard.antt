@@ -3,9 +3,9 @@ use Rattle.router_world.proofs.Connecting.{and-true}
 use Rattle.std.proofs.lemmas.Bool.{and_right}
 use Rattle.router_world.proofs.Names.{◌≡◌, ℕ, true, false, not, is_some, cond, List, [], ◌∷◌, ◌++◌, Some, None, refl, Bool, ◌&&◌, nat_eq, length, sym, ◌∙◌}
 use Rattle.router_world.proofs.Names.{ap, subst, append-nil, inl, ClientNo, LinkId, For, Log, Fits, lawful-last, Entry, Got, Account, opening-got}
-use Rattle.router_world.proofs.Names.{BackendState, command_of, Hears, GotFault, got_of, TellsOf, Handed, BackendFault, LoggedIn, Part, bad_server_bytes, Ask}
-use Rattle.router_world.proofs.Names.{Lent, Lends, with_link, without_link, without_ask, takes_at, takes_command, commanded, due_on, heard, was_lost}
-use Rattle.router_world.proofs.Names.{heard_of, has_failed, login_on, breaks_off, Command, pieces_of, carrier_of, Spoilt, Clean, Runs, Service, some-same}
+use Rattle.router_world.proofs.Names.{BackendState, command_of, Hears, GotFault, got_of, Handed, BackendFault, LoggedIn, Part, bad_server_bytes, Ask, Lent}
+use Rattle.router_world.proofs.Names.{Lends, with_link, without_link, without_ask, takes_at, takes_command, commanded, due_on, heard, was_lost, heard_of}
+use Rattle.router_world.proofs.Names.{has_failed, login_on, breaks_off, Command, pieces_of, carrier_of, Spoilt, Clean, Runs, Service, some-same}
 use Rattle.router_world.proofs.Names.{refused-or-sent, carrier-stays, replied, bytes_in, standing_said, reply_said, Entering, Inside, IsInside, IsEntering}
 use Rattle.router_world.proofs.Names.{begun, Owner, is_here, MayDrop, IsSpoilt, HasGone, Standing, standing_on, arith, ◌<◌}
 use Rattle.server_side.specs.Login.{opening}
@@ -32,8 +32,9 @@ use Rattle.server_side.specs.declared.stage.Stage.TheVariants as stage
 -- a login that is there has nothing behind it
 logged-in-alone : {user : Account} {heard : List ℕ} {pieces : List Command} {backend left : BackendState} (piece : List ℕ) → IsEntering user heard pieces backend
     → got_of piece backend ≡ Hears LoggedIn left → has_failed (opening user (heard ++ piece)) ≡ false
-logged-in-alone {user} {heard} {pieces} {backend} {left} piece at is = (let tells = subst (λ (got : Gets). TellsOf got backend (bytes_in pieces) (heard ++ piece)) is (opening-got backend piece heard (bytes_in pieces) at.login) in
-    ap has_failed (ap (λ (u : Account). opening u (heard ++ piece)) (sym (tells.1 ∙ at.account)) ∙ ap (opening left.account) (sym (append-nil (heard ++ piece))) ∙ tells.0.is []))
+logged-in-alone {user} {heard} {pieces} {backend} {left} piece at is = (let tells = rw is at (opening-got backend piece heard (bytes_in pieces) at.login) in
+    ap has_failed (ap (λ (u : Account). opening u (heard ++ piece)) (sym (tells.1 ∙ at.account))
+        ∙ ap (opening left.account) (sym (append-nil (heard ++ piece))) ∙ tells.0.is []))
 
 module _ {service : Service} {log : Log} {bytes : List ℕ} {lends : Lends} {link : LinkId} {lent : Lent} (at : AtRow service log (Got link bytes) lends link lent) (piece : IsPiece bytes) where
   abbrev e : Entry
@@ -69,8 +70,10 @@ module _ {service : Service} {log : Log} {bytes : List ℕ} {lends : Lends} {lin
   standing {standing} is = got-standing service.forms user link log bytes standing at.row.unlost is
 
   -- what comes of the command there is what is said of the link with the bytes
-  reply-said : (i : ℕ) → carrier_of n i log ≡ Some link → replied service n i new ≡ reply_said service.forms n i user (heard_here ++ bytes) pieces (was_lost link new)
-  reply-said i carrier = replied-said service n i link user new (refused-or-sent service new at.lawful) (carrier-stays n i log (e ∷ []) link carrier) (user-later at)
+  reply-said : (i : ℕ) → carrier_of n i log ≡ Some link → replied service n i new ≡ reply_said service.forms n i user (heard_here ++ bytes) pieces
+      (was_lost link new)
+  reply-said i carrier = replied-said service n i link user new (refused-or-sent service new at.lawful) (carrier-stays n i log (e ∷ []) link carrier)
+      (user-later at)
       ∙ said-got (λ h p. reply_said service.forms n i user h p (was_lost link new)) link log bytes at.row.unlost
 
   calm-entering : has_failed (opening user (heard_here ++ bytes)) ≡ false → Calm service log e n
@@ -98,9 +101,11 @@ module _ {service : Service} {log : Log} {bytes : List ℕ} {lends : Lends} {lin
   logs_in : (left : BackendState) → LogsInAt link log lent → got_of bytes lent.backend ≡ Hears LoggedIn left
       → lent.owner ≡ Some client → lends.owned n ≡ Some link → (ask : Ask) → lends.asks n ≡ Some ask
       → Came service new n lends (record { lends = logged_in link (record lent { backend = left }) lent.owner (without_link link lends); answer = None })
-  logs_in left enters is own owns ask asks = simp (own, asks, takes) (came-of at (kept-news at (puts link carrying lends) (λ k differs. set-other lends.asks n k None differs) (sym own)
+  logs_in left enters is own owns ask asks = simp (own, asks, takes) (came-of at
+      (kept-news at (puts link carrying lends) (λ k differs. set-other lends.asks n k None differs) (sym own)
       (handed-row (later ask asks).0 inside.0.stage inside.1 refl owns idle) (λ a is. absurd (no-some unasked is)))
-      (Quiet (λ i was. (busy i (busy-here at was)).0) (λ free. absurd (no-some free.unasked asks)) (λ gone. absurd (no-some gone.unasked asks)) (λ i was. (busy i (busy-here at was)).1))) where
+      (Quiet (λ i was. (busy i (busy-here at was)).0) (λ free. absurd (no-some free.unasked asks)) (λ gone. absurd (no-some gone.unasked asks)) (λ i was.
+          (busy i (busy-here at was)).1))) where
     now : Lent
     now = record { owner = Some client; backend = left }
 
@@ -123,11 +128,13 @@ module _ {service : Service} {log : Log} {bytes : List ℕ} {lends : Lends} {lin
     later = ask-later at (calm-entering (logged-in-alone bytes enters is))
 
     idle : RowStands service new other link now
-    idle = row-later at refl inside.0.account (got-at link log bytes at.row.unlost (Inside inside.0)) (λ c has. absurd (no-some inside.1 has)) (λ out. absurd (out inside.0.stage)) (Own refl owns)
+    idle = row-later at refl inside.0.account (got-at link log bytes at.row.unlost (Inside inside.0)) (λ c has. absurd (no-some inside.1 has)) (λ out. absurd
+        (out inside.0.stage)) (Own refl owns)
 
     busy : (i : ℕ) → BusyHere lends n i link lent → Busy other n i × (replied service n i new ≡ None)
-    busy i (LogsHere _ a is same out) = (On unasked link carrying (command_of (For client ask.ordinal) ask.packets ask.first) owns (puts link carrying lends).here inside.0.stage refl
-        (ap (For client) (ap (λ (a : Ask). a.ordinal) (some-same ask a (sym asks ∙ is)) ∙ same)), subst (λ k. replied service n k new ≡ None) same (later a is).1)
+    busy i (LogsHere _ a is same out) = (On unasked link carrying (command_of (For client ask.ordinal) ask.packets ask.first) owns
+        (puts link carrying lends).here inside.0.stage refl
+        (ap (For client) (ap (λ (a : Ask). a.ordinal) (some-same ask a (sym asks ∙ is)) ∙ same)), rw same at (later a is).1)
     busy i (OnHere _ none c staged has tag) = absurd (outside-at enters staged)
 
   -- a reply goes on
@@ -176,13 +183,16 @@ module _ {service : Service} {log : Log} {bytes : List ℕ} {lends : Lends} {lin
     spoilt unclean = IsSpoilt (standing (rep.spoilt unclean))
 
     finish : lent.owner ≡ Some client → lends.owned n ≡ Some link → (b : Bool) → clean ≡ b
-        → Came service new n lends (record { lends = kept_or_closed b link (record { owner = Some client; backend = without_reply left }) (without_link link lends); answer = Some (record { client = client; packets = left.reply }) })
+        → Came service new n lends (record { lends = kept_or_closed b link (record { owner = Some client; backend = without_reply left })
+            (without_link link lends); answer = Some (record { client = client; packets = left.reply }) })
     finish own owns false unclean = shut-answered at (spoilt unclean) (λ k differs. refl) unasked rep.reply (on owns) stands.asked told
     finish own owns true is_clean = (let now : Lent = record { owner = Some client; backend = without_reply left } in let in_left = rep.inside is_clean in
         came-of at (kept-news at (puts link now lends) (λ k differs. refl) (sym own)
-        (row-later at refl in_left.account (got-at link log bytes at.row.unlost (Inside (reply-moved [] in_left rep.idle))) (λ d has. absurd (no-some rep.idle has)) (λ out. absurd (out in_left.stage)) (Own refl owns))
+        (row-later at refl in_left.account (got-at link log bytes at.row.unlost (Inside (reply-moved [] in_left rep.idle))) (λ d has. absurd
+            (no-some rep.idle has)) (λ out. absurd (out in_left.stage)) (Own refl owns))
         (λ ask is. absurd (no-some unasked is)))
-        (answers-one e rep.reply (on owns) stands.asked told (record { unasked = unasked; idle = own-idle at (puts link now lends) in_left.stage rep.idle }) at.idle (inl at.unclosed)))
+        (answers-one e rep.reply (on owns) stands.asked told (record { unasked = unasked; idle = own-idle at
+            (puts link now lends) in_left.stage rep.idle }) at.idle (inl at.unclosed)))
 
     -- its client has gone
     drops : is_here n log ≡ false → (b : Bool) → clean ≡ b → Drops at
@@ -190,11 +200,14 @@ module _ {service : Service} {log : Log} {bytes : List ℕ} {lends : Lends} {lin
     drops gone true is_clean = HasGone (gone-stays service n user log e (lawful-last Fits log e at.fits).1 at.row.user gone) (λ runs. (let no' : Clean ≡ Runs =
         sym (standing (standing-clean service.forms user (heard_here ++ bytes) pieces left (rep.inside is_clean) (ap begun rep.idle))) ∙ runs in cc))
 
-    by : Held service log lends link lent at.row.turn → Came service new n lends (answers link (due_on lent.backend) (nat_eq used (length bytes)) lent.owner left (without_link link lends))
+    by : Held service log lends link lent at.row.turn → Came service new n lends
+        (answers link (due_on lent.backend) (nat_eq used (length bytes)) lent.owner left (without_link link lends))
     by (HoldsLogin enters own owns ask asks same) = absurd (outside-at enters inside.stage)
     by (HoldsInside _ (HoldsNone own owns none)) = absurd (no-some none rep.is)
-    by (HoldsInside _ (HoldsUnsent own owns d has none)) = (let same : d.sent ≡ c.sent = ap (λ (h : Handed). h.sent) (some-same d c (sym has ∙ rep.is)) in let some : 0 < c.sent = rep.sent in absurd (omega arith))
-    by (HoldsInside _ (HoldsBegun own owns d has some)) = simp (inside.stage, rep.is, id-begun c.sent c.first rep.sent, own, and-true clean) (finish own owns clean refl)
+    by (HoldsInside _ (HoldsUnsent own owns d has none)) = (let same : d.sent ≡ c.sent = ap (λ (h : Handed). h.sent)
+        (some-same d c (sym has ∙ rep.is)) in let some : 0 < c.sent = rep.sent in absurd (omega arith))
+    by (HoldsInside _ (HoldsBegun own owns d has some)) = simp (inside.stage, rep.is, id-begun c.sent c.first rep.sent, own, and-true clean)
+        (finish own owns clean refl)
     by (HoldsInside _ (HoldsLeft none gone d has some)) = simp (inside.stage, rep.is, id-begun c.sent c.first rep.sent, none, and_right clean false refl)
         (shut-idle at (drops gone clean refl) (calm-inside inside) (λ k differs. refl) (unowned-left at none) (left-busy at none))
 
@@ -207,7 +220,8 @@ module _ {service : Service} {log : Log} {bytes : List ℕ} {lends : Lends} {lin
     fails = λ enters. ap (λ b. cond b false (cond (goes_on (login_on user link log)) (breaks_off user link log e) false)) at.row.unlost
         ∙ ap (λ b. cond b (breaks_off user link log e) false) (ap goes_on enters.goes) ∙ (tells-entering enters (GotFault fault) is).0;
     told = λ c i inside has some tag carrier. (let bad = tells-inside inside (GotFault fault) is in
-        reply-said i carrier ∙ bad.told c n i (was_lost link new) has some (command-is n i c.tag tag) ∙ ap (λ f. Some (bad_server_bytes (place_of f) ∷ [])) (sym bad.bad_bytes));
+        reply-said i carrier ∙ bad.told c n i (was_lost link new) has some (command-is n i c.tag tag)
+            ∙ ap (λ f. Some (bad_server_bytes (place_of f) ∷ [])) (sym bad.bad_bytes));
   })
 
   pub heard-came : Came service new n lends (told_by link lent (length bytes) (got_of bytes lent.backend) (without_link link lends))
@@ -228,6 +242,7 @@ module _ {service : Service} {log : Log} {bytes : List ℕ} {lends : Lends} {lin
     inside at_in (Hears (Whole used) left) is = whole left used at_in is
     inside at_in (GotFault fault) is = broken fault is (tells-inside at_in (GotFault fault) is).spoilt
 
-    by : Held service log lends link lent at.row.turn → Came service new n lends (told_by link lent (length bytes) (got_of bytes lent.backend) (without_link link lends))
+    by : Held service log lends link lent at.row.turn → Came service new n lends
+        (told_by link lent (length bytes) (got_of bytes lent.backend) (without_link link lends))
     by (HoldsLogin enters own owns ask asks same) = entering enters own owns ask asks (got_of bytes lent.backend) refl
     by (HoldsInside at_in what) = inside at_in (got_of bytes lent.backend) refl

@@ -20,13 +20,16 @@ use Rattle.server_side.specs.declared.stage.Stage.TheVariants as stage
 -- Of what a link has to write its bytes are, and what is left then.
 pub data LeftIn (backend : BackendState) (l : Sent) : Type 0 where
   OfLogin : l.tag ≡ Own → ((n : ℕ) → (taken n backend).command ≡ backend.command) → LeftIn backend l
-  OfCommand : (command : Handed) → backend.command ≡ Some command → l.tag ≡ command.tag → ((n : ℕ) → (taken n backend).command ≡ Some (record command { sent = command.sent + n })) → LeftIn backend l
+  OfCommand : (command : Handed) → backend.command ≡ Some command → l.tag ≡ command.tag →
+      ((n : ℕ) → (taken n backend).command ≡ Some (record command { sent = command.sent + n })) → LeftIn backend l
 
 pub left-in : {backend : BackendState} {l : Sent} → left backend ≡ Some l → LeftIn backend l
 left-in {backend} {l} is = by backend.own refl is where
-  of-command : backend.own ≡ [] → (command : Handed) → backend.command ≡ Some command → (b : Bool) → cond b (Some (record { tag = command.tag; bytes = drop command.sent command.bytes })) None ≡ Some l → LeftIn backend l
+  of-command : backend.own ≡ [] → (command : Handed) → backend.command ≡ Some command → (b : Bool) → cond b
+      (Some (record { tag = command.tag; bytes = drop command.sent command.bytes })) None ≡ Some l → LeftIn backend l
   of-command none command has false is = absurd (let no' : None ≡ Some l = is in cc)
-  of-command none command has true is = OfCommand command has (ap (λ (x : Sent). x.tag) (sym (some-same (record { tag = command.tag; bytes = drop command.sent command.bytes }) l is)))
+  of-command none command has true is = OfCommand command has (ap (λ (x : Sent). x.tag)
+      (sym (some-same (record { tag = command.tag; bytes = drop command.sent command.bytes }) l is)))
       (λ n. ap (λ own. (taken_by n own backend).command) none ∙ ap (command_taken n) has)
 
   commanded : backend.own ≡ [] → (o : Option Handed) → backend.command ≡ o → command_left o ≡ Some l → LeftIn backend l
@@ -78,7 +81,8 @@ module _ {service : Service} {log : Log} {tag : Tag} {bytes : List ℕ} {lends :
   now = took (length bytes) lent
 
   -- a command of which nothing was written isn't among the pieces
-  fresh : (m i : ℕ) (command : Handed) → lent.backend.command ≡ Some command → command.sent ≡ 0 → is_command m i command.tag ≡ true → list_any (is_of m i) (pieces_of link log) ≡ false
+  fresh : (m i : ℕ) (command : Handed) → lent.backend.command ≡ Some command → command.sent ≡ 0 → is_command m i command.tag ≡ true → list_any (is_of m i)
+      (pieces_of link log) ≡ false
   fresh m i command has none same = (let stands = at.row.command command has in
       let both = and-true (nat_eq m n) (nat_eq i stands.ordinal) (ap (is_command m i) (sym stands.tag) ∙ same) in
       false_from_ne_true (list_any (is_of m i) (pieces_of link log)) (uncarried m i link log (ap (λ k. carrier_of k i log) (nat_eq-true m n both.0)
@@ -118,7 +122,8 @@ module _ {service : Service} {log : Log} {tag : Tag} {bytes : List ℕ} {lends :
   command-like : (c : Handed) → lent.backend.command ≡ Some c → wrote.l.tag ≡ c.tag → now.backend.command ≡ Some (record c { sent = c.sent + length bytes })
       → IsLike service log e lends link lent now n
   command-like c has of goes_on = like (λ ask is. absurd (no-some (wrote.unasked c has) is))
-      (handed-later at c has (c.sent + length bytes) c.tracker goes_on (λ begun. apart-numbers (c.sent + length bytes) 0 (λ none. more none)) refl now-at carrier (λ none. absurd (more none))) where
+      (handed-later at c has (c.sent + length bytes) c.tracker goes_on (λ begun. apart-numbers
+          (c.sent + length bytes) 0 (λ none. more none)) refl now-at carrier (λ none. absurd (more none))) where
     stands : HandedStands service log n link c
     stands = at.row.command c has
 
@@ -137,7 +142,8 @@ module _ {service : Service} {log : Log} {tag : Tag} {bytes : List ℕ} {lends :
     was (suc sent) = refl
 
     carrier : carrier_of n stands.ordinal new ≡ carried_by link (c.sent + length bytes)
-    carrier = carrier-more n stands.ordinal log e ∙ ap (first_some (carrier_of n stands.ordinal log)) here ∙ ap (λ o. first_some o (Some link)) stands.carrier ∙ was c.sent
+    carrier = carrier-more n stands.ordinal log e ∙ ap (first_some (carrier_of n stands.ordinal log)) here ∙ ap (λ o. first_some o (Some link)) stands.carrier
+        ∙ was c.sent
         ∙ sym (some-carried (c.sent + length bytes) more)
 
   pub wrote-came : Came service new n lends (record { lends = taken_on link (length bytes) lends; answer = None })
@@ -155,7 +161,8 @@ pub front-left : {o : Option Sent} {tag : Tag} {bytes : List ℕ} → IsFront o 
 front-left front = grind (arith, common_steps, some-same, front-size)
 
 -- no other client's command is written
-pub wrote-others : {service : Service} {log : Log} {lends : Lends} {link : LinkId} {lent : Lent} {l : Sent} {tag : Tag} (bytes : List ℕ) (row : RowStands service log lends link lent)
+pub wrote-others : {service : Service} {log : Log} {lends : Lends} {link : LinkId} {lent : Lent} {l : Sent} {tag : Tag} (bytes : List ℕ)
+    (row : RowStands service log lends link lent)
     → left lent.backend ≡ Some l → tag ≡ l.tag → (k i : ℕ) → nat_eq k row.turn.client ≡ false → carries k i (Wrote link tag bytes) ≡ None
 wrote-others {link = link} {lent} {l} {tag} bytes row is same k i differs = by (left-in is) where
   by : LeftIn lent.backend l → carries k i (Wrote link tag bytes) ≡ None

@@ -5,13 +5,13 @@ use Rattle.router_world.proofs.Names.{Log, is_link, of_link, open_step, Fits, Al
 use Rattle.router_world.proofs.Names.{OpenFailed, new_backend, In, connection_refused, ServerAt, Ask, Lent, Lends, oldest, with_link, without_ask, opened}
 use Rattle.router_world.proofs.Names.{open_failed, is_loss, Turn, Service, open_tries, next_turn, turn_by, is_turn, refused, reply_to, MayOpen, IsLawful}
 use Rattle.router_world.proofs.Names.{some-same, refused-more, refusal-cause, or-inr, tries-more, turn-stays, user-stays, turn_at, turns, tables_after}
-use Rattle.router_world.proofs.Names.{replied, ◌<◌, lawful-more, IsOpen, step-other, Phase, none-if, Seat, Tables, with_lends, told, true, is_open}
+use Rattle.router_world.proofs.Names.{replied, ◌<◌, lawful-more, IsOpen, step-other, none-if, Seat, Tables, with_lends, told, true, is_open}
 use Rattle.router_world.proofs.Hands.{numbered-seat, away-gone}
 use Rattle.router_world.proofs.Apart.{link-or-other, apart-links, apart-numbers, rows-one, row-now, set-same, set-other, Apart, RowNow, Was, mended, Came}
 use Rattle.router_world.proofs.Apart.{none-one, one-same, no-some}
 use Rattle.router_world.proofs.Connecting.{open-kept, counts-all}
-use Rattle.router_world.proofs.Sound.{Happens, AskStands, Own, RowStands, AtMostOne, Nobody, Owns, LendsSound, Busy, Waits, Logs, On, Covers, Sound, Serves}
-use Rattle.router_world.proofs.Sound.{Known, Servers}
+use Rattle.router_world.proofs.Sound.{Happens, AskStands, Own, RowStands, AtMostOne, Nobody, Owns, LendsSound, Busy, Waits, Logs, On, Covers, Sound, Known}
+use Rattle.router_world.proofs.Sound.{Servers}
 use Rattle.server_side.specs.declared.stage.Stage.TheVariants.{Greeting}
 use Rattle.lend_core.specs.Lends.{others}
 use Rattle.lend_core.specs.Changes.{owns, without_first}
@@ -31,7 +31,9 @@ turn-there : (link : LinkId) (tries : List (Option LinkId)) (turns : List Turn) 
 turn-there link [] [] turn new at = absurd (let no' : None ≡ Some turn = at in cc)
 turn-there link [] (first ∷ turns) turn new at = ap (λ b. cond b (Some first) None) (same_number link.0) ∙ at
 turn-there link (t ∷ tries) [] turn new at = absurd (let no' : None ≡ Some turn = at in cc)
-turn-there link (t ∷ tries) (first ∷ turns) turn new at = (let by : (b : Bool) → (b || list_any (is_link link) tries) ≡ false → (list_any (is_link link) tries ≡ false → turn_by link (tries ++ Some link ∷ []) turns ≡ Some turn) → cond b (Some first) (turn_by link (tries ++ Some link ∷ []) turns) ≡ Some turn =
+turn-there link (t ∷ tries) (first ∷ turns) turn new at = (let by : (b : Bool) → (b || list_any (is_link link) tries) ≡ false
+    → (list_any (is_link link) tries ≡ false → turn_by link (tries ++ Some link ∷ []) turns ≡ Some turn) → cond b (Some first)
+    (turn_by link (tries ++ Some link ∷ []) turns) ≡ Some turn =
     λ b none later. grind (arith, common_steps) in
     by (is_link link t) new (λ none. turn-there link tries turns turn none at))
 
@@ -84,9 +86,11 @@ module _ {service : Service} {log : Log} {e : Entry} {tables : Tables} {at : Ser
   behind links owned asks = record { links = links; owned = owned; asks = asks; waiting = others tables.lends.waiting; closing = tables.lends.closing }
 
   row-was : {other : Lends} (l : LinkId) (x : Lent) → tables.lends.links l.0 ≡ Some x → RowNow service new n tables.lends other l x
-  row-was l x is = (let stands = sound.lends.rows l x is in Was is stands.turn (turn-stays service l log (e ∷ []) stands.turn stands.is_turn) (awaited-others turn may next refl stands))
+  row-was l x is = (let stands = sound.lends.rows l x is in Was is stands.turn (turn-stays service l log (e ∷ []) stands.turn stands.is_turn)
+      (awaited-others turn may next refl stands))
 
-  stands-behind : {links : ℕ → Option Lent} {owned : ℕ → Option LinkId} {asks : ℕ → Option Ask} → Concerns service log n e → Apart n tables.lends (behind links owned asks)
+  stands-behind : {links : ℕ → Option Lent} {owned : ℕ → Option LinkId} {asks : ℕ → Option Ask} → Concerns service log n e → Apart n tables.lends
+      (behind links owned asks)
       → ((l : LinkId) (x : Lent) → links l.0 ≡ Some x → RowNow service new n tables.lends (behind links owned asks) l x)
       → ((a : Ask) → asks n ≡ Some a → AskStands service new n a) → ((l : LinkId) → owned n ≡ Some l → Owns (behind links owned asks) n l)
       → LendsSound service new (behind links owned asks)
@@ -149,11 +153,13 @@ open-failed-step service log server address tables sound on = server-step servic
   refused-now = ap (λ b. cond b (Some (connection_refused ∷ [])) (reply_to service n ask.ordinal (log ++ e ∷ []))) (ap (list_any (is_turn n ask.ordinal))
       (refused-more service log (e ∷ []) ∙ ap (λ o. refused service log ++ cons_option o []) (next sound on may))
       ∙ list_any-append (is_turn n ask.ordinal) (refused service log) (record { client = n; ordinal = ask.ordinal; hostgroup = 0 } ∷ [])
-      ∙ or-inr (list_any (is_turn n ask.ordinal) (refused service log)) _ (ap (λ b. (b && nat_eq ask.ordinal ask.ordinal) || false) (same_number n) ∙ ap (λ b. b || false) (same_number ask.ordinal)))
+      ∙ or-inr (list_any (is_turn n ask.ordinal) (refused service log)) _ (ap (λ b. (b && nat_eq ask.ordinal ask.ordinal) || false) (same_number n)
+          ∙ ap (λ b. b || false) (same_number ask.ordinal)))
 
   came : Came service (log ++ e ∷ []) n tables.lends (open_failed tables.lends)
   came = simp (ap oldest on.for.waits, on.for.waiting.asks) (record {
-    sound = stands-behind sound on may concerns apart (row-was sound on may) (λ a is. absurd (no-some unasked is)) (λ l is. absurd (no-some on.for.waiting.unowned is));
+    sound = stands-behind sound on may concerns apart (row-was sound on may) (λ a is. absurd (no-some unasked is)) (λ l is. absurd
+        (no-some on.for.waiting.unowned is));
     apart = apart;
     traces = record { from = λ link lent is. (lent, is); to = λ link lent is. inl (lent, is); closed = λ link is. inl is; closes = λ link is. is };
     comes = answers-one e (error-spelt ask.first connection_refused) (busy sound on may) (sound.lends.asks n ask on.for.waiting.asks).asked refused-now
@@ -161,7 +167,8 @@ open-failed-step service log server address tables sound on = server-step servic
   })
 
   spares : (seat : Seat) → tables.seats n ≡ Some seat → (i : ℕ) → seat.session.client.arrived < i → Spares service log e n i
-  spares seat is i after turn refuses = (let first : turn.ordinal ≡ ask.ordinal = ap (λ (t : Turn). t.ordinal) (some-same turn _ (sym refuses ∙ next sound on may)) in
+  spares seat is i after turn refuses = (let first : turn.ordinal ≡ ask.ordinal = ap (λ (t : Turn). t.ordinal)
+      (some-same turn _ (sym refuses ∙ next sound on may)) in
       let work = in-work sound on may seat is in let differs : nat_eq i turn.ordinal ≡ false = apart-numbers i turn.ordinal (omega arith) in
       ap (λ b. nat_eq n turn.client && b) differs ∙ and_right (nat_eq n turn.client) false refl)
 
@@ -169,8 +176,7 @@ open-failed-step service log server address tables sound on = server-step servic
 pub opened-step : (service : Service) (log : Log) (server : ServerId) (address : Address) (link : LinkId) (tables : Tables)
     → Sound service log None tables → OnOpen service log (Opened server address link) tables
     → Sound service (log ++ Opened server address link ∷ []) None (with_lends (opened link tables.lends) tables)
-opened-step service log server address link tables sound on = subst (λ (l : Lends). Sound service new None (with_lends l tables)) (sym opened-is)
-    (moved service log e n None tables tables.seats other sound others mine) where
+opened-step service log server address link tables sound on = rw opened-is (moved service log e n None tables tables.seats other sound others mine) where
   e : Entry
   e = Opened server address link
 
@@ -267,7 +273,7 @@ opened-step service log server address link tables sound on = subst (λ (l : Len
   -- its command waits for the login on the link
   busy-now : (i : ℕ) → Busy lends n i → Busy other n i × (replied service n i new ≡ None)
   busy-now i (Waits a is same unowned waits) = (Logs a is same link now owned here (λ inside. (let no' : Greeting ≡ In = inside in cc)),
-      subst (λ k. replied service n k new ≡ None) same (ask-unreplied on.happens.lawful (sound.lends.asks n a is) calm))
+      rw same at (ask-unreplied on.happens.lawful (sound.lends.asks n a is) calm))
   busy-now i (Logs a is same l x owns at stage) = absurd (no-some on.for.waiting.unowned owns)
   busy-now i (On none l x command owns at stage has tag) = absurd (no-some on.for.waiting.unowned owns)
 
@@ -276,8 +282,9 @@ opened-step service log server address link tables sound on = subst (λ (l : Len
     others = λ k apart. refl;
     seat = λ seat is. (let was = sound.seats n seat is in record {
       stands = seat-stays service log e n seat on.happens.lawful was.stands (later-calm service log e n seat.session.client.arrived calm) (seats n seat is)
-          (λ user working. (busy-now seat.session.client.arrived (subst (λ (p : Phase). Serves p lends n seat.session.client.arrived) working was.serves)).1);
-      serves = serves-quiet seat.session.phase lends other n seat.session.client.arrived (λ i busy. (busy-now i busy).0) (λ free. absurd (no-some free.unasked on.for.waiting.asks))
+          (λ user working. (busy-now seat.session.client.arrived (rw working at was.serves)).1);
+      serves = serves-quiet seat.session.phase lends other n seat.session.client.arrived (λ i busy. (busy-now i busy).0) (λ free. absurd
+          (no-some free.unasked on.for.waiting.asks))
           (λ gone. absurd (no-some gone.unasked on.for.waiting.asks)) was.serves;
       unfinished = was.unfinished;
       numbered = was.numbered;
@@ -286,7 +293,8 @@ opened-step service log server address link tables sound on = subst (λ (l : Len
     numbers = λ l seat is at. inr is;
     known = λ l there. link-or-other l link (λ k. IsOpen k new → IsOpen k log ⊎ Known tables.numbers other tables.parting k) (λ opened. inr (Servers now here))
         (λ at opened. inl (sym (step-other open_step false l log e at) ∙ opened)) there;
-    from = λ l x is. link-or-other l link (λ k. other.links k.0 ≡ Some x → ((old : Lent) × (lends.links k.0 ≡ Some old)) ⊎ (tables.numbers k.0 ≡ None)) (λ now_is. inr unnumbered)
+    from = λ l x is. link-or-other l link (λ k. other.links k.0 ≡ Some x → ((old : Lent) × (lends.links k.0 ≡ Some old)) ⊎
+        (tables.numbers k.0 ≡ None)) (λ now_is. inr unnumbered)
         (λ at now_is. inl (x, sym (set-other lends.links link.0 l.0 (Some now) at) ∙ now_is)) is;
     to = λ l x is. inl (x, link-was is ∙ is);
     closed = λ l is. inl is;
@@ -296,4 +304,5 @@ opened-step service log server address link tables sound on = subst (λ (l : Len
   } where
     unnumbered : tables.numbers link.0 ≡ None
     unnumbered = none-if (tables.numbers link.0) (λ client is. (let seat = numbered-seat service log tables link client sound is in
-        let no' : false ≡ true = sym (shut link (ap (λ (l : LinkId). is_open l log) (sym seat.2) ∙ (sound.seats client.0 seat.0 seat.1).stands.opened)) ∙ same_number link.0 in cc))
+        let no' : false ≡ true = sym (shut link (ap (λ (l : LinkId). is_open l log) (sym seat.2) ∙ (sound.seats client.0 seat.0 seat.1).stands.opened))
+            ∙ same_number link.0 in cc))

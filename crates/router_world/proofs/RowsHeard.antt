@@ -5,8 +5,8 @@ use Rattle.router_world.proofs.Names.{and_right, nil_from_length, list_all-appen
 use Rattle.router_world.proofs.Names.{run, renumbered, Account, Goes, LogsIn, Fails, said_of, opening-got, BackendState, Hears, GotFault, got_of, TellsOf}
 use Rattle.router_world.proofs.Names.{Handed, BackendFault, LoggedIn, Part, bad_server_bytes, is_empty, has_failed, Command, is_whole, is_command}
 use Rattle.router_world.proofs.Names.{commands_in, Forms, Answer, spelt, Replies, Never, command_reply, cut, replies_by, Clean, Spoilt, stands, reply_at}
-use Rattle.router_world.proofs.Names.{behind_replies, some-same, bytes_in, standing_said, reply_said, begun_by, begun, IsHanded, IsEntering, HearsPart}
-use Rattle.router_world.proofs.Names.{IsInside, IsPrefix, common_steps}
+use Rattle.router_world.proofs.Names.{behind_replies, some-same, bytes_in, standing_said, reply_said, begun_by, begun, IsHanded, IsEntering, IsInside}
+use Rattle.router_world.proofs.Names.{IsPrefix, common_steps}
 use Rattle.std.proofs.lemmas.Bool.{and_left, and_cases}
 use Rattle.std.proofs.lemmas.List.{length_push}
 use Rattle.server_side.specs.Login.{Opening, opening}
@@ -33,7 +33,9 @@ TellsEntering forms user heard pieces (GotFault fault) = (has_failed (opening us
 spoilt-by : {forms : Forms} {user : Account} {read : List ℕ} {pieces : List Command} {kept : List ℕ} → Stands forms user read pieces [] kept
     → 0 < length kept → standing_said forms user read pieces ≡ Spoilt
 spoilt-by {kept} at some = standing-of at
-    ∙ stands-answered (at.others ++ []) (at.whole ++ []) kept (let one : length (at.others ++ []) ≡ length at.others + 0 = length-append at.others [] in let two : length (at.whole ++ []) ≡ length at.whole + 0 = length-append at.whole [] in let same : length at.whole ≡ length at.others = at.all in omega arith)
+    ∙ stands-answered (at.others ++ []) (at.whole ++ []) kept (let one : length
+        (at.others ++ []) ≡ length at.others + 0 = length-append at.others [] in let two : length
+        (at.whole ++ []) ≡ length at.whole + 0 = length-append at.whole [] in let same : length at.whole ≡ length at.others = at.all in omega arith)
     ∙ ap (λ b. cond b Clean Spoilt) (and_left (is_empty kept) (list_all is_whole (at.others ++ [])) (empty-not kept some))
 
 none-new : {b : Bool} → false ≡ true → b ≡ false
@@ -60,7 +62,8 @@ failed-by : (forms : Forms) (user : Account) (read : List ℕ) (pieces : List Co
     → HasFailed o fault → list_all has_bytes pieces ≡ true → length (bytes_in pieces) ≤ length (said_of o)
     → (has_failed (opening user read) ≡ true) × (standing_said forms user read pieces ≡ Spoilt)
 failed-by forms user read pieces fault (Goes said) is failed some fits = absurd failed
-failed-by forms user read pieces fault (LogsIn said rest) is failed some fits = (ap has_failed is ∙ ap not (empty-not rest failed.0), spoilt-by (first-inside said is some fits) failed.0)
+failed-by forms user read pieces fault (LogsIn said rest) is failed some fits = (ap has_failed is
+    ∙ ap not (empty-not rest failed.0), spoilt-by (first-inside said is some fits) failed.0)
 failed-by forms user read pieces fault (Fails said why) is failed some fits = grind (arith, common_steps, is)
 
 quiet-at : {user : Account} {heard : List ℕ} {pieces : List Command} {backend left : BackendState} (piece : List ℕ)
@@ -75,21 +78,25 @@ heard-entering {user} {heard} {pieces} {backend} forms piece at some = by (got_o
   -- all that was written is of what the router says
   fits : length (bytes_in pieces) ≤ length (said_of (opening user (heard ++ piece)))
   fits = (let more = opening-said user heard piece in
-      let is : (bytes_in pieces ++ backend.own) ++ more.0 ≡ said_of (opening user (heard ++ piece)) = ap (λ (o : Opening). said_of o ++ more.0) (sym at.goes) ∙ more.1 in
-      let one : length ((bytes_in pieces ++ backend.own) ++ more.0) ≡ length (bytes_in pieces ++ backend.own) + length more.0 = length-append (bytes_in pieces ++ backend.own) more.0 in
+      let is : (bytes_in pieces ++ backend.own) ++ more.0 ≡ said_of (opening user (heard ++ piece)) = ap (λ (o : Opening). said_of o ++ more.0) (sym at.goes)
+          ∙ more.1 in
+      let one : length ((bytes_in pieces ++ backend.own) ++ more.0) ≡ length (bytes_in pieces ++ backend.own) + length more.0 = length-append
+          (bytes_in pieces ++ backend.own) more.0 in
       let two : length (bytes_in pieces ++ backend.own) ≡ length (bytes_in pieces) + length backend.own = length-append (bytes_in pieces) backend.own in
       let same : length ((bytes_in pieces ++ backend.own) ++ more.0) ≡ length (said_of (opening user (heard ++ piece))) = ap length is in
       omega arith)
 
   by : (got : Got) → TellsOf got backend (bytes_in pieces) (heard ++ piece) → TellsEntering forms user (heard ++ piece) pieces got
   by (Hears Quiet left) tells = quiet-at piece at tells
-  by (Hears LoggedIn left) tells = (inside-from (first-inside (bytes_in pieces ++ left.own) is some (let sum = length-append (bytes_in pieces) left.own in omega arith)) (ap begun tells.0.idle) (tells.1 ∙ at.account) tells.0.stage (inl refl)
-      (subst (IsHanded forms) (sym tells.0.idle) tt) (λ none. refl) (subst (λ (o : Option Handed). HearsPart o [] left.reply) (sym tells.0.idle) refl), tells.0.idle) where
+  by (Hears LoggedIn left) tells = (inside-from (first-inside (bytes_in pieces ++ left.own) is some
+      (let sum = length-append (bytes_in pieces) left.own in omega arith)) (ap begun tells.0.idle) (tells.1 ∙ at.account) tells.0.stage (inl refl)
+      (subst (IsHanded forms) (sym tells.0.idle) tt) (λ none. refl) (rw tells.0.idle refl), tells.0.idle) where
     is : opening user (heard ++ piece) ≡ LogsIn (bytes_in pieces ++ left.own) []
-    is = ap (λ (u : Account). opening u (heard ++ piece)) (sym (tells.1 ∙ at.account)) ∙ ap (opening left.account) (sym (append-nil (heard ++ piece))) ∙ tells.0.is []
+    is = ap (λ (u : Account). opening u (heard ++ piece)) (sym (tells.1 ∙ at.account)) ∙ ap (opening left.account) (sym (append-nil (heard ++ piece)))
+        ∙ tells.0.is []
   by (Hears (Part used) left) tells = tells
   by (Hears (WholeReply used) left) tells = tells
-  by (GotFault fault) tells = failed-by forms user (heard ++ piece) pieces fault (opening user (heard ++ piece)) refl (subst (λ (u : Account). HasFailed (opening u (heard ++ piece)) fault) at.account tells) some fits
+  by (GotFault fault) tells = failed-by forms user (heard ++ piece) pieces fault (opening user (heard ++ piece)) refl (rw at.account at tells) some fits
 
 -- The reply to the command that is begun is whole: this is what it says, and the link is clean where all of the command was written and the piece
 -- ended with the reply.
@@ -117,7 +124,8 @@ pub record IsGoing (forms : Forms) (user : Account) (heard : List ℕ) (pieces :
 pub record IsBroken (forms : Forms) (user : Account) (heard : List ℕ) (pieces : List Command) (backend : BackendState) (fault : BackendFault) : Type 0 where
   pub place : ℕ
   pub bad_bytes : fault ≡ BadBytes place
-  pub told : (command : Handed) (n i : ℕ) (lost : Bool) → backend.command ≡ Some command → 0 < command.sent → is_command n i command.tag ≡ true → reply_said forms n i user heard pieces lost ≡ Some (bad_server_bytes place ∷ [])
+  pub told : (command : Handed) (n i : ℕ) (lost : Bool) → backend.command ≡ Some command → 0 < command.sent → is_command n i command.tag ≡ true
+      → reply_said forms n i user heard pieces lost ≡ Some (bad_server_bytes place ∷ [])
   pub spoilt : standing_said forms user heard pieces ≡ Spoilt
 
 abbrev pub TellsInside : Forms → Account → (heard : List ℕ) → (pieces : List Command) → BackendState → (size : ℕ) → Got → Type 0
@@ -140,7 +148,7 @@ unasked-at {forms} {user} {heard} {pieces} piece at some none = record {
   bad_bytes = refl;
   told = λ command n i lost is sent here. grind (arith, common_steps, begun-some, is);
   spoilt = spoilt-by
-      (subst (λ last. Stands forms user (heard ++ piece) pieces last (at.part ++ piece)) none (stands-more piece (stands-at at)))
+      (rw none at (stands-more piece (stands-at at)))
       (let sum : length (at.part ++ piece) ≡ length at.part + length piece = length-append at.part piece in omega arith);
 }
 
@@ -167,24 +175,29 @@ module _ {forms : Forms} {user : Account} {heard : List ℕ} {pieces : List Comm
     same : begun (Some (record command { tracker = record { state = state } })) ≡ c ∷ []
     same = begun-some (record command { tracker = record { state = state } }) at.some
 
-    inside : IsInside forms user (heard ++ piece) pieces (record backend { command = Some (record command { tracker = record { state = state } }); reply = backend.reply ++ renumbered command.tracker.state piece })
+    inside : IsInside forms user (heard ++ piece) pieces (record backend { command = Some
+        (record command { tracker = record { state = state } }); reply = backend.reply ++ renumbered command.tracker.state piece })
     inside = (let m = message at in inside-from now same at.inside.account at.inside.stage written-now
-        (record { payload = m.payload; spelt = m.spelt; short = m.short; sent = m.sent; form = m.form }) (λ none. absurd (let no : c ∷ [] ≡ [] = none in cc)) (hearing-more piece state (hearing at) are goes))
+        (record { payload = m.payload; spelt = m.spelt; short = m.short; sent = m.sent; form = m.form }) (λ none. absurd (let no : c ∷ [] ≡ [] = none in cc))
+            (hearing-more piece state (hearing at) are goes))
 
   -- what is said of it and of the link, by what the definition makes of these bytes
-  replies-now : (heard_is : Heard) → command_reply forms c bytes ≡ heard_is → replies_by (command_reply forms) (c ∷ []) bytes ≡ cut heard_is bytes (replies_by (command_reply forms) [])
+  replies-now : (heard_is : Heard) → command_reply forms c bytes ≡ heard_is → replies_by (command_reply forms) (c ∷ []) bytes ≡ cut heard_is bytes
+      (replies_by (command_reply forms) [])
   replies-now heard_is is = ap (λ h. cut h bytes (replies_by (command_reply forms) [])) is
 
   said-now : (r : Replies) → replies_by (command_reply forms) (c ∷ []) bytes ≡ r → (n i : ℕ) (lost : Bool) → is_command n i command.tag ≡ true
       → reply_said forms n i user (heard ++ piece) pieces lost ≡ reply_at (length now.others) (behind_replies now.whole r) lost
   said-now r is n i lost here = reply-of c now n i lost here ∙ ap (λ (r : Replies). reply_at (length now.others) (behind_replies now.whole r) lost) is
 
-  standing-now : (r : Replies) → replies_by (command_reply forms) (c ∷ []) bytes ≡ r → standing_said forms user (heard ++ piece) pieces ≡ stands (now.others ++ c ∷ []) (behind_replies now.whole r)
+  standing-now : (r : Replies) → replies_by (command_reply forms) (c ∷ []) bytes ≡ r → standing_said forms user (heard ++ piece) pieces ≡ stands
+      (now.others ++ c ∷ []) (behind_replies now.whole r)
   standing-now r is = standing-of now ∙ ap (λ (r : Replies). stands (now.others ++ c ∷ []) (behind_replies now.whole r)) is
 
   -- no reply goes on so
   broken-at : (place : ℕ) → command_reply forms c bytes ≡ Never place → IsBroken forms user (heard ++ piece) pieces backend (BadBytes place)
-  broken-at place never = (let last : replies_by (command_reply forms) (c ∷ []) bytes ≡ record { whole = []; rest = bytes; bad = Some place } = replies-now (Never place) never in record {
+  broken-at place never = (let last : replies_by (command_reply forms) (c ∷ []) bytes ≡ record { whole = []; rest = bytes; bad = Some place } = replies-now
+      (Never place) never in record {
     place = place;
     bad_bytes = refl;
     told = λ other n i lost same sent here. said-now _ last n i lost (ap (λ (h : Handed). is_command n i h.tag) (some-same command other (sym at.is ∙ same)) ∙ here)
@@ -193,8 +206,10 @@ module _ {forms : Forms} {user : Account} {heard : List ℕ} {pieces : List Comm
   })
 
   -- the reply is whole
-  replied-at : {reply : Answer} {rest : List ℕ} → IsWholeReply forms command at.inside.part backend.reply piece reply rest → IsReplied forms user (heard ++ piece) pieces backend
-      (record backend { command = None; reply = backend.reply ++ take (length piece - length rest) (renumbered command.tracker.state piece) }) (nat_eq (length piece - length rest) (length piece))
+  replied-at : {reply : Answer} {rest : List ℕ} → IsWholeReply forms command at.inside.part backend.reply piece reply rest → IsReplied forms user
+      (heard ++ piece) pieces backend
+      (record backend { command = None; reply = backend.reply ++ take (length piece - length rest) (renumbered command.tracker.state piece) })
+          (nat_eq (length piece - length rest) (length piece))
   replied-at {reply} {rest} whole = record {
     command = command;
     is = at.is;
@@ -229,32 +244,42 @@ module _ {forms : Forms} {user : Account} {heard : List ℕ} {pieces : List Comm
     }
 
     inside : (nat_eq command.sent (length command.bytes) && nat_eq used (length piece)) ≡ true
-        → IsInside forms user (heard ++ piece) pieces (record backend { command = None; reply = backend.reply ++ take used (renumbered command.tracker.state piece) })
+        → IsInside forms user (heard ++ piece) pieces (record backend { command = None; reply = backend.reply ++ take used
+            (renumbered command.tracker.state piece) })
     inside both = (let parts = and_parts (nat_eq command.sent (length command.bytes)) (nat_eq used (length piece)) both in let shorter = whole.shorter in
         let ended : used ≡ length piece = nat_eq-true used (length piece) parts.1 in
-        inside-from (answered (written-whole at (nat_eq-true command.sent (length command.bytes) parts.0)) (nil_from_length rest (omega arith))) refl at.inside.account at.inside.stage written-now tt (λ none. refl) refl)
+        inside-from (answered (written-whole at (nat_eq-true command.sent (length command.bytes) parts.0))
+            (nil_from_length rest (omega arith))) refl at.inside.account at.inside.stage written-now tt (λ none. refl) refl)
 
     spoilt : (nat_eq command.sent (length command.bytes) && nat_eq used (length piece)) ≡ false → standing_said forms user (heard ++ piece) pieces ≡ Spoilt
     spoilt either = standing-now _ one
-        ∙ stands-answered (now.others ++ c ∷ []) (now.whole ++ reply ∷ []) rest (let a = length_push now.others c in let b = length_push now.whole reply in let same = now.all in omega arith)
+        ∙ stands-answered (now.others ++ c ∷ []) (now.whole ++ reply ∷ []) rest
+            (let a = length_push now.others c in let b = length_push now.whole reply in let same = now.all in omega arith)
         ∙ ap (λ b. cond b Clean Spoilt) (unclean (and_cases (nat_eq command.sent (length command.bytes)) (nat_eq used (length piece)) either)) where
-      unclean : (nat_eq command.sent (length command.bytes) ≡ false) ⊎ (nat_eq used (length piece) ≡ false) → (is_empty rest && list_all is_whole (now.others ++ c ∷ [])) ≡ false
+      unclean : (nat_eq command.sent (length command.bytes) ≡ false) ⊎ (nat_eq used (length piece) ≡ false) →
+          (is_empty rest && list_all is_whole (now.others ++ c ∷ [])) ≡ false
       unclean (inr more) = grind (arith, common_steps, empty-not, nat_eq-false)
       unclean (inl unsent) = and_right (is_empty rest) (list_all is_whole (now.others ++ c ∷ [])) (list_all-append is_whole now.others (c ∷ [])
-          ∙ and_right (list_all is_whole now.others) (is_whole c && true) (and_left (is_whole c) true (written-part at (nat_eq-false command.sent (length command.bytes) unsent))))
+          ∙ and_right (list_all is_whole now.others) (is_whole c && true)
+              (and_left (is_whole c) true (written-part at (nat_eq-false command.sent (length command.bytes) unsent))))
 
 module _ {forms : Forms} {user : Account} {heard piece : List ℕ} {pieces : List Command} {backend : BackendState} where
   -- A piece comes, which isn't empty.
   pub heard-inside : IsInside forms user heard pieces backend → IsPiece piece
       → TellsInside forms user (heard ++ piece) pieces backend (length piece) (got_of piece backend)
-  heard-inside at some = subst (TellsInside forms user (heard ++ piece) pieces backend (length piece)) (sym (got-inside piece at)) (asked backend.command refl) where
+  heard-inside at some = subst (TellsInside forms user (heard ++ piece) pieces backend (length piece)) (sym (got-inside piece at))
+      (asked backend.command refl) where
     read : (command : Handed) → IsBegun forms user heard pieces backend command → (ending : Ending) → run command.tracker.state piece ≡ ending
-        → TellsInside forms user (heard ++ piece) pieces backend (length piece) (reply_by (length piece) (renumbered command.tracker.state piece) command backend ending)
+        → TellsInside forms user (heard ++ piece) pieces backend (length piece)
+            (reply_by (length piece) (renumbered command.tracker.state piece) command backend ending)
     read command begins (Going state) is = part-at piece begins some.are state is
-    read command begins (Ended end rest) is = replied-at piece begins some.are (whole-reply forms piece end rest (message begins).form (hearing begins) some.are is).1
-    read command begins (Failed behind) is = broken-at piece begins some.are (length backend.reply + (length piece - length behind)) (never-reply forms piece behind (message begins).form (hearing begins) is (written command) refl)
+    read command begins (Ended end rest) is = replied-at piece begins some.are
+        (whole-reply forms piece end rest (message begins).form (hearing begins) some.are is).1
+    read command begins (Failed behind) is = broken-at piece begins some.are (length backend.reply + (length piece - length behind))
+        (never-reply forms piece behind (message begins).form (hearing begins) is (written command) refl)
 
-    by-sent : (command : Handed) → backend.command ≡ Some command → (sent : ℕ) → command.sent ≡ sent → TellsInside forms user (heard ++ piece) pieces backend (length piece) (reply_begun sent piece command backend)
+    by-sent : (command : Handed) → backend.command ≡ Some command → (sent : ℕ) → command.sent ≡ sent → TellsInside forms user (heard ++ piece) pieces backend
+        (length piece) (reply_begun sent piece command backend)
     by-sent command is zero none = unasked-at piece at some.some (ap begun is ∙ ap (λ sent. begun_by sent command) none)
     by-sent command is (suc sent) more = read command (record { inside = at; is = is; some = omega arith }) (run command.tracker.state piece) refl
 

@@ -41,7 +41,8 @@ no-bytes : AreBytes []
 no-bytes i = lit< tt
 
 -- A link on which a session runs, after what was handed to it, written of it or moved out.
-inside-after : {forms : Forms} {user : Account} {heard : List ℕ} {pieces now : List Command} {backend : BackendState} (own reply : List ℕ) (command_now : Option Handed) (at : IsInside forms user heard pieces backend)
+inside-after : {forms : Forms} {user : Account} {heard : List ℕ} {pieces now : List Command} {backend : BackendState} (own reply : List ℕ)
+    (command_now : Option Handed) (at : IsInside forms user heard pieces backend)
     → (bytes_in now ++ own ≡ at.said) ⊎ ((own ≡ []) × IsPrefix at.said (bytes_in now))
     → commands_in (behind (length at.said) now) ≡ at.others ++ begun command_now → IsHanded forms command_now
     → ((n i : ℕ) → list_any (is_of n i) (begun command_now) ≡ true → list_any (is_of n i) at.others ≡ false) → (begun command_now ≡ [] → at.part ≡ [])
@@ -49,7 +50,8 @@ inside-after : {forms : Forms} {user : Account} {heard : List ℕ} {pieces now :
 inside-after own reply command_now at written commands is_message new unasked partly = grind (arith, common_steps)
 
 -- The packets of a message are handed to a link that has no command.
-pub packets-handed : {forms : Forms} {user : Account} {heard : List ℕ} {pieces : List Command} {backend : BackendState} (tag : Tag) (packets payload : List ℕ) (first : ℕ)
+pub packets-handed : {forms : Forms} {user : Account} {heard : List ℕ} {pieces : List Command} {backend : BackendState} (tag : Tag) (packets payload : List ℕ)
+    (first : ℕ)
     → IsInside forms user heard pieces backend → backend.command ≡ None → packets ≡ spelling 0 payload → length payload ≤ most_command
     → forms tag ≡ form_at packets → IsInside forms user heard pieces (handed tag packets first backend)
 packets-handed tag packets payload first at none spelt short form = grind (arith, common_steps, inside-after, no-bytes)
@@ -66,18 +68,22 @@ begun-some command = grind (arith, common_steps)
 
 -- More of it is written.
 begun-more : {forms : Forms} {command : Handed} (n : ℕ) → IsMessage forms command → 0 < n → n ≤ length (drop command.sent command.bytes)
-    → with_piece (begun (Some command)) (record { tag = command.tag; bytes = take n (drop command.sent command.bytes) }) ≡ record { tag = command.tag; bytes = take (command.sent + n) command.bytes } ∷ []
+    → with_piece (begun (Some command)) (record { tag = command.tag; bytes = take n
+        (drop command.sent command.bytes) }) ≡ record { tag = command.tag; bytes = take (command.sent + n) command.bytes } ∷ []
 begun-more {command} n message some fits = by command.sent fits where
   by : (sent : ℕ) → n ≤ length (drop sent command.bytes)
-      → with_piece (begun_by sent command) (record { tag = command.tag; bytes = take n (drop sent command.bytes) }) ≡ record { tag = command.tag; bytes = take (sent + n) command.bytes } ∷ []
+      → with_piece (begun_by sent command) (record { tag = command.tag; bytes = take n (drop sent command.bytes) }) ≡ record { tag = command.tag; bytes = take
+          (sent + n) command.bytes } ∷ []
   by zero fits = (let same : n ≡ 0 + n = omega arith in ap (λ k. record { tag = command.tag; bytes = take k command.bytes } ∷ []) same)
   by (suc sent) fits = with-piece-on command.tag (take (suc sent) command.bytes) (take n (drop (suc sent) command.bytes))
-      (part-spelt message.payload (take (suc sent) command.bytes) (drop (suc sent) command.bytes) (take-append-drop (suc sent) command.bytes ∙ message.spelt) (omega arith) message.short)
+      (part-spelt message.payload (take (suc sent) command.bytes) (drop (suc sent) command.bytes) (take-append-drop (suc sent) command.bytes ∙ message.spelt)
+          (omega arith) message.short)
       ∙ ap (λ bytes. record { tag = command.tag; bytes = bytes } ∷ []) (sym (take-add (suc sent) n command.bytes))
 
 -- No command of which no byte was written is among the pieces.
 abbrev pub IsFresh : Option Handed → List Command → Type 0
-IsFresh handed pieces = (n i : ℕ) (command : Handed) → handed ≡ Some command → command.sent ≡ 0 → is_command n i command.tag ≡ true → list_any (is_of n i) pieces ≡ false
+IsFresh handed pieces = (n i : ℕ) (command : Handed) → handed ≡ Some command → command.sent ≡ 0 → is_command n i command.tag ≡ true → list_any
+    (is_of n i) pieces ≡ false
 
 -- The bytes of a login that are written and those that are left are the same.
 same-said : (pieces : List Command) (tag : Tag) (n : ℕ) (own : List ℕ)
@@ -111,13 +117,15 @@ module _ {user : Account} {heard : List ℕ} {pieces : List Command} {backend : 
       let longer : length at.said ≡ length (bytes_in pieces) + length backend.own = said-longer at (omega arith) in
       let commands : commands_in (behind (length at.said) (pieces ++ piece ∷ [])) ≡ at.others ++ begun backend.command =
       (let sum = longer in let size : length (take n backend.own) ≡ n = length-take-le n backend.own fits in
-      ap commands_in (behind-past (length at.said) pieces (piece ∷ []) (omega arith) ∙ behind-one (length at.said - length (bytes_in pieces)) piece (omega arith) (omega arith))
+      ap commands_in (behind-past (length at.said) pieces (piece ∷ []) (omega arith)
+          ∙ behind-one (length at.said - length (bytes_in pieces)) piece (omega arith) (omega arith))
       ∙ none-behind at (omega arith)) in
       inside-after (drop n backend.own) backend.reply backend.command at
       (inl (same-said pieces Own n backend.own ∙ own-left at (omega arith))) commands at.command at.new at.unasked at.partly)
 
 -- all that the router says in a login was written
-pub said-written : (forms : Forms) (user : Account) (heard : List ℕ) (pieces : List Command) (backend : BackendState) (at : IsInside forms user heard pieces backend)
+pub said-written : (forms : Forms) (user : Account) (heard : List ℕ) (pieces : List Command) (backend : BackendState)
+    (at : IsInside forms user heard pieces backend)
     → backend.own ≡ [] → IsPrefix at.said (bytes_in pieces)
 said-written forms user heard pieces backend at none = grind (arith, common_steps, append-nil)
 
@@ -131,12 +139,15 @@ prefix-more {front} more at same = grind (arith, common_steps)
 command-taken : {forms : Forms} {user : Account} {heard : List ℕ} {pieces : List Command} {backend : BackendState} (command : Handed) (n : ℕ)
     → IsInside forms user heard pieces backend → backend.own ≡ [] → backend.command ≡ Some command → 0 < n
     → n ≤ length (drop command.sent command.bytes) → IsFresh backend.command pieces
-    → IsInside forms user heard (pieces ++ record { tag = command.tag; bytes = take n (drop command.sent command.bytes) } ∷ []) (record backend { command = Some (record command { sent = command.sent + n }) })
-command-taken {forms} {user} {heard} {pieces} {backend} command n at none is some fits fresh = inside-after backend.own backend.reply (Some (record command { sent = command.sent + n })) at
+    → IsInside forms user heard (pieces ++ record { tag = command.tag; bytes = take n (drop command.sent command.bytes) } ∷ [])
+        (record backend { command = Some (record command { sent = command.sent + n }) })
+command-taken {forms} {user} {heard} {pieces} {backend} command n at none is some fits fresh = inside-after backend.own backend.reply
+    (Some (record command { sent = command.sent + n })) at
     (inr (none, prefix-more piece.bytes (said-written forms user heard pieces backend at none) (bytes-more pieces piece))) commands
-    (record { payload = message.payload; spelt = message.spelt; short = message.short; sent = (let left : length (drop command.sent command.bytes) ≡ length command.bytes - command.sent = length-drop command.sent command.bytes in omega arith); form = message.form }) new
+    (record { payload = message.payload; spelt = message.spelt; short = message.short; sent =
+        (let left : length (drop command.sent command.bytes) ≡ length command.bytes - command.sent = length-drop command.sent command.bytes in omega arith); form = message.form }) new
     (λ no. absurd (let some_is : record { tag = command.tag; bytes = take (command.sent + n) command.bytes } ∷ [] ≡ [] = sym now ∙ no in cc))
-    (let hears : IsHearing command at.part backend.reply = subst (λ (o : Option Handed). HearsPart o at.part backend.reply) is at.partly in record { goes = hears.goes; made = hears.made; are = hears.are }) where
+    (let hears : IsHearing command at.part backend.reply = rw is at at.partly in record { goes = hears.goes; made = hears.made; are = hears.are }) where
       piece : Command
       piece = record { tag = command.tag; bytes = take n (drop command.sent command.bytes) }
 
@@ -162,8 +173,10 @@ command-taken {forms} {user} {heard} {pieces} {backend} command n at none is som
         by : (sent : ℕ) → command.sent ≡ sent → list_any (is_of m i) at.others ≡ false
         by zero unsent = (let or-nothing : (b : Bool) → (b || false) ≡ b = λ b. grind (arith, common_steps) in
             (let out = of-commands m i (length at.said) pieces (fresh m i command is unsent (sym (or-nothing (is_command m i command.tag)) ∙ here)) in
-            (or_parts (list_any (is_of m i) at.others) (list_any (is_of m i) (begun backend.command)) (sym (list_any-append (is_of m i) at.others (begun backend.command)) ∙ sym (ap (list_any (is_of m i)) at.commands) ∙ out)).0))
-        by (suc sent) was = at.new m i (ap (λ (o : Option Handed). list_any (is_of m i) (begun o)) is ∙ ap (list_any (is_of m i)) (begun-some command (omega arith)) ∙ here)
+            (or_parts (list_any (is_of m i) at.others) (list_any (is_of m i) (begun backend.command))
+                (sym (list_any-append (is_of m i) at.others (begun backend.command)) ∙ sym (ap (list_any (is_of m i)) at.commands) ∙ out)).0))
+        by (suc sent) was = at.new m i (ap (λ (o : Option Handed). list_any (is_of m i) (begun o)) is
+            ∙ ap (list_any (is_of m i)) (begun-some command (omega arith)) ∙ here)
 
 -- So many bytes of what is left are written, with its tag.
 pub taken-at : {forms : Forms} {user : Account} {heard : List ℕ} {pieces : List Command} {backend : BackendState} (l : Sent) (n : ℕ)
@@ -174,7 +187,8 @@ taken-at l n h7 is some fits fresh = grind (arith, common_steps, some-same, ente
 -- What was written of a login, with any part of what is left, is the front of what the router says in it.
 part-said : {said : List ℕ} (pieces : List Command) (own : List ℕ) (k : ℕ) → bytes_in pieces ++ own ≡ said
     → IsPrefix (bytes_in pieces ++ take k own) said
-part-said pieces own k is = record { rest = drop k own; is = append_assoc (bytes_in pieces) (take k own) (drop k own) ∙ ap (λ xs. bytes_in pieces ++ xs) (take-append-drop k own) ∙ is }
+part-said pieces own k is = record { rest = drop k own; is = append_assoc (bytes_in pieces) (take k own) (drop k own)
+    ∙ ap (λ xs. bytes_in pieces ++ xs) (take-append-drop k own) ∙ is }
 
 pub said-entering : {user : Account} {heard : List ℕ} {pieces : List Command} {backend : BackendState} (k : ℕ) → IsEntering user heard pieces backend
     → IsPrefix (bytes_in pieces ++ take k backend.own) (said_of (opening user heard))
@@ -262,8 +276,10 @@ whole-reply {command} {part} {kept} forms piece end rest form hears are is = (le
     omega (arith, short)) in (
       reply,
       record {
-        said = λ c same. heard-formed forms command c bytes form same ∙ ap (heard_by id bytes) (same-ended (run start bytes) (replied kind id bytes) end rest (same-end kind id command.first id bytes) ends);
-        handed = sym (take-append-add kept made used) ∙ ap (λ l. take (length kept + used) l) both ∙ ap (λ n. take n (spelt command.first reply ++ rest)) size ∙ take-append_seam (spelt command.first reply) rest;
+        said = λ c same. heard-formed forms command c bytes form same ∙ ap (heard_by id bytes)
+            (same-ended (run start bytes) (replied kind id bytes) end rest (same-end kind id command.first id bytes) ends);
+        handed = sym (take-append-add kept made used) ∙ ap (λ l. take (length kept + used) l) both ∙ ap (λ n. take n (spelt command.first reply ++ rest)) size
+            ∙ take-append_seam (spelt command.first reply) rest;
         shorter = short;
       },
     ))
@@ -280,7 +296,8 @@ never-reply {command} {part} {kept} forms piece behind form hears is c same = (l
     let c : length behind ≤ length piece = (failed-shorter command.tracker.state piece behind is).1 in
     omega arith) in
     heard-formed forms command c bytes form same
-    ∙ ap (heard_by (id_after command.bytes) bytes) (same-failed (run start bytes) (replied (kind_to command.bytes) (id_after command.bytes) bytes) behind (same-end (kind_to command.bytes) (id_after command.bytes) command.first (id_after command.bytes) bytes) (ends-as piece hears ∙ is))
+    ∙ ap (heard_by (id_after command.bytes) bytes) (same-failed (run start bytes) (replied (kind_to command.bytes) (id_after command.bytes) bytes) behind
+        (same-end (kind_to command.bytes) (id_after command.bytes) command.first (id_after command.bytes) bytes) (ends-as piece hears ∙ is))
     ∙ ap Never place)
 
 -- What is said of a link on which commands are whole and answered, and maybe one more is begun.
@@ -331,7 +348,8 @@ module _ {forms : Forms} {user : Account} {read : List ℕ} {pieces : List Comma
 
   pub replies-of : {last : List Command} (at : Stands forms user read pieces last kept)
       → replies_said forms user read pieces ≡ behind_replies at.whole (replies_by (command_reply forms) last kept)
-  replies-of {last} at = (λ j. replies_by (command_reply forms) (commands-of at j) (rest_of (at.is j))) ∙ replies-both forms at.others last at.past kept at.whole at.replies at.all
+  replies-of {last} at = (λ j. replies_by (command_reply forms) (commands-of at j) (rest_of (at.is j)))
+      ∙ replies-both forms at.others last at.past kept at.whole at.replies at.all
 
   pub standing-of : {last : List Command} (at : Stands forms user read pieces last kept)
       → standing_said forms user read pieces ≡ stands (at.others ++ last) (behind_replies at.whole (replies_by (command_reply forms) last kept))
@@ -342,12 +360,14 @@ module _ {forms : Forms} {user : Account} {read : List ℕ} {pieces : List Comma
       → reply_said forms n i user read pieces lost ≡ reply_at (length at.others) (behind_replies at.whole (replies_by (command_reply forms) (c ∷ []) kept)) lost
   reply-of c at n i lost is = (let zero-plus : 0 + length at.others ≡ length at.others = omega arith in
       ap (λ cs. option_and_then (λ place. reply_at place (replies_said forms user read pieces) lost) (place_in n i 0 cs)) (commands-of at)
-      ∙ ap (option_and_then (λ place. reply_at place (replies_said forms user read pieces) lost)) (place-last n i 0 at.others c (at.new n i (or_left (is_command n i c.tag) false is)) is)
+      ∙ ap (option_and_then (λ place. reply_at place (replies_said forms user read pieces) lost))
+          (place-last n i 0 at.others c (at.new n i (or_left (is_command n i c.tag) false is)) is)
       ∙ ap (λ place. reply_at place (replies_said forms user read pieces) lost) zero-plus
       ∙ ap (λ (r : Replies). reply_at (length at.others) r lost) (replies-of at))
 
 pub at-last : (whole : List Answer) (reply : Answer) (place : ℕ) → length whole ≡ place → slice_get (whole ++ reply ∷ []) place ≡ Some reply
-at-last whole reply place same = slice_get_read (whole ++ reply ∷ []) (length (whole ++ reply ∷ [])) place reply refl (let sum : length (whole ++ reply ∷ []) ≡ length whole + 1 = length-append whole (reply ∷ []) in omega arith) (sym (get_or_push whole reply reply place same))
+at-last whole reply place same = slice_get_read (whole ++ reply ∷ []) (length (whole ++ reply ∷ [])) place reply refl
+    (let sum : length (whole ++ reply ∷ []) ≡ length whole + 1 = length-append whole (reply ∷ []) in omega arith) (sym (get_or_push whole reply reply place same))
 
 not-there : (whole : List Answer) (place : ℕ) → length whole ≡ place → slice_get (whole ++ []) place ≡ None
 not-there whole place same = slice_get_past (whole ++ []) place (let sum : length (whole ++ []) ≡ length whole + 0 = length-append whole [] in omega arith)
@@ -388,7 +408,8 @@ pub standing-entering : (forms : Forms) (user : Account) (heard : List ℕ) (pie
 standing-entering forms user heard pieces backend at = grind (arith, common_steps)
 
 -- Inside the commands are the others and the one that is begun.
-pub commands-inside : (forms : Forms) (user : Account) (heard : List ℕ) (pieces : List Command) (backend : BackendState) (at : IsInside forms user heard pieces backend)
+pub commands-inside : (forms : Forms) (user : Account) (heard : List ℕ) (pieces : List Command) (backend : BackendState)
+    (at : IsInside forms user heard pieces backend)
     → commands_said user heard pieces ≡ at.others ++ begun backend.command
 commands-inside forms user heard pieces backend at = ap (λ (o : Opening). commands_behind o pieces) at.is ∙ at.commands
 
@@ -407,8 +428,10 @@ hears-partly {command} {part} forms c form same hears = heard-formed forms comma
 
   by : (ending : Ending) → replied kind id part ≡ ending → heard_by id part ending ≡ Partly
   by (Going state) is = refl
-  by (Ended end rest) is = absurd (subst (λ (e : Ending). SameEnd (Going command.tracker.state) e) is (subst (λ (e : Ending). SameEnd e (replied kind id part)) hears.goes first))
-  by (Failed behind) is = absurd (subst (λ (e : Ending). SameEnd (Going command.tracker.state) e) is (subst (λ (e : Ending). SameEnd e (replied kind id part)) hears.goes first))
+  by (Ended end rest) is = absurd (subst (λ (e : Ending). SameEnd (Going command.tracker.state) e) is
+      (subst (λ (e : Ending). SameEnd e (replied kind id part)) hears.goes first))
+  by (Failed behind) is = absurd (subst (λ (e : Ending). SameEnd (Going command.tracker.state) e) is
+      (subst (λ (e : Ending). SameEnd e (replied kind id part)) hears.goes first))
 
 -- a command of which a byte was written
 pub record IsBegun (forms : Forms) (user : Account) (heard : List ℕ) (pieces : List Command) (backend : BackendState) (command : Handed) : Type 0 where
@@ -441,16 +464,19 @@ module _ {forms : Forms} {user : Account} {heard : List ℕ} {pieces : List Comm
       ∙ stands-open begun-at.others (written command) begun-at.whole at.inside.part begun-at.all
 
   -- it has no reply, or the error in its place
-  pub unanswered-at : (n i : ℕ) (lost : Bool) → is_command n i command.tag ≡ true → reply_said forms n i user heard pieces lost ≡ cond lost (Some (connection_lost ∷ [])) None
+  pub unanswered-at : (n i : ℕ) (lost : Bool) → is_command n i command.tag ≡ true → reply_said forms n i user heard pieces lost ≡ cond lost
+      (Some (connection_lost ∷ [])) None
   unanswered-at n i lost here = reply-of (written command) begun-at n i lost here
-      ∙ ap (λ (r : Replies). reply_at (length begun-at.others) (behind_replies begun-at.whole r) lost) partly-by ∙ reply-open begun-at.whole at.inside.part None (length begun-at.others) lost begun-at.all
+      ∙ ap (λ (r : Replies). reply_at (length begun-at.others) (behind_replies begun-at.whole r) lost) partly-by
+          ∙ reply-open begun-at.whole at.inside.part None (length begun-at.others) lost begun-at.all
 
   -- it is whole, or a part of one, as far as it was written
   pub written-whole : command.sent ≡ length command.bytes → is_whole (written command) ≡ true
   written-whole all = grind (arith, common_steps, whole-spelt)
 
   pub written-part : command.sent ≢ length command.bytes → is_whole (written command) ≡ false
-  written-part less = part-spelt message.payload (take command.sent command.bytes) (drop command.sent command.bytes) (take-append-drop command.sent command.bytes ∙ message.spelt)
+  written-part less = part-spelt message.payload (take command.sent command.bytes) (drop command.sent command.bytes)
+      (take-append-drop command.sent command.bytes ∙ message.spelt)
       (let size : length (drop command.sent command.bytes) ≡ length command.bytes - command.sent = length-drop command.sent command.bytes in let most = message.sent in omega arith) message.short
 
 -- no command, or nothing of it was written
@@ -469,7 +495,8 @@ pub standing-runs : (forms : Forms) (user : Account) (heard : List ℕ) (pieces 
     → standing_said forms user heard pieces ≡ Runs
 standing-runs forms user heard pieces backend command at is all = standing-begun begins ∙ ap (λ b. cond b Runs Sends) (written-whole begins all) where
   begins : IsBegun forms user heard pieces backend command
-  begins = record { inside = at; is = is; some = (let message : IsMessage forms command = subst (IsHanded forms) is at.command in let some : 0 < length (spelling 0 message.payload) = spelling-some 0 message.payload in
+  begins = record { inside = at; is = is; some = (let message : IsMessage forms command = subst (IsHanded forms) is at.command in let some : 0 < length
+      (spelling 0 message.payload) = spelling-some 0 message.payload in
       let size : length command.bytes ≡ length (spelling 0 message.payload) = ap length message.spelt in omega arith) }
 
 -- So it stands as the command does.
@@ -480,10 +507,13 @@ standing_by (Some command) = if nat_eq command.sent 0 then Clean else if nat_eq 
 pub standing-inside : (forms : Forms) (user : Account) (heard : List ℕ) (pieces : List Command) (backend : BackendState)
     → IsInside forms user heard pieces backend → standing_said forms user heard pieces ≡ standing_by backend.command
 standing-inside forms user heard pieces backend at = by backend.command refl where
-  sent : (command : Handed) → backend.command ≡ Some command → (none all : Bool) → nat_eq command.sent 0 ≡ none → nat_eq command.sent (length command.bytes) ≡ all → standing_said forms user heard pieces ≡ (if none then Clean else if all then Runs else Sends)
-  sent command is true all unsent is_all = standing-clean forms user heard pieces backend at (ap begun is ∙ ap (λ sent. begun_by sent command) (nat_eq-true command.sent 0 unsent))
+  sent : (command : Handed) → backend.command ≡ Some command → (none all : Bool) → nat_eq command.sent 0 ≡ none → nat_eq command.sent
+      (length command.bytes) ≡ all → standing_said forms user heard pieces ≡ (if none then Clean else if all then Runs else Sends)
+  sent command is true all unsent is_all = standing-clean forms user heard pieces backend at (ap begun is
+      ∙ ap (λ sent. begun_by sent command) (nat_eq-true command.sent 0 unsent))
   sent command is false true some is_all = standing-runs forms user heard pieces backend command at is (nat_eq-true command.sent (length command.bytes) is_all)
-  sent command is false false some part = (let message : IsMessage forms command = subst (IsHanded forms) is at.command in let most : command.sent ≤ length command.bytes = message.sent in
+  sent command is false false some part = (let message : IsMessage forms command = subst
+      (IsHanded forms) is at.command in let most : command.sent ≤ length command.bytes = message.sent in
       let one : command.sent ≢ 0 = nat_eq-false command.sent 0 some in
       let two : command.sent ≢ length command.bytes = nat_eq-false command.sent (length command.bytes) part in
       standing-sends forms user heard pieces backend command (record { inside = at; is = is; some = omega arith }) (omega arith))

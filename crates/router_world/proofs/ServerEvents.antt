@@ -1,10 +1,10 @@
 -- What comes of bytes on a link to a server, and of its loss.
-use Rattle.router_world.proofs.Names.{common_steps, ◌≡◌, ℕ, true, false, cond, List, [], ◌∷◌, ◌++◌, Option, Some, None, refl, sym, ◌∙◌, ap, subst, AreBytes}
-use Rattle.router_world.proofs.Names.{LinkId, Log, Fits, Entry, Got, Wrote, Account, Lent, Lends, heard, lost, is_loss, was_lost, heard_of, login_on}
-use Rattle.router_world.proofs.Names.{breaks_off, piece, pieces_of, carries, Turn, Service, some-same, refused-or-sent, carrier-stays, reply_said, ◌≤◌, ◌<◌}
-use Rattle.router_world.proofs.Names.{nat_eq, arith, Tag, nat_eq-true, login_fails, is_command, is_turn, and-true, refusal-cause, is_some, ◌&&◌, length}
-use Rattle.router_world.proofs.Names.{ClientNo, is_link, lawful-more, has_server, Phase, Told, taken_on, is_waiting, left_in, Seat, Tables, with_lends, told}
-use Rattle.router_world.proofs.Names.{IsFront, closes, opens, asks, Handed}
+use Rattle.router_world.proofs.Names.{common_steps, ◌≡◌, ℕ, true, false, cond, List, [], ◌∷◌, ◌++◌, Option, Some, None, refl, sym, ◌∙◌, ap, AreBytes, LinkId}
+use Rattle.router_world.proofs.Names.{Log, Fits, Entry, Got, Wrote, Account, Lent, Lends, heard, lost, is_loss, was_lost, heard_of, login_on, breaks_off}
+use Rattle.router_world.proofs.Names.{piece, pieces_of, carries, Service, some-same, refused-or-sent, carrier-stays, reply_said, ◌≤◌, ◌<◌, nat_eq, arith, Tag}
+use Rattle.router_world.proofs.Names.{nat_eq-true, login_fails, is_command, is_turn, and-true, refusal-cause, is_some, ◌&&◌, length, ClientNo, is_link}
+use Rattle.router_world.proofs.Names.{lawful-more, has_server, Phase, Told, taken_on, is_waiting, left_in, Seat, Tables, with_lends, told, IsFront, closes}
+use Rattle.router_world.proofs.Names.{opens, asks, Handed}
 use Rattle.router_world.proofs.Stepping.{OnLink as IsOnLink, done}
 use Rattle.router_world.proofs.Hands.{away-gone}
 use Rattle.std.proofs.lemmas.Bool.{or_parts, false_from_ne_true}
@@ -71,13 +71,13 @@ module _ {service : Service} {log : Log} {e : Entry} {lends : Lends} {link : Lin
     out inside = grind (arith, common_steps, inside-stays)
 
     by : Held service log lends link lent at.row.turn → at.row.turn.ordinal ≤ arrived
-    by (HoldsLogin enters own owns ask asks same) = subst (λ i. i ≤ arrived) same (early ask.ordinal (Logs ask asks refl link lent owns at.there (outside-at enters)))
+    by (HoldsLogin enters own owns ask asks same) = rw same at (early ask.ordinal (Logs ask asks refl link lent owns at.there (outside-at enters)))
     by (HoldsInside inside what) = out inside
 
   row-spares : (i : ℕ) → arrived < i → Spares service log e at.row.turn.client i
   row-spares i later other is = false_from_ne_true (is_turn at.row.turn.client i other) (λ same. (let cause = refusal-cause service log e other is in
       let here : i ≡ other.ordinal = grind (arith, common_steps, nat_eq-true, and-true) in
-      let last : other.ordinal ≤ arrived = subst (λ (t : Turn). t.ordinal ≤ arrived) (link-cause link at.row.turn at.names at.row.is_turn cause) (fails-early (cause-fails at cause)) in
+      let last : other.ordinal ≤ arrived = rw (link-cause link at.row.turn at.names at.row.is_turn cause) at (fails-early (cause-fails at cause)) in
       omega arith))
 
   later-row : ((i : ℕ) → arrived < i → carries at.row.turn.client i e ≡ None) → Unsent service at.row.turn.client arrived log
@@ -92,10 +92,12 @@ wrote-early {service} {log} {tag} {bytes} {lends} {link} {lent} arrived wrote ea
   n : ℕ
   n = wrote.at.row.turn.client
 
-  begun : (c d : Handed) → lent.backend.command ≡ Some c → (stands : HandedStands service log n link c) → i ≡ stands.ordinal → lent.backend.command ≡ Some d → 0 < d.sent → ⊥
+  begun : (c d : Handed) → lent.backend.command ≡ Some c → (stands : HandedStands service log n link c) → i ≡ stands.ordinal → lent.backend.command ≡ Some d
+      → 0 < d.sent → ⊥
   begun c d has stands same holds some = grind (arith, common_steps, no-some, carried, some-same)
 
-  first : (c : Handed) → lent.backend.command ≡ Some c → (stands : HandedStands service log n link c) → i ≡ stands.ordinal → Held service log lends link lent wrote.at.row.turn → ⊥
+  first : (c : Handed) → lent.backend.command ≡ Some c → (stands : HandedStands service log n link c) → i ≡ stands.ordinal
+      → Held service log lends link lent wrote.at.row.turn → ⊥
   first c has stands same (HoldsLogin enters own owns ask asks is) = no-some enters.login.idle has
   first c has stands same (HoldsInside inside (HoldsNone own owns none)) = no-some none has
   first c has stands same (HoldsInside inside (HoldsUnsent own owns d holds none)) = (let most : stands.ordinal ≤ arrived =
@@ -107,7 +109,8 @@ wrote-early {service} {log} {tag} {bytes} {lends} {link} {lent} arrived wrote ea
   by (OfLogin own stays) = ap (λ (t : Tag). cond (is_command n i t) (Some link) None) (wrote.same ∙ own)
   by (OfCommand c has of goes_on) = (let stands = wrote.at.row.command c has in
       ap (λ (t : Tag). cond (is_command n i t) (Some link) None) (wrote.same ∙ of) ∙ ap (λ b. cond b (Some link) None) (false_from_ne_true (is_command n i c.tag)
-      (λ is. first c has stands (nat_eq-true i stands.ordinal (and-true (nat_eq n n) (nat_eq i stands.ordinal) (ap (is_command n i) (sym stands.tag) ∙ is)).1) (held wrote.at.row))))
+      (λ is. first c has stands (nat_eq-true i stands.ordinal (and-true (nat_eq n n) (nat_eq i stands.ordinal) (ap (is_command n i) (sym stands.tag) ∙ is)).1)
+          (held wrote.at.row))))
 
 -- What the entries on a link to a server make of what stands.
 
@@ -118,14 +121,16 @@ nobody-left service log tables sound is = by tables.lends.waiting refl sound.len
   by _ at Nobody = refl
   by _ at (One client) = (let waits = sound.lends.waits client at in let asked = (sound.lends.asks client.0 waits.ask waits.asks).asked in
       let has : is_some service.setup.target ≡ true = asks-server service client.0 waits.ask.ordinal asked.message asked.due log asked.asks in
-      absurd (let no' : true ≡ false = sym (ap (λ w. has_server service.setup && is_waiting w) at ∙ ap (λ b. b && true) has) ∙ (or_parts (closes tables) (opens service.setup tables) is).1 in cc))
+      absurd (let no' : true ≡ false = sym (ap (λ w. has_server service.setup && is_waiting w) at ∙ ap (λ b. b && true) has)
+          ∙ (or_parts (closes tables) (opens service.setup tables) is).1 in cc))
 
 -- The entry is on a link to a server.
 pub record OnRow (service : Service) (log : Log) (e : Entry) (link : LinkId) (lent : Lent) (tables : Tables) : Type 0 where
   pub on : IsOnLink service log e link tables
   pub there : tables.lends.links link.0 ≡ Some lent
 
-at-row : {service : Service} {log : Log} {e : Entry} {link : LinkId} {lent : Lent} {tables : Tables} (sound : Sound service log None tables) (on : OnRow service log e link lent tables)
+at-row : {service : Service} {log : Log} {e : Entry} {link : LinkId} {lent : Lent} {tables : Tables} (sound : Sound service log None tables)
+    (on : OnRow service log e link lent tables)
     → ((k i : ℕ) → nat_eq k (sound.lends.rows link lent on.there).turn.client ≡ false → carries k i e ≡ None) → AtRow service log e tables.lends link lent
 at-row {service} {log} {e} {link} {lent} {tables} sound on writes = record {
   lawful = on.on.happens.lawful;
@@ -140,19 +145,24 @@ at-row {service} {log} {e} {link} {lent} {tables} sound on writes = record {
   writes = writes;
 }
 
-seats-apart : {service : Service} {log : Log} {e : Entry} {link : LinkId} {lent : Lent} {tables : Tables} → Sound service log None tables → OnRow service log e link lent tables
+seats-apart : {service : Service} {log : Log} {e : Entry} {link : LinkId} {lent : Lent} {tables : Tables} → Sound service log None tables
+    → OnRow service log e link lent tables
     → (k : ℕ) (seat : Seat) → tables.seats k ≡ Some seat → Leaves seat.link log e
-seats-apart {log = log} {e} {link} {tables = tables} sound on k seat is = leaves-other seat.link log e (ap (is_link seat.link) on.on.names ∙ apart-numbers seat.link.0 link.0 (λ same.
+seats-apart {log = log} {e} {link} {tables = tables} sound on k seat is = leaves-other seat.link log e (ap (is_link seat.link) on.on.names
+    ∙ apart-numbers seat.link.0 link.0 (λ same.
     no-some (sound.unlent link (record { 0 = k }) (ap (λ m. tables.numbers m) (sym same) ∙ (sound.seats k seat is).numbered)) on.there))
 
-early-seat : {service : Service} {log : Log} {tables : Tables} {n : ℕ} {seat : Seat} → Sound service log None tables → tables.seats n ≡ Some seat → (i : ℕ) → Busy tables.lends n i
+early-seat : {service : Service} {log : Log} {tables : Tables} {n : ℕ} {seat : Seat} → Sound service log None tables → tables.seats n ≡ Some seat → (i : ℕ)
+    → Busy tables.lends n i
     → i ≤ seat.session.client.arrived
 early-seat {tables = tables} {n} {seat} sound is i busy = (let same : seat.session.client.arrived ≡ i =
     (working-busy seat.session.phase tables.lends n seat.session.client.arrived i ((sound.seats n seat is).serves) busy).2 in omega arith)
 
-row-step : {service : Service} {log : Log} {e : Entry} {link : LinkId} {lent : Lent} {tables : Tables} {news : Told} (sound : Sound service log None tables) → OnRow service log e link lent tables
+row-step : {service : Service} {log : Log} {e : Entry} {link : LinkId} {lent : Lent} {tables : Tables} {news : Told} (sound : Sound service log None tables)
+    → OnRow service log e link lent tables
     → (at : AtRow service log e tables.lends link lent)
-    → ((seat : Seat) → tables.seats at.row.turn.client ≡ Some seat → Unsent service at.row.turn.client seat.session.client.arrived log → (i : ℕ) → seat.session.client.arrived < i → carries at.row.turn.client i e ≡ None)
+    → ((seat : Seat) → tables.seats at.row.turn.client ≡ Some seat → Unsent service at.row.turn.client seat.session.client.arrived log → (i : ℕ)
+        → seat.session.client.arrived < i → carries at.row.turn.client i e ≡ None)
     → Came service (log ++ e ∷ []) at.row.turn.client tables.lends news → Sound service (log ++ e ∷ []) None (told service.setup news tables)
 row-step {service} {log} {e} {link} {lent} {tables} {news} sound on at later came = server-step service log e at.row.turn.client tables news sound (record {
   happens = on.on.happens;
@@ -170,12 +180,14 @@ row-step {service} {log} {e} {link} {lent} {tables} {news} sound on at later cam
 
 -- Bytes of a server come.
 pub heard-step : (service : Service) (log : Log) (link : LinkId) (bytes : List ℕ) (lent : Lent) (tables : Tables) → AreBytes bytes → Sound service log None tables
-    → OnRow service log (Got link bytes) link lent tables → Sound service (log ++ Got link bytes ∷ []) None (told service.setup (heard link bytes tables.lends) tables)
+    → OnRow service log (Got link bytes) link lent tables → Sound service (log ++ Got link bytes ∷ []) None
+        (told service.setup (heard link bytes tables.lends) tables)
 heard-step service log link bytes lent tables are sound on = (let at = at-row sound on (λ k i apart. refl) in
     row-step sound on at (λ seat is unsent i later. refl) (rw at.there (heard-came at (record { some = on.on.happens.fits.some; are = are }))))
 
 -- A link to a server is lost.
-pub lost-step : (service : Service) (log : Log) (e : Entry) (link : LinkId) (lent : Lent) (tables : Tables) → Sound service log None tables → OnRow service log e link lent tables
+pub lost-step : (service : Service) (log : Log) (e : Entry) (link : LinkId) (lent : Lent) (tables : Tables) → Sound service log None tables
+    → OnRow service log e link lent tables
     → is_loss e ≡ true → ((k i : ℕ) → carries k i e ≡ None) → Sound service (log ++ e ∷ []) None (told service.setup (lost link tables.lends) tables)
 lost-step service log e link lent tables sound on loss silent = (let at = at-row sound on (λ k i apart. silent k i) in
     row-step sound on at (λ seat is unsent i later. silent at.row.turn.client i) (lost-came at loss))
