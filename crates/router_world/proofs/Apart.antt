@@ -1,11 +1,14 @@
 -- Tables with one other row.
-use Rattle.router_world.proofs.Names.{common_steps, arith, ◌≡◌, ◌≢◌, ℕ, Bool, true, false, nat_eq, cond, Option, Some, refl, ap, same_number, nat_eq-true, set}
-use Rattle.router_world.proofs.Names.{◌⊎◌, [], ◌∷◌, None, sym, ◌∙◌, ClientNo, LinkId, Log, In, Phase, Lent, Lends, Service, subst, some-same, Ask, Turn}
+use Rattle.router_world.proofs.Names.{common_steps, arith, ◌≡◌, ◌≢◌, ℕ, Bool, true, false, nat_eq, cond, Option, Some, refl, ap, same_number, nat_eq-true}
+use Rattle.router_world.proofs.Names.{set, ◌⊎◌, [], ◌∷◌, None, sym, ◌∙◌, ClientNo, LinkId, Log, In, Phase, Lent, Lends, Service, subst, some-same, Ask, Turn}
 use Rattle.router_world.proofs.Names.{turn_of, List, inl, inr, Account, BackendState, is_begun, Command, Forms, LinkAt, Framed, next_id, Answered, Told}
 use Rattle.router_world.proofs.Names.{is_query, Answer, spelt, is_here, Work, message_of, work_of, replied}
 use Rattle.router_world.proofs.Sound.{Enters, Owned, RowStands, Free, Gone, Busy, Waits, Logs, On, Serves, AskStands, CloseStands, AtMostOne, Waiting, Owns}
-use Rattle.router_world.proofs.Sound.{LendsBut, LendsSound}
+use Rattle.router_world.proofs.Sound.{LendsBut, LendsSound, One}
 use Rattle.client_talk.specs.declared.session.Phase.TheVariants as phase
+
+pub no-some : {X : Type 0} {x : X} {o : Option X} → o ≡ None → o ≡ Some x → ⊥
+no-some none some = (let no' : None ≡ Some _ = sym none ∙ some in cc)
 
 pub set-same : {X : Type 0} (f : ℕ → X) (key : ℕ) (value : X) → set f key value key ≡ value
 set-same f key value = ap (λ b. cond b value (f key)) (same_number key)
@@ -45,32 +48,40 @@ pub record Apart (n : ℕ) (lends other : Lends) : Type 0 where
 pub gone-apart : (n k : ℕ) (lends other : Lends) → Apart n lends other → nat_eq k n ≡ false → Gone lends k → Gone other k
 gone-apart n k lends other apart differs gone = record { unasked = apart.asks k differs ∙ gone.unasked; unowned = apart.owned k differs ∙ gone.unowned }
 
-pub free-apart : (n k : ℕ) (lends other : Lends) → Apart n lends other → nat_eq k n ≡ false → Free lends k → Free other k
-free-apart n k lends other apart differs free = grind (arith, common_steps)
+pub free-apart : {n k : ℕ} {lends other : Lends} → Apart n lends other → nat_eq k n ≡ false → Free lends k → Free other k
+free-apart apart differs free = grind (arith, common_steps)
 
-pub busy-apart : (n k i : ℕ) (lends other : Lends) → Apart n lends other → nat_eq k n ≡ false → Busy lends k i → Busy other k i
-busy-apart n k i lends other apart differs (Waits ask is same unowned waits) = Waits ask (apart.asks k differs ∙ is) same (apart.owned k differs ∙ unowned) (apart.waiting k differs waits)
-busy-apart n k i lends other apart differs (Logs ask is same link lent owns at stage) = Logs ask (apart.asks k differs ∙ is) same link lent (apart.owned k differs ∙ owns) (apart.links k link differs owns ∙ at) stage
-busy-apart n k i lends other apart differs (On unasked link lent command owns at stage has tag) = On (apart.asks k differs ∙ unasked) link lent command (apart.owned k differs ∙ owns) (apart.links k link differs owns ∙ at) stage has tag
+pub busy-apart : {n k i : ℕ} {lends other : Lends} → Apart n lends other → nat_eq k n ≡ false → Busy lends k i → Busy other k i
+busy-apart {k} apart differs (Waits ask is same unowned waits) = Waits ask (apart.asks k differs ∙ is) same (apart.owned k differs ∙ unowned)
+    (apart.waiting k differs waits)
+busy-apart {k} apart differs (Logs ask is same link lent owns at stage) = Logs ask (apart.asks k differs ∙ is) same link lent (apart.owned k differs ∙ owns)
+    (apart.links k link differs owns ∙ at) stage
+busy-apart {k} apart differs (On unasked link lent command owns at stage has tag) = On (apart.asks k differs ∙ unasked) link lent command
+    (apart.owned k differs ∙ owns) (apart.links k link differs owns ∙ at) stage has tag
 
-pub serves-apart : (at : Phase) (n k i : ℕ) (lends other : Lends) → Apart n lends other → nat_eq k n ≡ false → Serves at lends k i → Serves at other k i
+pub serves-apart : (at : Phase) (n k i : ℕ) (lends other : Lends) → Apart n lends other → nat_eq k n ≡ false → Serves at lends k i
+    → Serves at other k i
 serves-apart phase.LoggingIn n k i lends other apart differs serves = gone-apart n k lends other apart differs serves
-serves-apart (phase.Idle user) n k i lends other apart differs serves = free-apart n k lends other apart differs serves
-serves-apart (phase.Working user) n k i lends other apart differs serves = busy-apart n k i lends other apart differs serves
+serves-apart (phase.Idle user) n k i lends other apart differs serves = free-apart apart differs serves
+serves-apart (phase.Working user) n k i lends other apart differs serves = busy-apart apart differs serves
 serves-apart phase.Ending n k i lends other apart differs serves = gone-apart n k lends other apart differs serves
 
 -- what stands of a link stands of it among other links and with another owner, where the ask of its login and its owner are there
-pub row-among : (service : Service) (log : Log) (lends other : Lends) (link : LinkId) (lent : Lent) (owner : Option ClientNo) (stands : RowStands service log lends link lent) → (lent.backend.stage ≢ In → Enters other stands.turn)
-    → Owned service log other link stands.turn.client (record lent { owner = owner }) → RowStands service log other link (record lent { owner = owner })
-row-among service log lends other link lent owner stands enters owned = grind (arith, common_steps)
+pub row-among : {service : Service} {log : Log} {lends other : Lends} {link : LinkId} {lent : Lent} (owner : Option ClientNo)
+    (stands : RowStands service log lends link lent)
+    → (lent.backend.stage ≢ In → Enters other stands.turn) → Owned service log other link stands.turn.client (record lent { owner = owner })
+    → RowStands service log other link (record lent { owner = owner })
+row-among owner stands enters owned = grind (arith, common_steps)
 
 -- a link of another client, or of one that has gone
-pub row-apart : (service : Service) (log : Log) (n : ℕ) (lends other : Lends) (link : LinkId) (lent : Lent) → Apart n lends other → (stands : RowStands service log lends link lent) → nat_eq stands.turn.client n ≡ false → RowStands service log other link lent
-row-apart service log n lends other link lent apart stands differs = grind (arith, common_steps, row-among)
+pub row-apart : {service : Service} {log : Log} {n : ℕ} {lends other : Lends} {link : LinkId} {lent : Lent} → Apart n lends other
+    → (stands : RowStands service log lends link lent) → nat_eq stands.turn.client n ≡ false → RowStands service log other link lent
+row-apart apart stands differs = grind (arith, common_steps, row-among)
 
 -- a link of this client that isn't its own any more
-pub row-left : (service : Service) (log : Log) (lends other : Lends) (link : LinkId) (lent : Lent) → RowStands service log lends link lent → lent.owner ≡ None → lent.backend.stage ≡ In → RowStands service log other link lent
-row-left service log lends other link lent stands unowned inside = grind (arith, common_steps, row-among)
+pub row-left : {service : Service} {log : Log} {lends other : Lends} {link : LinkId} {lent : Lent} → RowStands service log lends link lent
+    → lent.owner ≡ None → lent.backend.stage ≡ In → RowStands service log other link lent
+row-left stands unowned inside = grind (arith, common_steps, row-among)
 
 -- Which links there are: rows come from rows, and a row that goes is to be closed.
 pub record Traces (lends other : Lends) : Type 0 where
@@ -83,7 +94,8 @@ pub record Traces (lends other : Lends) : Type 0 where
 
 -- a row that is there was so, and is another client's; or it stands
 pub data RowNow (service : Service) (log : Log) (n : ℕ) (lends other : Lends) (link : LinkId) (lent : Lent) : Type 0 where
-  Was : lends.links link.0 ≡ Some lent → (turn : Turn) → turn_of service link log ≡ Some turn → nat_eq turn.client n ≡ false → RowNow service log n lends other link lent
+  Was : lends.links link.0 ≡ Some lent → (turn : Turn) → turn_of service link log ≡ Some turn → nat_eq turn.client n ≡ false
+      → RowNow service log n lends other link lent
   Now : RowStands service log other link lent → RowNow service log n lends other link lent
 
 -- what is new of one client
@@ -97,14 +109,16 @@ pub record Mended (service : Service) (log : Log) (n : ℕ) (lends other : Lends
   pub one_closes : AtMostOne other.closing
   pub closes : (link : LinkId) → other.closing ≡ link ∷ [] → CloseStands service log other link
 
-pub mended : (service : Service) (log : Log) (n : ℕ) (lends other : Lends) → LendsBut service log n lends → Mended service log n lends other → LendsSound service log other
-mended service log n lends other before now = (let owned : (k : ℕ) (link : LinkId) → nat_eq k n ≡ false → other.owned k ≡ Some link → Owns other k link =
+pub mended : {service : Service} {log : Log} {n : ℕ} {lends other : Lends} → LendsBut service log n lends → Mended service log n lends other
+    → LendsSound service log other
+mended {service} {log} {n} {lends} {other} before now = (let owned : (k : ℕ) (link : LinkId) → nat_eq k n ≡ false → other.owned k ≡ Some link → Owns other k link =
     λ k link at is. (let was : lends.owned k ≡ Some link = sym (now.apart.owned k at) ∙ is in
     let owns = before.owned k link was in record { lent = owns.lent; there = now.apart.links k link at was ∙ owns.there; owner = owns.owner }) in
     record {
       rows = λ link lent is. row link lent (now.rows link lent is);
-      asks = λ k ask is. one-or-other k n (λ m. other.asks m ≡ Some ask → AskStands service log m ask) (now.ask ask) (λ at was. before.asks k ask at (sym (now.apart.asks k at) ∙ was)) is;
-      owned = λ k link is. one-or-other k n (λ m. other.owned m ≡ Some link → Owns other m link) (now.owns link) (owned k link) is;
+      asks = λ k ask is. one-or-other k n (λ m. other.asks m ≡ Some ask → AskStands service log m ask)
+          (now.ask ask) (λ at was. before.asks k ask at (sym (now.apart.asks k at) ∙ was)) is;
+      owned = λ k link is. grind (arith, common_steps, owned);
       one_waits = now.one_waits;
       waits = now.waits;
       one_closes = now.one_closes;
@@ -113,7 +127,7 @@ mended service log n lends other before now = (let owned : (k : ℕ) (link : Lin
       row : (link : LinkId) (lent : Lent) → RowNow service log n lends other link lent → RowStands service log other link lent
       row link lent (Now stands) = stands
       row link lent (Was is turn is_turn differs) = (let stands = before.rows link lent is turn is_turn differs in
-          row-apart service log n lends other link lent now.apart stands (subst (λ (t : Turn). nat_eq t.client n ≡ false) (some-same turn stands.turn (sym is_turn ∙ stands.is_turn)) differs))
+          row-apart now.apart stands (rw (some-same turn stands.turn (sym is_turn ∙ stands.is_turn)) at differs))
 
 -- What is done for one client among the links to servers, of which it changes one at most.
 
@@ -123,8 +137,8 @@ none-one xs none one = (let no' : [] ≡ _ ∷ [] = sym none ∙ one in cc)
 pub one-same : {X : Type 0} (a b : X) → a ∷ [] ≡ b ∷ [] → a ≡ b
 one-same a b is = some-same a b (let head : Some a ≡ Some b = cc in head)
 
-pub but-one : (service : Service) (log : Log) (n : ℕ) (lends : Lends) → LendsSound service log lends → LendsBut service log n lends
-but-one service log n lends sound = record {
+pub but-one : {service : Service} {log : Log} {n : ℕ} {lends : Lends} → LendsSound service log lends → LendsBut service log n lends
+but-one sound = record {
   rows = λ link lent is turn is_turn differs. sound.rows link lent is;
   turns = λ link lent is. (let stands = sound.rows link lent is in (stands.turn, stands.is_turn));
   asks = λ k ask differs is. sound.asks k ask is;
@@ -136,102 +150,177 @@ pub put-other : {X : Type 0} (f : ℕ → Option X) (key k : ℕ) (value : Optio
 put-other f key k value apart = set-other (set f key None) key k value apart ∙ set-other f key k None apart
 
 -- a link on which a command is begun is logged in
-pub begun-inside : (forms : Forms) (user : Account) (heard : List ℕ) (pieces : List Command) (backend : BackendState) → LinkAt forms user heard pieces backend → is_begun backend.command ≡ true → backend.stage ≡ In
-begun-inside forms user heard pieces backend h5 begun = grind (arith, common_steps)
+pub begun-inside : {forms : Forms} {user : Account} {heard : List ℕ} {pieces : List Command} {backend : BackendState}
+    → LinkAt forms user heard pieces backend → is_begun backend.command ≡ true → backend.stage ≡ In
+begun-inside h5 begun = grind (arith, common_steps)
 
 -- a row that is another client's, this client's own, or nobody's any more
-pub kept-row : (service : Service) (log : Log) (n : ℕ) (lends other : Lends) (link : LinkId) (lent : Lent) → LendsSound service log lends → lends.links link.0 ≡ Some lent → (lends.owned n ≡ Some link → RowStands service log other link lent) → RowNow service log n lends other link lent
-kept-row service log n lends other link lent sound is mine = by (sound.rows link lent is) where
-  by : RowStands service log lends link lent → RowNow service log n lends other link lent
-  by stands = at (nat_eq stands.turn.client n) refl where
-    own : Owned service log lends link stands.turn.client lent → stands.turn.client ≡ n → RowNow service log n lends other link lent
-    own h0 same = grind (arith, common_steps, row-left, begun-inside)
+module _ {service : Service} {log : Log} {n : ℕ} {lends other : Lends} where
 
-    at : (b : Bool) → nat_eq stands.turn.client n ≡ b → RowNow service log n lends other link lent
-    at false differs = Was is stands.turn stands.is_turn differs
-    at true same = own stands.owned (nat_eq-true stands.turn.client n same)
+  pub kept-row : {link : LinkId} {lent : Lent} → LendsSound service log lends → lends.links link.0 ≡ Some lent
+      → (lends.owned n ≡ Some link → RowStands service log other link lent) → RowNow service log n lends other link lent
+  kept-row {link} {lent} sound is mine = by (sound.rows link lent is) where
+    by : RowStands service log lends link lent → RowNow service log n lends other link lent
+    by stands = at (nat_eq stands.turn.client n) refl where
+      own : Owned service log lends link stands.turn.client lent → stands.turn.client ≡ n → RowNow service log n lends other link lent
+      own h0 same = grind (arith, common_steps, row-left, begun-inside)
 
--- the rows where one link alone changed
-pub rows-one : (service : Service) (log : Log) (n : ℕ) (link : LinkId) (lends other : Lends) → ((k : ℕ) → nat_eq k link.0 ≡ false → other.links k ≡ lends.links k) → ((x : Lent) → other.links link.0 ≡ Some x → RowNow service log n lends other link x)
-    → ((l : LinkId) (x : Lent) → nat_eq l.0 link.0 ≡ false → lends.links l.0 ≡ Some x → RowNow service log n lends other l x) → (l : LinkId) (x : Lent) → other.links l.0 ≡ Some x → RowNow service log n lends other l x
-rows-one service log n link lends other same here others l x is = link-or-other l link (λ k. other.links k.0 ≡ Some x → RowNow service log n lends other k x) (here x) (λ at now. others l x at (sym (same l.0 at) ∙ now)) is
+      at : (b : Bool) → nat_eq stands.turn.client n ≡ b → RowNow service log n lends other link lent
+      at false differs = Was is stands.turn stands.is_turn differs
+      at true same = own stands.owned (nat_eq-true stands.turn.client n same)
 
-pub row-now : (service : Service) (log : Log) (n : ℕ) (link : LinkId) (lends other : Lends) (now : Lent) → other.links link.0 ≡ Some now → RowStands service log other link now → (x : Lent) → other.links link.0 ≡ Some x → RowNow service log n lends other link x
-row-now service log n link lends other now here stands x is = Now (subst (RowStands service log other link) (some-same now x (sym here ∙ is)) stands)
+  -- the rows where one link alone changed
+pub rows-one : {service : Service} {log : Log} {n : ℕ} {lends other : Lends} (link : LinkId) → ((k : ℕ) → nat_eq k link.0 ≡ false → other.links k ≡ lends.links k)
+    → ((x : Lent) → other.links link.0 ≡ Some x → RowNow service log n lends other link x)
+    → ((l : LinkId) (x : Lent) → nat_eq l.0 link.0 ≡ false → lends.links l.0 ≡ Some x → RowNow service log n lends other l x)
+    → (l : LinkId) (x : Lent) → other.links l.0 ≡ Some x → RowNow service log n lends other l x
+rows-one {service} {log} {n} {lends} {other} link same here others l x is =
+    link-or-other l link (λ k. other.links k.0 ≡ Some x → RowNow service log n lends other k x) (here x) (λ at now. others l x at (sym (same l.0 at) ∙ now)) is
 
--- No link changes.
-pub record NoRow (n : ℕ) (lends other : Lends) : Type 0 where
+pub row-now : {service : Service} {log : Log} {n : ℕ} {link : LinkId} {lends other : Lends} {now : Lent} → other.links link.0 ≡ Some now
+    → RowStands service log other link now → (x : Lent) → other.links link.0 ≡ Some x → RowNow service log n lends other link x
+row-now {service} {log} {link = link} {other = other} {now} here stands x is = Now
+    (subst (RowStands service log other link) (some-same now x (sym here ∙ is)) stands)
+
+-- Then all stands, the others have what they had, and rows come from rows.
+pub record Stood (service : Service) (log : Log) (n : ℕ) (lends other : Lends) : Type 0 where
+  pub sound : LendsSound service log other
+  pub apart : Apart n lends other
+  pub traces : Traces lends other
+
+-- A link that is to be closed stands so where it has no row.
+close-kept : {service : Service} {log : Log} {lends other : Lends} {link : LinkId} → CloseStands service log lends link → other.links link.0 ≡ None
+    → CloseStands service log other link
+close-kept stands unlent = grind (arith, common_steps)
+
+-- No link changes, and the client has none.
+pub record NoRow (service : Service) (log : Log) (n : ℕ) (lends other : Lends) : Type 0 where
   pub links : (k : ℕ) → other.links k ≡ lends.links k
   pub asks : (k : ℕ) → nat_eq k n ≡ false → other.asks k ≡ lends.asks k
   pub owned : (k : ℕ) → nat_eq k n ≡ false → other.owned k ≡ lends.owned k
+  pub unowned : other.owned n ≡ None
   pub waiting : (k : ℕ) → nat_eq k n ≡ false → lends.waiting ≡ record { 0 = k } ∷ [] → other.waiting ≡ record { 0 = k } ∷ []
   pub closing : other.closing ≡ lends.closing
+  pub ask : (ask : Ask) → other.asks n ≡ Some ask → AskStands service log n ask
+  pub one_waits : AtMostOne other.waiting
+  pub waits : (client : ClientNo) → other.waiting ≡ client ∷ [] → Waiting other client
 
-pub apart-none : (n : ℕ) (lends other : Lends) → NoRow n lends other → Apart n lends other
-apart-none n lends other none = record { asks = none.asks; owned = none.owned; links = λ k link differs owns. none.links link.0; waiting = none.waiting }
-
-pub traces-none : (n : ℕ) (lends other : Lends) → NoRow n lends other → Traces lends other
-traces-none n lends other none = grind (arith, common_steps)
+pub still-stood : {service : Service} {log : Log} {n : ℕ} {lends other : Lends} → LendsSound service log lends → lends.owned n ≡ None
+    → NoRow service log n lends other
+    → Stood service log n lends other
+still-stood {service} {log} {n} {lends} {other} sound unowned same = record {
+  sound = mended (but-one sound) (record {
+    apart = apart;
+    rows = λ link lent is. kept-row sound (sym (same.links link.0) ∙ is) (λ owns. absurd (no-some unowned owns));
+    ask = same.ask;
+    owns = λ link is. absurd (no-some same.unowned is);
+    one_waits = same.one_waits;
+    waits = same.waits;
+    one_closes = subst AtMostOne (sym same.closing) sound.one_closes;
+    closes = λ link is. (let stands = sound.closes link (sym same.closing ∙ is) in close-kept stands (same.links link.0 ∙ stands.unlent));
+  });
+  apart = apart;
+  traces = record {
+    from = λ link lent is. (lent, sym (same.links link.0) ∙ is);
+    to = λ link lent is. inl (lent, same.links link.0 ∙ is);
+    closed = λ link is. inl (sym same.closing ∙ is);
+    closes = λ link is. same.closing ∙ is;
+  };
+} where
+  apart : Apart n lends other
+  apart = grind (arith, common_steps)
 
 -- One link changes, or is to be closed.
-pub data RowGoes (link : LinkId) (lends other : Lends) : Type 0 where
-  Stays : (lent : Lent) → other.links link.0 ≡ Some lent → other.closing ≡ lends.closing → RowGoes link lends other
-  Closes : lends.closing ≡ [] → other.links link.0 ≡ None → other.closing ≡ link ∷ [] → RowGoes link lends other
+pub data RowGoes (service : Service) (log : Log) (link : LinkId) (lends other : Lends) : Type 0 where
+  Stays : (lent : Lent) → other.links link.0 ≡ Some lent → RowStands service log other link lent → other.closing ≡ lends.closing
+      → RowGoes service log link lends other
+  Closes : lends.closing ≡ [] → other.links link.0 ≡ None → CloseStands service log other link → other.closing ≡ link ∷ [] → RowGoes service log link lends other
 
-pub record OneRow (n : ℕ) (link : LinkId) (lends other : Lends) : Type 0 where
+pub record OneRow (service : Service) (log : Log) (n : ℕ) (link : LinkId) (lends other : Lends) : Type 0 where
   pub links : (k : ℕ) → nat_eq k link.0 ≡ false → other.links k ≡ lends.links k
   pub asks : (k : ℕ) → nat_eq k n ≡ false → other.asks k ≡ lends.asks k
   pub owned : (k : ℕ) → nat_eq k n ≡ false → other.owned k ≡ lends.owned k
   pub waiting : (k : ℕ) → nat_eq k n ≡ false → lends.waiting ≡ record { 0 = k } ∷ [] → other.waiting ≡ record { 0 = k } ∷ []
-  pub goes : RowGoes link lends other
+  pub goes : RowGoes service log link lends other
+  pub ask : (ask : Ask) → other.asks n ≡ Some ask → AskStands service log n ask
+  pub owns : (l : LinkId) → other.owned n ≡ Some l → Owns other n l
+  pub one_waits : AtMostOne other.waiting
+  pub waits : (client : ClientNo) → other.waiting ≡ client ∷ [] → Waiting other client
 
 -- nobody else owns the link
 abbrev pub Mine : (n : ℕ) → Lent → Type 0
 Mine n lent = (k : ℕ) → nat_eq k n ≡ false → lent.owner ≡ Some (record { 0 = k }) → ⊥
 
 pub owner-mine : (n : ℕ) (lent : Lent) → lent.owner ≡ Some (record { 0 = n }) → Mine n lent
-owner-mine n lent owner k differs is = (let same : n ≡ k = ap (λ (c : ClientNo). c.0) (some-same (record { 0 = n }) (record { 0 = k }) (sym owner ∙ is)) in
-    let no' : true ≡ false = sym (same_number k) ∙ ap (nat_eq k) (sym same) ∙ differs in cc)
+owner-mine n lent owner k differs is = grind (arith, common_steps, some-same)
 
 pub none-mine : (n : ℕ) (lent : Lent) → lent.owner ≡ None → Mine n lent
-none-mine n lent none k differs is = (let no' : None ≡ Some _ = sym none ∙ is in cc)
+none-mine n lent none k differs is = no-some none is
 
-pub others-link : (lends : Lends) (link other : LinkId) (lent : Lent) (n k : ℕ) → ((m : ℕ) (l : LinkId) → lends.owned m ≡ Some l → Owns lends m l) → lends.links link.0 ≡ Some lent → Mine n lent → nat_eq k n ≡ false → lends.owned k ≡ Some other → nat_eq other.0 link.0 ≡ false
-others-link lends link other lent n k owned there mine differs owns = apart-links other link (λ at. (let it = owned k other owns in
-    let same : it.lent ≡ lent = some-same it.lent lent (sym it.there ∙ ap (λ (l : LinkId). lends.links l.0) at ∙ there) in
-    mine k differs (ap (λ (l : Lent). l.owner) (sym same) ∙ it.owner)))
+pub one-stood : {service : Service} {log : Log} {n : ℕ} {link : LinkId} {lends other : Lends} (lent : Lent) → LendsBut service log n lends → AtMostOne lends.closing
+    → ((l : LinkId) → lends.closing ≡ l ∷ [] → CloseStands service log lends l) → lends.links link.0 ≡ Some lent → Mine n lent
+    → ((l : LinkId) (x : Lent) → nat_eq l.0 link.0 ≡ false → lends.links l.0 ≡ Some x → RowNow service log n lends other l x)
+        → OneRow service log n link lends other
+    → Stood service log n lends other
+one-stood {service} {log} {n} {link} {lends} {other} lent but one_closes closes there mine others one = record {
+  sound = mended but (record {
+    apart = apart;
+    rows = rows-one link one.links (here one.goes) others;
+    ask = one.ask;
+    owns = one.owns;
+    one_waits = one.one_waits;
+    waits = one.waits;
+    one_closes = at-most one.goes;
+    closes = closing one.goes;
+  });
+  apart = apart;
+  traces = record {
+    from = λ l now is. grind (arith, common_steps);
+    to = λ l was is. grind (arith, common_steps, to);
+    closed = closed one.goes;
+    closes = stays one.goes;
+  };
+} where
+  -- nobody else's link is this one
+  apart : Apart n lends other
+  apart = record {
+    asks = one.asks;
+    owned = one.owned;
+    links = λ k l differs owns. (let it = but.owned k l owns in one.links l.0 (apart-links l link (λ at. mine k differs
+        (ap (λ (y : Lent). y.owner) (some-same lent it.lent (sym there ∙ ap (λ (x : LinkId). lends.links x.0) (sym at) ∙ it.there)) ∙ it.owner))));
+    waiting = one.waiting;
+  }
 
-pub apart-one : (n : ℕ) (link : LinkId) (lends other : Lends) (lent : Lent) → ((m : ℕ) (l : LinkId) → lends.owned m ≡ Some l → Owns lends m l) → lends.links link.0 ≡ Some lent → Mine n lent → OneRow n link lends other → Apart n lends other
-apart-one n link lends other lent owned there mine one = grind (arith, common_steps, others-link)
+  here : RowGoes service log link lends other → (x : Lent) → other.links link.0 ≡ Some x → RowNow service log n lends other link x
+  here (Stays now is stands same) x at = row-now is stands x at
+  here (Closes none out stands last) x at = absurd (no-some out at)
 
-pub traces-one : (n : ℕ) (link : LinkId) (lends other : Lends) (lent : Lent) → lends.links link.0 ≡ Some lent → OneRow n link lends other → Traces lends other
-traces-one n link lends other lent there one = (let to : RowGoes link lends other → ((now : Lent) × (other.links link.0 ≡ Some now)) ⊎ (other.closing ≡ link ∷ []) = λ h0. grind (arith, common_steps) in
-    let closes : (l : LinkId) → lends.closing ≡ l ∷ [] → RowGoes link lends other → other.closing ≡ l ∷ [] = λ l is h2. grind (arith, common_steps) in
-    record {
-      from = λ l now is. link-or-other l link (λ x. other.links x.0 ≡ Some now → (old : Lent) × (lends.links x.0 ≡ Some old)) (λ at. (lent, there)) (λ at row. (now, sym (one.links l.0 at) ∙ row)) is;
-      to = λ l was is. link-or-other l link (λ x. ((now : Lent) × (other.links x.0 ≡ Some now)) ⊎ (other.closing ≡ x ∷ [])) (to one.goes) (λ at. inl (was, one.links l.0 at ∙ is));
-      closed = λ l is. closed l is one.goes;
-      closes = λ l is. closes l is one.goes;
-    }) where
-      closed : (l : LinkId) → other.closing ≡ l ∷ [] → RowGoes link lends other → (lends.closing ≡ l ∷ []) ⊎ ((was : Lent) × (lends.links l.0 ≡ Some was))
-      closed l is (Stays now is_now same) = inl (sym same ∙ is)
-      closed l is (Closes none out last) = inr (lent, ap (λ (x : LinkId). lends.links x.0) (one-same l link (sym is ∙ last)) ∙ there)
+  at-most : RowGoes service log link lends other → AtMostOne other.closing
+  at-most (Stays now is stands same) = subst AtMostOne (sym same) one_closes
+  at-most (Closes none out stands last) = subst AtMostOne (sym last) (One link)
 
--- A link that is to be closed stands so where it has no row.
-pub close-kept : (service : Service) (log : Log) (lends other : Lends) (link : LinkId) → CloseStands service log lends link → other.links link.0 ≡ None → CloseStands service log other link
-close-kept service log lends other link stands unlent = record { opened = stands.opened; unlent = unlent; turn = stands.turn; is_turn = stands.is_turn; may = stands.may }
+  closing : RowGoes service log link lends other → (l : LinkId) → other.closing ≡ l ∷ [] → CloseStands service log other l
+  closing (Stays now is stands same) l at = (let was = closes l (sym same ∙ at) in
+      close-kept was (one.links l.0 (apart-links l link (λ on. no-some (ap (λ (x : LinkId). lends.links x.0) (sym on) ∙ was.unlent) there)) ∙ was.unlent))
+  closing (Closes none out stands last) l at = subst (CloseStands service log other) (one-same link l (sym last ∙ at)) stands
 
-pub close-other : (service : Service) (log : Log) (n : ℕ) (lends other : Lends) (link : LinkId) (lent : Lent) (closing : LinkId) → lends.links link.0 ≡ Some lent → OneRow n link lends other → CloseStands service log lends closing → CloseStands service log other closing
-close-other service log n lends other link lent closing there one stands = grind (arith, common_steps, close-kept, apart-links)
+  to : RowGoes service log link lends other → ((now : Lent) × (other.links link.0 ≡ Some now)) ⊎ (other.closing ≡ link ∷ [])
+  to (Stays now is stands same) = inl (now, is)
+  to (Closes none out stands last) = inr last
+
+  closed : RowGoes service log link lends other → (l : LinkId) → other.closing ≡ l ∷ [] → (lends.closing ≡ l ∷ []) ⊎ ((was : Lent) × (lends.links l.0 ≡ Some was))
+  closed (Stays now is stands same) l at = inl (sym same ∙ at)
+  closed (Closes none out stands last) l at = inr (lent, ap (λ (x : LinkId). lends.links x.0) (one-same l link (sym at ∙ last)) ∙ there)
+
+  stays : RowGoes service log link lends other → (l : LinkId) → lends.closing ≡ l ∷ [] → other.closing ≡ l ∷ []
+  stays (Stays now is stands same) l at = same ∙ at
+  stays (Closes none out stands last) l at = absurd (none-one lends.closing none at)
 
 -- What is done for one client among the links to servers.
 
 -- its query was asked for
-pub record Asked (service : Service) (log : Log) (n i : ℕ) (lends other : Lends) : Type 0 where
-  pub sound : LendsSound service log other
-  pub busy : Busy other n i
-  pub apart : Apart n lends other
-  pub traces : Traces lends other
+abbrev pub Asked : Service → Log → (n i : ℕ) → (lends other : Lends) → Type 0
+Asked service log n i lends other = Stood service log n lends other × Busy other n i
 
 -- it may go: it isn't connected any more, or it asks for nothing
 pub data MayGo (service : Service) (log : Log) (n : ℕ) (lends : Lends) : Type 0 where
@@ -246,9 +335,12 @@ pub record Went (service : Service) (log : Log) (n : ℕ) (lends other : Lends) 
 
 -- Something came of the client's command, or nothing did.
 pub data Comes (service : Service) (log : Log) (n : ℕ) (lends other : Lends) : Option Answered → Type 0 where
-  Quiet : ((i : ℕ) → Busy lends n i → Busy other n i) → (Free lends n → Free other n) → (Gone lends n → Gone other n) → ((i : ℕ) → Busy lends n i → replied service n i log ≡ None) → Comes service log n lends other None
-  Answers : (i : ℕ) (answer : Answer) (message : Framed) → Busy lends n i → message_of service n i log ≡ Some message → replied service n i log ≡ Some answer → Free other n
-      → other.waiting ≡ [] → (other.closing ≡ []) ⊎ (other.owned n ≡ None) → Comes service log n lends other (Some (record { client = record { 0 = n }; packets = spelt (next_id message.last) answer }))
+  Quiet : ((i : ℕ) → Busy lends n i → Busy other n i) → (Free lends n → Free other n) → (Gone lends n → Gone other n) →
+      ((i : ℕ) → Busy lends n i → replied service n i log ≡ None) → Comes service log n lends other None
+  Answers : (i : ℕ) (answer : Answer) (message : Framed) → Busy lends n i → message_of service n i log ≡ Some message → replied service n i log ≡ Some answer
+      → Free other n
+      → other.waiting ≡ [] → (other.closing ≡ []) ⊎ (other.owned n ≡ None) → Comes service log n lends other
+          (Some (record { client = record { 0 = n }; packets = spelt (next_id message.last) answer }))
 
 -- `before` is the log before the entry; the tables were sound for that, and what came is sound for the log with the entry
 pub record Came (service : Service) (log : Log) (n : ℕ) (lends : Lends) (told : Told) : Type 0 where

@@ -170,8 +170,8 @@ module _ {service : Service} {log : Log} {port : Port} {link : LinkId} {salt : L
   seated-step : (client : ClientNo) (here : ℕ) → client.0 ≡ number → port ≡ Traffic → here ≡ length (connected then) → service.setup.limit ≤ most_command
       → is_served service.setup arrival ≡ true
       → Sound service then None (admitted client link salt service.setup (record tables { came = client.0; here = here }))
-  seated-step client here mine traffic counts-here short room = put-back service then client seat
-      (record tables { came = client.0; here = here; numbers = numbers }) (record {
+  seated-step client here mine traffic counts-here short room = put-back {service = service} {log = then} {seat = seat}
+      {tables = record tables { came = client.0; here = here; numbers = numbers }} client (record {
     came = mine ∙ came-now;
     here = counts-here;
     counts = counts-all then (lawful-more Fits log e coming.happens.told coming.happens.fits);

@@ -1,19 +1,19 @@
 -- A link to a server as bytes are handed to it and written.
-use Rattle.router_world.proofs.Names.{common_steps, ◌≡◌, ◌≢◌, ◌⊎◌, ◌≤◌, ◌<◌, ℕ, zero, suc, ◌+◌, ◌-◌, Bool, true, false, ◌||◌, cond, List, [], ◌∷◌, ◌++◌, length}
-use Rattle.router_world.proofs.Names.{take, drop, Option, Some, None, refl, list_any, sym, ◌∙◌, ap, subst, append-nil, append_assoc, arith, length-append}
-use Rattle.router_world.proofs.Names.{length-drop, take-append-drop, length-take-le, inl, inr, or_parts, list_any-append, fold-append, Sent, Tag, Own, AreBytes}
-use Rattle.router_world.proofs.Names.{first_message-empty, run, renumbered, started, to_command, Account, said_of, BackendState, new_backend, left, Handed}
-use Rattle.router_world.proofs.Names.{IsPrefix, Forms, Command, most_command, with_piece, is_command, behind, commands_in, some-same, form_at, bytes_in, is_of}
-use Rattle.router_world.proofs.Names.{begun_by, begun, IsMessage, IsHanded, IsEntering, IsHearing, HearsPart, IsInside, LinkAt, Entering, Inside, nat_eq, State}
-use Rattle.router_world.proofs.Names.{Ending, Going, Ended, Failed, ReplyKind, kind_to, id_after, SameEnd, same-end, Answer, spelt, Never, Form, heard_by}
-use Rattle.router_world.proofs.Names.{command_reply, ◌&&◌, slice_get, list_all, option_and_then, drop_all, LogsIn, is_empty, is_whole, place_in}
-use Rattle.router_world.proofs.Names.{commands_behind, Replies, replies_by, Clean, Sends, Runs, Spoilt, stands, standing_in, reply_at, behind_replies}
-use Rattle.router_world.proofs.Names.{commands_said, replies_said, standing_said, reply_said, take_all, nat_eq-true, nat_eq-false, spelling-some, In, whole_by}
+use Rattle.router_world.proofs.Names.{common_steps, ◌≡◌, ◌≢◌, ◌⊎◌, ◌≤◌, ◌<◌, ℕ, zero, suc, ◌+◌, ◌-◌, Bool, true, false, ◌||◌, cond, List, [], ◌∷◌, ◌++◌}
+use Rattle.router_world.proofs.Names.{length, take, drop, Option, Some, None, refl, list_any, sym, ◌∙◌, ap, subst, append-nil, append_assoc, arith}
+use Rattle.router_world.proofs.Names.{length-append, length-drop, take-append-drop, length-take-le, inl, inr, or_parts, list_any-append, fold-append, Sent}
+use Rattle.router_world.proofs.Names.{Tag, Own, AreBytes, first_message-empty, run, renumbered, started, to_command, Account, said_of, BackendState}
+use Rattle.router_world.proofs.Names.{new_backend, left, Handed, IsPrefix, Forms, Command, most_command, with_piece, is_command, behind, commands_in}
+use Rattle.router_world.proofs.Names.{some-same, form_at, bytes_in, is_of, begun_by, begun, IsMessage, IsHanded, IsEntering, IsHearing, HearsPart, IsInside}
+use Rattle.router_world.proofs.Names.{LinkAt, Entering, Inside, nat_eq, State, Ending, Going, Ended, Failed, ReplyKind, kind_to, id_after, SameEnd, same-end}
+use Rattle.router_world.proofs.Names.{Answer, spelt, Never, Form, heard_by, command_reply, ◌&&◌, slice_get, list_all, option_and_then, LogsIn, is_empty}
+use Rattle.router_world.proofs.Names.{is_whole, place_in, commands_behind, Replies, replies_by, Clean, Sends, Runs, Spoilt, stands, standing_in, reply_at}
+use Rattle.router_world.proofs.Names.{behind_replies, commands_said, replies_said, standing_said, reply_said, nat_eq-true, nat_eq-false, spelling-some, In}
 use Rattle.router_world.proofs.Names.{cut, Standing, Enters}
 use Rattle.promises.proofs.Clean.{with-piece-behind, behind-append, command-reply-grammar, replies-behind}
 use Rattle.std.proofs.Common.{take-add, lit<}
-use Rattle.packet_frame.specs.Packets.{spelling, spellings, first_message}
-use Rattle.server_side.specs.Login.{most_payload, greeting_by, opening, Opening}
+use Rattle.packet_frame.specs.Packets.{spelling, spellings}
+use Rattle.server_side.specs.Login.{opening, Opening}
 use Rattle.server_side.specs.Laws.{opening-new, opening-logged_in}
 use Rattle.server_side.specs.Backend.{taken}
 use Rattle.server_side.specs.Handing.{handed}
@@ -24,108 +24,130 @@ use Rattle.reply_track.specs.Grammar.{renamed}
 use Rattle.reply_track.specs.Replying.{replied, payloads_in}
 use Rattle.reply_track.proofs.Finishing.{AreBytes-append}
 use Rattle.reply_track.proofs.Replying.{run-more, renumbered-more, length-renumbered, ended-shorter, failed-shorter, IsHandedOn, handed-on}
-use Rattle.exchange.specs.Replies.{Wholly, heard_as, rest_of, stands_by, error_by, or_else, Heard, Partly}
+use Rattle.exchange.specs.Replies.{Wholly, heard_as, rest_of, error_by, or_else, Heard, Partly}
 use Rattle.std.proofs.lemmas.Bool.{or_left}
 use Rattle.std.proofs.lemmas.Option.{slice_get_past, slice_get_read}
-use Rattle.std.proofs.lemmas.List.{drop_at, get_or_push}
+use Rattle.std.proofs.lemmas.List.{get_or_push}
 use Rattle.std.specs.Prelude.{if◌then◌else◌}
 use Rattle.client_session.specs.Errors.{connection_lost}
 use Rattle.router_world.proofs.RowsPieces.{bytes-more, behind-past, behind-short, behind-one, part-spelt, with-piece-on, of-commands, place-last, whole-spelt}
 
 -- nothing was heard or written yet
-pub first-at : (forms : Forms) (user : Account) → LinkAt forms user [] [] (new_backend user)
+pub first-at : {forms : Forms} {user : Account} → LinkAt forms user [] [] (new_backend user)
 unfolding opening
-first-at forms user = Entering (record { account = refl; login = opening-new user; goes = ap (greeting_by user) (first_message-empty most_payload 0) })
+first-at {user} = grind (arith, common_steps, opening-new, first_message-empty)
 
 no-bytes : AreBytes []
 no-bytes i = lit< tt
 
 -- A link on which a session runs, after what was handed to it, written of it or moved out.
-inside-after : (forms : Forms) (user : Account) (heard : List ℕ) (pieces now : List Command) (backend : BackendState) (own reply : List ℕ) (command_now : Option Handed) (at : IsInside forms user heard pieces backend)
-    → (bytes_in now ++ own ≡ at.said) ⊎ ((own ≡ []) × IsPrefix at.said (bytes_in now)) → commands_in (behind (length at.said) now) ≡ at.others ++ begun command_now → IsHanded forms command_now
-    → ((n i : ℕ) → list_any (is_of n i) (begun command_now) ≡ true → list_any (is_of n i) at.others ≡ false) → (begun command_now ≡ [] → at.part ≡ []) → HearsPart command_now at.part reply
-    → IsInside forms user heard now (record backend { own = own; command = command_now; reply = reply })
-inside-after forms user heard pieces now backend own reply command_now at written commands is_message new unasked partly = grind (arith, common_steps)
+inside-after : {forms : Forms} {user : Account} {heard : List ℕ} {pieces now : List Command} {backend : BackendState} (own reply : List ℕ)
+    (command_now : Option Handed) (at : IsInside forms user heard pieces backend)
+    → (bytes_in now ++ own ≡ at.said) ⊎ ((own ≡ []) × IsPrefix at.said (bytes_in now))
+    → commands_in (behind (length at.said) now) ≡ at.others ++ begun command_now → IsHanded forms command_now
+    → ((n i : ℕ) → list_any (is_of n i) (begun command_now) ≡ true → list_any (is_of n i) at.others ≡ false) → (begun command_now ≡ [] → at.part ≡ [])
+    → HearsPart command_now at.part reply → IsInside forms user heard now (record backend { own = own; command = command_now; reply = reply })
+inside-after own reply command_now at written commands is_message new unasked partly = grind (arith, common_steps)
 
 -- The packets of a message are handed to a link that has no command.
-pub packets-handed : (forms : Forms) (user : Account) (heard : List ℕ) (pieces : List Command) (backend : BackendState) (tag : Tag) (packets payload : List ℕ) (first : ℕ) → IsInside forms user heard pieces backend → backend.command ≡ None → packets ≡ spelling 0 payload → length payload ≤ most_command → forms tag ≡ form_at packets
-    → IsInside forms user heard pieces (handed tag packets first backend)
-packets-handed forms user heard pieces backend tag packets payload first at none spelt short form = grind (arith, common_steps, inside-after, no-bytes)
+pub packets-handed : {forms : Forms} {user : Account} {heard : List ℕ} {pieces : List Command} {backend : BackendState} (tag : Tag) (packets payload : List ℕ)
+    (first : ℕ)
+    → IsInside forms user heard pieces backend → backend.command ≡ None → packets ≡ spelling 0 payload → length payload ≤ most_command
+    → forms tag ≡ form_at packets → IsInside forms user heard pieces (handed tag packets first backend)
+packets-handed tag packets payload first at none spelt short form = grind (arith, common_steps, inside-after, no-bytes)
 
 -- The last reply is moved out.
-pub reply-moved : (forms : Forms) (user : Account) (heard : List ℕ) (pieces : List Command) (backend : BackendState) (reply : List ℕ) → IsInside forms user heard pieces backend → backend.command ≡ None → IsInside forms user heard pieces (record backend { reply = reply })
-reply-moved forms user heard pieces backend reply at none = grind (arith, common_steps, inside-after)
+pub reply-moved : {forms : Forms} {user : Account} {heard : List ℕ} {pieces : List Command} {backend : BackendState} (reply : List ℕ)
+    → IsInside forms user heard pieces backend → backend.command ≡ None → IsInside forms user heard pieces (record backend { reply = reply })
+reply-moved reply at none = grind (arith, common_steps, inside-after)
 
 -- What was written of the command, once a byte of it was.
-pub begun-some : (command : Handed) → 0 < command.sent → begun (Some command) ≡ record { tag = command.tag; bytes = take command.sent command.bytes } ∷ []
+pub begun-some : (command : Handed) → 0 < command.sent
+    → begun (Some command) ≡ record { tag = command.tag; bytes = take command.sent command.bytes } ∷ []
 begun-some command = grind (arith, common_steps)
 
 -- More of it is written.
-begun-more : (forms : Forms) (command : Handed) (n : ℕ) → IsMessage forms command → 0 < n → n ≤ length (drop command.sent command.bytes)
-    → with_piece (begun (Some command)) (record { tag = command.tag; bytes = take n (drop command.sent command.bytes) }) ≡ record { tag = command.tag; bytes = take (command.sent + n) command.bytes } ∷ []
-begun-more forms command n message some fits = by command.sent fits where
+begun-more : {forms : Forms} {command : Handed} (n : ℕ) → IsMessage forms command → 0 < n → n ≤ length (drop command.sent command.bytes)
+    → with_piece (begun (Some command)) (record { tag = command.tag; bytes = take n
+        (drop command.sent command.bytes) }) ≡ record { tag = command.tag; bytes = take (command.sent + n) command.bytes } ∷ []
+begun-more {command} n message some fits = by command.sent fits where
   by : (sent : ℕ) → n ≤ length (drop sent command.bytes)
-      → with_piece (begun_by sent command) (record { tag = command.tag; bytes = take n (drop sent command.bytes) }) ≡ record { tag = command.tag; bytes = take (sent + n) command.bytes } ∷ []
+      → with_piece (begun_by sent command) (record { tag = command.tag; bytes = take n (drop sent command.bytes) }) ≡ record { tag = command.tag; bytes = take
+          (sent + n) command.bytes } ∷ []
   by zero fits = (let same : n ≡ 0 + n = omega arith in ap (λ k. record { tag = command.tag; bytes = take k command.bytes } ∷ []) same)
   by (suc sent) fits = with-piece-on command.tag (take (suc sent) command.bytes) (take n (drop (suc sent) command.bytes))
-      (part-spelt message.payload (take (suc sent) command.bytes) (drop (suc sent) command.bytes) (take-append-drop (suc sent) command.bytes ∙ message.spelt) (omega arith) message.short)
+      (part-spelt message.payload (take (suc sent) command.bytes) (drop (suc sent) command.bytes) (take-append-drop (suc sent) command.bytes ∙ message.spelt)
+          (omega arith) message.short)
       ∙ ap (λ bytes. record { tag = command.tag; bytes = bytes } ∷ []) (sym (take-add (suc sent) n command.bytes))
 
 -- No command of which no byte was written is among the pieces.
 abbrev pub IsFresh : Option Handed → List Command → Type 0
-IsFresh handed pieces = (n i : ℕ) (command : Handed) → handed ≡ Some command → command.sent ≡ 0 → is_command n i command.tag ≡ true → list_any (is_of n i) pieces ≡ false
+IsFresh handed pieces = (n i : ℕ) (command : Handed) → handed ≡ Some command → command.sent ≡ 0 → is_command n i command.tag ≡ true → list_any
+    (is_of n i) pieces ≡ false
 
 -- The bytes of a login that are written and those that are left are the same.
-same-said : (pieces : List Command) (tag : Tag) (n : ℕ) (own : List ℕ) → bytes_in (pieces ++ record { tag = tag; bytes = take n own } ∷ []) ++ drop n own ≡ bytes_in pieces ++ own
-same-said pieces tag n own = ap (λ xs. xs ++ drop n own) (bytes-more pieces (record { tag = tag; bytes = take n own })) ∙ append_assoc (bytes_in pieces) (take n own) (drop n own) ∙ ap (λ xs. bytes_in pieces ++ xs) (take-append-drop n own)
+same-said : (pieces : List Command) (tag : Tag) (n : ℕ) (own : List ℕ)
+    → bytes_in (pieces ++ record { tag = tag; bytes = take n own } ∷ []) ++ drop n own ≡ bytes_in pieces ++ own
+same-said pieces tag n own = grind (arith, common_steps, bytes-more, take-append-drop)
 
-left-alone : (backend : BackendState) (own read said : List ℕ) → IsLoggingIn backend read said → IsLoggingIn (record backend { own = own }) read said
-left-alone backend own read said at = grind (arith, common_steps)
+left-alone : {backend : BackendState} {read said : List ℕ} (own : List ℕ) → IsLoggingIn backend read said
+    → IsLoggingIn (record backend { own = own }) read said
+left-alone own at = grind (arith, common_steps)
 
-entering-taken : (user : Account) (heard : List ℕ) (pieces : List Command) (backend : BackendState) (n : ℕ) → IsEntering user heard pieces backend
-    → IsEntering user heard (pieces ++ record { tag = Own; bytes = take n backend.own } ∷ []) (record backend { own = drop n backend.own })
-entering-taken user heard pieces backend n at = grind (arith, common_steps, same-said, left-alone)
+module _ {user : Account} {heard : List ℕ} {pieces : List Command} {backend : BackendState} where
 
--- While bytes of a login are left, all that was written is of it, and no command is begun.
-pub own-left : (forms : Forms) (user : Account) (heard : List ℕ) (pieces : List Command) (backend : BackendState) (at : IsInside forms user heard pieces backend) → 0 < length backend.own → bytes_in pieces ++ backend.own ≡ at.said
-own-left forms user heard pieces backend at some = grind (arith, common_steps)
+  entering-taken : (n : ℕ) → IsEntering user heard pieces backend
+      → IsEntering user heard (pieces ++ record { tag = Own; bytes = take n backend.own } ∷ []) (record backend { own = drop n backend.own })
+  entering-taken n at = grind (arith, common_steps, same-said, left-alone)
 
-said-longer : (forms : Forms) (user : Account) (heard : List ℕ) (pieces : List Command) (backend : BackendState) (at : IsInside forms user heard pieces backend) → 0 < length backend.own → length at.said ≡ length (bytes_in pieces) + length backend.own
-said-longer forms user heard pieces backend at some = ap length (sym (own-left forms user heard pieces backend at some)) ∙ length-append (bytes_in pieces) backend.own
+  -- While bytes of a login are left, all that was written is of it, and no command is begun.
+  pub own-left : {forms : Forms} (at : IsInside forms user heard pieces backend) → 0 < length backend.own → bytes_in pieces ++ backend.own ≡ at.said
+  own-left at some = grind (arith, common_steps)
 
-none-behind : (forms : Forms) (user : Account) (heard : List ℕ) (pieces : List Command) (backend : BackendState) (at : IsInside forms user heard pieces backend) → 0 < length backend.own → [] ≡ at.others ++ begun backend.command
-none-behind forms user heard pieces backend at some = ap commands_in (sym (behind-short (length at.said) pieces (let sum : length at.said ≡ length (bytes_in pieces) + length backend.own = said-longer forms user heard pieces backend at some in omega arith))) ∙ at.commands
+  said-longer : {forms : Forms} (at : IsInside forms user heard pieces backend) → 0 < length backend.own
+      → length at.said ≡ length (bytes_in pieces) + length backend.own
+  said-longer at some = ap length (sym (own-left at some)) ∙ length-append (bytes_in pieces) backend.own
 
-own-taken : (forms : Forms) (user : Account) (heard : List ℕ) (pieces : List Command) (backend : BackendState) (n : ℕ) → IsInside forms user heard pieces backend → 0 < n → n ≤ length backend.own
-    → IsInside forms user heard (pieces ++ record { tag = Own; bytes = take n backend.own } ∷ []) (record backend { own = drop n backend.own })
-own-taken forms user heard pieces backend n at some fits = (let piece : Command = record { tag = Own; bytes = take n backend.own } in
-    let longer : length at.said ≡ length (bytes_in pieces) + length backend.own = said-longer forms user heard pieces backend at (omega arith) in
-    let commands : commands_in (behind (length at.said) (pieces ++ piece ∷ [])) ≡ at.others ++ begun backend.command =
-    (let sum = longer in let size : length (take n backend.own) ≡ n = length-take-le n backend.own fits in
-    ap commands_in (behind-past (length at.said) pieces (piece ∷ []) (omega arith) ∙ behind-one (length at.said - length (bytes_in pieces)) piece (omega arith) (omega arith))
-    ∙ none-behind forms user heard pieces backend at (omega arith)) in
-    inside-after forms user heard pieces (pieces ++ piece ∷ []) backend (drop n backend.own) backend.reply backend.command at
-    (inl (same-said pieces Own n backend.own ∙ own-left forms user heard pieces backend at (omega arith))) commands at.command at.new at.unasked at.partly)
+  none-behind : {forms : Forms} (at : IsInside forms user heard pieces backend) → 0 < length backend.own → [] ≡ at.others ++ begun backend.command
+  none-behind at some = grind (arith, common_steps, behind-short, said-longer)
+
+  own-taken : {forms : Forms} (n : ℕ) → IsInside forms user heard pieces backend → 0 < n → n ≤ length backend.own
+      → IsInside forms user heard (pieces ++ record { tag = Own; bytes = take n backend.own } ∷ []) (record backend { own = drop n backend.own })
+  own-taken n at some fits = (let piece : Command = record { tag = Own; bytes = take n backend.own } in
+      let longer : length at.said ≡ length (bytes_in pieces) + length backend.own = said-longer at (omega arith) in
+      let commands : commands_in (behind (length at.said) (pieces ++ piece ∷ [])) ≡ at.others ++ begun backend.command =
+      (let sum = longer in let size : length (take n backend.own) ≡ n = length-take-le n backend.own fits in
+      ap commands_in (behind-past (length at.said) pieces (piece ∷ []) (omega arith)
+          ∙ behind-one (length at.said - length (bytes_in pieces)) piece (omega arith) (omega arith))
+      ∙ none-behind at (omega arith)) in
+      inside-after (drop n backend.own) backend.reply backend.command at
+      (inl (same-said pieces Own n backend.own ∙ own-left at (omega arith))) commands at.command at.new at.unasked at.partly)
 
 -- all that the router says in a login was written
-pub said-written : (forms : Forms) (user : Account) (heard : List ℕ) (pieces : List Command) (backend : BackendState) (at : IsInside forms user heard pieces backend) → backend.own ≡ [] → IsPrefix at.said (bytes_in pieces)
+pub said-written : (forms : Forms) (user : Account) (heard : List ℕ) (pieces : List Command) (backend : BackendState)
+    (at : IsInside forms user heard pieces backend)
+    → backend.own ≡ [] → IsPrefix at.said (bytes_in pieces)
 said-written forms user heard pieces backend at none = grind (arith, common_steps, append-nil)
 
-prefix-fits : (front whole : List ℕ) → IsPrefix front whole → length front ≤ length whole
-prefix-fits front whole at = (let sum : length (front ++ at.rest) ≡ length front + length at.rest = length-append front at.rest in let same : length (front ++ at.rest) ≡ length whole = ap length at.is in omega arith)
+prefix-fits : {front whole : List ℕ} → IsPrefix front whole → length front ≤ length whole
+prefix-fits {front} {whole} at = grind (arith, common_steps, length-append)
 
-prefix-more : (front whole more longer : List ℕ) → IsPrefix front whole → longer ≡ whole ++ more → IsPrefix front longer
-prefix-more front whole more longer at same = record { rest = at.rest ++ more; is = sym (append_assoc front at.rest more) ∙ ap (λ xs. xs ++ more) at.is ∙ sym same }
+prefix-more : {front whole longer : List ℕ} (more : List ℕ) → IsPrefix front whole → longer ≡ whole ++ more → IsPrefix front longer
+prefix-more {front} more at same = grind (arith, common_steps)
 
 -- Bytes of the command are written.
-command-taken : (forms : Forms) (user : Account) (heard : List ℕ) (pieces : List Command) (backend : BackendState) (command : Handed) (n : ℕ) → IsInside forms user heard pieces backend → backend.own ≡ [] → backend.command ≡ Some command
-    → 0 < n → n ≤ length (drop command.sent command.bytes) → IsFresh backend.command pieces
-    → IsInside forms user heard (pieces ++ record { tag = command.tag; bytes = take n (drop command.sent command.bytes) } ∷ []) (record backend { command = Some (record command { sent = command.sent + n }) })
-command-taken forms user heard pieces backend command n at none is some fits fresh = inside-after forms user heard pieces (pieces ++ piece ∷ []) backend backend.own backend.reply (Some (record command { sent = command.sent + n })) at
-    (inr (none, prefix-more at.said (bytes_in pieces) piece.bytes (bytes_in (pieces ++ piece ∷ [])) (said-written forms user heard pieces backend at none) (bytes-more pieces piece))) commands
-    (record { payload = message.payload; spelt = message.spelt; short = message.short; sent = (let left : length (drop command.sent command.bytes) ≡ length command.bytes - command.sent = length-drop command.sent command.bytes in omega arith); form = message.form }) new
+command-taken : {forms : Forms} {user : Account} {heard : List ℕ} {pieces : List Command} {backend : BackendState} (command : Handed) (n : ℕ)
+    → IsInside forms user heard pieces backend → backend.own ≡ [] → backend.command ≡ Some command → 0 < n
+    → n ≤ length (drop command.sent command.bytes) → IsFresh backend.command pieces
+    → IsInside forms user heard (pieces ++ record { tag = command.tag; bytes = take n (drop command.sent command.bytes) } ∷ [])
+        (record backend { command = Some (record command { sent = command.sent + n }) })
+command-taken {forms} {user} {heard} {pieces} {backend} command n at none is some fits fresh = inside-after backend.own backend.reply
+    (Some (record command { sent = command.sent + n })) at
+    (inr (none, prefix-more piece.bytes (said-written forms user heard pieces backend at none) (bytes-more pieces piece))) commands
+    (record { payload = message.payload; spelt = message.spelt; short = message.short; sent =
+        (let left : length (drop command.sent command.bytes) ≡ length command.bytes - command.sent = length-drop command.sent command.bytes in omega arith); form = message.form }) new
     (λ no. absurd (let some_is : record { tag = command.tag; bytes = take (command.sent + n) command.bytes } ∷ [] ≡ [] = sym now ∙ no in cc))
-    (let hears : IsHearing command at.part backend.reply = subst (λ (o : Option Handed). HearsPart o at.part backend.reply) is at.partly in record { goes = hears.goes; made = hears.made; are = hears.are }) where
+    (let hears : IsHearing command at.part backend.reply = rw is at at.partly in record { goes = hears.goes; made = hears.made; are = hears.are }) where
       piece : Command
       piece = record { tag = command.tag; bytes = take n (drop command.sent command.bytes) }
 
@@ -136,12 +158,12 @@ command-taken forms user heard pieces backend command n at none is some fits fre
       now = begun-some (record command { sent = command.sent + n }) (omega arith)
 
       commands : commands_in (behind (length at.said) (pieces ++ piece ∷ [])) ≡ at.others ++ begun (Some (record command { sent = command.sent + n }))
-      commands = ap commands_in (behind-append (length at.said) pieces (piece ∷ []) (prefix-fits at.said (bytes_in pieces) (said-written forms user heard pieces backend at none)))
+      commands = ap commands_in (behind-append (length at.said) pieces (piece ∷ []) (prefix-fits (said-written forms user heard pieces backend at none)))
           ∙ fold-append with_piece [] (behind (length at.said) pieces) (piece ∷ [])
           ∙ ap (λ cs. with_piece cs piece) at.commands
           ∙ with-piece-behind at.others (begun backend.command) piece at.wholes
           ∙ ap (λ (o : Option Handed). at.others ++ with_piece (begun o) piece) is
-          ∙ ap (λ cs. at.others ++ cs) (begun-more forms command n message some fits ∙ sym now)
+          ∙ ap (λ cs. at.others ++ cs) (begun-more n message some fits ∙ sym now)
 
       new : (m i : ℕ) → list_any (is_of m i) (begun (Some (record command { sent = command.sent + n }))) ≡ true → list_any (is_of m i) at.others ≡ false
       new m i any = by command.sent refl where
@@ -151,27 +173,37 @@ command-taken forms user heard pieces backend command n at none is some fits fre
         by : (sent : ℕ) → command.sent ≡ sent → list_any (is_of m i) at.others ≡ false
         by zero unsent = (let or-nothing : (b : Bool) → (b || false) ≡ b = λ b. grind (arith, common_steps) in
             (let out = of-commands m i (length at.said) pieces (fresh m i command is unsent (sym (or-nothing (is_command m i command.tag)) ∙ here)) in
-            (or_parts (list_any (is_of m i) at.others) (list_any (is_of m i) (begun backend.command)) (sym (list_any-append (is_of m i) at.others (begun backend.command)) ∙ sym (ap (list_any (is_of m i)) at.commands) ∙ out)).0))
-        by (suc sent) was = at.new m i (ap (λ (o : Option Handed). list_any (is_of m i) (begun o)) is ∙ ap (list_any (is_of m i)) (begun-some command (omega arith)) ∙ here)
+            (or_parts (list_any (is_of m i) at.others) (list_any (is_of m i) (begun backend.command))
+                (sym (list_any-append (is_of m i) at.others (begun backend.command)) ∙ sym (ap (list_any (is_of m i)) at.commands) ∙ out)).0))
+        by (suc sent) was = at.new m i (ap (λ (o : Option Handed). list_any (is_of m i) (begun o)) is
+            ∙ ap (list_any (is_of m i)) (begun-some command (omega arith)) ∙ here)
 
 -- So many bytes of what is left are written, with its tag.
-pub taken-at : (forms : Forms) (user : Account) (heard : List ℕ) (pieces : List Command) (backend : BackendState) (l : Sent) (n : ℕ) → LinkAt forms user heard pieces backend → left backend ≡ Some l → 0 < n → n ≤ length l.bytes → IsFresh backend.command pieces
+pub taken-at : {forms : Forms} {user : Account} {heard : List ℕ} {pieces : List Command} {backend : BackendState} (l : Sent) (n : ℕ)
+    → LinkAt forms user heard pieces backend → left backend ≡ Some l → 0 < n → n ≤ length l.bytes → IsFresh backend.command pieces
     → LinkAt forms user heard (pieces ++ record { tag = l.tag; bytes = take n l.bytes } ∷ []) (taken n backend)
-taken-at forms user heard pieces backend l n h7 is some fits fresh = grind (arith, common_steps, some-same, entering-taken, command-taken, own-taken)
+taken-at l n h7 is some fits fresh = grind (arith, common_steps, some-same, entering-taken, command-taken, own-taken)
 
 -- What was written of a login, with any part of what is left, is the front of what the router says in it.
-part-said : (pieces : List Command) (own said : List ℕ) (k : ℕ) → bytes_in pieces ++ own ≡ said → IsPrefix (bytes_in pieces ++ take k own) said
-part-said pieces own said k is = record { rest = drop k own; is = append_assoc (bytes_in pieces) (take k own) (drop k own) ∙ ap (λ xs. bytes_in pieces ++ xs) (take-append-drop k own) ∙ is }
+part-said : {said : List ℕ} (pieces : List Command) (own : List ℕ) (k : ℕ) → bytes_in pieces ++ own ≡ said
+    → IsPrefix (bytes_in pieces ++ take k own) said
+part-said pieces own k is = record { rest = drop k own; is = append_assoc (bytes_in pieces) (take k own) (drop k own)
+    ∙ ap (λ xs. bytes_in pieces ++ xs) (take-append-drop k own) ∙ is }
 
-pub said-entering : (user : Account) (heard : List ℕ) (pieces : List Command) (backend : BackendState) (k : ℕ) → IsEntering user heard pieces backend → IsPrefix (bytes_in pieces ++ take k backend.own) (said_of (opening user heard))
-said-entering user heard pieces backend k at = part-said pieces backend.own (said_of (opening user heard)) k (sym (ap said_of at.goes))
+pub said-entering : {user : Account} {heard : List ℕ} {pieces : List Command} {backend : BackendState} (k : ℕ) → IsEntering user heard pieces backend
+    → IsPrefix (bytes_in pieces ++ take k backend.own) (said_of (opening user heard))
+said-entering {pieces} {backend} k at = part-said pieces backend.own k (sym (ap said_of at.goes))
 
-pub said-inside : (forms : Forms) (user : Account) (heard : List ℕ) (pieces : List Command) (backend : BackendState) (k : ℕ) → IsInside forms user heard pieces backend → 0 < length backend.own → IsPrefix (bytes_in pieces ++ take k backend.own) (said_of (opening user heard))
-said-inside forms user heard pieces backend k at some = part-said pieces backend.own (said_of (opening user heard)) k (own-left forms user heard pieces backend at some ∙ sym (ap said_of at.is))
+pub said-inside : {forms : Forms} {user : Account} {heard : List ℕ} {pieces : List Command} {backend : BackendState} (k : ℕ)
+    → IsInside forms user heard pieces backend → 0 < length backend.own
+    → IsPrefix (bytes_in pieces ++ take k backend.own) (said_of (opening user heard))
+said-inside {pieces} {backend} k at some = part-said pieces backend.own k (own-left at some ∙ sym (ap said_of at.is))
 
-pub said-at : (forms : Forms) (user : Account) (heard : List ℕ) (pieces : List Command) (backend : BackendState) (k : ℕ) → LinkAt forms user heard pieces backend → 0 < length backend.own → IsPrefix (bytes_in pieces ++ take k backend.own) (said_of (opening user heard))
-said-at forms user heard pieces backend k (Entering at) some = said-entering user heard pieces backend k at
-said-at forms user heard pieces backend k (Inside at) some = said-inside forms user heard pieces backend k at some
+pub said-at : (forms : Forms) (user : Account) (heard : List ℕ) (pieces : List Command) (backend : BackendState) (k : ℕ)
+    → LinkAt forms user heard pieces backend → 0 < length backend.own
+    → IsPrefix (bytes_in pieces ++ take k backend.own) (said_of (opening user heard))
+said-at forms user heard pieces backend k (Entering at) some = said-entering k at
+said-at forms user heard pieces backend k (Inside at) some = said-inside k at some
 
 -- The reply to a command as a piece of it is read.
 
@@ -181,8 +213,9 @@ pub record IsPiece (piece : List ℕ) : Type 0 where
   pub are : AreBytes piece
 
 -- all that was read of the reply ends as the piece does, also by the ids that the definition has
-ends-as : (command : Handed) (part kept piece : List ℕ) → IsHearing command part kept → run (started (to_command command.bytes command.first)) (part ++ piece) ≡ run command.tracker.state piece
-ends-as command part kept piece hears = run-more (started (to_command command.bytes command.first)) command.tracker.state part piece hears.goes
+ends-as : {command : Handed} {part kept : List ℕ} (piece : List ℕ) → IsHearing command part kept
+    → run (started (to_command command.bytes command.first)) (part ++ piece) ≡ run command.tracker.state piece
+ends-as {command} {part} piece hears = grind (arith, common_steps, run-more)
 
 same-ended : (one two : Ending) (end : ReplyEnd) (rest : List ℕ) → SameEnd one two → one ≡ Ended end rest → two ≡ Ended end rest
 same-ended one two end rest same is = grind (arith, common_steps)
@@ -190,20 +223,22 @@ same-ended one two end rest same is = grind (arith, common_steps)
 same-failed : (one two : Ending) (behind : List ℕ) → SameEnd one two → one ≡ Failed behind → two ≡ Failed behind
 same-failed one two behind same is = grind (arith, common_steps)
 
-length-kept : (command : Handed) (part kept : List ℕ) → IsHearing command part kept → length kept ≡ length part
-length-kept command part kept hears = ap length hears.made ∙ length-renumbered part (started (to_command command.bytes command.first))
+length-kept : {command : Handed} {part kept : List ℕ} → IsHearing command part kept → length kept ≡ length part
+length-kept {command} {part} hears = grind (arith, common_steps, length-renumbered)
 
 -- the reply goes on
-pub hearing-more : (command : Handed) (part kept piece : List ℕ) (state : State) → IsHearing command part kept → AreBytes piece → run command.tracker.state piece ≡ Going state
+pub hearing-more : {command : Handed} {part kept : List ℕ} (piece : List ℕ) (state : State) → IsHearing command part kept → AreBytes piece
+    → run command.tracker.state piece ≡ Going state
     → IsHearing (record command { tracker = record { state = state } }) (part ++ piece) (kept ++ renumbered command.tracker.state piece)
-hearing-more command part kept piece state hears are is = record {
-  goes = ends-as command part kept piece hears ∙ is;
-  made = ap (λ l. l ++ renumbered command.tracker.state piece) hears.made ∙ sym (renumbered-more (started (to_command command.bytes command.first)) command.tracker.state part piece hears.goes);
+hearing-more {command} {part} piece state hears are is = record {
+  goes = ends-as piece hears ∙ is;
+  made = grind (arith, common_steps, renumbered-more);
   are = AreBytes-append part piece hears.are are;
 }
 
 -- what is heard behind a command of this form
-pub heard-formed : (forms : Forms) (command : Handed) (c : Command) (bytes : List ℕ) → forms command.tag ≡ form_at command.bytes → c.tag ≡ command.tag → command_reply forms c bytes ≡ heard_as (form_at command.bytes) bytes
+pub heard-formed : (forms : Forms) (command : Handed) (c : Command) (bytes : List ℕ) → forms command.tag ≡ form_at command.bytes → c.tag ≡ command.tag
+    → command_reply forms c bytes ≡ heard_as (form_at command.bytes) bytes
 heard-formed forms command c bytes form same = ap (λ (t : Tag). heard_as (forms t) bytes) same ∙ ap (λ (f : Form). heard_as f bytes) form
 
 -- no number is in the reply to a command
@@ -216,16 +251,17 @@ pub record IsWholeReply (forms : Forms) (command : Handed) (part kept piece : Li
   pub handed : kept ++ take (length piece - length rest) (renumbered command.tracker.state piece) ≡ spelt command.first reply
   pub shorter : length rest < length piece
 
-pub whole-reply : (forms : Forms) (command : Handed) (part kept piece : List ℕ) (end : ReplyEnd) (rest : List ℕ) → forms command.tag ≡ form_at command.bytes → IsHearing command part kept → AreBytes piece → run command.tracker.state piece ≡ Ended end rest
+pub whole-reply : {command : Handed} {part kept : List ℕ} (forms : Forms) (piece : List ℕ) (end : ReplyEnd) (rest : List ℕ)
+    → forms command.tag ≡ form_at command.bytes → IsHearing command part kept → AreBytes piece → run command.tracker.state piece ≡ Ended end rest
     → (reply : Answer) × IsWholeReply forms command part kept piece reply rest
-whole-reply forms command part kept piece end rest form hears are is = (let bytes : List ℕ = part ++ piece in
+whole-reply {command} {part} {kept} forms piece end rest form hears are is = (let bytes : List ℕ = part ++ piece in
     let kind : ReplyKind = kind_to command.bytes in
     let id : ℕ = id_after command.bytes in
     let start : State = started (to_command command.bytes command.first) in
     let made : List ℕ = renumbered command.tracker.state piece in
     let used : ℕ = length piece - length rest in
     let short : length rest < length piece = ended-shorter command.tracker.state piece rest end is in
-    let ends : run start bytes ≡ Ended end rest = ends-as command part kept piece hears ∙ is in
+    let ends : run start bytes ≡ Ended end rest = ends-as piece hears ∙ is in
     let on : IsHandedOn (to_command command.bytes command.first) bytes end rest =
     handed-on (to_command command.bytes command.first) bytes end rest (omega arith) (AreBytes-append part piece hears.are are) ends in
     let reply : Answer = payloads_in id (take (length bytes - length rest) bytes) in
@@ -240,24 +276,28 @@ whole-reply forms command part kept piece end rest form hears are is = (let byte
     omega (arith, short)) in (
       reply,
       record {
-        said = λ c same. heard-formed forms command c bytes form same ∙ ap (heard_by id bytes) (same-ended (run start bytes) (replied kind id bytes) end rest (same-end kind id command.first id bytes) ends);
-        handed = sym (take-append-add kept made used) ∙ ap (λ l. take (length kept + used) l) both ∙ ap (λ n. take n (spelt command.first reply ++ rest)) size ∙ take-append_seam (spelt command.first reply) rest;
+        said = λ c same. heard-formed forms command c bytes form same ∙ ap (heard_by id bytes)
+            (same-ended (run start bytes) (replied kind id bytes) end rest (same-end kind id command.first id bytes) ends);
+        handed = sym (take-append-add kept made used) ∙ ap (λ l. take (length kept + used) l) both ∙ ap (λ n. take n (spelt command.first reply ++ rest)) size
+            ∙ take-append_seam (spelt command.first reply) rest;
         shorter = short;
       },
     ))
 
 -- No reply goes on with the piece, from this place on.
-pub never-reply : (forms : Forms) (command : Handed) (part kept piece behind : List ℕ) → forms command.tag ≡ form_at command.bytes → IsHearing command part kept → run command.tracker.state piece ≡ Failed behind
-    → (c : Command) → c.tag ≡ command.tag → command_reply forms c (part ++ piece) ≡ Never (length kept + (length piece - length behind))
-never-reply forms command part kept piece behind form hears is c same = (let bytes : List ℕ = part ++ piece in
+pub never-reply : {command : Handed} {part kept : List ℕ} (forms : Forms) (piece behind : List ℕ) → forms command.tag ≡ form_at command.bytes
+    → IsHearing command part kept → run command.tracker.state piece ≡ Failed behind → (c : Command) → c.tag ≡ command.tag
+    → command_reply forms c (part ++ piece) ≡ Never (length kept + (length piece - length behind))
+never-reply {command} {part} {kept} forms piece behind form hears is c same = (let bytes : List ℕ = part ++ piece in
     let start : State = started (to_command command.bytes command.first) in
     let place : length bytes - length behind ≡ length kept + (length piece - length behind) =
     (let a : length (part ++ piece) ≡ length part + length piece = length-append part piece in
-    let b : length kept ≡ length part = length-kept command part kept hears in
+    let b : length kept ≡ length part = length-kept hears in
     let c : length behind ≤ length piece = (failed-shorter command.tracker.state piece behind is).1 in
     omega arith) in
     heard-formed forms command c bytes form same
-    ∙ ap (heard_by (id_after command.bytes) bytes) (same-failed (run start bytes) (replied (kind_to command.bytes) (id_after command.bytes) bytes) behind (same-end (kind_to command.bytes) (id_after command.bytes) command.first (id_after command.bytes) bytes) (ends-as command part kept piece hears ∙ is))
+    ∙ ap (heard_by (id_after command.bytes) bytes) (same-failed (run start bytes) (replied (kind_to command.bytes) (id_after command.bytes) bytes) behind
+        (same-end (kind_to command.bytes) (id_after command.bytes) command.first (id_after command.bytes) bytes) (ends-as piece hears ∙ is))
     ∙ ap Never place)
 
 -- What is said of a link on which commands are whole and answered, and maybe one more is begun.
@@ -275,43 +315,59 @@ pub record Stands (forms : Forms) (user : Account) (read : List ℕ) (pieces las
   pub replies : replies_by (command_reply forms) others past ≡ record { whole = whole; rest = []; bad = None }
   pub all : length whole ≡ length others
 
-pub stands-at : (forms : Forms) (user : Account) (heard : List ℕ) (pieces : List Command) (backend : BackendState) (at : IsInside forms user heard pieces backend) → Stands forms user heard pieces (begun backend.command) at.part
-stands-at forms user heard pieces backend at = grind (arith, common_steps)
+pub stands-at : {forms : Forms} {user : Account} {heard : List ℕ} {pieces : List Command} {backend : BackendState} (at : IsInside forms user heard pieces backend)
+    → Stands forms user heard pieces (begun backend.command) at.part
+stands-at at = grind (arith, common_steps)
+
+pub inside-from : {forms : Forms} {user : Account} {heard : List ℕ} {pieces : List Command} {backend : BackendState} {last : List Command} {part : List ℕ}
+    (at : Stands forms user heard pieces last part) → begun backend.command ≡ last → backend.account ≡ user → backend.stage ≡ In
+    → (bytes_in pieces ++ backend.own ≡ at.said) ⊎ ((backend.own ≡ []) × IsPrefix at.said (bytes_in pieces)) → IsHanded forms backend.command
+    → (last ≡ [] → part ≡ []) → HearsPart backend.command part backend.reply → IsInside forms user heard pieces backend
+inside-from at is account stage written command unasked partly = grind (arith, common_steps)
 
 -- bytes that come are behind the others
-pub opening-more : (user : Account) (heard piece said past kept : List ℕ) → opening user heard ≡ LogsIn said (past ++ kept) → opening user (heard ++ piece) ≡ LogsIn said (past ++ (kept ++ piece))
-opening-more user heard piece said past kept is = opening-logged_in user heard piece said (past ++ kept) is ∙ ap (LogsIn said) (append_assoc past kept piece)
+pub opening-more : (user : Account) (heard piece said past kept : List ℕ) → opening user heard ≡ LogsIn said (past ++ kept)
+    → opening user (heard ++ piece) ≡ LogsIn said (past ++ (kept ++ piece))
+opening-more user heard piece said past kept is = grind (arith, common_steps, opening-logged_in, said, is)
 
-pub stands-more : (forms : Forms) (user : Account) (heard piece : List ℕ) (pieces last : List Command) (kept : List ℕ) → Stands forms user heard pieces last kept → Stands forms user (heard ++ piece) pieces last (kept ++ piece)
-stands-more forms user heard piece pieces last kept at = grind (arith, common_steps, opening-more)
+pub stands-more : {forms : Forms} {user : Account} {heard : List ℕ} {pieces last : List Command} {kept : List ℕ} (piece : List ℕ)
+    → Stands forms user heard pieces last kept → Stands forms user (heard ++ piece) pieces last (kept ++ piece)
+stands-more piece at = grind (arith, common_steps, opening-more)
 
 -- The commands, the replies and how the link stands, by what the last command has.
-pub commands-of : (forms : Forms) (user : Account) (read : List ℕ) (pieces last : List Command) (kept : List ℕ) (at : Stands forms user read pieces last kept) → commands_said user read pieces ≡ at.others ++ last
-commands-of forms user read pieces last kept at = ap (λ (o : Opening). commands_behind o pieces) at.is ∙ at.commands
+pub commands-of : {forms : Forms} {user : Account} {read : List ℕ} {pieces last : List Command} {kept : List ℕ} (at : Stands forms user read pieces last kept)
+    → commands_said user read pieces ≡ at.others ++ last
+commands-of {pieces} at = ap (λ (o : Opening). commands_behind o pieces) at.is ∙ at.commands
 
-pub replies-both : (forms : Forms) (others last : List Command) (past kept : List ℕ) (whole : List Answer) → replies_by (command_reply forms) others past ≡ record { whole = whole; rest = []; bad = None } → length whole ≡ length others
+pub replies-both : (forms : Forms) (others last : List Command) (past kept : List ℕ) (whole : List Answer)
+    → replies_by (command_reply forms) others past ≡ record { whole = whole; rest = []; bad = None } → length whole ≡ length others
     → replies_by (command_reply forms) (others ++ last) (past ++ kept) ≡ behind_replies whole (replies_by (command_reply forms) last kept)
 replies-both forms others last past kept whole is all = grind (arith, common_steps, replies-behind, command-reply-grammar)
 
-pub replies-of : (forms : Forms) (user : Account) (read : List ℕ) (pieces last : List Command) (kept : List ℕ) (at : Stands forms user read pieces last kept)
-    → replies_said forms user read pieces ≡ behind_replies at.whole (replies_by (command_reply forms) last kept)
-replies-of forms user read pieces last kept at = (λ j. replies_by (command_reply forms) (commands-of forms user read pieces last kept at j) (rest_of (at.is j))) ∙ replies-both forms at.others last at.past kept at.whole at.replies at.all
+module _ {forms : Forms} {user : Account} {read : List ℕ} {pieces : List Command} {kept : List ℕ} where
 
-pub standing-of : (forms : Forms) (user : Account) (read : List ℕ) (pieces last : List Command) (kept : List ℕ) (at : Stands forms user read pieces last kept)
-    → standing_said forms user read pieces ≡ stands (at.others ++ last) (behind_replies at.whole (replies_by (command_reply forms) last kept))
-standing-of forms user read pieces last kept at = λ j. standing_in (at.is j) (commands-of forms user read pieces last kept at j) (replies-of forms user read pieces last kept at j)
+  pub replies-of : {last : List Command} (at : Stands forms user read pieces last kept)
+      → replies_said forms user read pieces ≡ behind_replies at.whole (replies_by (command_reply forms) last kept)
+  replies-of {last} at = (λ j. replies_by (command_reply forms) (commands-of at j) (rest_of (at.is j)))
+      ∙ replies-both forms at.others last at.past kept at.whole at.replies at.all
 
--- The reply to the last command, which is no other.
-pub reply-of : (forms : Forms) (user : Account) (read : List ℕ) (pieces : List Command) (c : Command) (kept : List ℕ) (at : Stands forms user read pieces (c ∷ []) kept) (n i : ℕ) (lost : Bool) → is_command n i c.tag ≡ true
-    → reply_said forms n i user read pieces lost ≡ reply_at (length at.others) (behind_replies at.whole (replies_by (command_reply forms) (c ∷ []) kept)) lost
-reply-of forms user read pieces c kept at n i lost is = (let zero-plus : 0 + length at.others ≡ length at.others = omega arith in
-    ap (λ cs. option_and_then (λ place. reply_at place (replies_said forms user read pieces) lost) (place_in n i 0 cs)) (commands-of forms user read pieces (c ∷ []) kept at)
-    ∙ ap (option_and_then (λ place. reply_at place (replies_said forms user read pieces) lost)) (place-last n i 0 at.others c (at.new n i (or_left (is_command n i c.tag) false is)) is)
-    ∙ ap (λ place. reply_at place (replies_said forms user read pieces) lost) zero-plus
-    ∙ ap (λ (r : Replies). reply_at (length at.others) r lost) (replies-of forms user read pieces (c ∷ []) kept at))
+  pub standing-of : {last : List Command} (at : Stands forms user read pieces last kept)
+      → standing_said forms user read pieces ≡ stands (at.others ++ last) (behind_replies at.whole (replies_by (command_reply forms) last kept))
+  standing-of at = λ j. standing_in (at.is j) (commands-of at j) (replies-of at j)
+
+  -- The reply to the last command, which is no other.
+  pub reply-of : (c : Command) (at : Stands forms user read pieces (c ∷ []) kept) (n i : ℕ) (lost : Bool) → is_command n i c.tag ≡ true
+      → reply_said forms n i user read pieces lost ≡ reply_at (length at.others) (behind_replies at.whole (replies_by (command_reply forms) (c ∷ []) kept)) lost
+  reply-of c at n i lost is = (let zero-plus : 0 + length at.others ≡ length at.others = omega arith in
+      ap (λ cs. option_and_then (λ place. reply_at place (replies_said forms user read pieces) lost) (place_in n i 0 cs)) (commands-of at)
+      ∙ ap (option_and_then (λ place. reply_at place (replies_said forms user read pieces) lost))
+          (place-last n i 0 at.others c (at.new n i (or_left (is_command n i c.tag) false is)) is)
+      ∙ ap (λ place. reply_at place (replies_said forms user read pieces) lost) zero-plus
+      ∙ ap (λ (r : Replies). reply_at (length at.others) r lost) (replies-of at))
 
 pub at-last : (whole : List Answer) (reply : Answer) (place : ℕ) → length whole ≡ place → slice_get (whole ++ reply ∷ []) place ≡ Some reply
-at-last whole reply place same = slice_get_read (whole ++ reply ∷ []) (length (whole ++ reply ∷ [])) place reply refl (let sum : length (whole ++ reply ∷ []) ≡ length whole + 1 = length-append whole (reply ∷ []) in omega arith) (sym (get_or_push whole reply reply place same))
+at-last whole reply place same = slice_get_read (whole ++ reply ∷ []) (length (whole ++ reply ∷ [])) place reply refl
+    (let sum : length (whole ++ reply ∷ []) ≡ length whole + 1 = length-append whole (reply ∷ []) in omega arith) (sym (get_or_push whole reply reply place same))
 
 not-there : (whole : List Answer) (place : ℕ) → length whole ≡ place → slice_get (whole ++ []) place ≡ None
 not-there whole place same = slice_get_past (whole ++ []) place (let sum : length (whole ++ []) ≡ length whole + 0 = length-append whole [] in omega arith)
@@ -328,33 +384,39 @@ reply-there whole reply rest place lost same = ap (λ o. or_else o (error_by Non
 -- how the link stands where all commands are answered
 pub stands-answered : (commands : List Command) (whole : List Answer) (rest : List ℕ) → length commands ≤ length whole
     → stands commands (record { whole = whole; rest = rest; bad = None }) ≡ cond (is_empty rest && list_all is_whole commands) Clean Spoilt
-stands-answered commands whole rest all = ap (stands_by None (is_empty rest && list_all is_whole commands)) (drop_all (length whole) commands all)
+stands-answered commands whole rest all = grind (arith, common_steps, commands, all)
 
 -- and where the last is open
 pub stands-open : (others : List Command) (c : Command) (whole : List Answer) (kept : List ℕ) → length whole ≡ length others
     → stands (others ++ c ∷ []) (behind_replies whole (record { whole = []; rest = kept; bad = None })) ≡ cond (is_whole c) Runs Sends
-stands-open others c whole kept all = ap (stands_by None (is_empty kept && list_all is_whole (others ++ c ∷ []))) (drop_at others (c ∷ []) (length (whole ++ [])) (let sum : length (whole ++ []) ≡ length whole + 0 = length-append whole [] in omega arith))
+stands-open others c whole kept all = grind (arith, common_steps, length-append)
 
 -- How a link to a server stands, and the reply that a command on it has.
 
 -- The stage says which of the two it is.
-pub inside-at : (forms : Forms) (user : Account) (heard : List ℕ) (pieces : List Command) (backend : BackendState) → LinkAt forms user heard pieces backend → backend.stage ≡ In → IsInside forms user heard pieces backend
-inside-at forms user heard pieces backend h5 is = grind (arith, common_steps)
+pub inside-at : {forms : Forms} {user : Account} {heard : List ℕ} {pieces : List Command} {backend : BackendState}
+    → LinkAt forms user heard pieces backend → backend.stage ≡ In → IsInside forms user heard pieces backend
+inside-at h5 is = grind (arith, common_steps)
 
-pub entering-at : (forms : Forms) (user : Account) (heard : List ℕ) (pieces : List Command) (backend : BackendState) → LinkAt forms user heard pieces backend → backend.stage ≢ In → IsEntering user heard pieces backend
+pub entering-at : (forms : Forms) (user : Account) (heard : List ℕ) (pieces : List Command) (backend : BackendState)
+    → LinkAt forms user heard pieces backend → backend.stage ≢ In → IsEntering user heard pieces backend
 entering-at forms user heard pieces backend h5 other = grind (arith, common_steps)
 
 -- the login goes on
-pub standing-entering : (forms : Forms) (user : Account) (heard : List ℕ) (pieces : List Command) (backend : BackendState) → IsEntering user heard pieces backend → standing_said forms user heard pieces ≡ Enters
-standing-entering forms user heard pieces backend at = ap (λ (o : Opening). standing_in o (commands_said user heard pieces) (replies_said forms user heard pieces)) at.goes
+pub standing-entering : (forms : Forms) (user : Account) (heard : List ℕ) (pieces : List Command) (backend : BackendState)
+    → IsEntering user heard pieces backend → standing_said forms user heard pieces ≡ Enters
+standing-entering forms user heard pieces backend at = grind (arith, common_steps)
 
 -- Inside the commands are the others and the one that is begun.
-pub commands-inside : (forms : Forms) (user : Account) (heard : List ℕ) (pieces : List Command) (backend : BackendState) (at : IsInside forms user heard pieces backend) → commands_said user heard pieces ≡ at.others ++ begun backend.command
+pub commands-inside : (forms : Forms) (user : Account) (heard : List ℕ) (pieces : List Command) (backend : BackendState)
+    (at : IsInside forms user heard pieces backend)
+    → commands_said user heard pieces ≡ at.others ++ begun backend.command
 commands-inside forms user heard pieces backend at = ap (λ (o : Opening). commands_behind o pieces) at.is ∙ at.commands
 
 -- what was read behind the others is a part of its reply
-pub hears-partly : (forms : Forms) (command : Handed) (part kept : List ℕ) (c : Command) → forms command.tag ≡ form_at command.bytes → c.tag ≡ command.tag → IsHearing command part kept → command_reply forms c part ≡ Partly
-hears-partly forms command part kept c form same hears = heard-formed forms command c part form same ∙ by (replied kind id part) refl where
+pub hears-partly : {command : Handed} {part kept : List ℕ} (forms : Forms) (c : Command) → forms command.tag ≡ form_at command.bytes
+    → c.tag ≡ command.tag → IsHearing command part kept → command_reply forms c part ≡ Partly
+hears-partly {command} {part} forms c form same hears = heard-formed forms command c part form same ∙ by (replied kind id part) refl where
   kind : ReplyKind
   kind = kind_to command.bytes
 
@@ -366,8 +428,10 @@ hears-partly forms command part kept c form same hears = heard-formed forms comm
 
   by : (ending : Ending) → replied kind id part ≡ ending → heard_by id part ending ≡ Partly
   by (Going state) is = refl
-  by (Ended end rest) is = absurd (subst (λ (e : Ending). SameEnd (Going command.tracker.state) e) is (subst (λ (e : Ending). SameEnd e (replied kind id part)) hears.goes first))
-  by (Failed behind) is = absurd (subst (λ (e : Ending). SameEnd (Going command.tracker.state) e) is (subst (λ (e : Ending). SameEnd e (replied kind id part)) hears.goes first))
+  by (Ended end rest) is = absurd (subst (λ (e : Ending). SameEnd (Going command.tracker.state) e) is
+      (subst (λ (e : Ending). SameEnd e (replied kind id part)) hears.goes first))
+  by (Failed behind) is = absurd (subst (λ (e : Ending). SameEnd (Going command.tracker.state) e) is
+      (subst (λ (e : Ending). SameEnd e (replied kind id part)) hears.goes first))
 
 -- a command of which a byte was written
 pub record IsBegun (forms : Forms) (user : Account) (heard : List ℕ) (pieces : List Command) (backend : BackendState) (command : Handed) : Type 0 where
@@ -375,56 +439,81 @@ pub record IsBegun (forms : Forms) (user : Account) (heard : List ℕ) (pieces :
   pub is : backend.command ≡ Some command
   pub some : 0 < command.sent
 
+-- what was written of it
 abbrev pub written : Handed → Command
 written command = record { tag = command.tag; bytes = take command.sent command.bytes }
 
-handed-is : (forms : Forms) (user : Account) (heard : List ℕ) (pieces : List Command) (backend : BackendState) (command : Handed) → IsInside forms user heard pieces backend → backend.command ≡ Some command → IsMessage forms command
-handed-is forms user heard pieces backend command at is = subst (IsHanded forms) is at.command
+module _ {forms : Forms} {user : Account} {heard : List ℕ} {pieces : List Command} {backend : BackendState} {command : Handed} (at : IsBegun forms user heard pieces backend command) where
+  pub message : IsMessage forms command
+  message = subst (IsHanded forms) at.is at.inside.command
 
-partly-by : (forms : Forms) (user : Account) (heard : List ℕ) (pieces : List Command) (backend : BackendState) (command : Handed) (at : IsBegun forms user heard pieces backend command)
-    → replies_by (command_reply forms) (written command ∷ []) at.inside.part ≡ record { whole = []; rest = at.inside.part; bad = None }
-partly-by forms user heard pieces backend command at = ap (λ (h : Heard). cut h at.inside.part (replies_by (command_reply forms) []))
-    (hears-partly forms command at.inside.part backend.reply (written command) (handed-is forms user heard pieces backend command at.inside at.is).form refl
-    (subst (λ (o : Option Handed). HearsPart o at.inside.part backend.reply) at.is at.inside.partly))
+  pub hearing : IsHearing command at.inside.part backend.reply
+  hearing = grind (arith, common_steps)
 
-begun-at : (forms : Forms) (user : Account) (heard : List ℕ) (pieces : List Command) (backend : BackendState) (command : Handed) (at : IsBegun forms user heard pieces backend command) → Stands forms user heard pieces (written command ∷ []) at.inside.part
-begun-at forms user heard pieces backend command at = subst (λ last. Stands forms user heard pieces last at.inside.part) (ap begun at.is ∙ begun-some command at.some) (stands-at forms user heard pieces backend at.inside)
+  pub begun-is : begun backend.command ≡ written command ∷ []
+  begun-is = ap begun at.is ∙ begun-some command at.some
+
+  pub begun-at : Stands forms user heard pieces (written command ∷ []) at.inside.part
+  begun-at = grind (arith, common_steps, begun-is)
+
+  partly-by : replies_by (command_reply forms) (written command ∷ []) at.inside.part ≡ record { whole = []; rest = at.inside.part; bad = None }
+  partly-by = ap (λ (h : Heard). cut h at.inside.part (replies_by (command_reply forms) [])) (hears-partly forms (written command) message.form refl hearing)
+
+  standing-begun : standing_said forms user heard pieces ≡ cond (is_whole (written command)) Runs Sends
+  standing-begun = standing-of begun-at ∙ ap (λ (r : Replies). stands (begun-at.others ++ written command ∷ []) (behind_replies begun-at.whole r)) partly-by
+      ∙ stands-open begun-at.others (written command) begun-at.whole at.inside.part begun-at.all
+
+  -- it has no reply, or the error in its place
+  pub unanswered-at : (n i : ℕ) (lost : Bool) → is_command n i command.tag ≡ true → reply_said forms n i user heard pieces lost ≡ cond lost
+      (Some (connection_lost ∷ [])) None
+  unanswered-at n i lost here = reply-of (written command) begun-at n i lost here
+      ∙ ap (λ (r : Replies). reply_at (length begun-at.others) (behind_replies begun-at.whole r) lost) partly-by
+          ∙ reply-open begun-at.whole at.inside.part None (length begun-at.others) lost begun-at.all
+
+  -- it is whole, or a part of one, as far as it was written
+  pub written-whole : command.sent ≡ length command.bytes → is_whole (written command) ≡ true
+  written-whole all = grind (arith, common_steps, whole-spelt)
+
+  pub written-part : command.sent ≢ length command.bytes → is_whole (written command) ≡ false
+  written-part less = part-spelt message.payload (take command.sent command.bytes) (drop command.sent command.bytes)
+      (take-append-drop command.sent command.bytes ∙ message.spelt)
+      (let size : length (drop command.sent command.bytes) ≡ length command.bytes - command.sent = length-drop command.sent command.bytes in let most = message.sent in omega arith) message.short
 
 -- no command, or nothing of it was written
-pub standing-clean : (forms : Forms) (user : Account) (heard : List ℕ) (pieces : List Command) (backend : BackendState) → IsInside forms user heard pieces backend → begun backend.command ≡ [] → standing_said forms user heard pieces ≡ Clean
+pub standing-clean : (forms : Forms) (user : Account) (heard : List ℕ) (pieces : List Command) (backend : BackendState)
+    → IsInside forms user heard pieces backend → begun backend.command ≡ [] → standing_said forms user heard pieces ≡ Clean
 standing-clean forms user heard pieces backend at none = grind (arith, common_steps, standing-of, stands-answered, length-append, append-nil, stands-at)
 
-standing-begun : (forms : Forms) (user : Account) (heard : List ℕ) (pieces : List Command) (backend : BackendState) (command : Handed) → IsBegun forms user heard pieces backend command → standing_said forms user heard pieces ≡ cond (is_whole (written command)) Runs Sends
-standing-begun forms user heard pieces backend command at = (let by : Stands forms user heard pieces (written command ∷ []) at.inside.part → standing_said forms user heard pieces ≡ cond (is_whole (written command)) Runs Sends =
-    λ now. standing-of forms user heard pieces (written command ∷ []) at.inside.part now
-    ∙ ap (λ (r : Replies). stands (now.others ++ written command ∷ []) (behind_replies now.whole r)) (partly-by forms user heard pieces backend command at)
-    ∙ stands-open now.others (written command) now.whole at.inside.part now.all in
-    by (begun-at forms user heard pieces backend command at))
-
 -- a part of it
-pub standing-sends : (forms : Forms) (user : Account) (heard : List ℕ) (pieces : List Command) (backend : BackendState) (command : Handed) → IsBegun forms user heard pieces backend command → command.sent < length command.bytes → standing_said forms user heard pieces ≡ Sends
-standing-sends forms user heard pieces backend command at less = (let message = handed-is forms user heard pieces backend command at.inside at.is in standing-begun forms user heard pieces backend command at
-    ∙ ap (λ b. cond b Runs Sends) (part-spelt message.payload (take command.sent command.bytes) (drop command.sent command.bytes) (take-append-drop command.sent command.bytes ∙ message.spelt)
-    (let size : length (drop command.sent command.bytes) ≡ length command.bytes - command.sent = length-drop command.sent command.bytes in omega arith) message.short))
+pub standing-sends : (forms : Forms) (user : Account) (heard : List ℕ) (pieces : List Command) (backend : BackendState) (command : Handed)
+    → IsBegun forms user heard pieces backend command → command.sent < length command.bytes → standing_said forms user heard pieces ≡ Sends
+standing-sends forms user heard pieces backend command at less = standing-begun at ∙ ap (λ b. cond b Runs Sends) (written-part at (omega arith))
 
 -- all of it
-pub standing-runs : (forms : Forms) (user : Account) (heard : List ℕ) (pieces : List Command) (backend : BackendState) (command : Handed) → IsInside forms user heard pieces backend → backend.command ≡ Some command → command.sent ≡ length command.bytes → standing_said forms user heard pieces ≡ Runs
-standing-runs forms user heard pieces backend command at is all = (let by : IsMessage forms command → standing_said forms user heard pieces ≡ Runs =
-    λ message. standing-begun forms user heard pieces backend command (record { inside = at; is = is; some = (let some : 0 < length (spelling 0 message.payload) = spelling-some 0 message.payload in let size : length command.bytes ≡ length (spelling 0 message.payload) = ap length message.spelt in omega arith) })
-    ∙ ap (λ b. cond b Runs Sends) (ap (λ bytes. whole_by (first_message most_command 0 bytes)) (take_all command.sent command.bytes (omega arith) ∙ message.spelt) ∙ whole-spelt message.payload message.short) in
-    by (handed-is forms user heard pieces backend command at is))
+pub standing-runs : (forms : Forms) (user : Account) (heard : List ℕ) (pieces : List Command) (backend : BackendState) (command : Handed)
+    → IsInside forms user heard pieces backend → backend.command ≡ Some command → command.sent ≡ length command.bytes
+    → standing_said forms user heard pieces ≡ Runs
+standing-runs forms user heard pieces backend command at is all = standing-begun begins ∙ ap (λ b. cond b Runs Sends) (written-whole begins all) where
+  begins : IsBegun forms user heard pieces backend command
+  begins = record { inside = at; is = is; some = (let message : IsMessage forms command = subst (IsHanded forms) is at.command in let some : 0 < length
+      (spelling 0 message.payload) = spelling-some 0 message.payload in
+      let size : length command.bytes ≡ length (spelling 0 message.payload) = ap length message.spelt in omega arith) }
 
 -- So it stands as the command does.
 abbrev pub standing_by : Option Handed → Standing
 standing_by None = Clean
 standing_by (Some command) = if nat_eq command.sent 0 then Clean else if nat_eq command.sent (length command.bytes) then Runs else Sends
 
-pub standing-inside : (forms : Forms) (user : Account) (heard : List ℕ) (pieces : List Command) (backend : BackendState) → IsInside forms user heard pieces backend → standing_said forms user heard pieces ≡ standing_by backend.command
+pub standing-inside : (forms : Forms) (user : Account) (heard : List ℕ) (pieces : List Command) (backend : BackendState)
+    → IsInside forms user heard pieces backend → standing_said forms user heard pieces ≡ standing_by backend.command
 standing-inside forms user heard pieces backend at = by backend.command refl where
-  sent : (command : Handed) → backend.command ≡ Some command → (none all : Bool) → nat_eq command.sent 0 ≡ none → nat_eq command.sent (length command.bytes) ≡ all → standing_said forms user heard pieces ≡ (if none then Clean else if all then Runs else Sends)
-  sent command is true all unsent is_all = standing-clean forms user heard pieces backend at (ap begun is ∙ ap (λ sent. begun_by sent command) (nat_eq-true command.sent 0 unsent))
+  sent : (command : Handed) → backend.command ≡ Some command → (none all : Bool) → nat_eq command.sent 0 ≡ none → nat_eq command.sent
+      (length command.bytes) ≡ all → standing_said forms user heard pieces ≡ (if none then Clean else if all then Runs else Sends)
+  sent command is true all unsent is_all = standing-clean forms user heard pieces backend at (ap begun is
+      ∙ ap (λ sent. begun_by sent command) (nat_eq-true command.sent 0 unsent))
   sent command is false true some is_all = standing-runs forms user heard pieces backend command at is (nat_eq-true command.sent (length command.bytes) is_all)
-  sent command is false false some part = (let most : command.sent ≤ length command.bytes = (handed-is forms user heard pieces backend command at is).sent in
+  sent command is false false some part = (let message : IsMessage forms command = subst
+      (IsHanded forms) is at.command in let most : command.sent ≤ length command.bytes = message.sent in
       let one : command.sent ≢ 0 = nat_eq-false command.sent 0 some in
       let two : command.sent ≢ length command.bytes = nat_eq-false command.sent (length command.bytes) part in
       standing-sends forms user heard pieces backend command (record { inside = at; is = is; some = omega arith }) (omega arith))
@@ -432,12 +521,3 @@ standing-inside forms user heard pieces backend at = by backend.command refl whe
   by : (o : Option Handed) → backend.command ≡ o → standing_said forms user heard pieces ≡ standing_by o
   by None is = standing-clean forms user heard pieces backend at (ap begun is)
   by (Some command) is = sent command is (nat_eq command.sent 0) (nat_eq command.sent (length command.bytes)) refl refl
-
--- The command that is begun has no reply, or the error in its place.
-pub unanswered-at : (forms : Forms) (user : Account) (heard : List ℕ) (pieces : List Command) (backend : BackendState) (command : Handed) (n i : ℕ) (lost : Bool) → IsBegun forms user heard pieces backend command → is_command n i command.tag ≡ true
-    → reply_said forms n i user heard pieces lost ≡ cond lost (Some (connection_lost ∷ [])) None
-unanswered-at forms user heard pieces backend command n i lost at here = (let by : Stands forms user heard pieces (written command ∷ []) at.inside.part → reply_said forms n i user heard pieces lost ≡ cond lost (Some (connection_lost ∷ [])) None =
-    λ now. reply-of forms user heard pieces (written command) at.inside.part now n i lost here
-    ∙ ap (λ (r : Replies). reply_at (length now.others) (behind_replies now.whole r) lost) (partly-by forms user heard pieces backend command at)
-    ∙ reply-open now.whole at.inside.part None (length now.others) lost now.all in
-    by (begun-at forms user heard pieces backend command at))
