@@ -126,18 +126,18 @@ module _ {service : Service} {log : Log} {e : Entry} {n : ℕ} {tables : Tables}
         → replied service n client.arrived then ≡ Some answer → Free news.lends n → news.lends.waiting ≡ []
         → (news.lends.closing ≡ []) ⊎ (news.lends.owned n ≡ None)
         → Sound service then None
-            (goes_on (record { 0 = n }) seat.link (answered service.setup (spelt (next_id message.last) answer) seat.session)
-            (without_seat (record { 0 = n }) (with_lends news.lends tables)))
+        (goes_on (record { 0 = n }) seat.link (answered service.setup (spelt (next_id message.last) answer) seat.session)
+        (without_seat (record { 0 = n }) (with_lends news.lends tables)))
     seated answer message there now free idle closable =
         subst (λ (p : Phase). Sound service then None
-            (goes_on (record { 0 = n }) seat.link (answered service.setup packets (record { client = client; phase = p }))
-            (without_seat (record { 0 = n }) (with_lends news.lends tables)))) (sym works)
+        (goes_on (record { 0 = n }) seat.link (answered service.setup packets (record { client = client; phase = p }))
+        (without_seat (record { 0 = n }) (with_lends news.lends tables)))) (sym works)
         (goes-on service then (record { 0 = n }) seat.link turned (without_seat (record { 0 = n }) (with_lends news.lends tables))
         (taken-out service log e (record { 0 = n }) seat tables news.lends sound others is from.came.sound from.came.apart from.came.traces from.opens)
-            (set-same tables.seats n None) ((sound.seats n seat is).numbered) from.quiet.unparted stands
+        (set-same tables.seats n None) ((sound.seats n seat is).numbered) from.quiet.unparted stands
         (next-turned service then n was.came written old turned news.lends from.came.sound closable (λ has. idle) came was.served free
         (λ enters. absurd (never-enters (talk_with service n was.came log) (reply then) written turned.session user working.account at.seat enters))
-            (λ other same. cc)
+        (λ other same. cc)
         (λ some. (unsent turned.session.client.arrived (behind turned.query some at.asks)).0) from.happens.formed at-then)
         (finished-parted service then n (record { link = seat.link; session = turned.session }) stands)) where
           packets : List ℕ
@@ -152,8 +152,11 @@ module _ {service : Service} {log : Log} {e : Entry} {n : ℕ} {tables : Tables}
           -- the message is the one in work
           same : message ≡ working.message
           same = some-same message working.message
-              (cc (there, message-stays service n client.arrived log (e ∷ []) working.message
-              (in-work service n log (at_place client.arrived working.message) (work-is service n was.came log was.is_came ∙ working.work)).0))
+              (cc (
+                there,
+                message-stays service n client.arrived log (e ∷ []) working.message
+                    (in-work service n log (at_place client.arrived working.message) (work-is service n was.came log was.is_came ∙ working.work)).0,
+              ))
 
           at : SeatTurned (talk_with service n was.came log) (reply then) written old turned
           at = answered-seat working (reply then) written answer packets now-seat now stays
@@ -171,7 +174,7 @@ module _ {service : Service} {log : Log} {e : Entry} {n : ℕ} {tables : Tables}
           behind (Some query) some asks = (let more = later-work (talk_with service n was.came log) (reply then) working.taken.past
               (split service.setup.limit 0 client.framer.kept).messages
               (record { ordinal = turned.session.client.arrived; message = asks.1.message }) (cc (taken-messages working.taken))
-                  (working-done working (reply then) answer now stays).all asks.1.work in
+              (working-done working (reply then) answer now stays).all asks.1.work in
               let count = working.taken.arrived in omega arith)
 
           stands : SeatStands service then n (record { link = seat.link; session = turned.session })
@@ -193,7 +196,7 @@ module _ {service : Service} {log : Log} {e : Entry} {n : ℕ} {tables : Tables}
   answered-step : (i : ℕ) (answer : Answer) (message : Framed) → Busy tables.lends n i → message_of service n i then ≡ Some message
       → replied service n i then ≡ Some answer → Free news.lends n → news.lends.waiting ≡ [] → (news.lends.closing ≡ []) ⊎ (news.lends.owned n ≡ None)
       → Sound service then None
-          (answering service.setup (Some (record { client = record { 0 = n }; packets = spelt (next_id message.last) answer })) (with_lends news.lends tables))
+      (answering service.setup (Some (record { client = record { 0 = n }; packets = spelt (next_id message.last) answer })) (with_lends news.lends tables))
   answered-step i answer message busy there now free idle closable = by (tables.seats n) refl where
     by : (o : Option Seat) → tables.seats n ≡ o
         → Sound service then None

@@ -156,7 +156,6 @@ begun-inside h5 begun = grind (arith, common_steps)
 
 -- a row that is another client's, this client's own, or nobody's any more
 module _ {service : Service} {log : Log} {n : ℕ} {lends other : Lends} where
-
   pub kept-row : {link : LinkId} {lent : Lent} → LendsSound service log lends → lends.links link.0 ≡ Some lent
       → (lends.owned n ≡ Some link → RowStands service log other link lent) → RowNow service log n lends other link lent
   kept-row {link} {lent} sound is mine = by (sound.rows link lent is) where
@@ -168,8 +167,8 @@ module _ {service : Service} {log : Log} {n : ℕ} {lends other : Lends} where
       at : (b : Bool) → nat_eq stands.turn.client n ≡ b → RowNow service log n lends other link lent
       at false differs = Was is stands.turn stands.is_turn differs
       at true same = own stands.owned (nat_eq-true stands.turn.client n same)
+      -- the rows where one link alone changed
 
-  -- the rows where one link alone changed
 pub rows-one : {service : Service} {log : Log} {n : ℕ} {lends other : Lends} (link : LinkId) → ((k : ℕ) → nat_eq k link.0 ≡ false → other.links k ≡ lends.links k)
     → ((x : Lent) → other.links link.0 ≡ Some x → RowNow service log n lends other link x)
     → ((l : LinkId) (x : Lent) → nat_eq l.0 link.0 ≡ false → lends.links l.0 ≡ Some x → RowNow service log n lends other l x)
@@ -260,7 +259,7 @@ none-mine n lent none k differs is = no-some none is
 pub one-stood : {service : Service} {log : Log} {n : ℕ} {link : LinkId} {lends other : Lends} (lent : Lent) → LendsBut service log n lends → AtMostOne lends.closing
     → ((l : LinkId) → lends.closing ≡ l ∷ [] → CloseStands service log lends l) → lends.links link.0 ≡ Some lent → Mine n lent
     → ((l : LinkId) (x : Lent) → nat_eq l.0 link.0 ≡ false → lends.links l.0 ≡ Some x → RowNow service log n lends other l x)
-        → OneRow service log n link lends other
+    → OneRow service log n link lends other
     → Stood service log n lends other
 one-stood {service} {log} {n} {link} {lends} {other} lent but one_closes closes there mine others one = record {
   sound = mended but (record {
@@ -340,7 +339,7 @@ pub data Comes (service : Service) (log : Log) (n : ℕ) (lends other : Lends) :
   Answers : (i : ℕ) (answer : Answer) (message : Framed) → Busy lends n i → message_of service n i log ≡ Some message → replied service n i log ≡ Some answer
       → Free other n
       → other.waiting ≡ [] → (other.closing ≡ []) ⊎ (other.owned n ≡ None) → Comes service log n lends other
-          (Some (record { client = record { 0 = n }; packets = spelt (next_id message.last) answer }))
+      (Some (record { client = record { 0 = n }; packets = spelt (next_id message.last) answer }))
 
 -- `before` is the log before the entry; the tables were sound for that, and what came is sound for the log with the entry
 pub record Came (service : Service) (log : Log) (n : ℕ) (lends : Lends) (told : Told) : Type 0 where

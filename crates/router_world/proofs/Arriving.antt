@@ -127,7 +127,7 @@ module _ {service : Service} {log : Log} {port : Port} {link : LinkId} {salt : L
   away-step : (here : ℕ) (bytes : List ℕ) → here ≡ length (connected then) → PartAt service then number arrival bytes
       → is_among link (connected then) ≡ is_traffic port
       → Sound service then None
-          (to_part (record { link = link; bytes = bytes; is_client = is_traffic port }) (record tables { came = counted tables.came; here = here }))
+      (to_part (record { link = link; bytes = bytes; is_client = is_traffic port }) (record tables { came = counted tables.came; here = here }))
   away-step here bytes counts-here at among = record {
     came = number-now ∙ came-now;
     here = counts-here;
@@ -172,67 +172,67 @@ module _ {service : Service} {log : Log} {port : Port} {link : LinkId} {salt : L
       → Sound service then None (admitted client link salt service.setup (record tables { came = client.0; here = here }))
   seated-step client here mine traffic counts-here short room = put-back {service = service} {log = then} {seat = seat}
       {tables = record tables { came = client.0; here = here; numbers = numbers }} client (record {
-    came = mine ∙ came-now;
-    here = counts-here;
-    counts = counts-all then (lawful-more Fits log e coming.happens.told coming.happens.fits);
-    seats = λ k other is. (let was = seats-left service log e link tables sound bystands k other is in record {
-      stands = was.stands;
-      serves = was.serves;
-      unfinished = was.unfinished;
-      numbered = grind (arith, common_steps, number-other);
-    });
-    numbers = λ other someone is. grind (arith, common_steps, row-of, some-same);
-    unlent = λ other someone is. elim (row-of tables.numbers link.0 (Some client) other.0 someone is) [
-      | Here same is ↦ ap tables.lends.links same ∙ bystands.unlent
-      | There apart is ↦ sound.unlent other someone is
-    ];
-    unclosing = λ other closes. cc (coming.quiet.unclosed, closes);
-    away = λ k is. inr (away-gone tables.lends k (sound.away k is));
-    lends = lends-left service log e link tables sound bystands coming.quiet.unclosed;
-    one_parts = sound.one_parts;
-    parts = λ parting is. cc (coming.quiet.unparted, is);
-    known = λ other opened. elim (opened-now other opened) [
-      | inl was ↦ known-as tables.numbers numbers tables.lends tables.parting tables.parting other
-          (number-other other (λ same. shut other (ap (λ k. record { 0 = k }) same) was)) (λ p is on. cc (coming.quiet.unparted, is)) (sound.known other was)
-      | inr same ↦ Clients client (cc (same, set-same tables.numbers link.0 (Some client)))
-    ];
-    served = coming.happens.served;
-  }) vacant (set-same tables.numbers link.0 (Some client)) stands (away-gone tables.lends client.0 (sound.away client.0 vacant)) refl where
-    session : Session
-    session = new_session client salt service.setup true
+        came = mine ∙ came-now;
+        here = counts-here;
+        counts = counts-all then (lawful-more Fits log e coming.happens.told coming.happens.fits);
+        seats = λ k other is. (let was = seats-left service log e link tables sound bystands k other is in record {
+          stands = was.stands;
+          serves = was.serves;
+          unfinished = was.unfinished;
+          numbered = grind (arith, common_steps, number-other);
+        });
+        numbers = λ other someone is. grind (arith, common_steps, row-of, some-same);
+        unlent = λ other someone is. elim (row-of tables.numbers link.0 (Some client) other.0 someone is) [
+          | Here same is ↦ ap tables.lends.links same ∙ bystands.unlent
+          | There apart is ↦ sound.unlent other someone is
+        ];
+        unclosing = λ other closes. cc (coming.quiet.unclosed, closes);
+        away = λ k is. inr (away-gone tables.lends k (sound.away k is));
+        lends = lends-left service log e link tables sound bystands coming.quiet.unclosed;
+        one_parts = sound.one_parts;
+        parts = λ parting is. cc (coming.quiet.unparted, is);
+        known = λ other opened. elim (opened-now other opened) [
+          | inl was ↦ known-as tables.numbers numbers tables.lends tables.parting tables.parting other
+              (number-other other (λ same. shut other (ap (λ k. record { 0 = k }) same) was)) (λ p is on. cc (coming.quiet.unparted, is)) (sound.known other was)
+          | inr same ↦ Clients client (cc (same, set-same tables.numbers link.0 (Some client)))
+        ];
+        served = coming.happens.served;
+      }) vacant (set-same tables.numbers link.0 (Some client)) stands (away-gone tables.lends client.0 (sound.away client.0 vacant)) refl where
+        session : Session
+        session = new_session client salt service.setup true
 
-    seat : Seat
-    seat = record { link = link; session = session }
+        seat : Seat
+        seat = record { link = link; session = session }
 
-    numbers : ℕ → Option ClientNo
-    numbers = set tables.numbers link.0 (Some client)
+        numbers : ℕ → Option ClientNo
+        numbers = set tables.numbers link.0 (Some client)
 
-    number-other : (other : LinkId) → (other.0 ≡ link.0 → ⊥) → numbers other.0 ≡ tables.numbers other.0
-    number-other other differs = grind (arith, common_steps, apart-numbers, set-other)
+        number-other : (other : LinkId) → (other.0 ≡ link.0 → ⊥) → numbers other.0 ≡ tables.numbers other.0
+        number-other other differs = grind (arith, common_steps, apart-numbers, set-other)
 
-    -- nobody had its number
-    unarrived : arrival_of client.0 log ≡ None
-    unarrived = cc (mine, slice_get_past (arrivals log) (length (arrivals log)) (omega arith))
+        -- nobody had its number
+        unarrived : arrival_of client.0 log ≡ None
+        unarrived = cc (mine, slice_get_past (arrivals log) (length (arrivals log)) (omega arith))
 
-    vacant : tables.seats client.0 ≡ None
-    vacant = none-if (tables.seats client.0) (λ other is. cc (unarrived, (sound.seats client.0 other is).stands.is_came))
+        vacant : tables.seats client.0 ≡ None
+        vacant = none-if (tables.seats client.0) (λ other is. cc (unarrived, (sound.seats client.0 other is).stands.is_came))
 
-    stands : SeatStands service then client.0 seat
-    stands = record {
-      came = arrival;
-      is_came = cc (mine, arrives-now);
-      link = refl;
-      served = room;
-      opened = step-same open_step false link log e (same_number link.0);
-      unbroken = cc (alone);
-      state = inl (record {
-        unlost = cc (alone);
-        at = rw (ap (flat_map got_bytes) alone)
-            (rw (ap (flat_map wrote_bytes) alone) (new-seat client salt service.setup (λ i. replied service client.0 i then) short));
-        unsent = λ i later. (let was = unborn service log (lawful-last (IsLawful service) log e coming.happens.lawful).0 client.0 i unarrived in
-            (carrier-same client.0 i log e refl ∙ was.0, unrefused-more service client.0 i log e was.1 ((bystands.calm client.0).spares i)));
-      });
-    }
+        stands : SeatStands service then client.0 seat
+        stands = record {
+          came = arrival;
+          is_came = cc (mine, arrives-now);
+          link = refl;
+          served = room;
+          opened = step-same open_step false link log e (same_number link.0);
+          unbroken = cc (alone);
+          state = inl (record {
+            unlost = cc (alone);
+            at = rw (ap (flat_map got_bytes) alone)
+                (rw (ap (flat_map wrote_bytes) alone) (new-seat client salt service.setup (λ i. replied service client.0 i then) short));
+            unsent = λ i later. (let was = unborn service log (lawful-last (IsLawful service) log e coming.happens.lawful).0 client.0 i unarrived in
+                (carrier-same client.0 i log e refl ∙ was.0, unrefused-more service client.0 i log e was.1 ((bystands.calm client.0).spares i)));
+          });
+        }
 
   -- Its link is one of those of clients, where it came to the port of clients.
   among : is_among link (connected then) ≡ is_traffic port
@@ -249,8 +249,8 @@ coming-step {service} {log} {port = Traffic} {link} {salt} {tables} coming short
 
   by : (b : Bool) → nat_lt tables.here service.setup.max_clients ≡ b
       → Sound service (then coming) None
-          (admitted_if b (record { 0 = counted tables.came }) link salt service.setup
-          (record tables { came = counted tables.came; here = counted tables.here }))
+      (admitted_if b (record { 0 = counted tables.came }) link salt service.setup
+      (record tables { came = counted tables.came; here = counted tables.here }))
   by true is = seated-step coming (record { 0 = counted tables.came }) (counted tables.here) (number-now coming) refl (here-now coming refl) short
       (room true is)
   by false full = away-step coming (counted tables.here) _ (here-now coming refl) (Refused (room false full) refl (ap (flat_map wrote_bytes) (alone coming)))

@@ -111,12 +111,12 @@ module _ (service : Service) (n i : ℕ) where
         → work_of service n (log ++ more) ≡ Some (record { ordinal = i; message = message })
     work-stays came more at lawful is none = (let grows = messages-grow (talk_with service n came log) (read_of came.link more) in
         ap (λ (o : Option Arrival). work_in service n (log ++ more) (option_map (λ (came : Arrival). talk_with service n came (log ++ more)) o))
-            (arrival-stays n log more came at)
+        (arrival-stays n log more came at)
         ∙ ap (λ (t : Talk). first_without (λ k. answer service n k (log ++ more)) 1 (messages_of t).messages) (talk-more service n came log more)
         ∙ ap (first_without (λ k. answer service n k (log ++ more)) 1) grows.messages
         ∙ first-still (λ k. answer service n k log) (λ k. answer service n k (log ++ more))
-            (λ k reply at. answer-stays service n k log more reply lawful at) 1 (messages_of (talk_with service n came log)).messages grows.later
-            (record { ordinal = i; message = message })
+        (λ k reply at. answer-stays service n k log more reply lawful at) 1 (messages_of (talk_with service n came log)).messages grows.later
+        (record { ordinal = i; message = message })
         (cc (at, is)) none)
 
     pub asks-stay : (more : Log) → AllLawful (IsLawful service) (log ++ more) → is_some service.setup.target ≡ true → Asks service n i message due log
@@ -124,7 +124,7 @@ module _ (service : Service) (n i : ℕ) where
     asks-stay more lawful has asks
         none = (let there = message-stays service n i log more message (in-work service n log (record { ordinal = i; message = message }) asks.work).0 in
         let unanswered : answer service n i (log ++ more) ≡ None = ap (λ d. answer_when service n i d (log ++ more))
-            (due-stays service n i log more due asks.is_due)
+        (due-stays service n i log more due asks.is_due)
         ∙ ap (option_and_then (λ (m : Framed). answer_by (query_answer service n i m due (log ++ more)) (parsed m.payload))) there
         ∙ query-answer (cond (is_some service.setup.target) (replied service n i (log ++ more)) (Some (no_server ∷ []))) (parsed message.payload) asks.query
         ∙ ap (λ b. cond b (replied service n i (log ++ more)) (Some (no_server ∷ []))) has ∙ none in

@@ -64,9 +64,11 @@ module _ {service : Service} {log : Log} {e : Entry} {client : ClientNo} {link :
   -- It leaves all other links, and all commands.
 
   calm : (k : ℕ) → Calm service log e k
-  calm k = record { writes = on.writes k;
-      spares = λ i. client-spares service log e link on.on.refuses
-      (unowned log happens.told service client.0 came sits.stands.is_came (sits.stands.link ∙ on.same)) k i }
+  calm k = record {
+    writes = on.writes k;
+    spares = λ i. client-spares service log e link on.on.refuses
+        (unowned log happens.told service client.0 came sits.stands.is_came (sits.stands.link ∙ on.same)) k i;
+  }
 
   left : (other : LinkId) → other.0 ≢ link.0 → Leaves other log e
   left other apart = leaves-other other log e (cc (on.on.names, apart-numbers other.0 link.0 apart))
@@ -116,7 +118,7 @@ module _ {service : Service} {log : Log} {e : Entry} {client : ClientNo} {link :
   replies : IsHeard service log client.0 came seat.session → Replies service log e client.0 came seat.session
   replies heard = (let none : (user : Account) → seat.session.phase ≡ phase.Working user → replied service client.0 seat.session.client.arrived then ≡ None =
       λ user working. busy-none service log e tables.lends client.0 seat.session.client.arrived happens.lawful happens.sound.lends (calm client.0)
-          (λ other lent owns row. rows other lent row)
+      (λ other lent owns row. rows other lent row)
       (rw working at sits.serves) in
       record {
         seat = agree-seat (replies-agree service log e client.0 came seat.session happens.lawful heard none) heard.at;
@@ -154,7 +156,7 @@ module _ {service : Service} {log : Log} {e : Entry} {client : ClientNo} {link :
       → Sound service then None (goes_on client seat.link turned (without_seat client tables))
   goes turned none state next = (let stands = stands none turned.session state in
       goes-on service then client seat.link turned (without_seat client tables) out (set-same tables.seats client.0 None)
-          (cc (on.same, on.number)) quiet.unparted stands next
+      (cc (on.same, on.number)) quiet.unparted stands next
       (finished-parted service then client.0 (record { link = seat.link; session = turned.session }) stands))
 
   -- Its link is broken.
@@ -164,7 +166,7 @@ module _ {service : Service} {log : Log} {e : Entry} {client : ClientNo} {link :
       rw on.same at out in
       part-with service then client link (with_lends (gone client tables.lends) (without_seat client tables))
       (relend service then client.0 link (without_seat client tables) (gone client tables.lends) taken
-          (set-same tables.seats client.0 None) quiet.unparted went.sound went.apart went.traces)
+      (set-same tables.seats client.0 None) quiet.unparted went.sound went.apart went.traces)
       (set-same tables.seats client.0 None) on.number went.gone quiet.unparted (record {
         came = came;
         is_came = arrived;
@@ -184,9 +186,13 @@ ended-client {service} {log} {client} {link} {seat} {tables} on = goes on (still
   told = cc (bytes-idle wrote_bytes (came on).link log (Ended link) refl, told (sits on).stands.state);
 })) (Ends None (away on (holds on is_loss refl))) where
   told : State on seat.session → written_of (came on).link log ++ seat.session.client.outgoing ≡ due service client.0 (log ++ Ended link ∷ [])
-  told (inl heard) = cc (heard.at.due, due-unlost service client.0 (came on) log (sits on).stands.is_came
-      (sits on).stands.served heard.unlost, due-loses service client.0 (came on) log (Ended link) (sits on).stands.is_came
-      (sits on).stands.served heard.unlost (cc (here on)))
+  told (inl heard) = cc (
+    heard.at.due,
+    due-unlost service client.0 (came on) log (sits on).stands.is_came
+        (sits on).stands.served heard.unlost,
+    due-loses service client.0 (came on) log (Ended link) (sits on).stands.is_came
+        (sits on).stands.served heard.unlost (cc (here on)),
+  )
   told (inr went) = went.told ∙ sym (due-lost service client.0 (came on) log (Ended link) (sits on).stands.is_came (sits on).stands.served went.lost)
 
 -- Bytes of it come.
@@ -218,16 +224,16 @@ module _ {service : Service} {log : Log} {client : ClientNo} {link : LinkId} {by
     says heard = (let then-heard = replies on heard in
         said-by service (then on) client.0 (came on) (talk_with service client.0 (came on) log) bytes
         (written_of (came on).link log) seat.session tables.lends (record {
-      now = ap (λ r. record { setup = service.setup; number = client.0; salt = (came on).salt; read = r }) read;
-      is = arrived on;
-      served = (sits on).stands.served;
-      few = (let short = read-short (came on).link (then on) (lawful-more Fits log (Got link bytes) (happens on).told (happens on).fits) few in
-          rw read at short);
-      sound = lends on;
-      unclosed = (quiet on).unclosed;
-      idle = idle;
-      formed = (happens on).formed;
-    }) then-heard.seat then-heard.unanswered (λ i later. (then-heard.unsent i later).0) seat.session.phase refl (sits on).serves refl)
+          now = ap (λ r. record { setup = service.setup; number = client.0; salt = (came on).salt; read = r }) read;
+          is = arrived on;
+          served = (sits on).stands.served;
+          few = (let short = read-short (came on).link (then on) (lawful-more Fits log (Got link bytes) (happens on).told (happens on).fits) few in
+              rw read at short);
+          sound = lends on;
+          unclosed = (quiet on).unclosed;
+          idle = idle;
+          formed = (happens on).formed;
+        }) then-heard.seat then-heard.unanswered (λ i later. (then-heard.unsent i later).0) seat.session.phase refl (sits on).serves refl)
 
 -- So many of the bytes for it were written.
 module _ {service : Service} {log : Log} {client : ClientNo} {link : LinkId} {tag : Tag} {bytes : List ℕ} {seat : Seat} {tables : Tables}
@@ -257,12 +263,15 @@ module _ {service : Service} {log : Log} {client : ClientNo} {link : LinkId} {ta
     state : StateThen on rest
     state = elim (sits on).stands.state [
       | inl heard ↦ inl (record {
-          unlost = keeps on is_loss refl ∙ heard.unlost;
-          at = rw (bytes-idle got_bytes (came on).link log (Wrote link tag bytes) refl) (rw written (taken-seat (length bytes) (replies on heard).seat));
-          unsent = (replies on heard).unsent;
-        })
+        unlost = keeps on is_loss refl ∙ heard.unlost;
+        at = rw (bytes-idle got_bytes (came on).link log (Wrote link tag bytes) refl) (rw written (taken-seat (length bytes) (replies on heard).seat));
+        unsent = (replies on heard).unsent;
+      })
       | inr went ↦ inr (still-ended on went refl rest refl
-          (cc (written, append_assoc (written_of (came on).link log) (take (length bytes) seat.session.client.outgoing)
-          (drop (length bytes) seat.session.client.outgoing),
-          take-append-drop (length bytes) seat.session.client.outgoing)))
+          (cc (
+            written,
+            append_assoc (written_of (came on).link log) (take (length bytes) seat.session.client.outgoing)
+                (drop (length bytes) seat.session.client.outgoing),
+            take-append-drop (length bytes) seat.session.client.outgoing,
+          )))
     ]

@@ -64,7 +64,7 @@ closed-client service log link parting tables sound shut is same = (let then : L
       parts = λ other none. absurd (let no' : [] ≡ other ∷ [] = none in cc);
       known = λ other opened. (let was = opened-behind log link other opened in known-as tables.numbers tables.numbers tables.lends tables.parting [] other refl
           (λ p at on. absurd (was.1 (ap (λ (l : LinkId). l.0) (sym on ∙ ap (λ (q : Parting). q.link) (one-same p parting (sym at ∙ is)) ∙ same))))
-              (sound.known other was.0));
+          (sound.known other was.0));
       served = shut.served;
     }))
 
@@ -72,7 +72,7 @@ closed-client service log link parting tables sound shut is same = (let then : L
 serves-closed : (at : Phase) (lends : Lends) (n i : ℕ) → Serves at lends n i → Serves at (without_close lends) n i
 serves-closed at lends n i serves = serves-apart at (suc n) n i lends (without_close lends)
     (record { asks = λ k differs. refl; owned = λ k differs. refl; links = λ k link differs owns. refl; waiting = λ k differs is. is })
-        (apart-numbers n (suc n) (omega arith)) serves
+    (apart-numbers n (suc n) (omega arith)) serves
 
 row-closed : {service : Service} {log : Log} {lends : Lends} {link : LinkId} {lent : Lent} → RowStands service log lends link lent
     → RowStands service log (without_close lends) link lent
@@ -84,8 +84,8 @@ pub closed-server : (service : Service) (log : Log) (link : LinkId) (tables : Ta
     → Sound service (log ++ Closed link ∷ []) None (with_lends (without_close tables.lends) tables)
 closed-server service log link tables sound shut unparted is = (let among : is_among link (connected log) ≡ false =
     sound.counts.among link ∙ ap (λ b. b && is_open link log) (false_from_ne_true
-        (list_any (traffic_as link) log) (λ came. not-both link log shut.told (traffic-came link log came)
-        (turn-opened service link log stands.turn stands.is_turn))) in
+    (list_any (traffic_as link) log) (λ came. not-both link log shut.told (traffic-came link log came)
+    (turn-opened service link log stands.turn stands.is_turn))) in
     record {
       came = sound.came ∙ ap length (sym (arrivals-plain log (Closed link) (λ before. refl)));
       here = sound.here ∙ sym (closed-same log link among);
@@ -121,7 +121,7 @@ closed-server service log link tables sound shut unparted is = (let among : is_a
       lends = record {
         rows = λ other lent row. (let at = sound.lends.rows other lent row in
             row-closed (row-calm service log (Closed link) tables.lends other lent shut.lawful shut.fits at (by-standing.calm at.turn.client)
-                (rows-left service log (Closed link) link tables by-standing other lent row)));
+            (rows-left service log (Closed link) link tables by-standing other lent row)));
         asks = λ k ask at. ask-calm service log (Closed link) k ask shut.lawful (sound.lends.asks k ask at) (by-standing.calm k);
         owned = λ k other at. (let owns = sound.lends.owned k other at in record { lent = owns.lent; there = owns.there; owner = owns.owner });
         one_waits = sound.lends.one_waits;

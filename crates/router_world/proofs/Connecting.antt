@@ -27,9 +27,11 @@ among-end link new (other ∷ links) = grind (arith, common_steps, (among-end li
 pub distinct-end : (links : List LinkId) (new : LinkId) → is_among new links ≡ false → AreDistinct links → AreDistinct (links ++ new ∷ [])
 distinct-end [] new apart distinct = (refl, tt)
 distinct-end (link ∷ links) new apart distinct =
-    let both = or_parts (nat_eq new.0 link.0) (is_among new links) apart in
-    (among-end link new links ∙ or_from (is_among link links) (nat_eq link.0 new.0) distinct.0
-        (nat_eq-sym new.0 link.0 both.0), distinct-end links new both.1 distinct.1)
+    let both = or_parts (nat_eq new.0 link.0) (is_among new links) apart in (
+      among-end link new links ∙ or_from (is_among link links) (nat_eq link.0 new.0) distinct.0
+          (nat_eq-sym new.0 link.0 both.0),
+      distinct-end links new both.1 distinct.1,
+    )
 
 -- A link is taken out.
 

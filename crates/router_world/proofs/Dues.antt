@@ -15,9 +15,9 @@ pub answer-here : (service : Service) (n i : ℕ) (log : Log) (message : Framed)
     → answer service n (suc i) log ≡ answer_of service.setup (replied service n (suc i) log) message.payload
 answer-here service n i log message there done = (
     let first = first-some (λ moment. is_some (message_of service n (suc i) moment) && is_answered service n i (due_at service n i moment) moment) [] log
-        (and_from _ _ (ap is_some there) done) in
+    (and_from _ _ (ap is_some there) done) in
     ap (λ d. answer_when service n (suc i) d log) first.1
-        ∙ ap (option_and_then (λ (m : Framed). answer_by (query_answer service n (suc i) m first.0 log) (parsed m.payload))) there)
+    ∙ ap (option_and_then (λ (m : Framed). answer_by (query_answer service n (suc i) m first.0 log) (parsed m.payload))) there)
 
 -- The answers to messages are those by the replies, up to the first that isn't there, and so is the first message without one.
 record Same (setup : Setup) (told reply : ℕ → Option Answer) (i : ℕ) (messages : List Framed) (last : List ℕ) : Type 0 where

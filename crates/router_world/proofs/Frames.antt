@@ -40,9 +40,11 @@ gone-stays service n user log e fits known gone = by (arrival_of n log) refl kno
   by : (o : Option Arrival) → arrival_of n log ≡ o → option_and_then account (option_map (λ (came : Arrival). talk_with service n came log) o) ≡ Some user
       → is_here n (log ++ e ∷ []) ≡ false
   by None at known = cc
-  by (Some came) at known = cc
-      (arrival-stays n log (e ∷ []) came at, gone-link came.link log e fits
-      (λ new. named-none came.link (came_as came.link) log (came-names came.link) new (arrival-came n log came at)) (cc (at, gone)))
+  by (Some came) at known = cc (
+    arrival-stays n log (e ∷ []) came at,
+    gone-link came.link log e fits
+        (λ new. named-none came.link (came_as came.link) log (came-names came.link) new (arrival-came n log came at)) (cc (at, gone)),
+  )
 
 pub user-there : (service : Service) (link : LinkId) (turn : Turn) (user : Account) (log : Log)
     → turn_of service link log ≡ Some turn → user_of service turn.client log ≡ Some user → user_on service link log ≡ Some user
@@ -89,7 +91,7 @@ module _ (service : Service) (log : Log) (e : Entry) where
         (sent-unrefused service n i then link never (carrier-stays n i log (e ∷ []) link at))
         ∙ reply-left service n i log e link user at is leaves
         ∙ unreplied (is_refused service n i log) (Some (connection_refused ∷ [])) (reply_to service n i log) unrefused
-            (asks-unreplied service n i asked.message asked.due log asked.asks)
+        (asks-unreplied service n i asked.message asked.due log asked.asks)
   ])
 
   pub asked-stays : (n i : ℕ) (packets : List ℕ) (first : ℕ) → AllLawful (IsLawful service) then → IsAsked service n i packets first log
@@ -156,12 +158,12 @@ module _ (service : Service) (log : Log) (e : Entry) where
         ap (λ k. replied service n k then) (same-ordinal n i stands.ordinal command.tag tag stands.tag)
         ∙ still-none n stands.ordinal command.bytes command.first (refused-or-sent service then lawful) stands.asked calm
         (handed-stays n link lent.backend.account command.sent stands.ordinal stands.carrier
-            (user-there service link row.turn lent.backend.account log row.is_turn row.user) (leaves link lent owns at)))
+        (user-there service link row.turn lent.backend.account log row.is_turn row.user) (leaves link lent owns at)))
   ] where
     unbegun : (ask : Ask) → lends.asks n ≡ Some ask → ask.ordinal ≡ i → replied service n i then ≡ None
     unbegun ask is same = (let stands = sound.asks n ask is in
         ap (λ k. replied service n k then) (sym same)
-            ∙ still-none n ask.ordinal ask.packets ask.first (refused-or-sent service then lawful) stands.asked calm (Unbegun stands.unsent))
+        ∙ still-none n ask.ordinal ask.packets ask.first (refused-or-sent service then lawful) stands.asked calm (Unbegun stands.unsent))
 
   pub later-calm : (n arrived : ℕ) → Calm service log e n → Unsent service n arrived log → Unsent service n arrived then
   later-calm n arrived calm unsent i later = grind (arith, common_steps, carrier-same, unrefused-more)
@@ -184,7 +186,7 @@ module _ (service : Service) (log : Log) (e : Entry) where
   pub seat-stays : (n : ℕ) (seat : Seat) → AllLawful (IsLawful service) then → SeatStands service log n seat
       → (Unsent service n seat.session.client.arrived log → Unsent service n seat.session.client.arrived then) → Leaves seat.link log e
       → ((user : Account) → seat.session.phase ≡ phase.Working user → replied service n seat.session.client.arrived then ≡ None)
-          → SeatStands service then n seat
+      → SeatStands service then n seat
   seat-stays n seat lawful stands later leaves none = record {
     came = stands.came;
     is_came = arrival-stays n log (e ∷ []) stands.came stands.is_came;
@@ -194,17 +196,17 @@ module _ (service : Service) (log : Log) (e : Entry) where
     unbroken = leaves.broken ∙ stands.unbroken;
     state = elim stands.state [
       | inl heard ↦ inl (record {
-          unlost = here.lost ∙ heard.unlost;
-          at = rw here.read
-              (rw here.written
-              (agree-seat (replies-agree n stands.came seat.session lawful heard none) heard.at));
-          unsent = later heard.unsent;
-        })
+        unlost = here.lost ∙ heard.unlost;
+        at = rw here.read
+            (rw here.written
+            (agree-seat (replies-agree n stands.came seat.session lawful heard none) heard.at));
+        unsent = later heard.unsent;
+      })
       | inr ended ↦ inr (record {
-          lost = here.lost ∙ ended.lost;
-          ends = ended.ends;
-          told = grind (arith, common_steps, due-lost);
-        })
+        lost = here.lost ∙ ended.lost;
+        ends = ended.ends;
+        told = grind (arith, common_steps, due-lost);
+      })
     ];
   } where
     here : Leaves stands.came.link log e

@@ -148,7 +148,7 @@ part-with service log client link tables sound out number gone none parted = rec
   parts = λ parting is. subst (PartStands service log new.numbers tables.lends) (one-same mine parting (sym the ∙ is)) stands;
   known = λ other opened. link-or-other other link (Known new.numbers tables.lends new.parting) (Parts mine the refl)
       (λ at. known-as tables.numbers new.numbers tables.lends tables.parting new.parting other
-          (set-other tables.numbers link.0 other.0 None at) (λ p is on. absurd (none-one tables.parting none is)) (sound.known other opened));
+      (set-other tables.numbers link.0 other.0 None at) (λ p is on. absurd (none-one tables.parting none is)) (sound.known other opened));
   served = sound.served;
 } where
   new : Tables
@@ -318,10 +318,10 @@ over-known {reply} {talk} more user is over = by (work_said reply talk) refl (me
       (is_some (messages_of talk).fault) ≡ true → StaysOver reply talk now
   by (Some work) at fault here ends = (let further : work_said reply now ≡ Some work = ap (first_open talk.setup reply 1) grows.messages
       ∙ open-more talk.setup reply 1 (messages_of talk).messages grows.later work at in record {
-    due = simp (front-more talk more user is, grows.messages) (ap (λ l. front talk ++ l)
-        (open-due talk.setup reply 1 (messages_of talk).messages grows.later _ _ work at));
-    over = grind (arith, common_steps, over-in, reply, account-more);
-  })
+        due = simp (front-more talk more user is, grows.messages) (ap (λ l. front talk ++ l)
+            (open-due talk.setup reply 1 (messages_of talk).messages grows.later _ _ work at));
+        over = grind (arith, common_steps, over-in, reply, account-more);
+      })
   by None at None here ends = absurd (let none : false ≡ true = sym (ap (λ w. ends_by w (is_some (messages_of talk).fault)) at ∙ ap (λ f. is_some f) here)
       ∙ ends in cc)
   by None at (Some fault) here ends = (let stays = grows.ended fault here in
@@ -345,17 +345,17 @@ stays-over {reply} {talk} more over = by (opening_of talk) refl (account talk) r
       (rest ++ more) = opening-says-more talk.setup.limit talk.read more switched response id rest at in
       let unknown : account_by talk (Says switched response id rest) ≡ None = sym (ap (account_by talk) at) ∙ who in
       over-alone (Says switched response id rest) (Says switched response id (rest ++ more)) at says (ap (λ a. if_known a rest) unknown)
-          (ap (λ a. if_known a (rest ++ more)) unknown) refl true
+      (ap (λ a. if_known a (rest ++ more)) unknown) refl true
       (λ other. ap (λ a. if_user a other) (ap (account_by now) says ∙ unknown)))
 
 pub ending-more : {talk : Talk} {reply : ℕ → Option Answer} {written : List ℕ} {session : Session} (more : List ℕ) → session.phase ≡ phase.Ending
     → SeatAt talk reply written session → SeatAt (heard_more talk more) reply written session
 ending-more {talk} {reply} {written} {session} more ends seat = (let over : StaysOver reply talk (heard_more talk more) = stays-over more
     (rw ends at seat.at) in record {
-  mine = seat.mine;
-  due = seat.due ∙ sym over.due;
-  at = grind (arith, common_steps, reply, over);
-})
+      mine = seat.mine;
+      due = seat.due ∙ sym over.due;
+      at = grind (arith, common_steps, reply, over);
+    })
 
 -- Bytes of a client come.
 
@@ -369,13 +369,13 @@ pub ends-so : (service : Service) (log : Log) (n : ℕ) (came : Arrival) (writte
     → Went service log n lends (gone (record { 0 = n }) lends)
 ends-so service log n came written session lends sound none is free ends seat = gone-sound service log n lends sound none
     (Idle free (λ work at. quits work (sym (work-is service n came log is) ∙ at) (is_query work.message.payload) refl)) where
-  over : over_said (λ i. replied service n i log) (talk_with service n came log) ≡ true
-  over = grind (arith, common_steps)
+      over : over_said (λ i. replied service n i log) (talk_with service n came log) ≡ true
+      over = grind (arith, common_steps)
 
-  quits : (work : Work) → work_said (λ i. replied service n i log) (talk_with service n came log) ≡ Some work → (b : Bool) → is_query work.message.payload ≡ b
-      → is_query work.message.payload ≡ false
-  quits work at false no-query = no-query
-  quits work at true query = absurd (over-no-query (λ i. replied service n i log) (talk_with service n came log) work over at query)
+      quits : (work : Work) → work_said (λ i. replied service n i log) (talk_with service n came log) ≡ Some work → (b : Bool) → is_query work.message.payload ≡ b
+          → is_query work.message.payload ≡ false
+      quits work at false no-query = no-query
+      quits work at true query = absurd (over-no-query (λ i. replied service n i log) (talk_with service n came log) work over at query)
 
 -- What is next for a session that had no query in work.
 pub next-turned : (service : Service) (log : Log) (n : ℕ) (came : Arrival) (written : List ℕ) (old : Session) (turned : Turned) (lends : Lends)
@@ -397,7 +397,7 @@ next-turned service log n came written old turned lends sound none idle is serve
       working-ask came query is served at.seat.mine.short formed so.1 so.3 so.4 so.5 (unsent (λ none. (no-some none same))) in
       subst (λ (q : Phase). Next service log n lends q turned.session.client.arrived (Some query)) (sym so.2 ∙ phase-is)
       (Comes so.0 query free (idle (Rattle.router_world.proofs.Calm.asks-server service n
-          (ask_for so.0 query).ordinal stands.asked.message stands.asked.due log stands.asked.asks)) stands so.3))
+      (ask_for so.0 query).ordinal stands.asked.message stands.asked.due log stands.asked.asks)) stands so.3))
 
   by : (q : Option Query) → turned.query ≡ q → Asks q talk reply old turned.session → (p : Phase) → turned.session.phase ≡ p
       → Next service log n lends p turned.session.client.arrived q

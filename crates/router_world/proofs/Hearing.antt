@@ -86,7 +86,6 @@ record InWork (talk : Talk) (reply : ℕ → Option Answer) (ordinal : ℕ) : Ty
   work : work_said reply talk ≡ Some (record { ordinal = ordinal; message = message })
 
 module _ {reply : ℕ → Option Answer} {written : List ℕ} where
-
   work-of-query : {talk : Talk} {old : Session} {next : Turned} → SeatTurned talk reply written old next → next.query ≢ None
       → InWork talk reply next.session.client.arrived
   work-of-query at some = grind (arith, common_steps)
@@ -97,7 +96,7 @@ module _ {reply : ℕ → Option Answer} {written : List ℕ} where
   first-query {talk} {session} {next} {now} {bytes} is seat at some = (let work = work-of-query at some in
       let none : session.client.arrived ≡ 0 = (rw is at seat.at).arrived in
       let from : 1 ≤ next.session.client.arrived = open-from now.setup reply 1 (messages_of now).messages
-          (record { ordinal = next.session.client.arrived; message = work.message }) work.work in omega arith)
+      (record { ordinal = next.session.client.arrived; message = work.message }) work.work in omega arith)
 
   later-query : {talk : Talk} {old : Session} {user : Account} {next : Turned} (bytes : List ℕ) (session : Session)
       → IsIdle talk reply user session.client → SeatTurned (heard_more talk bytes) reply written old next → next.query ≢ None
@@ -106,10 +105,10 @@ module _ {reply : ℕ → Option Answer} {written : List ℕ} where
       let messages : (messages_of (heard_more talk bytes)).messages ≡ idle.taken.past ++ (split talk.setup.limit 0 (session.client.framer.kept ++ bytes)).messages =
       ap (λ c. (split talk.setup.limit 0 c).messages) (commands-more talk bytes user idle.account) ∙ ap (λ (s : Split). s.messages) (idle.taken.whatever bytes) in
       let all : first_open talk.setup reply 1 idle.taken.past ≡ None = ap (first_open talk.setup reply 1) (sym (append-nil idle.taken.past))
-          ∙ sym (ap (λ (s : Split). first_open talk.setup reply 1 s.messages) (taken-nothing idle.taken idle.none)) ∙ idle.all in
+      ∙ sym (ap (λ (s : Split). first_open talk.setup reply 1 s.messages) (taken-nothing idle.taken idle.none)) ∙ idle.all in
       let more : length idle.taken.past < next.session.client.arrived = later-work (heard_more talk bytes) reply idle.taken.past
-          (split talk.setup.limit 0 (session.client.framer.kept ++ bytes)).messages
-          (record { ordinal = next.session.client.arrived; message = work.message }) messages all work.work in
+      (split talk.setup.limit 0 (session.client.framer.kept ++ bytes)).messages
+      (record { ordinal = next.session.client.arrived; message = work.message }) messages all work.work in
       let count : session.client.arrived ≡ length idle.taken.past = idle.taken.arrived in omega arith)
 
   never-entering : {session : Session} (talk : Talk) (more : List ℕ) (user : Account) → account talk ≡ Some user
@@ -146,9 +145,9 @@ said-by service log n came talk bytes written session lends coming seat unanswer
       (turned-more talk.setup (kept_with bytes session)) (first-query is seat at) unsent at)
   by (phase.Idle user) is free = (let idle : IsIdle talk reply user session.client = rw is at seat.at in
       let at : SeatTurned (heard_more talk bytes) reply written session next = said
-          (phase.Idle user) is (λ ends. (let no' : phase.Idle user ≡ phase.Ending = sym is ∙ ends in cc)) in
+      (phase.Idle user) is (λ ends. (let no' : phase.Idle user ≡ phase.Ending = sym is ∙ ends in cc)) in
       says-turned coming free (λ entering. absurd (never-entering talk bytes user idle.account at.seat entering)) (λ other working.
-          (let no' : phase.Idle user ≡ phase.Working other = sym is ∙ working in cc))
+      (let no' : phase.Idle user ≡ phase.Working other = sym is ∙ working in cc))
       (turned-more talk.setup (kept_with bytes session)) (later-query bytes session idle at) unsent at)
   by (phase.Working user) is busy = record {
     seat = rw coming.now (said (phase.Working user) is (λ ends. (let no' : phase.Working user ≡ phase.Ending = sym is ∙ ends in cc))).seat;

@@ -114,9 +114,9 @@ module _ {service : Service} {log : Log} {tables : Tables} (told : AllLawful Fit
     row-busy : is_begun lent.backend.command ≡ true → IsBusy service.forms lent.backend.account link log
     row-busy begun = (let has = begun-there lent.backend.command begun in let some : has.0.sent ≢ 0 = nat_eq-false has.0.sent 0 has.2 in
         elim (whole-or-full has.1) [
-      | inl all ↦ Replies (row-runs row has.1 all)
-      | inr part ↦ Blocked (row-sends row has.1 (omega arith) part.0) part.1
-    ])
+          | inl all ↦ Replies (row-runs row has.1 all)
+          | inr part ↦ Blocked (row-sends row has.1 (omega arith) part.0) part.1
+        ])
 
     -- a query in work stays there while the login goes on, or as its command
     logs-in : {n i : ℕ} {bytes : List ℕ} {id : ℕ} → lent.backend.stage ≢ In → (asked : IsAsked service n i bytes id log)
@@ -129,11 +129,13 @@ module _ {service : Service} {log : Log} {tables : Tables} (told : AllLawful Fit
       | inr part ↦ Full part.1
       | inl all ↦ (let message = row-message row has in
           let some : 0 < command.sent = (let size = ap length message.spelt in let least = spelling-some 0 message.payload in omega arith) in
-          let whole : record { tag = command.tag; bytes = take command.sent command.bytes } ≡ record { tag = For (record { 0 = n }) i;
-              bytes = spelling asked.message.first asked.message.payload } =
+          let whole : record { tag = command.tag; bytes = take command.sent command.bytes } ≡ record {
+            tag = For (record { 0 = n }) i;
+            bytes = spelling asked.message.first asked.message.payload;
+          } =
           λ j. record { tag = tag j; bytes = (take_all command.sent command.bytes (omega arith) ∙ asked-spelt asked) j } in
           Sent (row-inside row has).others (row-runs row has all)
-              (row-commands row has some ∙ ap (λ (c : Command). (row-inside row has).others ++ c ∷ []) whole))
+          (row-commands row has some ∙ ap (λ (c : Command). (row-inside row has).others ++ c ∷ []) whole))
     ]
 
   waits-on : {link : LinkId} {lent : Lent} {n i : ℕ} {bytes : List ℕ} {id : ℕ} (work : Work) (row : RowStands service log tables.lends link lent)
@@ -141,15 +143,15 @@ module _ {service : Service} {log : Log} {tables : Tables} (told : AllLawful Fit
       → Stays service.forms n i asked.message lent.backend.account link log → Waits service n work log
   waits-on {link} {lent} {n} {i} work row mine asked is
       stays = rw (← (some-same (record { ordinal = i; message = asked.message }) work (sym asked.asks.work ∙ is))) (record {
-    due = asked.due;
-    is_due = asked.asks.is_due;
-    link = link;
-    opened = row.opened;
-    owner = grind (arith, common_steps, owner-is);
-    user = lent.backend.account;
-    is_user = row-user row;
-    on = stays;
-  })
+        due = asked.due;
+        is_due = asked.asks.is_due;
+        link = link;
+        opened = row.opened;
+        owner = grind (arith, common_steps, owner-is);
+        user = lent.backend.account;
+        is_user = row-user row;
+        on = stays;
+      })
 
   own-row : {link : LinkId} {lent : Lent} (n : ℕ) → tables.lends.owned n ≡ Some link → tables.lends.links link.0 ≡ Some lent
       → (row : RowStands service log tables.lends link lent) × (row.turn.client ≡ n)
@@ -319,10 +321,10 @@ pub keeps-more : (service : Service) (log : Log) (e : Entry) → AllLawful Fits 
 keeps-more service log e told fits sound covers ours
     keeps = (let lawful : AllLawful (IsLawful service) (log ++ e ∷ []) = lawful-more (IsLawful service) log e keeps.lawful
     (lawful-entry told sound e covers ours) in record {
-  served = grind (arith, common_steps, moment-more, served-more);
-  lawful = lawful;
-  rests = grind (arith, common_steps, lawful-more, rests-entry);
-})
+      served = grind (arith, common_steps, moment-more, served-more);
+      lawful = lawful;
+      rests = grind (arith, common_steps, lawful-more, rests-entry);
+    })
 
 -- What the reply to each message is like, by the whole log.
 abbrev pub form_by : Option Framed → Form

@@ -245,8 +245,15 @@ module _ (service : Service) (log : Log) (e : Entry) where
   pub next-turn : (turn : Turn) → turn_at before e ≡ turn ∷ [] → Covers service (log ++ e ∷ []) → next_turn service log ≡ Some turn
   next-turn turn at covers = (let counts : length (turns service.setup log) ≡ length (open_tries log) =
       (let both = counts-both in let now = covers.counts in let one = ap length at in let try = tries-one before turn e at in omega arith) in
-      cc (counts, covers.is, turns-more, at, append_assoc (turns service.setup log) (turn ∷ []) covers.rest, get-behind
-          (turns service.setup log) covers.rest turn))
+      cc (
+        counts,
+        covers.is,
+        turns-more,
+        at,
+        append_assoc (turns service.setup log) (turn ∷ []) covers.rest,
+        get-behind
+            (turns service.setup log) covers.rest turn,
+      ))
 
 -- The open that the router asks for is for the one client that waits.
 pub record IsFor (service : Service) (log : Log) (tables : Tables) (e : Entry) : Type 0 where
@@ -272,8 +279,13 @@ pub opens-for : (service : Service) (log : Log) (tables : Tables) (target : Targ
 opens-for service log tables target e sound awaits
     at = (let one = one-waits tables.lends.waiting sound.lends.one_waits (awaits-so service.setup tables target awaits).1 in
     let waiting = sound.lends.waits one.0 one.1 in
-    record { client = one.0; waits = one.1; waiting = waiting; turn = at ∙ ap (λ w. turn_for (oldest w) tables.lends.asks) one.1
-        ∙ ap (turn_asked one.0) waiting.asks })
+    record {
+      client = one.0;
+      waits = one.1;
+      waiting = waiting;
+      turn = at ∙ ap (λ w. turn_for (oldest w) tables.lends.asks) one.1
+          ∙ ap (turn_asked one.0) waiting.asks;
+    })
 
 -- Whose link a write of the router is on, and what it writes.
 
@@ -403,10 +415,13 @@ module _ {service : Service} {log : Log} {tables : Tables} {link : LinkId} {lent
 
     follows : (sent : ℕ) → command.sent ≡ sent
         → Continues (For (record { 0 = row.turn.client }) stands.ordinal) bytes (spelling stands.asked.message.first stands.asked.message.payload)
-            (is_here row.turn.client log) (commands_on lent.backend.account link log) (row_standing row)
+        (is_here row.turn.client log) (commands_on lent.backend.account link log) (row_standing row)
     follows zero unsent = Begins (here unsent) (row-clean row has unsent)
-        (record { rest = drop k (drop command.sent command.bytes); is = take-append-drop k (drop command.sent command.bytes)
-            ∙ ap (λ sent. drop sent command.bytes) unsent ∙ asked-spelt stands.asked })
+        (record {
+          rest = drop k (drop command.sent command.bytes);
+          is = take-append-drop k (drop command.sent command.bytes)
+              ∙ ap (λ sent. drop sent command.bytes) unsent ∙ asked-spelt stands.asked;
+        })
     follows (suc sent) at = GoesOn inside.others (take command.sent command.bytes) (row-sends row has (omega arith) less)
         (row-commands row has (omega arith) ∙ ap (λ (t : Tag). inside.others ++ record { tag = t; bytes = take command.sent command.bytes } ∷ []) stands.tag)
         (record { rest = drop k (drop command.sent command.bytes); is = front-of command.bytes command.sent k ∙ asked-spelt stands.asked })
@@ -438,7 +453,7 @@ module _ {service : Service} {log : Log} {tables : Tables} (told : AllLawful Fit
   part-closes parting link stands on offered = record {
     client = λ n came is same port. may-part service log n came parting.bytes
         (of-client log told (λ m (c : Arrival). PartAt service log m c parting.bytes) stands.is_came is (stands.link ∙ on ∙ sym same) stands.at)
-            (λ some. ap (λ (l : LinkId). was_offered l log) same ∙ offered some) port;
+        (λ some. ap (λ (l : LinkId). was_offered l log) same ∙ offered some) port;
     server = λ owner user owned known. cc
         ((owner-turn (turn_of service link log) owner owned).1, unowned log told service stands.n stands.came stands.is_came (stands.link ∙ on));
   }

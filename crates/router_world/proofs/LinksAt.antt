@@ -38,7 +38,6 @@ other-turn n k i turn same differs = grind (arith, common_steps)
 
 -- what the entry refuses is the command that its link was opened for
 module _ {service : Service} {log : Log} where
-
   pub link-cause : {e : Entry} {other : Turn} (link : LinkId) (turn : Turn) → link_of e ≡ Some link → turn_of service link log ≡ Some turn
       → Cause service log other e → turn ≡ other
   link-cause link turn names opened h8 = grind (arith, common_steps, some-same)
@@ -51,10 +50,16 @@ module _ {service : Service} {log : Log} where
     writes = λ i. writes k i differs;
     spares = λ i other is. grind (arith, common_steps, other-turn, link-cause, names, refusal-cause);
   }
-  calm-other (Opens server address link) differs = record { writes = λ i. refl; spares = λ i other is. absurd
-      (open-cause server address link (refusal-cause service log (Opened server address link) other is)) }
-  calm-other {n} {k} (OpensNone server address turn next mine) differs = record { writes = λ i. refl; spares = λ i other is. other-turn n k i other
-      (ap (λ (t : Turn). t.client) (some-same other turn (sym is ∙ next)) ∙ mine) differs }
+  calm-other (Opens server address link) differs = record {
+    writes = λ i. refl;
+    spares = λ i other is. absurd
+        (open-cause server address link (refusal-cause service log (Opened server address link) other is));
+  }
+  calm-other {n} {k} (OpensNone server address turn next mine) differs = record {
+    writes = λ i. refl;
+    spares = λ i other is. other-turn n k i other
+        (ap (λ (t : Turn). t.client) (some-same other turn (sym is ∙ next)) ∙ mine) differs;
+  }
 
   -- Links of others are left.
   pub leaves-others : {e : Entry} {n : ℕ} {link : LinkId} (turn : Turn) → Concerns service log n e → Fits log e → IsOpen link log
@@ -67,12 +72,12 @@ module _ {service : Service} {log : Log} where
       → LendsSound service log lends → Concerns service log n e → LendsBut service (log ++ e ∷ []) n lends
   but-client {e} {n} {lends} lawful fits sound concerns = (let last : Fits log e = (lawful-last Fits log e fits).1 in
       let row : (link : LinkId) (lent : Lent) → lends.links link.0 ≡ Some lent → (turn : Turn) → turn_of service link (log ++ e ∷ []) ≡ Some turn
-          → nat_eq turn.client n ≡ false → RowStands service log lends link lent → RowStands service (log ++ e ∷ []) lends link lent =
+      → nat_eq turn.client n ≡ false → RowStands service log lends link lent → RowStands service (log ++ e ∷ []) lends link lent =
       λ link lent is turn is_turn differs stands. (let same : turn ≡ stands.turn = some-same turn stands.turn (sym is_turn
-          ∙ turn-stays service link log (e ∷ []) stands.turn stands.is_turn) in
+      ∙ turn-stays service link log (e ∷ []) stands.turn stands.is_turn) in
       let other : nat_eq stands.turn.client n ≡ false = ap (λ (t : Turn). nat_eq t.client n) (sym same) ∙ differs in
       row-calm service log e lends link lent lawful last stands (calm-other concerns other)
-          (leaves-others stands.turn concerns last stands.opened stands.is_turn other)) in
+      (leaves-others stands.turn concerns last stands.opened stands.is_turn other)) in
       record {
         rows = λ link lent is turn is_turn differs. row link lent is turn is_turn differs (sound.rows link lent is);
         turns = λ link lent is. (let stands = sound.rows link lent is in (stands.turn, turn-stays service link log (e ∷ []) stands.turn stands.is_turn));
@@ -157,7 +162,7 @@ pub answers-one : {service : Service} {log : Log} {n i id : ℕ} {lends other : 
     → Comes service (log ++ e ∷ []) n lends other (Some (record { client = record { 0 = n }; packets = packets }))
 answers-one {service} {log} {n} {i} {answer = answer} e is busy asked told free unwaiting closes = rw (is ∙ ap (λ k. spelt k answer) asked.first)
     (Answers i answer asked.message busy (message-stays service n i log (e ∷ []) asked.message
-        (in-work service n log (record { ordinal = i; message = asked.message }) asked.asks.work).0) told free unwaiting closes)
+    (in-work service n log (record { ordinal = i; message = asked.message }) asked.asks.work).0) told free unwaiting closes)
 
 -- an error of the router's is an answer of one payload
 pub error-spelt : (id : ℕ) (payload : List ℕ) → spelling id payload ≡ spelt id (payload ∷ [])
@@ -305,11 +310,11 @@ module _ {service : Service} {log : Log} {e : Entry} {lends : Lends} {link : Lin
       (OnLink e link at.row.turn at.names at.row.is_turn refl at.writes)) at.sound.one_closes
       (λ l is. absurd (none-one lends.closing at.unclosed is)) at.there (row-mine at.row.owned) rows one in
       record { sound = stood.sound; apart = stood.apart; traces = stood.traces; comes = comes }) where
-    rows : (l : LinkId) (x : Lent) → nat_eq l.0 link.0 ≡ false → lends.links l.0 ≡ Some x → RowNow service new n lends other l x
-    rows l x apart was = (let second = at.sound.rows l x was in Was was second.turn (turn-stays service l log (e ∷ []) second.turn second.is_turn)
-        (apart-numbers second.turn.client n (λ mine.
-        (let same = same-row n (lawful-last Fits log e at.fits).0 (lawful-last (IsLawful service) log e at.lawful).0 second mine at.row refl in
-        let no' : true ≡ false = sym (same_number link.0) ∙ ap (λ (k : LinkId). nat_eq k.0 link.0) (sym same) ∙ apart in cc))))
+        rows : (l : LinkId) (x : Lent) → nat_eq l.0 link.0 ≡ false → lends.links l.0 ≡ Some x → RowNow service new n lends other l x
+        rows l x apart was = (let second = at.sound.rows l x was in Was was second.turn (turn-stays service l log (e ∷ []) second.turn second.is_turn)
+            (apart-numbers second.turn.client n (λ mine.
+            (let same = same-row n (lawful-last Fits log e at.fits).0 (lawful-last (IsLawful service) log e at.lawful).0 second mine at.row refl in
+            let no' : true ≡ false = sym (same_number link.0) ∙ ap (λ (k : LinkId). nat_eq k.0 link.0) (sym same) ∙ apart in cc))))
 
   -- what is said of the link then
   pub opened-new : IsOpen link new
@@ -367,25 +372,25 @@ module _ {service : Service} {log : Log} {e : Entry} {lends : Lends} {link : Lin
       → (sent ≡ 0 → Calm service log e n) → Commands service new n link lent.backend.command now.command
   handed-later {now} c has sent tracker is begun goes_on stands carrier calm = OneCommand c d has is refl later
       (record { ordinal = was.ordinal; tag = was.tag; asked = asked-stays service log e n was.ordinal c.bytes c.first at.lawful was.asked unreplied; carrier = carrier }) unreplied where
-    d : Handed
-    d = record c { sent = sent; tracker = tracker }
+        d : Handed
+        d = record c { sent = sent; tracker = tracker }
 
-    was : HandedStands service log n link c
-    was = at.row.command c has
+        was : HandedStands service log n link c
+        was = at.row.command c has
 
-    later : is_begun lent.backend.command ≡ true → is_begun now.command ≡ true
-    later begins = grind (arith, common_steps)
+        later : is_begun lent.backend.command ≡ true → is_begun now.command ≡ true
+        later begins = grind (arith, common_steps)
 
-    unreplied : replied service n was.ordinal new ≡ None
-    unreplied = command-unreplied service n was.ordinal link new d (refused-or-sent service new at.lawful) stands is was.tag carrier user-later
-        (lost-on link log e at.names at.row.unlost ∙ goes_on)
-        (λ none. unrefused-more service n was.ordinal log e (asks-unrefused service n was.ordinal was.asked.message was.asked.due log was.asked.asks)
+        unreplied : replied service n was.ordinal new ≡ None
+        unreplied = command-unreplied service n was.ordinal link new d (refused-or-sent service new at.lawful) stands is was.tag carrier user-later
+            (lost-on link log e at.names at.row.unlost ∙ goes_on)
+            (λ none. unrefused-more service n was.ordinal log e (asks-unrefused service n was.ordinal was.asked.message was.asked.due log was.asked.asks)
             ((calm none).spares was.ordinal))
 
   -- The link stays with this row, and maybe the client asks for less.
   pub kept-news : {links : ℕ → Option Lent} {asks : ℕ → Option Ask} {now : Lent} → Puts link now lends links
       → ((k : ℕ) → nat_eq k n ≡ false → asks k ≡ lends.asks k) → now.owner ≡ lent.owner → RowStands service new
-          (record lends { links = links; asks = asks }) link now
+      (record lends { links = links; asks = asks }) link now
       → ((ask : Ask) → asks n ≡ Some ask → AskStands service new n ask) → OneRow service new n link lends (record lends { links = links; asks = asks })
   kept-news {links} {asks} {now} puts others owner row ask = record {
     links = puts.others;
@@ -412,42 +417,46 @@ module _ {service : Service} {log : Log} {e : Entry} {lends : Lends} {link : Lin
       → Came service new n lends (record { lends = record lends { links = links }; answer = None })
   alike-came {links} {now} puts like = came-of (kept-news puts (λ k differs. refl) like.owner row (λ ask is. (like.asked ask is).0))
       (Quiet (λ i was. (busy like.commands (busy-here was)).0) free (λ gone. record { unasked = gone.unasked; unowned = gone.unowned }) (λ i was.
-          (busy like.commands (busy-here was)).1)) where
-    other : Lends
-    other = record lends { links = links }
+      (busy like.commands (busy-here was)).1)) where
+        other : Lends
+        other = record lends { links = links }
 
-    command : Alike now → (c : Handed) → now.backend.command ≡ Some c → HandedStands service new n link c
-    command (NoCommand was none) c is = absurd (no-some none is)
-    command (OneCommand _ d was is tag begun stands none) c now_is = subst (HandedStands service new n link) (some-same d c (sym is ∙ now_is)) stands
+        command : Alike now → (c : Handed) → now.backend.command ≡ Some c → HandedStands service new n link c
+        command (NoCommand was none) c is = absurd (no-some none is)
+        command (OneCommand _ d was is tag begun stands none) c now_is = subst (HandedStands service new n link) (some-same d c (sym is ∙ now_is)) stands
 
-    begins : Alike now → is_begun lent.backend.command ≡ true → is_begun now.backend.command ≡ true
-    begins (NoCommand was none) begun = absurd (let no' : false ≡ true = sym (ap is_begun was) ∙ begun in cc)
-    begins (OneCommand c d was is tag more stands none) begun = more begun
+        begins : Alike now → is_begun lent.backend.command ≡ true → is_begun now.backend.command ≡ true
+        begins (NoCommand was none) begun = absurd (let no' : false ≡ true = sym (ap is_begun was) ∙ begun in cc)
+        begins (OneCommand c d was is tag more stands none) begun = more begun
 
-    idle : Alike now → lent.backend.command ≡ None → now.backend.command ≡ None
-    idle (NoCommand was none) has = none
-    idle (OneCommand c d was is tag more stands none) has = absurd (no-some has was)
+        idle : Alike now → lent.backend.command ≡ None → now.backend.command ≡ None
+        idle (NoCommand was none) has = none
+        idle (OneCommand c d was is tag more stands none) has = absurd (no-some has was)
 
-    owned : Owned service log lends link n lent → Owned service new other link n now
-    owned (Own own owns) = Own (like.owner ∙ own) owns
-    owned (Left none gone begun) = grind (arith, common_steps, gone-stays, lawful-last, begins)
+        owned : Owned service log lends link n lent → Owned service new other link n now
+        owned (Own own owns) = Own (like.owner ∙ own) owns
+        owned (Left none gone begun) = grind (arith, common_steps, gone-stays, lawful-last, begins)
 
-    row : RowStands service new other link now
-    row = row-later like.goes_on like.account like.at (command like.commands)
-        (λ out. (let it = at.row.enters (λ inside. out (like.inside inside)) in record { ask = it.ask; is = it.is; same = it.same })) (owned at.row.owned)
+        row : RowStands service new other link now
+        row = row-later like.goes_on like.account like.at (command like.commands)
+            (λ out. (let it = at.row.enters (λ inside. out (like.inside inside)) in record { ask = it.ask; is = it.is; same = it.same })) (owned at.row.owned)
 
-    busy : {i : ℕ} → Alike now → BusyHere lends n i link lent → Busy other n i × (replied service n i new ≡ None)
-    busy {i} commands (LogsHere owns ask is same out) = (Logs ask is same link now owns puts.here (like.outside out), rw same at (like.asked ask is).1)
-    busy {i} (NoCommand was none) (OnHere owns unasked c inside has tag) = absurd (no-some was has)
-    busy {i} (OneCommand x d was is same begun stands none) (OnHere owns unasked c inside has tag) =
-        (On unasked link now d owns puts.here (like.inside inside) is tagged,
-        rw (same-ordinal n stands.ordinal i d.tag stands.tag tagged) at none) where
-      tagged : d.tag ≡ For (record { 0 = n }) i
-      tagged = same ∙ ap (λ (h : Handed). h.tag) (some-same x c (sym was ∙ has)) ∙ tag
+        busy : {i : ℕ} → Alike now → BusyHere lends n i link lent → Busy other n i × (replied service n i new ≡ None)
+        busy {i} commands (LogsHere owns ask is same out) = (Logs ask is same link now owns puts.here (like.outside out), rw same at (like.asked ask is).1)
+        busy {i} (NoCommand was none) (OnHere owns unasked c inside has tag) = absurd (no-some was has)
+        busy {i} (OneCommand x d was is same begun stands none) (OnHere owns unasked c inside has tag) = (
+          On unasked link now d owns puts.here (like.inside inside) is tagged,
+          rw (same-ordinal n stands.ordinal i d.tag stands.tag tagged) at none,
+        ) where
+          tagged : d.tag ≡ For (record { 0 = n }) i
+          tagged = same ∙ ap (λ (h : Handed). h.tag) (some-same x c (sym was ∙ has)) ∙ tag
 
-    free : Free lends n → Free other n
-    free was = record { unasked = was.unasked; idle = λ l x owns. (let still = was.idle link lent (owns ∙ ap Some (own-link owns)) at.there in
-        own-idle puts (like.inside still.0) (idle like.commands still.1) l x owns) }
+        free : Free lends n → Free other n
+        free was = record {
+          unasked = was.unasked;
+          idle = λ l x owns. (let still = was.idle link lent (owns ∙ ap Some (own-link owns)) at.there in
+              own-idle puts (like.inside still.0) (idle like.commands still.1) l x owns);
+        }
 
   -- The link is to be closed, with these tables.
   pub shut-news : {owned : ℕ → Option LinkId} {asks : ℕ → Option Ask} {waiting : List ClientNo}
@@ -476,7 +485,7 @@ module _ {service : Service} {log : Log} {e : Entry} {lends : Lends} {link : Lin
       → Came service new n lends (record { lends = shut link lends owned lends.asks lends.waiting; answer = None })
   shut-idle may calm theirs unowned idle = came-of
       (shut-news may (λ k differs. refl) theirs unowned (λ ask is. (ask-later calm ask is).0) at.sound.one_waits (λ someone is. absurd
-          (none-one lends.waiting at.idle is)))
+      (none-one lends.waiting at.idle is)))
       (Quiet (λ i busy. absurd (idle i (busy-here busy))) (λ free. record { unasked = free.unasked; idle = λ l x owns is. absurd (no-some unowned owns) })
       (λ gone. record { unasked = gone.unasked; unowned = unowned }) (λ i busy. absurd (idle i (busy-here busy))))
 
@@ -484,14 +493,17 @@ module _ {service : Service} {log : Log} {e : Entry} {lends : Lends} {link : Lin
   pub shut-answered : {asks : ℕ → Option Ask} {i id : ℕ} {bytes packets : List ℕ} {answer : Answer}
       → Drops → ((k : ℕ) → nat_eq k n ≡ false → asks k ≡ lends.asks k) → asks n ≡ None
       → packets ≡ spelt id answer → Busy lends n i → IsAsked service n i bytes id log → replied service n i new ≡ Some answer
-      → Came service new n lends (record { lends = shut link lends (set lends.owned n None) asks lends.waiting; answer = Some
-          (record { client = record { 0 = n }; packets = packets }) })
+      → Came service new n lends (record {
+        lends = shut link lends (set lends.owned n None) asks lends.waiting;
+        answer = Some
+            (record { client = record { 0 = n }; packets = packets });
+      })
   shut-answered may others unasked is busy asked told = came-of
       (shut-news may others (λ k differs. set-other lends.owned n k None differs)
-          (set-same lends.owned n None) (λ ask is. absurd (no-some unasked is)) at.sound.one_waits
+      (set-same lends.owned n None) (λ ask is. absurd (no-some unasked is)) at.sound.one_waits
       (λ someone is. absurd (none-one lends.waiting at.idle is)))
       (answers-one e is busy asked told (record { unasked = unasked; idle = λ l x owns is. absurd (no-some (set-same lends.owned n None) owns) }) at.idle
-          (inr (set-same lends.owned n None)))
+      (inr (set-same lends.owned n None)))
 
   -- where the client has gone the link isn't its own
   pub unowned-left : lent.owner ≡ None → lends.owned n ≡ None

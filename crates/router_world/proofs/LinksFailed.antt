@@ -71,53 +71,58 @@ module _ {service : Service} {log : Log} {e : Entry} {lends : Lends} {link : Lin
         fails = fails;
       })) ∙ list_any-append (is_turn n ask.ordinal) (refused service log) (turn ∷ [])
       ∙ or-inr (list_any (is_turn n ask.ordinal) (refused service log)) (is_turn n ask.ordinal turn || false) (ap (λ b. b || false) here)) where
-    turn : Turn
-    turn = at.row.turn
+        turn : Turn
+        turn = at.row.turn
 
-    here : is_turn n ask.ordinal turn ≡ true
-    here = grind (arith, common_steps)
+        here : is_turn n ask.ordinal turn ≡ true
+        here = grind (arith, common_steps)
 
   -- a command of which no byte was written waits for another link
   waits-again : (c : Handed) → lent.backend.stage ≡ stage.In → lent.backend.command ≡ Some c → c.sent ≡ 0 → lends.owned n ≡ Some link →
       (stands : HandedStands service log n link c)
       → Drops at → Calm service log e n
-      → Came service new n lends (record { lends = queued client
-          (record { ordinal = stands.ordinal; first = c.first; packets = c.bytes; account = lent.backend.account })
-          (shut link lends (set lends.owned n None) lends.asks lends.waiting); answer = None })
+      → Came service new n lends (record {
+        lends = queued client
+            (record { ordinal = stands.ordinal; first = c.first; packets = c.bytes; account = lent.backend.account })
+            (shut link lends (set lends.owned n None) lends.asks lends.waiting);
+        answer = None;
+      })
   waits-again c inside has none owns stands may calm = came-of at
       (shut-news at may (λ k differs. set-other lends.asks n k (Some ask) differs) (λ k differs. set-other lends.owned n k None differs) unowned
       (λ another is. subst (AskStands service new n) (some-same ask another (sym asks ∙ is)) later) (subst AtMostOne (sym waiting) (One client))
       (λ someone is. subst (Waiting other) (one-same client someone (sym waiting ∙ is)) (record { ask = ask; asks = asks; unowned = unowned })))
       (Quiet (λ i was. (busy i (busy-here at was)).0) (λ free. absurd (no-some (free.idle link lent owns at.there).1 has)) (λ gone. absurd
-          (no-some gone.unowned owns))
+      (no-some gone.unowned owns))
       (λ i was. (busy i (busy-here at was)).1)) where
-    ask : Ask
-    ask = record { ordinal = stands.ordinal; first = c.first; packets = c.bytes; account = lent.backend.account }
+        ask : Ask
+        ask = record { ordinal = stands.ordinal; first = c.first; packets = c.bytes; account = lent.backend.account }
 
-    other : Lends
-    other = queued client ask (shut link lends (set lends.owned n None) lends.asks lends.waiting)
+        other : Lends
+        other = queued client ask (shut link lends (set lends.owned n None) lends.asks lends.waiting)
 
-    asks : other.asks n ≡ Some ask
-    asks = set-same lends.asks n (Some ask)
+        asks : other.asks n ≡ Some ask
+        asks = set-same lends.asks n (Some ask)
 
-    unowned : other.owned n ≡ None
-    unowned = set-same lends.owned n None
+        unowned : other.owned n ≡ None
+        unowned = set-same lends.owned n None
 
-    waiting : other.waiting ≡ client ∷ []
-    waiting = ap (λ w. w ++ client ∷ []) at.idle
+        waiting : other.waiting ≡ client ∷ []
+        waiting = ap (λ w. w ++ client ∷ []) at.idle
 
-    unsent : carrier_of n stands.ordinal log ≡ None
-    unsent = stands.carrier ∙ ap (carried_by link) none
+        unsent : carrier_of n stands.ordinal log ≡ None
+        unsent = stands.carrier ∙ ap (carried_by link) none
 
-    later : AskStands service new n ask
-    later = grind (arith, common_steps, asked-calm, user-stays, carrier-same)
+        later : AskStands service new n ask
+        later = grind (arith, common_steps, asked-calm, user-stays, carrier-same)
 
-    busy : (i : ℕ) → BusyHere lends n i link lent → Busy other n i × (replied service n i new ≡ None)
-    busy i (LogsHere owns a is same outside) = absurd (outside inside)
-    busy i (OnHere owns unasked d staged holds tag) = (let same : stands.ordinal ≡ i = same-ordinal n stands.ordinal i c.tag stands.tag
-        (ap (λ (h : Handed). h.tag) (some-same c d (sym has ∙ holds)) ∙ tag) in
-        (Waits ask asks same unowned waiting, rw same at (still-none service log e n stands.ordinal c.bytes c.first
-            (refused-or-sent service new at.lawful) stands.asked calm (Unbegun unsent))))
+        busy : (i : ℕ) → BusyHere lends n i link lent → Busy other n i × (replied service n i new ≡ None)
+        busy i (LogsHere owns a is same outside) = absurd (outside inside)
+        busy i (OnHere owns unasked d staged holds tag) = (let same : stands.ordinal ≡ i = same-ordinal n stands.ordinal i c.tag stands.tag
+            (ap (λ (h : Handed). h.tag) (some-same c d (sym has ∙ holds)) ∙ tag) in (
+              Waits ask asks same unowned waiting,
+              rw same at (still-none service log e n stands.ordinal c.bytes c.first
+                  (refused-or-sent service new at.lawful) stands.asked calm (Unbegun unsent)),
+            ))
 
   pub failed-came : {refusal : Refusal} → Fails service log e link lent n refusal → Came service new n lends (failed link lent refusal (without_link link lends))
   failed-came {refusal} why = by (held at.row) where
@@ -138,6 +143,6 @@ module _ {service : Service} {log : Log} {e : Entry} {lends : Lends} {link : Lin
     by (HoldsInside inside (HoldsBegun own owns c has some)) = (let stands = at.row.command c has in simp (inside.stage, has, id-begun c.sent c.first some, own)
         (shut-answered at may (λ k differs. refl) (begun-alone at.sound stands some) (error-spelt c.first (payload_of refusal))
         (On (begun-alone at.sound stands some) link lent c owns at.there inside.stage has stands.tag) stands.asked
-            (why.told c stands.ordinal inside has some stands.tag (carried stands some))))
+        (why.told c stands.ordinal inside has some stands.tag (carried stands some))))
     by (HoldsInside inside (HoldsLeft none gone c has some)) = simp (inside.stage, has, id-begun c.sent c.first some, none)
         (shut-idle at may (calm inside) (λ k differs. refl) (unowned-left at none) (left-busy at none))

@@ -25,7 +25,7 @@ packets-size (suc full) id payload fits =
     let one : length (take longest payload) ≡ longest = length-take-le longest payload (omega arith) in
     let left : length (drop longest payload) ≡ length payload - longest = length-drop longest payload in
     let others : length (packets full (next_id id) (drop longest payload)) ≡ length (drop longest payload) + 4 * (full + 1) = packets-size full (next_id id)
-        (drop longest payload) (omega arith) in
+    (drop longest payload) (omega arith) in
     let both = length-append (packet id (take longest payload)) (packets full (next_id id) (drop longest payload)) in
     omega arith
 
@@ -154,8 +154,12 @@ gone-sound service log n lends sound closable may = by (lends.owned n) refl wher
     closing = refl;
     ask = λ ask is. absurd (no-some (set-same lends.asks n None) is);
     one_waits = one-but n sound.one_waits;
-    waits = λ client is. (let it = waits client is in record { ask = it.0.ask; asks = set-other lends.asks n client.0 None it.1
-        ∙ it.0.asks; unowned = set-other lends.owned n client.0 None it.1 ∙ it.0.unowned });
+    waits = λ client is. (let it = waits client is in record {
+      ask = it.0.ask;
+      asks = set-other lends.asks n client.0 None it.1
+          ∙ it.0.asks;
+      unowned = set-other lends.owned n client.0 None it.1 ∙ it.0.unowned;
+    });
   }))
 
   on : (link : LinkId) (lent : Lent) → lends.owned n ≡ Some link → lends.links link.0 ≡ Some lent
@@ -179,8 +183,12 @@ gone-sound service log n lends sound closable may = by (lends.owned n) refl wher
       ask = λ ask is. absurd (no-some (set-same lends.asks n None) is);
       owns = λ l is. absurd (no-some (set-same lends.owned n None) is);
       one_waits = one-but n sound.one_waits;
-      waits = λ client is. (let it = waits client is in record { ask = it.0.ask; asks = set-other lends.asks n client.0 None it.1
-          ∙ it.0.asks; unowned = set-other lends.owned n client.0 None it.1 ∙ it.0.unowned });
+      waits = λ client is. (let it = waits client is in record {
+        ask = it.0.ask;
+        asks = set-other lends.asks n client.0 None it.1
+            ∙ it.0.asks;
+        unowned = set-other lends.owned n client.0 None it.1 ∙ it.0.unowned;
+      });
     }))
 
     begins : (b : Bool) → is_begun lent.backend.command ≡ b → Went service log n lends
@@ -188,7 +196,7 @@ gone-sound service log n lends sound closable may = by (lends.owned n) refl wher
     begins true begun_is = (let now : Lent = record lent { owner = None } in changed
         (set (set lends.links link.0 None) link.0 (Some now)) lends.closing (λ k differs. put-other lends.links link.0 k (Some now) differs)
         (Stays now (set-same (set lends.links link.0 None) link.0 (Some now))
-            (left-row n row mine (begun-away service log n lends link lent may owns there begun_is) begun_is) refl))
+        (left-row n row mine (begun-away service log n lends link lent may owns there begun_is) begun_is) refl))
     begins false begun_is = changed (set lends.links link.0 None) (lends.closing ++ link ∷ []) (λ k differs. set-other lends.links link.0 k None differs)
         (Closes (none-closes link owns) (set-same lends.links link.0 None) (record {
           opened = row.opened;

@@ -34,7 +34,7 @@ logged-in-alone : {user : Account} {heard : List ℕ} {pieces : List Command} {b
     → got_of piece backend ≡ Hears LoggedIn left → has_failed (opening user (heard ++ piece)) ≡ false
 logged-in-alone {user} {heard} {pieces} {backend} {left} piece at is = (let tells = rw is at (opening-got backend piece heard (bytes_in pieces) at.login) in
     ap has_failed (ap (λ (u : Account). opening u (heard ++ piece)) (sym (tells.1 ∙ at.account))
-        ∙ ap (opening left.account) (sym (append-nil (heard ++ piece))) ∙ tells.0.is []))
+    ∙ ap (opening left.account) (sym (append-nil (heard ++ piece))) ∙ tells.0.is []))
 
 module _ {service : Service} {log : Log} {bytes : List ℕ} {lends : Lends} {link : LinkId} {lent : Lent} (at : AtRow service log (Got link bytes) lends link lent) (piece : IsPiece bytes) where
   abbrev e : Entry
@@ -105,37 +105,40 @@ module _ {service : Service} {log : Log} {bytes : List ℕ} {lends : Lends} {lin
       (kept-news at (puts link carrying lends) (λ k differs. set-other lends.asks n k None differs) (sym own)
       (handed-row (later ask asks).0 inside.0.stage inside.1 refl owns idle) (λ a is. absurd (no-some unasked is)))
       (Quiet (λ i was. (busy i (busy-here at was)).0) (λ free. absurd (no-some free.unasked asks)) (λ gone. absurd (no-some gone.unasked asks)) (λ i was.
-          (busy i (busy-here at was)).1))) where
-    now : Lent
-    now = record { owner = Some client; backend = left }
+      (busy i (busy-here at was)).1))) where
+        now : Lent
+        now = record { owner = Some client; backend = left }
 
-    inside : IsInside service.forms user (heard_here ++ bytes) pieces left × (left.command ≡ None)
-    inside = tells-entering enters (Hears LoggedIn left) is
+        inside : IsInside service.forms user (heard_here ++ bytes) pieces left × (left.command ≡ None)
+        inside = tells-entering enters (Hears LoggedIn left) is
 
-    takes : takes_command left ≡ true
-    takes = ap (λ s. takes_at s left.command) inside.0.stage ∙ ap (λ c. not (is_some c)) inside.1
+        takes : takes_command left ≡ true
+        takes = ap (λ s. takes_at s left.command) inside.0.stage ∙ ap (λ c. not (is_some c)) inside.1
 
-    carrying : Lent
-    carrying = commanded client ask now
+        carrying : Lent
+        carrying = commanded client ask now
 
-    other : Lends
-    other = with_link link carrying (without_ask client (without_link link lends))
+        other : Lends
+        other = with_link link carrying (without_ask client (without_link link lends))
 
-    unasked : other.asks n ≡ None
-    unasked = set-same lends.asks n None
+        unasked : other.asks n ≡ None
+        unasked = set-same lends.asks n None
 
-    later : (ask : Ask) → lends.asks n ≡ Some ask → AskStands service new n ask × (replied service n ask.ordinal new ≡ None)
-    later = ask-later at (calm-entering (logged-in-alone bytes enters is))
+        later : (ask : Ask) → lends.asks n ≡ Some ask → AskStands service new n ask × (replied service n ask.ordinal new ≡ None)
+        later = ask-later at (calm-entering (logged-in-alone bytes enters is))
 
-    idle : RowStands service new other link now
-    idle = row-later at refl inside.0.account (got-at link log bytes at.row.unlost (Inside inside.0)) (λ c has. absurd (no-some inside.1 has)) (λ out. absurd
-        (out inside.0.stage)) (Own refl owns)
+        idle : RowStands service new other link now
+        idle = row-later at refl inside.0.account (got-at link log bytes at.row.unlost (Inside inside.0)) (λ c has. absurd (no-some inside.1 has)) (λ out. absurd
+            (out inside.0.stage)) (Own refl owns)
 
-    busy : (i : ℕ) → BusyHere lends n i link lent → Busy other n i × (replied service n i new ≡ None)
-    busy i (LogsHere _ a is same out) = (On unasked link carrying (command_of (For client ask.ordinal) ask.packets ask.first) owns
-        (puts link carrying lends).here inside.0.stage refl
-        (ap (For client) (ap (λ (a : Ask). a.ordinal) (some-same ask a (sym asks ∙ is)) ∙ same)), rw same at (later a is).1)
-    busy i (OnHere _ none c staged has tag) = absurd (outside-at enters staged)
+        busy : (i : ℕ) → BusyHere lends n i link lent → Busy other n i × (replied service n i new ≡ None)
+        busy i (LogsHere _ a is same out) = (
+          On unasked link carrying (command_of (For client ask.ordinal) ask.packets ask.first) owns
+              (puts link carrying lends).here inside.0.stage refl
+              (ap (For client) (ap (λ (a : Ask). a.ordinal) (some-same ask a (sym asks ∙ is)) ∙ same)),
+          rw same at (later a is).1,
+        )
+        busy i (OnHere _ none c staged has tag) = absurd (outside-at enters staged)
 
   -- a reply goes on
   part : (left : BackendState) (used : ℕ) → InsideAt service link log lent → got_of bytes lent.backend ≡ Hears (Part used) left
@@ -183,16 +186,22 @@ module _ {service : Service} {log : Log} {bytes : List ℕ} {lends : Lends} {lin
     spoilt unclean = IsSpoilt (standing (rep.spoilt unclean))
 
     finish : lent.owner ≡ Some client → lends.owned n ≡ Some link → (b : Bool) → clean ≡ b
-        → Came service new n lends (record { lends = kept_or_closed b link (record { owner = Some client; backend = without_reply left })
-            (without_link link lends); answer = Some (record { client = client; packets = left.reply }) })
+        → Came service new n lends (record {
+          lends = kept_or_closed b link (record { owner = Some client; backend = without_reply left })
+              (without_link link lends);
+          answer = Some (record { client = client; packets = left.reply });
+        })
     finish own owns false unclean = shut-answered at (spoilt unclean) (λ k differs. refl) unasked rep.reply (on owns) stands.asked told
     finish own owns true is_clean = (let now : Lent = record { owner = Some client; backend = without_reply left } in let in_left = rep.inside is_clean in
         came-of at (kept-news at (puts link now lends) (λ k differs. refl) (sym own)
         (row-later at refl in_left.account (got-at link log bytes at.row.unlost (Inside (reply-moved [] in_left rep.idle))) (λ d has. absurd
-            (no-some rep.idle has)) (λ out. absurd (out in_left.stage)) (Own refl owns))
+        (no-some rep.idle has)) (λ out. absurd (out in_left.stage)) (Own refl owns))
         (λ ask is. absurd (no-some unasked is)))
-        (answers-one e rep.reply (on owns) stands.asked told (record { unasked = unasked; idle = own-idle at
-            (puts link now lends) in_left.stage rep.idle }) at.idle (inl at.unclosed)))
+        (answers-one e rep.reply (on owns) stands.asked told (record {
+          unasked = unasked;
+          idle = own-idle at
+              (puts link now lends) in_left.stage rep.idle;
+        }) at.idle (inl at.unclosed)))
 
     -- its client has gone
     drops : is_here n log ≡ false → (b : Bool) → clean ≡ b → Drops at
@@ -221,7 +230,7 @@ module _ {service : Service} {log : Log} {bytes : List ℕ} {lends : Lends} {lin
         ∙ ap (λ b. cond b (breaks_off user link log e) false) (ap goes_on enters.goes) ∙ (tells-entering enters (GotFault fault) is).0;
     told = λ c i inside has some tag carrier. (let bad = tells-inside inside (GotFault fault) is in
         reply-said i carrier ∙ bad.told c n i (was_lost link new) has some (command-is n i c.tag tag)
-            ∙ ap (λ f. Some (bad_server_bytes (place_of f) ∷ [])) (sym bad.bad_bytes));
+        ∙ ap (λ f. Some (bad_server_bytes (place_of f) ∷ [])) (sym bad.bad_bytes));
   })
 
   pub heard-came : Came service new n lends (told_by link lent (length bytes) (got_of bytes lent.backend) (without_link link lends))

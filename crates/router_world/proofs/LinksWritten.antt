@@ -123,28 +123,28 @@ module _ {service : Service} {log : Log} {tag : Tag} {bytes : List ℕ} {lends :
       → IsLike service log e lends link lent now n
   command-like c has of goes_on = like (λ ask is. absurd (no-some (wrote.unasked c has) is))
       (handed-later at c has (c.sent + length bytes) c.tracker goes_on (λ begun. apart-numbers
-          (c.sent + length bytes) 0 (λ none. more none)) refl now-at carrier (λ none. absurd (more none))) where
-    stands : HandedStands service log n link c
-    stands = at.row.command c has
+      (c.sent + length bytes) 0 (λ none. more none)) refl now-at carrier (λ none. absurd (more none))) where
+        stands : HandedStands service log n link c
+        stands = at.row.command c has
 
-    more : c.sent + length bytes ≡ 0 → ⊥
-    more none = (let some : 0 < length bytes = wrote.some in omega arith)
+        more : c.sent + length bytes ≡ 0 → ⊥
+        more none = (let some : 0 < length bytes = wrote.some in omega arith)
 
-    here : carries n stands.ordinal e ≡ Some link
-    here = ap (λ b. cond b (Some link) None) (command-is n stands.ordinal tag (wrote.same ∙ of ∙ stands.tag))
+        here : carries n stands.ordinal e ≡ Some link
+        here = ap (λ b. cond b (Some link) None) (command-is n stands.ordinal tag (wrote.same ∙ of ∙ stands.tag))
 
-    some-carried : (sent : ℕ) → (sent ≡ 0 → ⊥) → carried_by link sent ≡ Some link
-    some-carried zero some = absurd (some refl)
-    some-carried (suc sent) some = refl
+        some-carried : (sent : ℕ) → (sent ≡ 0 → ⊥) → carried_by link sent ≡ Some link
+        some-carried zero some = absurd (some refl)
+        some-carried (suc sent) some = refl
 
-    was : (sent : ℕ) → first_some (carried_by link sent) (Some link) ≡ Some link
-    was zero = refl
-    was (suc sent) = refl
+        was : (sent : ℕ) → first_some (carried_by link sent) (Some link) ≡ Some link
+        was zero = refl
+        was (suc sent) = refl
 
-    carrier : carrier_of n stands.ordinal new ≡ carried_by link (c.sent + length bytes)
-    carrier = carrier-more n stands.ordinal log e ∙ ap (first_some (carrier_of n stands.ordinal log)) here ∙ ap (λ o. first_some o (Some link)) stands.carrier
-        ∙ was c.sent
-        ∙ sym (some-carried (c.sent + length bytes) more)
+        carrier : carrier_of n stands.ordinal new ≡ carried_by link (c.sent + length bytes)
+        carrier = carrier-more n stands.ordinal log e ∙ ap (first_some (carrier_of n stands.ordinal log)) here ∙ ap (λ o. first_some o (Some link)) stands.carrier
+            ∙ was c.sent
+            ∙ sym (some-carried (c.sent + length bytes) more)
 
   pub wrote-came : Came service new n lends (record { lends = taken_on link (length bytes) lends; answer = None })
   wrote-came = alike-came at (record {

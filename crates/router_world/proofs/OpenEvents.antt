@@ -154,7 +154,7 @@ open-failed-step service log server address tables sound on = server-step servic
       (refused-more service log (e ∷ []) ∙ ap (λ o. refused service log ++ cons_option o []) (next sound on may))
       ∙ list_any-append (is_turn n ask.ordinal) (refused service log) (record { client = n; ordinal = ask.ordinal; hostgroup = 0 } ∷ [])
       ∙ or-inr (list_any (is_turn n ask.ordinal) (refused service log)) _ (ap (λ b. (b && nat_eq ask.ordinal ask.ordinal) || false) (same_number n)
-          ∙ ap (λ b. b || false) (same_number ask.ordinal)))
+      ∙ ap (λ b. b || false) (same_number ask.ordinal)))
 
   came : Came service (log ++ e ∷ []) n tables.lends (open_failed tables.lends)
   came = simp (ap oldest on.for.waits, on.for.waiting.asks) (record {
@@ -272,8 +272,10 @@ opened-step service log server address link tables sound on = rw opened-is (move
 
   -- its command waits for the login on the link
   busy-now : (i : ℕ) → Busy lends n i → Busy other n i × (replied service n i new ≡ None)
-  busy-now i (Waits a is same unowned waits) = (Logs a is same link now owned here (λ inside. (let no' : Greeting ≡ In = inside in cc)),
-      rw same at (ask-unreplied on.happens.lawful (sound.lends.asks n a is) calm))
+  busy-now i (Waits a is same unowned waits) = (
+    Logs a is same link now owned here (λ inside. (let no' : Greeting ≡ In = inside in cc)),
+    rw same at (ask-unreplied on.happens.lawful (sound.lends.asks n a is) calm),
+  )
   busy-now i (Logs a is same l x owns at stage) = absurd (no-some on.for.waiting.unowned owns)
   busy-now i (On none l x command owns at stage has tag) = absurd (no-some on.for.waiting.unowned owns)
 
@@ -305,4 +307,4 @@ opened-step service log server address link tables sound on = rw opened-is (move
     unnumbered : tables.numbers link.0 ≡ None
     unnumbered = none-if (tables.numbers link.0) (λ client is. (let seat = numbered-seat service log tables link client sound is in
         let no' : false ≡ true = sym (shut link (ap (λ (l : LinkId). is_open l log) (sym seat.2) ∙ (sound.seats client.0 seat.0 seat.1).stands.opened))
-            ∙ same_number link.0 in cc))
+        ∙ same_number link.0 in cc))

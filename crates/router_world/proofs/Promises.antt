@@ -69,7 +69,7 @@ written-step {service} {log} {link} {tag} {bytes} {tables} on front = elim (whos
   | OfClient client seat number is at ↦ (
       let reply = reply-front tag bytes seat.session.client.outgoing (rw is at (rw number at front)) in
       rw (number, is) (wrote-client
-          (record { on = on; writes = λ n i. ap (λ (t : Tag). cond (is_command n i t) (Some link) None) reply.0; number = number; is = is; same = at })
+      (record { on = on; writes = λ n i. ap (λ (t : Tag). cond (is_command n i t) (Some link) None) reply.0; number = number; is = is; same = at })
       (sym (front-size seat.session.client.outgoing bytes reply.1 reply.2).1)))
   | OfServer lent is ↦ rw (unnumbered on lent is, is) (wrote-step service log link tag bytes lent tables on.happens.sound (record { on = on; there = is })
       (rw is at (rw (unnumbered on lent is) at front)))
@@ -106,7 +106,7 @@ offer-written {service} {log} {link} {tag} {bytes} {tables} happens farewell fro
     let opens : (was : Bool) → open_step was (Wrote link tag bytes) ≡ was = λ was. refl in
     rw ((nobodys happens farewell).0, (nobodys happens farewell).1, (the happens farewell).is, here)
     (offered-step service log (Wrote link tag bytes) p (record p { bytes = [] }) tables happens.sound
-        (offer happens farewell refl refl silent refl (assumption) opens) refl refl (inl refl)))
+    (offer happens farewell refl refl silent refl (assumption) opens) refl refl (inl refl)))
 
 pub offer-failed : {service : Service} {log : Log} {link : LinkId} {tables : Tables} → Happens service log (WriteFailed link) tables → IsFarewell tables link
     → Sound service (log ++ WriteFailed link ∷ []) None (failed_on service.setup link (tables.numbers link.0) tables)
@@ -115,7 +115,7 @@ offer-failed {service} {log} {link} {tables} happens farewell = (let p = (the ha
     let opens : (was : Bool) → open_step was (WriteFailed link) ≡ was = λ was. refl in
     rw ((nobodys happens farewell).0, (nobodys happens farewell).1) (rw (the happens farewell).is
     (offered-step service log (WriteFailed link) p p tables happens.sound (offer happens farewell refl refl silent refl (assumption) opens) refl refl
-        (inr (refl, refl)))))
+    (inr (refl, refl)))))
 
 -- Before the first entry nothing stands.
 starts : (service : Service) → Sound service [] None no_tables
@@ -173,14 +173,14 @@ module _ (setup : Setup) (all : Log) (short : setup.limit ≤ most_command) wher
         told = lawful-more Fits log e stands.told follows.fits;
         sound = subst (Sound (service-of setup all) (log ++ e ∷ []) None) (sym (fold-append (step setup) no_tables log (e ∷ [])))
             (entry-step (service-of setup all) log e short (record {
-          told = stands.told;
-          fits = follows.fits;
-          few = follows.bounded;
-          lawful = keeps.lawful;
-          served = moment-last (IsServed (service-of setup all)) (log ++ e ∷ []) keeps.served;
-          formed = formed (log ++ e ∷ []) more is;
-          sound = stands.sound;
-        }) covers ours);
+              told = stands.told;
+              fits = follows.fits;
+              few = follows.bounded;
+              lawful = keeps.lawful;
+              served = moment-last (IsServed (service-of setup all)) (log ++ e ∷ []) keeps.served;
+              formed = formed (log ++ e ∷ []) more is;
+              sound = stands.sound;
+            }) covers ours);
         counts = counts;
         keeps = keeps;
       })

@@ -34,8 +34,8 @@ spoilt-by : {forms : Forms} {user : Account} {read : List ℕ} {pieces : List Co
     → 0 < length kept → standing_said forms user read pieces ≡ Spoilt
 spoilt-by {kept} at some = standing-of at
     ∙ stands-answered (at.others ++ []) (at.whole ++ []) kept (let one : length
-        (at.others ++ []) ≡ length at.others + 0 = length-append at.others [] in let two : length
-        (at.whole ++ []) ≡ length at.whole + 0 = length-append at.whole [] in let same : length at.whole ≡ length at.others = at.all in omega arith)
+    (at.others ++ []) ≡ length at.others + 0 = length-append at.others [] in let two : length
+    (at.whole ++ []) ≡ length at.whole + 0 = length-append at.whole [] in let same : length at.whole ≡ length at.others = at.all in omega arith)
     ∙ ap (λ b. cond b Clean Spoilt) (and_left (is_empty kept) (list_all is_whole (at.others ++ [])) (empty-not kept some))
 
 none-new : {b : Bool} → false ≡ true → b ≡ false
@@ -62,8 +62,11 @@ failed-by : (forms : Forms) (user : Account) (read : List ℕ) (pieces : List Co
     → HasFailed o fault → list_all has_bytes pieces ≡ true → length (bytes_in pieces) ≤ length (said_of o)
     → (has_failed (opening user read) ≡ true) × (standing_said forms user read pieces ≡ Spoilt)
 failed-by forms user read pieces fault (Goes said) is failed some fits = absurd failed
-failed-by forms user read pieces fault (LogsIn said rest) is failed some fits = (ap has_failed is
-    ∙ ap not (empty-not rest failed.0), spoilt-by (first-inside said is some fits) failed.0)
+failed-by forms user read pieces fault (LogsIn said rest) is failed some fits = (
+  ap has_failed is
+      ∙ ap not (empty-not rest failed.0),
+  spoilt-by (first-inside said is some fits) failed.0,
+)
 failed-by forms user read pieces fault (Fails said why) is failed some fits = grind (arith, common_steps, is)
 
 quiet-at : {user : Account} {heard : List ℕ} {pieces : List Command} {backend left : BackendState} (piece : List ℕ)
@@ -79,18 +82,21 @@ heard-entering {user} {heard} {pieces} {backend} forms piece at some = by (got_o
   fits : length (bytes_in pieces) ≤ length (said_of (opening user (heard ++ piece)))
   fits = (let more = opening-said user heard piece in
       let is : (bytes_in pieces ++ backend.own) ++ more.0 ≡ said_of (opening user (heard ++ piece)) = ap (λ (o : Opening). said_of o ++ more.0) (sym at.goes)
-          ∙ more.1 in
+      ∙ more.1 in
       let one : length ((bytes_in pieces ++ backend.own) ++ more.0) ≡ length (bytes_in pieces ++ backend.own) + length more.0 = length-append
-          (bytes_in pieces ++ backend.own) more.0 in
+      (bytes_in pieces ++ backend.own) more.0 in
       let two : length (bytes_in pieces ++ backend.own) ≡ length (bytes_in pieces) + length backend.own = length-append (bytes_in pieces) backend.own in
       let same : length ((bytes_in pieces ++ backend.own) ++ more.0) ≡ length (said_of (opening user (heard ++ piece))) = ap length is in
       omega arith)
 
   by : (got : Got) → TellsOf got backend (bytes_in pieces) (heard ++ piece) → TellsEntering forms user (heard ++ piece) pieces got
   by (Hears Quiet left) tells = quiet-at piece at tells
-  by (Hears LoggedIn left) tells = (inside-from (first-inside (bytes_in pieces ++ left.own) is some
-      (let sum = length-append (bytes_in pieces) left.own in omega arith)) (ap begun tells.0.idle) (tells.1 ∙ at.account) tells.0.stage (inl refl)
-      (subst (IsHanded forms) (sym tells.0.idle) tt) (λ none. refl) (rw tells.0.idle refl), tells.0.idle) where
+  by (Hears LoggedIn left) tells = (
+    inside-from (first-inside (bytes_in pieces ++ left.own) is some
+        (let sum = length-append (bytes_in pieces) left.own in omega arith)) (ap begun tells.0.idle) (tells.1 ∙ at.account) tells.0.stage (inl refl)
+        (subst (IsHanded forms) (sym tells.0.idle) tt) (λ none. refl) (rw tells.0.idle refl),
+    tells.0.idle,
+  ) where
     is : opening user (heard ++ piece) ≡ LogsIn (bytes_in pieces ++ left.own) []
     is = ap (λ (u : Account). opening u (heard ++ piece)) (sym (tells.1 ∙ at.account)) ∙ ap (opening left.account) (sym (append-nil (heard ++ piece)))
         ∙ tells.0.is []
@@ -175,11 +181,14 @@ module _ {forms : Forms} {user : Account} {heard : List ℕ} {pieces : List Comm
     same : begun (Some (record command { tracker = record { state = state } })) ≡ c ∷ []
     same = begun-some (record command { tracker = record { state = state } }) at.some
 
-    inside : IsInside forms user (heard ++ piece) pieces (record backend { command = Some
-        (record command { tracker = record { state = state } }); reply = backend.reply ++ renumbered command.tracker.state piece })
+    inside : IsInside forms user (heard ++ piece) pieces (record backend {
+      command = Some
+          (record command { tracker = record { state = state } });
+      reply = backend.reply ++ renumbered command.tracker.state piece;
+    })
     inside = (let m = message at in inside-from now same at.inside.account at.inside.stage written-now
         (record { payload = m.payload; spelt = m.spelt; short = m.short; sent = m.sent; form = m.form }) (λ none. absurd (let no : c ∷ [] ≡ [] = none in cc))
-            (hearing-more piece state (hearing at) are goes))
+        (hearing-more piece state (hearing at) are goes))
 
   -- what is said of it and of the link, by what the definition makes of these bytes
   replies-now : (heard_is : Heard) → command_reply forms c bytes ≡ heard_is → replies_by (command_reply forms) (c ∷ []) bytes ≡ cut heard_is bytes
@@ -198,18 +207,18 @@ module _ {forms : Forms} {user : Account} {heard : List ℕ} {pieces : List Comm
   broken-at : (place : ℕ) → command_reply forms c bytes ≡ Never place → IsBroken forms user (heard ++ piece) pieces backend (BadBytes place)
   broken-at place never = (let last : replies_by (command_reply forms) (c ∷ []) bytes ≡ record { whole = []; rest = bytes; bad = Some place } = replies-now
       (Never place) never in record {
-    place = place;
-    bad_bytes = refl;
-    told = λ other n i lost same sent here. said-now _ last n i lost (ap (λ (h : Handed). is_command n i h.tag) (some-same command other (sym at.is ∙ same)) ∙ here)
-        ∙ reply-open now.whole bytes (Some place) (length now.others) lost now.all;
-    spoilt = standing-now _ last;
-  })
+        place = place;
+        bad_bytes = refl;
+        told = λ other n i lost same sent here. said-now _ last n i lost (ap (λ (h : Handed). is_command n i h.tag) (some-same command other (sym at.is ∙ same)) ∙ here)
+            ∙ reply-open now.whole bytes (Some place) (length now.others) lost now.all;
+        spoilt = standing-now _ last;
+      })
 
   -- the reply is whole
   replied-at : {reply : Answer} {rest : List ℕ} → IsWholeReply forms command at.inside.part backend.reply piece reply rest → IsReplied forms user
       (heard ++ piece) pieces backend
       (record backend { command = None; reply = backend.reply ++ take (length piece - length rest) (renumbered command.tracker.state piece) })
-          (nat_eq (length piece - length rest) (length piece))
+      (nat_eq (length piece - length rest) (length piece))
   replied-at {reply} {rest} whole = record {
     command = command;
     is = at.is;
@@ -244,23 +253,26 @@ module _ {forms : Forms} {user : Account} {heard : List ℕ} {pieces : List Comm
     }
 
     inside : (nat_eq command.sent (length command.bytes) && nat_eq used (length piece)) ≡ true
-        → IsInside forms user (heard ++ piece) pieces (record backend { command = None; reply = backend.reply ++ take used
-            (renumbered command.tracker.state piece) })
+        → IsInside forms user (heard ++ piece) pieces (record backend {
+          command = None;
+          reply = backend.reply ++ take used
+              (renumbered command.tracker.state piece);
+        })
     inside both = (let parts = and_parts (nat_eq command.sent (length command.bytes)) (nat_eq used (length piece)) both in let shorter = whole.shorter in
         let ended : used ≡ length piece = nat_eq-true used (length piece) parts.1 in
         inside-from (answered (written-whole at (nat_eq-true command.sent (length command.bytes) parts.0))
-            (nil_from_length rest (omega arith))) refl at.inside.account at.inside.stage written-now tt (λ none. refl) refl)
+        (nil_from_length rest (omega arith))) refl at.inside.account at.inside.stage written-now tt (λ none. refl) refl)
 
     spoilt : (nat_eq command.sent (length command.bytes) && nat_eq used (length piece)) ≡ false → standing_said forms user (heard ++ piece) pieces ≡ Spoilt
     spoilt either = standing-now _ one
         ∙ stands-answered (now.others ++ c ∷ []) (now.whole ++ reply ∷ []) rest
-            (let a = length_push now.others c in let b = length_push now.whole reply in let same = now.all in omega arith)
+        (let a = length_push now.others c in let b = length_push now.whole reply in let same = now.all in omega arith)
         ∙ ap (λ b. cond b Clean Spoilt) (unclean (and_cases (nat_eq command.sent (length command.bytes)) (nat_eq used (length piece)) either)) where
-      unclean : (nat_eq command.sent (length command.bytes) ≡ false) ⊎ (nat_eq used (length piece) ≡ false) →
-          (is_empty rest && list_all is_whole (now.others ++ c ∷ [])) ≡ false
-      unclean (inr more) = grind (arith, common_steps, empty-not, nat_eq-false)
-      unclean (inl unsent) = and_right (is_empty rest) (list_all is_whole (now.others ++ c ∷ [])) (list_all-append is_whole now.others (c ∷ [])
-          ∙ and_right (list_all is_whole now.others) (is_whole c && true)
+          unclean : (nat_eq command.sent (length command.bytes) ≡ false) ⊎ (nat_eq used (length piece) ≡ false) →
+              (is_empty rest && list_all is_whole (now.others ++ c ∷ [])) ≡ false
+          unclean (inr more) = grind (arith, common_steps, empty-not, nat_eq-false)
+          unclean (inl unsent) = and_right (is_empty rest) (list_all is_whole (now.others ++ c ∷ [])) (list_all-append is_whole now.others (c ∷ [])
+              ∙ and_right (list_all is_whole now.others) (is_whole c && true)
               (and_left (is_whole c) true (written-part at (nat_eq-false command.sent (length command.bytes) unsent))))
 
 module _ {forms : Forms} {user : Account} {heard piece : List ℕ} {pieces : List Command} {backend : BackendState} where
@@ -269,20 +281,20 @@ module _ {forms : Forms} {user : Account} {heard piece : List ℕ} {pieces : Lis
       → TellsInside forms user (heard ++ piece) pieces backend (length piece) (got_of piece backend)
   heard-inside at some = subst (TellsInside forms user (heard ++ piece) pieces backend (length piece)) (sym (got-inside piece at))
       (asked backend.command refl) where
-    read : (command : Handed) → IsBegun forms user heard pieces backend command → (ending : Ending) → run command.tracker.state piece ≡ ending
-        → TellsInside forms user (heard ++ piece) pieces backend (length piece)
+        read : (command : Handed) → IsBegun forms user heard pieces backend command → (ending : Ending) → run command.tracker.state piece ≡ ending
+            → TellsInside forms user (heard ++ piece) pieces backend (length piece)
             (reply_by (length piece) (renumbered command.tracker.state piece) command backend ending)
-    read command begins (Going state) is = part-at piece begins some.are state is
-    read command begins (Ended end rest) is = replied-at piece begins some.are
-        (whole-reply forms piece end rest (message begins).form (hearing begins) some.are is).1
-    read command begins (Failed behind) is = broken-at piece begins some.are (length backend.reply + (length piece - length behind))
-        (never-reply forms piece behind (message begins).form (hearing begins) is (written command) refl)
+        read command begins (Going state) is = part-at piece begins some.are state is
+        read command begins (Ended end rest) is = replied-at piece begins some.are
+            (whole-reply forms piece end rest (message begins).form (hearing begins) some.are is).1
+        read command begins (Failed behind) is = broken-at piece begins some.are (length backend.reply + (length piece - length behind))
+            (never-reply forms piece behind (message begins).form (hearing begins) is (written command) refl)
 
-    by-sent : (command : Handed) → backend.command ≡ Some command → (sent : ℕ) → command.sent ≡ sent → TellsInside forms user (heard ++ piece) pieces backend
-        (length piece) (reply_begun sent piece command backend)
-    by-sent command is zero none = unasked-at piece at some.some (ap begun is ∙ ap (λ sent. begun_by sent command) none)
-    by-sent command is (suc sent) more = read command (record { inside = at; is = is; some = omega arith }) (run command.tracker.state piece) refl
+        by-sent : (command : Handed) → backend.command ≡ Some command → (sent : ℕ) → command.sent ≡ sent → TellsInside forms user (heard ++ piece) pieces backend
+            (length piece) (reply_begun sent piece command backend)
+        by-sent command is zero none = unasked-at piece at some.some (ap begun is ∙ ap (λ sent. begun_by sent command) none)
+        by-sent command is (suc sent) more = read command (record { inside = at; is = is; some = omega arith }) (run command.tracker.state piece) refl
 
-    asked : (o : Option Handed) → backend.command ≡ o → TellsInside forms user (heard ++ piece) pieces backend (length piece) (reply_due o piece backend)
-    asked None is = unasked-at piece at some.some (ap begun is)
-    asked (Some command) is = by-sent command is command.sent refl
+        asked : (o : Option Handed) → backend.command ≡ o → TellsInside forms user (heard ++ piece) pieces backend (length piece) (reply_due o piece backend)
+        asked None is = unasked-at piece at some.some (ap begun is)
+        asked (Some command) is = by-sent command is command.sent refl

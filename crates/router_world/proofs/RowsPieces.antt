@@ -43,8 +43,14 @@ fewer-some o pieces fewer all some = grind (arith, common_steps)
 
 sound-some : (link : LinkId) (log : Log) → list_all has_bytes (filter_map piece log) ≡ true → list_all has_bytes (pieces_of link log) ≡ true
 sound-some link [] all = refl
-sound-some link (e ∷ log) all = grind (arith, common_steps, others-some, piece, fewer-some,
-    (sound-some link log (others-some (piece e) (filter_map piece log) all)))
+sound-some link (e ∷ log) all = grind (
+  arith,
+  common_steps,
+  others-some,
+  piece,
+  fewer-some,
+  (sound-some link log (others-some (piece e) (filter_map piece log) all)),
+)
 
 pub pieces-some : (link : LinkId) (log : Log) → AllLawful Fits log → list_all has_bytes (pieces_of link log) ≡ true
 pieces-some link log told = sound-some link log (told-some log told)
@@ -60,9 +66,9 @@ behind-past zero (p ∷ pieces) more less = absurd (omega arith)
 behind-past (suc n) (p ∷ pieces) more less = (let total : length (p.bytes ++ bytes_in pieces) ≡ length p.bytes + length
     (bytes_in pieces) = length-append p.bytes (bytes_in pieces) in
     let by : (b : Bool) → nat_le (length p.bytes) (suc n) ≡ b → behind (suc n - length p.bytes) (pieces ++ more) ≡ behind
-        (suc n - length p.bytes - length (bytes_in pieces)) more
+    (suc n - length p.bytes - length (bytes_in pieces)) more
     → cond b (behind (suc n - length p.bytes) (pieces ++ more)) (record p { bytes = drop (suc n) p.bytes } ∷ pieces ++ more) ≡ behind
-        (suc n - length (p.bytes ++ bytes_in pieces)) more =
+    (suc n - length (p.bytes ++ bytes_in pieces)) more =
     λ b at later. grind (arith, common_steps, leb-false) in
     by (nat_le (length p.bytes) (suc n)) refl (behind-past (suc n - length p.bytes) pieces more (let sum = total in omega arith)))
 
@@ -76,10 +82,10 @@ behind-all zero (p ∷ pieces) some fits = grind (arith, common_steps, length-ap
 behind-all (suc n) (p ∷ pieces) some fits = (let total : length (p.bytes ++ bytes_in pieces) ≡ length p.bytes + length
     (bytes_in pieces) = length-append p.bytes (bytes_in pieces) in
     let by : (b : Bool) → nat_le (length p.bytes) (suc n) ≡ b → behind (suc n - length p.bytes) pieces ≡ [] → cond b (behind (suc n - length p.bytes) pieces)
-        (record p { bytes = drop (suc n) p.bytes } ∷ pieces) ≡ [] =
+    (record p { bytes = drop (suc n) p.bytes } ∷ pieces) ≡ [] =
     λ b at later. grind (arith, common_steps, leb-false) in
     by (nat_le (length p.bytes) (suc n)) refl (behind-all (suc n - length p.bytes) pieces (and_parts (has_bytes p) (list_all has_bytes pieces) some).1
-        (let sum = total in omega arith)))
+    (let sum = total in omega arith)))
 
 pub behind-one : (n : ℕ) (piece : Command) → 0 < n → length piece.bytes ≤ n → behind n (piece ∷ []) ≡ []
 behind-one n piece some fits = grind (arith, common_steps, leb-false)
@@ -101,7 +107,7 @@ part-spelt payload front back is some short = by (first_message most_command 0 f
   by (Whole message rest) at = absurd (
       let empty : rest ++ back ≡ [] = same-rest message (record { first = 0; last = (0 + length payload / longest) % 256; payload = payload }) (rest ++ back) []
       (sym (first_message-whole-more most_command 0 front back message rest at)
-          ∙ ap (first_message most_command 0) (is ∙ sym (append-nil (spelling 0 payload))) ∙ first_message-again most_command 0 payload [] (omega arith) short) in
+      ∙ ap (first_message most_command 0) (is ∙ sym (append-nil (spelling 0 payload))) ∙ first_message-again most_command 0 payload [] (omega arith) short) in
       let sum : length (rest ++ back) ≡ length rest + length back = length-append rest back in
       let none : length (rest ++ back) ≡ 0 = ap length empty in
       omega arith)
@@ -131,8 +137,12 @@ of-pieces n i commands (p ∷ pieces) none others = (let parts = or_parts (is_of
 of-behind : (n i k : ℕ) (pieces : List Command) → list_any (is_of n i) pieces ≡ false → list_any (is_of n i) (behind k pieces) ≡ false
 of-behind n i k [] none = refl
 of-behind n i zero (p ∷ pieces) none = none
-of-behind n i (suc k) (p ∷ pieces) none = grind (arith, common_steps, (of-behind n i (suc k - length p.bytes) pieces
-    (or_parts (is_of n i p) (list_any (is_of n i) pieces) none).1))
+of-behind n i (suc k) (p ∷ pieces) none = grind (
+  arith,
+  common_steps,
+  (of-behind n i (suc k - length p.bytes) pieces
+      (or_parts (is_of n i p) (list_any (is_of n i) pieces) none).1),
+)
 
 pub of-commands : (n i k : ℕ) (pieces : List Command) → list_any (is_of n i) pieces ≡ false → list_any (is_of n i) (commands_in (behind k pieces)) ≡ false
 of-commands n i k pieces none = of-pieces n i [] (behind k pieces) refl (of-behind n i k pieces none)

@@ -68,16 +68,22 @@ begun-some command = grind (arith, common_steps)
 
 -- More of it is written.
 begun-more : {forms : Forms} {command : Handed} (n : ℕ) → IsMessage forms command → 0 < n → n ≤ length (drop command.sent command.bytes)
-    → with_piece (begun (Some command)) (record { tag = command.tag; bytes = take n
-        (drop command.sent command.bytes) }) ≡ record { tag = command.tag; bytes = take (command.sent + n) command.bytes } ∷ []
+    → with_piece (begun (Some command)) (record {
+      tag = command.tag;
+      bytes = take n
+          (drop command.sent command.bytes);
+    }) ≡ record { tag = command.tag; bytes = take (command.sent + n) command.bytes } ∷ []
 begun-more {command} n message some fits = by command.sent fits where
   by : (sent : ℕ) → n ≤ length (drop sent command.bytes)
-      → with_piece (begun_by sent command) (record { tag = command.tag; bytes = take n (drop sent command.bytes) }) ≡ record { tag = command.tag; bytes = take
-          (sent + n) command.bytes } ∷ []
+      → with_piece (begun_by sent command) (record { tag = command.tag; bytes = take n (drop sent command.bytes) }) ≡ record {
+        tag = command.tag;
+        bytes = take
+            (sent + n) command.bytes;
+      } ∷ []
   by zero fits = (let same : n ≡ 0 + n = omega arith in ap (λ k. record { tag = command.tag; bytes = take k command.bytes } ∷ []) same)
   by (suc sent) fits = with-piece-on command.tag (take (suc sent) command.bytes) (take n (drop (suc sent) command.bytes))
       (part-spelt message.payload (take (suc sent) command.bytes) (drop (suc sent) command.bytes) (take-append-drop (suc sent) command.bytes ∙ message.spelt)
-          (omega arith) message.short)
+      (omega arith) message.short)
       ∙ ap (λ bytes. record { tag = command.tag; bytes = bytes } ∷ []) (sym (take-add (suc sent) n command.bytes))
 
 -- No command of which no byte was written is among the pieces.
@@ -95,7 +101,6 @@ left-alone : {backend : BackendState} {read said : List ℕ} (own : List ℕ) �
 left-alone own at = grind (arith, common_steps)
 
 module _ {user : Account} {heard : List ℕ} {pieces : List Command} {backend : BackendState} where
-
   entering-taken : (n : ℕ) → IsEntering user heard pieces backend
       → IsEntering user heard (pieces ++ record { tag = Own; bytes = take n backend.own } ∷ []) (record backend { own = drop n backend.own })
   entering-taken n at = grind (arith, common_steps, same-said, left-alone)
@@ -118,7 +123,7 @@ module _ {user : Account} {heard : List ℕ} {pieces : List Command} {backend : 
       let commands : commands_in (behind (length at.said) (pieces ++ piece ∷ [])) ≡ at.others ++ begun backend.command =
       (let sum = longer in let size : length (take n backend.own) ≡ n = length-take-le n backend.own fits in
       ap commands_in (behind-past (length at.said) pieces (piece ∷ []) (omega arith)
-          ∙ behind-one (length at.said - length (bytes_in pieces)) piece (omega arith) (omega arith))
+      ∙ behind-one (length at.said - length (bytes_in pieces)) piece (omega arith) (omega arith))
       ∙ none-behind at (omega arith)) in
       inside-after (drop n backend.own) backend.reply backend.command at
       (inl (same-said pieces Own n backend.own ∙ own-left at (omega arith))) commands at.command at.new at.unasked at.partly)
@@ -140,12 +145,18 @@ command-taken : {forms : Forms} {user : Account} {heard : List ℕ} {pieces : Li
     → IsInside forms user heard pieces backend → backend.own ≡ [] → backend.command ≡ Some command → 0 < n
     → n ≤ length (drop command.sent command.bytes) → IsFresh backend.command pieces
     → IsInside forms user heard (pieces ++ record { tag = command.tag; bytes = take n (drop command.sent command.bytes) } ∷ [])
-        (record backend { command = Some (record command { sent = command.sent + n }) })
+    (record backend { command = Some (record command { sent = command.sent + n }) })
 command-taken {forms} {user} {heard} {pieces} {backend} command n at none is some fits fresh = inside-after backend.own backend.reply
     (Some (record command { sent = command.sent + n })) at
     (inr (none, prefix-more piece.bytes (said-written forms user heard pieces backend at none) (bytes-more pieces piece))) commands
-    (record { payload = message.payload; spelt = message.spelt; short = message.short; sent =
-        (let left : length (drop command.sent command.bytes) ≡ length command.bytes - command.sent = length-drop command.sent command.bytes in omega arith); form = message.form }) new
+    (record {
+      payload = message.payload;
+      spelt = message.spelt;
+      short = message.short;
+      sent =
+          (let left : length (drop command.sent command.bytes) ≡ length command.bytes - command.sent = length-drop command.sent command.bytes in omega arith);
+      form = message.form;
+    }) new
     (λ no. absurd (let some_is : record { tag = command.tag; bytes = take (command.sent + n) command.bytes } ∷ [] ≡ [] = sym now ∙ no in cc))
     (let hears : IsHearing command at.part backend.reply = rw is at at.partly in record { goes = hears.goes; made = hears.made; are = hears.are }) where
       piece : Command
@@ -174,7 +185,7 @@ command-taken {forms} {user} {heard} {pieces} {backend} command n at none is som
         by zero unsent = (let or-nothing : (b : Bool) → (b || false) ≡ b = λ b. grind (arith, common_steps) in
             (let out = of-commands m i (length at.said) pieces (fresh m i command is unsent (sym (or-nothing (is_command m i command.tag)) ∙ here)) in
             (or_parts (list_any (is_of m i) at.others) (list_any (is_of m i) (begun backend.command))
-                (sym (list_any-append (is_of m i) at.others (begun backend.command)) ∙ sym (ap (list_any (is_of m i)) at.commands) ∙ out)).0))
+            (sym (list_any-append (is_of m i) at.others (begun backend.command)) ∙ sym (ap (list_any (is_of m i)) at.commands) ∙ out)).0))
         by (suc sent) was = at.new m i (ap (λ (o : Option Handed). list_any (is_of m i) (begun o)) is
             ∙ ap (list_any (is_of m i)) (begun-some command (omega arith)) ∙ here)
 
@@ -187,8 +198,11 @@ taken-at l n h7 is some fits fresh = grind (arith, common_steps, some-same, ente
 -- What was written of a login, with any part of what is left, is the front of what the router says in it.
 part-said : {said : List ℕ} (pieces : List Command) (own : List ℕ) (k : ℕ) → bytes_in pieces ++ own ≡ said
     → IsPrefix (bytes_in pieces ++ take k own) said
-part-said pieces own k is = record { rest = drop k own; is = append_assoc (bytes_in pieces) (take k own) (drop k own)
-    ∙ ap (λ xs. bytes_in pieces ++ xs) (take-append-drop k own) ∙ is }
+part-said pieces own k is = record {
+  rest = drop k own;
+  is = append_assoc (bytes_in pieces) (take k own) (drop k own)
+      ∙ ap (λ xs. bytes_in pieces ++ xs) (take-append-drop k own) ∙ is;
+}
 
 pub said-entering : {user : Account} {heard : List ℕ} {pieces : List Command} {backend : BackendState} (k : ℕ) → IsEntering user heard pieces backend
     → IsPrefix (bytes_in pieces ++ take k backend.own) (said_of (opening user heard))
@@ -297,7 +311,7 @@ never-reply {command} {part} {kept} forms piece behind form hears is c same = (l
     omega arith) in
     heard-formed forms command c bytes form same
     ∙ ap (heard_by (id_after command.bytes) bytes) (same-failed (run start bytes) (replied (kind_to command.bytes) (id_after command.bytes) bytes) behind
-        (same-end (kind_to command.bytes) (id_after command.bytes) command.first (id_after command.bytes) bytes) (ends-as piece hears ∙ is))
+    (same-end (kind_to command.bytes) (id_after command.bytes) command.first (id_after command.bytes) bytes) (ends-as piece hears ∙ is))
     ∙ ap Never place)
 
 -- What is said of a link on which commands are whole and answered, and maybe one more is begun.
@@ -345,7 +359,6 @@ pub replies-both : (forms : Forms) (others last : List Command) (past kept : Lis
 replies-both forms others last past kept whole is all = grind (arith, common_steps, replies-behind, command-reply-grammar)
 
 module _ {forms : Forms} {user : Account} {read : List ℕ} {pieces : List Command} {kept : List ℕ} where
-
   pub replies-of : {last : List Command} (at : Stands forms user read pieces last kept)
       → replies_said forms user read pieces ≡ behind_replies at.whole (replies_by (command_reply forms) last kept)
   replies-of {last} at = (λ j. replies_by (command_reply forms) (commands-of at j) (rest_of (at.is j)))
@@ -361,7 +374,7 @@ module _ {forms : Forms} {user : Account} {read : List ℕ} {pieces : List Comma
   reply-of c at n i lost is = (let zero-plus : 0 + length at.others ≡ length at.others = omega arith in
       ap (λ cs. option_and_then (λ place. reply_at place (replies_said forms user read pieces) lost) (place_in n i 0 cs)) (commands-of at)
       ∙ ap (option_and_then (λ place. reply_at place (replies_said forms user read pieces) lost))
-          (place-last n i 0 at.others c (at.new n i (or_left (is_command n i c.tag) false is)) is)
+      (place-last n i 0 at.others c (at.new n i (or_left (is_command n i c.tag) false is)) is)
       ∙ ap (λ place. reply_at place (replies_said forms user read pieces) lost) zero-plus
       ∙ ap (λ (r : Replies). reply_at (length at.others) r lost) (replies-of at))
 
@@ -468,7 +481,7 @@ module _ {forms : Forms} {user : Account} {heard : List ℕ} {pieces : List Comm
       (Some (connection_lost ∷ [])) None
   unanswered-at n i lost here = reply-of (written command) begun-at n i lost here
       ∙ ap (λ (r : Replies). reply_at (length begun-at.others) (behind_replies begun-at.whole r) lost) partly-by
-          ∙ reply-open begun-at.whole at.inside.part None (length begun-at.others) lost begun-at.all
+      ∙ reply-open begun-at.whole at.inside.part None (length begun-at.others) lost begun-at.all
 
   -- it is whole, or a part of one, as far as it was written
   pub written-whole : command.sent ≡ length command.bytes → is_whole (written command) ≡ true
@@ -495,9 +508,13 @@ pub standing-runs : (forms : Forms) (user : Account) (heard : List ℕ) (pieces 
     → standing_said forms user heard pieces ≡ Runs
 standing-runs forms user heard pieces backend command at is all = standing-begun begins ∙ ap (λ b. cond b Runs Sends) (written-whole begins all) where
   begins : IsBegun forms user heard pieces backend command
-  begins = record { inside = at; is = is; some = (let message : IsMessage forms command = subst (IsHanded forms) is at.command in let some : 0 < length
-      (spelling 0 message.payload) = spelling-some 0 message.payload in
-      let size : length command.bytes ≡ length (spelling 0 message.payload) = ap length message.spelt in omega arith) }
+  begins = record {
+    inside = at;
+    is = is;
+    some = (let message : IsMessage forms command = subst (IsHanded forms) is at.command in let some : 0 < length
+        (spelling 0 message.payload) = spelling-some 0 message.payload in
+        let size : length command.bytes ≡ length (spelling 0 message.payload) = ap length message.spelt in omega arith);
+  }
 
 -- So it stands as the command does.
 abbrev pub standing_by : Option Handed → Standing

@@ -100,10 +100,10 @@ module _ (talk : Talk) (reply : ℕ → Option Answer) (written bytes : List ℕ
   fed-turned : (at : Phase) (client : ClientState) → SeatAt talk reply written (record { client = client; phase = at })
       → ((i : ℕ) → suc client.arrived ≤ i → reply i ≡ None) → length (talk.read ++ bytes) < 18446744073709551616
       → MayGo at now reply (written ++ client.outgoing) (fed client bytes)
-          → SeatTurned now reply written (record { client = client; phase = at }) (turned talk.setup (record { client = fed client bytes; phase = at }))
+      → SeatTurned now reply written (record { client = client; phase = at }) (turned talk.setup (record { client = fed client bytes; phase = at }))
   fed-turned at client seat later few may =
       turned-seat now reply written (record { client = fed client bytes; phase = at }) (record { mine = seat.mine; few = few; later = later; at = may })
-          (record { client = client; phase = at })
+      (record { client = client; phase = at })
 
   said-at : (at : Phase) (client : ClientState) → SeatAt talk reply written (record { client = client; phase = at })
       → Unanswered reply (record { client = client; phase = at }) → at ≢ phase.Ending → length (talk.read ++ bytes) < 18446744073709551616
@@ -151,12 +151,12 @@ module _ {talk : Talk} {reply : ℕ → Option Answer} {user : Account} {client 
   pub answered-seat : (other : ℕ → Option Answer) (written : List ℕ) (answer : Answer) (packets : List ℕ)
       → SeatAt talk reply written (record { client = client; phase = phase.Working user }) → other client.arrived ≡ Some answer
       → ((i : ℕ) (answer : Answer) → reply i ≡ Some answer → other i ≡ Some answer) → ((i : ℕ) → client.arrived < i → other i ≡ None)
-          → packets ≡ spelt (next_id working.message.last) answer → length talk.read < 18446744073709551616
+      → packets ≡ spelt (next_id working.message.last) answer → length talk.read < 18446744073709551616
       → SeatTurned talk other written (record { client = client; phase = phase.Idle user })
-          (answered talk.setup packets (record { client = client; phase = phase.Working user }))
+      (answered talk.setup packets (record { client = client; phase = phase.Working user }))
   answered-seat other written answer packets seat now stays later spelled few = (let done = working-done other answer now stays in
       let due : written ++ client.outgoing ≡ front talk ++ answers_by talk.setup reply 1 past [] = seat.due
-          ∙ ap (λ (s : Split). front talk ++ due_behind reply talk s) messages
+      ∙ ap (λ (s : Split). front talk ++ due_behind reply talk s) messages
       ∙ ap (λ l. front talk ++ l) (open-due talk.setup reply 1 past behind.messages [] (fault_answer talk.setup.limit behind.fault) work within) in
       turned-seat talk other written (rested user packets (record { client = client; phase = phase.Working user })) (record {
         mine = seat.mine;

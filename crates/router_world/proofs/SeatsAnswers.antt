@@ -89,7 +89,7 @@ module _ (setup : Setup) (reply : ℕ → Option Answer) where
       is = (let by : (o : Option Answer) → answer_of setup (reply i) m.payload ≡ o
       → cond (is_some o) (first_open setup reply (suc i) messages) (Some (at_place i m)) ≡ Some work
       → (first_open setup reply (suc i) messages ≡ Some work → answer_of setup (reply work.ordinal) work.message.payload ≡ None)
-          → answer_of setup (reply work.ordinal) work.message.payload ≡ None =
+      → answer_of setup (reply work.ordinal) work.message.payload ≡ None =
       λ o at here later. grind (arith, common_steps, some-same) in
       by (answer_of setup (reply i) m.payload) refl is (open-none (suc i) messages work))
 
@@ -145,11 +145,11 @@ module _ (setup : Setup) (reply other : ℕ → Option Answer) where
   pub now-done : (i k : ℕ) (past : List Framed) (message : Framed) (answer : Answer) → first_open setup reply i past ≡ Some (at_place k message)
       → suc k ≡ i + length past
       → ((j : ℕ) (answer : Answer) → reply j ≡ Some answer → other j ≡ Some answer) → answer_of setup (other k) message.payload ≡ Some answer
-          → NowDone setup reply other i past message answer
+      → NowDone setup reply other i past message answer
   now-done i k [] message answer is last stays now = cc
   now-done i k (m ∷ past) message answer is last stays now =
       by (answer_of setup (reply i) m.payload) refl is
-          (λ there. now-done (suc i) k past message answer there (let more : suc k ≡ i + suc (length past) = last in omega arith) stays now) where
+      (λ there. now-done (suc i) k past message answer there (let more : suc k ≡ i + suc (length past) = last in omega arith) stays now) where
         alone : (past : List Framed) → i ≡ k → m ≡ message → suc k ≡ i + suc (length past) → answer_of setup (reply i) m.payload ≡ None
             → NowDone setup reply other i (m ∷ past) message answer
         alone past at is last was = grind (arith, common_steps, append-nil)
@@ -161,7 +161,7 @@ module _ (setup : Setup) (reply other : ℕ → Option Answer) where
         by : (o : Option Answer) → answer_of setup (reply i) m.payload ≡ o
             → cond (is_some o) (first_open setup reply (suc i) past) (Some (at_place i m)) ≡ Some (at_place k message)
             → (first_open setup reply (suc i) past ≡ Some (at_place k message) → NowDone setup reply other (suc i) past message answer)
-                → NowDone setup reply other i (m ∷ past) message answer
+            → NowDone setup reply other i (m ∷ past) message answer
         by None at here others = (let one = some-same (at_place i m) (at_place k message) here in
             alone past (ap (λ (w : Work). w.ordinal) one) (ap (λ (w : Work). w.message) one) last at)
         by (Some a) at here others = more a at (answer-stays setup (reply i) (other i) m.payload a (stays i a) at) (others here)
@@ -173,14 +173,14 @@ module _ (setup : Setup) (reply other : ℕ → Option Answer) where
 
   pub agree : (i : ℕ) (messages : List Framed) (last : List ℕ) → ((j : ℕ) (answer : Answer) → reply j ≡ Some answer → other j ≡ Some answer)
       → ((work : Work) → first_open setup reply i messages ≡ Some work → is_query work.message.payload ≡ true → other work.ordinal ≡ None)
-          → Agree setup reply other i messages last
+      → Agree setup reply other i messages last
   agree i [] last stays none = record { joins = refl; goes = refl }
   agree i (m ∷ messages) last stays none = by (answer_of setup (reply i) m.payload) refl none (agree (suc i) messages last stays) where
     by : (o : Option Answer) → answer_of setup (reply i) m.payload ≡ o
         → ((work : Work) → cond (is_some o) (first_open setup reply (suc i) messages) (Some (at_place i m)) ≡ Some work → is_query work.message.payload ≡ true
-            → other work.ordinal ≡ None)
+        → other work.ordinal ≡ None)
         → (((work : Work) → first_open setup reply (suc i) messages ≡ Some work → is_query work.message.payload ≡ true → other work.ordinal ≡ None)
-            → Agree setup reply other (suc i) messages last)
+        → Agree setup reply other (suc i) messages last)
         → Agree setup reply other i (m ∷ messages) last
     by None at none later = agree-at i m messages last None at (answer-none setup (reply i) (other i) m.payload (none (at_place i m) refl) at) (λ some. cc)
     by (Some answer) at none later = grind (arith, common_steps, agree-at, answer-stays)
@@ -343,7 +343,7 @@ module _ {talk : Talk} {client : ClientState} (taken : IsTaken talk client) wher
     past-whatever more = (let limit = talk.setup.limit in let kept = client.framer.kept in let others = split limit 0 (rest ++ more) in taken.whatever more
         ∙ ap (with_front taken.past) (split-whole limit 0 (kept ++ more) message (rest ++ more) (first_message-whole-more limit 0 kept more message rest at))
         ∙ ap (λ (messages : List Framed). record { messages = messages; rest = others.rest; fault = others.fault })
-            (sym (append_assoc taken.past (message ∷ []) others.messages))
+        (sym (append_assoc taken.past (message ∷ []) others.messages))
         ∙ ap (λ bytes. with_front (taken.past ++ message ∷ []) (split limit 0 (bytes ++ more))) (first_message-goes limit 0 kept message rest at))
 
     -- and it is taken

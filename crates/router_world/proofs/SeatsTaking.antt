@@ -48,8 +48,10 @@ within-framed (suc packets) limit announced id bytes message rest is = (let by =
       | inr long ↦ (let others = within-framed packets limit (announced + longest) (next_id id) by.behind long.1 rest long.2 in
           let all = nat_eq-true (length by.packet.payload) longest long.0 in
           let fits = others.fits in
-          record { begins = cc (by.at.is, long.3);
-              fits = omega (arith, ap (λ (m : Framed). length m.payload) long.3, length-append by.packet.payload long.1.payload) })
+          record {
+            begins = cc (by.at.is, long.3);
+            fits = omega (arith, ap (λ (m : Framed). length m.payload) long.3, length-append by.packet.payload long.1.payload);
+          })
     ])
 
 message-framed : (limit : ℕ) (bytes : List ℕ) (message : Framed) (rest : List ℕ) → first_message limit 0 bytes ≡ Whole message rest → IsFramed limit 0 0 message
@@ -113,11 +115,14 @@ module _ (talk : Talk) (reply : ℕ → Option Answer) (written : List ℕ) wher
 
     said-now : (response : Response) (first : ℕ) → IsLoggingIn (stage.Login response first) client talk.setup.version talk.read (written ++ client.outgoing)
         → (switched : Bool) × IsSaid client switched response first
-    said-now response first (switched, framer, whatever, is) = (switched, record {
-      framer = framer;
-      opened = cc (append-nil talk.read, next.mine.limit_is, whatever.whatever [], append-nil client.framer.kept);
-      greeted_so = is ∙ told-greeted switched;
-    })
+    said-now response first (switched, framer, whatever, is) = (
+      switched,
+      record {
+        framer = framer;
+        opened = cc (append-nil talk.read, next.mine.limit_is, whatever.whatever [], append-nil client.framer.kept);
+        greeted_so = is ∙ told-greeted switched;
+      },
+    )
 
     -- it is let in
     coming-admitted : (switched : Bool) (response : Response) (first : ℕ) (user : Account) → IsSaid client switched response first
@@ -126,7 +131,7 @@ module _ (talk : Talk) (reply : ℕ → Option Answer) (written : List ℕ) wher
     coming-admitted switched response first user said
         known = (let behind : commands talk ≡ client.framer.kept = ap (commands_in talk) said.opened ∙ ap (λ o. if_known o client.framer.kept) known in
         let told : front talk ≡ greeted talk switched ++ spelling first own_ok = ap (front_in talk) said.opened
-            ∙ ap (λ o. greeted talk switched ++ spelling first (login_answer response o)) known in (
+        ∙ ap (λ o. greeted talk switched ++ spelling first (login_answer response o)) known in (
           record {
             mine = next.mine;
             few = next.few;
@@ -152,7 +157,7 @@ module _ (talk : Talk) (reply : ℕ → Option Answer) (written : List ℕ) wher
         → Leads left talk reply written (logs_in talk.setup (Some response) first (entering client))
     logs-leads response first login =
         subst (λ (salt : List ℕ). Leads left talk reply written (logs_in_as (account_of talk.setup.users salt response) response first (entering client)))
-            (sym next.mine.salt_is) (by (account_of talk.setup.users talk.salt response) refl) where
+        (sym next.mine.salt_is) (by (account_of talk.setup.users talk.salt response) refl) where
           now : (switched : Bool) × IsSaid client switched response first
           now = said-now response first login
 
@@ -274,8 +279,10 @@ module _ (talk : Talk) (reply : ℕ → Option Answer) (written : List ℕ) wher
       -- it is a query
       idle-works : is_query message.payload ≡ true → answer ≡ reply (suc (length past))
           → Turns talk reply written
-          (record { session = started message taken;
-          query = Some (record { ordinal = counted client.arrived; first = next_id message.last; packets = spelling 0 message.payload }) })
+          (record {
+            session = started message taken;
+            query = Some (record { ordinal = counted client.arrived; first = next_id message.last; packets = spelling 0 message.payload });
+          })
       idle-works query is old = (let to = due-open reply talk past goes.at.said message (split talk.setup.limit 0 rest) goes.at.done whole.messages
           (is ∙ later-from (suc (length past)) (suc (length past)) refl (omega arith)) in
           let working : IsWorking talk reply user (client_past message client.outgoing client) = record {
@@ -331,7 +338,7 @@ module _ (talk : Talk) (reply : ℕ → Option Answer) (written : List ℕ) wher
   goes-turned zero session enough goes old = absurd (omega arith)
   goes-turned (suc n) session enough goes old =
       turned-to n (left_to_say session) (step talk.setup session).turn (step talk.setup session).session (omega arith)
-          (phase-steps session.phase session.client goes) (goes-turned n) old
+      (phase-steps session.phase session.client goes) (goes-turned n) old
 
   -- What is whole is taken: the session stands then by all that was said.
   pub turned-seat : (session : Session) → GoesAt talk reply written session → Turns talk reply written (turned talk.setup session)

@@ -110,7 +110,7 @@ wrote-early {service} {log} {tag} {bytes} {lends} {link} {lent} arrived wrote ea
   by (OfCommand c has of goes_on) = (let stands = wrote.at.row.command c has in
       ap (λ (t : Tag). cond (is_command n i t) (Some link) None) (wrote.same ∙ of) ∙ ap (λ b. cond b (Some link) None) (false_from_ne_true (is_command n i c.tag)
       (λ is. first c has stands (nat_eq-true i stands.ordinal (and-true (nat_eq n n) (nat_eq i stands.ordinal) (ap (is_command n i) (sym stands.tag) ∙ is)).1)
-          (held wrote.at.row))))
+      (held wrote.at.row))))
 
 -- What the entries on a link to a server make of what stands.
 
@@ -122,7 +122,7 @@ nobody-left service log tables sound is = by tables.lends.waiting refl sound.len
   by _ at (One client) = (let waits = sound.lends.waits client at in let asked = (sound.lends.asks client.0 waits.ask waits.asks).asked in
       let has : is_some service.setup.target ≡ true = asks-server service client.0 waits.ask.ordinal asked.message asked.due log asked.asks in
       absurd (let no' : true ≡ false = sym (ap (λ w. has_server service.setup && is_waiting w) at ∙ ap (λ b. b && true) has)
-          ∙ (or_parts (closes tables) (opens service.setup tables) is).1 in cc))
+      ∙ (or_parts (closes tables) (opens service.setup tables) is).1 in cc))
 
 -- The entry is on a link to a server.
 pub record OnRow (service : Service) (log : Log) (e : Entry) (link : LinkId) (lent : Lent) (tables : Tables) : Type 0 where
@@ -162,7 +162,7 @@ row-step : {service : Service} {log : Log} {e : Entry} {link : LinkId} {lent : L
     → OnRow service log e link lent tables
     → (at : AtRow service log e tables.lends link lent)
     → ((seat : Seat) → tables.seats at.row.turn.client ≡ Some seat → Unsent service at.row.turn.client seat.session.client.arrived log → (i : ℕ)
-        → seat.session.client.arrived < i → carries at.row.turn.client i e ≡ None)
+    → seat.session.client.arrived < i → carries at.row.turn.client i e ≡ None)
     → Came service (log ++ e ∷ []) at.row.turn.client tables.lends news → Sound service (log ++ e ∷ []) None (told service.setup news tables)
 row-step {service} {log} {e} {link} {lent} {tables} {news} sound on at later came = server-step service log e at.row.turn.client tables news sound (record {
   happens = on.on.happens;
@@ -181,7 +181,7 @@ row-step {service} {log} {e} {link} {lent} {tables} {news} sound on at later cam
 -- Bytes of a server come.
 pub heard-step : (service : Service) (log : Log) (link : LinkId) (bytes : List ℕ) (lent : Lent) (tables : Tables) → AreBytes bytes → Sound service log None tables
     → OnRow service log (Got link bytes) link lent tables → Sound service (log ++ Got link bytes ∷ []) None
-        (told service.setup (heard link bytes tables.lends) tables)
+    (told service.setup (heard link bytes tables.lends) tables)
 heard-step service log link bytes lent tables are sound on = (let at = at-row sound on (λ k i apart. refl) in
     row-step sound on at (λ seat is unsent i later. refl) (rw at.there (heard-came at (record { some = on.on.happens.fits.some; are = are }))))
 

@@ -163,7 +163,7 @@ module _ (service : Service) (log : Log) (e : Entry) where
     replied-still n i = ap (λ (turns : List Turn). cond (list_any (is_turn n i) turns) (Some (connection_refused ∷ [])) (reply_to service n i then))
         (cc (refused-more service log (e ∷ []), silence.silent.refuses_none service log, append-nil (refused service log)))
         ∙ ap (cond (is_refused service n i log) (Some (connection_refused ∷ [])))
-            (λ j. option_and_then (λ link. reply-same n i link j) (carrier-same n i log e (silence.silent.carries_none n i) j))
+        (λ j. option_and_then (λ link. reply-same n i link j) (carrier-same n i log e (silence.silent.carries_none n i) j))
 
     work-same : (n : ℕ) → work_of service n then ≡ work_of service n log
     work-same n = grind (arith, common_steps, arrival-same, work-is, arrival-stays, replied-still, talk-same)
@@ -179,7 +179,7 @@ module _ (service : Service) (log : Log) (e : Entry) where
     ended-same : (n : ℕ) (came : Arrival) → has_ended service n came then ≡ has_ended service n came log
     ended-same n came = ap (λ (t : Talk). is_over service n came t then) (talk-same n came)
         ∙ (λ j. silence.sounds.lost came.link j || ends_in (opening_of (talk_with service n came log)) (account (talk_with service n came log))
-            (ends_by (work-same n j) (is_some (messages_of (talk_with service n came log)).fault)))
+        (ends_by (work-same n j) (is_some (messages_of (talk_with service n came log)).fault)))
 
     standing-same : (user : Account) (link : LinkId) → standing_on service.forms user link then ≡ standing_on service.forms user link log
     standing-same user link = grind (arith, common_steps)
@@ -195,8 +195,11 @@ module _ (service : Service) (log : Log) (e : Entry) where
     part-passes : (n : ℕ) (came : Arrival) (bytes : List ℕ) → arrival_of n log ≡ Some came → PartAt service log n came bytes → PartAt service then n came bytes
     part-passes n came bytes is (Done served (inl broken)) = Done served (inl (passes.silence.sounds.broken came.link ∙ broken))
     part-passes n came bytes is (Done served (inr done)) = Done served
-        (inr (record { ended = ended-same passes.silence n came ∙ done.ended; told = passes.silence.sounds.written came.link ∙ done.told
-        ∙ sym (due-same passes.silence n came is served) }))
+        (inr (record {
+          ended = ended-same passes.silence n came ∙ done.ended;
+          told = passes.silence.sounds.written came.link ∙ done.told
+              ∙ sym (due-same passes.silence n came is served);
+        }))
     part-passes n came bytes is (Refused refused port none) = Refused refused port (passes.silence.sounds.written came.link ∙ none)
     part-passes n came bytes is (Offered refused port offered) = Offered refused port (offered-stays came.link log (e ∷ []) offered)
     part-passes n came bytes is (Strange port) = Strange port
@@ -210,7 +213,7 @@ module _ (service : Service) (log : Log) (e : Entry) where
       may = λ user known. (let was : user_of service stands.turn.client log ≡ Some user = sym
           (ap (option_and_then account) (talk-of-same passes.silence stands.turn.client)) ∙ known in
           drop-same passes.silence (record { client = stands.turn.client; hostgroup = stands.turn.hostgroup }) user user link passes.fits was
-              (stands.may user was));
+          (stands.may user was));
     }
 
   pub lends-pass : (lends : Lends) → Passes service log e → ((link : LinkId) (lent : Lent) → lends.links link.0 ≡ Some lent → Leaves link log e)
@@ -259,5 +262,12 @@ nothing-step {service} {log} {e} {tables} happens nothing = record {
 
   leaves : (link : LinkId) → Leaves link log e
   leaves link = (let sounds = passes.silence.sounds in
-      record { read = sounds.read link; written = sounds.written link; lost = sounds.lost link; broken = sounds.broken link; heard = sounds.heard link;
-          pieces = sounds.pieces link; opened = open-kept link log e nothing.stays })
+      record {
+        read = sounds.read link;
+        written = sounds.written link;
+        lost = sounds.lost link;
+        broken = sounds.broken link;
+        heard = sounds.heard link;
+        pieces = sounds.pieces link;
+        opened = open-kept link log e nothing.stays;
+      })

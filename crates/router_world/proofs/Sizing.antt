@@ -40,7 +40,7 @@ first-at link [] start k came is on one = cc
 first-at link (x ∷ xs) start zero came is on one = grind (arith, common_steps, some-same)
 first-at link (x ∷ xs) start (suc k) came is on one =
     by (nat_eq x.link.0 link.0) refl
-        (first-at link xs (suc start) k came is on (λ j other has there. let next : suc j ≡ suc k = one (suc j) other has there in omega arith)) where
+    (first-at link xs (suc start) k came is on (λ j other has there. let next : suc j ≡ suc k = one (suc j) other has there in omega arith)) where
       by : (b : Bool) → nat_eq x.link.0 link.0 ≡ b → client_at link (suc start) xs ≡ Some (suc start + k)
           → cond b (Some start) (client_at link (suc start) xs) ≡ Some (start + suc k)
       by true at later = absurd (let no : 0 ≡ suc k = one 0 x refl (link-is x.link link at) in omega arith)
@@ -69,10 +69,12 @@ said-left forms user heard pieces backend h5 = grind (arith, common_steps, drop-
 module _ (service : Service) (log : Log) (told : AllLawful Fits log) where
   client-at : (n : ℕ) (came : Arrival) (link : LinkId) → arrival_of n log ≡ Some came → came.link ≡ link → client_at link 1 (arrivals log) ≡ Some n
   client-at zero came link is on = cc
-  client-at (suc k) came link is on = cc
-      (first-at link (arrivals log) 1 k came is on
-      (λ j other has there. let same : suc j ≡ suc k = same-client log told (suc j) (suc k) other came has is (there ∙ sym on) in
-      omega arith), let same : 1 + k ≡ suc k = omega arith in same)
+  client-at (suc k) came link is on = cc (
+    first-at link (arrivals log) 1 k came is on
+        (λ j other has there. let same : suc j ≡ suc k = same-client log told (suc j) (suc k) other came has is (there ∙ sym on) in
+        omega arith),
+    let same : 1 + k ≡ suc k = omega arith in same,
+  )
 
   owed-client : (n : ℕ) (came : Arrival) (link : LinkId) (bytes : List ℕ) → arrival_of n log ≡ Some came → came.link ≡ link
       → written_of came.link log ++ bytes ≡ due service n log → bytes ≡ owed service link log
@@ -84,10 +86,10 @@ module _ {service : Service} {log : Log} {tables : Tables} (told : AllLawful Fit
       → parting.bytes ≡ owed service parting.link log
   owed-farewell parting stands some = owed-client service log told stands.n stands.came parting.link parting.bytes stands.is_came stands.link
       (by parting.bytes stands.at some) where
-    by : (bytes : List ℕ) → PartAt service log stands.n stands.came bytes → 0 < length bytes
-        → written_of stands.came.link log ++ bytes ≡ due service stands.n log
-    by bytes (Refused refused traffic unwritten) some = grind (arith, common_steps, due-refused)
-    by bytes other some = absurd (omega arith)
+        by : (bytes : List ℕ) → PartAt service log stands.n stands.came bytes → 0 < length bytes
+            → written_of stands.came.link log ++ bytes ≡ due service stands.n log
+        by bytes (Refused refused traffic unwritten) some = grind (arith, common_steps, due-refused)
+        by bytes other some = absurd (omega arith)
 
   -- a link to a server
   owed-row : {link : LinkId} {lent : Lent} (l : Sent) → RowStands service log tables.lends link lent → left lent.backend ≡ Some l
@@ -106,8 +108,13 @@ module _ {service : Service} {log : Log} {tables : Tables} (told : AllLawful Fit
     own = cc (row-written row, said-left service.forms lent.backend.account (heard_of link log) (pieces_of link log) lent.backend row.at)
 
     whole : owed service link log ≡ login_first lent.backend.own rest
-    whole = cc (none-at link (arrivals log) 1
-        (λ j other has there. cc (unowned log told service (suc j) other has there, row.is_turn)), row.is_turn, row-user row, own)
+    whole = cc (
+      none-at link (arrivals log) 1
+          (λ j other has there. cc (unowned log told service (suc j) other has there, row.is_turn)),
+      row.is_turn,
+      row-user row,
+      own,
+    )
 
     by : LeftAt lent.backend l → l.bytes ≡ owed service link log
     by (OfLogin some same) = cc (same, whole, first-some lent.backend.own rest some)
@@ -123,7 +130,7 @@ module _ {service : Service} {log : Log} {tables : Tables} (told : AllLawful Fit
       behind (suc sent) at = ap (λ standing. owed_standing standing (commands_on lent.backend.account link log) query) (row-sends row has (omega arith) less)
           ∙ ap (λ cs. drop (length (last_bytes cs)) query) (row-commands row has (omega arith))
           ∙ ap (λ bytes. drop (length bytes) query)
-              (last-behind (row-inside row has).others (record { tag = command.tag; bytes = take command.sent command.bytes }))
+          (last-behind (row-inside row has).others (record { tag = command.tag; bytes = take command.sent command.bytes }))
           ∙ ap (λ k. drop k query) (length-take-le command.sent command.bytes (omega arith))
           ∙ ap (drop command.sent) the-query
 
@@ -135,7 +142,7 @@ module _ {service : Service} {log : Log} {tables : Tables} (told : AllLawful Fit
         let seat = numbered-seat service log tables link client sound at in
         let stands = (sound.seats client.0 one.0 one.1).stands in
         one.2 ∙ owed-client service log told client.0 stands.came link one.0.session.client.outgoing stands.is_came
-            (cc (stands.link, some-same one.0 seat.0 (sym one.1 ∙ seat.1), seat.2))
+        (cc (stands.link, some-same one.0 seat.0 (sym one.1 ∙ seat.1), seat.2))
         (told-seat service log client.0 one.0 stands))
     by None at whole = grind (arith, common_steps, owed-row, some-same)
 
@@ -149,9 +156,9 @@ module _ (service : Service) (recording : List RecordEntry) where
   sized-entry log (Got link bytes) stands call offer = call.answer.is
   sized-entry log (Wrote link tag bytes) stands call offer = offer.taken
       ∙ ap (fitting (known_room recording log (with_link link (known recording log)))) (by offer.owed) where
-    by : lends service.setup log link offer.piece → offer.piece ≡ owed service link log
-    by (inl lends) = sends-owed stands.told stands.sound link offer.piece lends.1
-    by (inr farewell) = farewell-owed stands.told stands.sound link offer.piece farewell.0 farewell.1
+        by : lends service.setup log link offer.piece → offer.piece ≡ owed service link log
+        by (inl lends) = sends-owed stands.told stands.sound link offer.piece lends.1
+        by (inr farewell) = farewell-owed stands.told stands.sound link offer.piece farewell.0 farewell.1
   sized-entry log _ stands call offer = tt
 
   sized-behind : (log more : Log) → LawfulAfter (λ l e. StandsFor service l) log more → LawfulAfter (IsAnswerOf recording) log more

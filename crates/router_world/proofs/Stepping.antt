@@ -87,7 +87,7 @@ moved service log e n hand tables seats lends sound others mine = record {
       → Leaves link log e
   leaves k apart link lent owns is = (let row = sound.lends.rows link lent is in let owner = sound.lends.owned k link owns in
       let client = owner-turn service log tables.lends link lent k row.turn.client row.owned
-          (cc (some-same lent owner.lent (sym is ∙ owner.there), owner.owner)) in
+      (cc (some-same lent owner.lent (sym is ∙ owner.there), owner.owner)) in
       others.rows link lent row.turn is row.is_turn (cc (client, apart)))
 
   sits : (k : ℕ) (seat : Seat) → nat_eq k n ≡ false → tables.seats k ≡ Some seat → Sits service (log ++ e ∷ []) tables.numbers lends k seat
@@ -106,7 +106,7 @@ moved service log e n hand tables seats lends sound others mine = record {
   numbers link client (inr seat) = one-or-other client.0 n
       (λ m. tables.seats m ≡ Some seat.0 → OnHand hand m link ⊎ ((s : Seat) × (seats m ≡ Some s) × (s.link ≡ link)))
       (λ is. elim (mine.numbers link seat.0 is seat.2) [ inl held ↦ inl held | inr put ↦ inr (seat.0, put, seat.2) ])
-          (λ at is. inr (seat.0, mine.others client.0 at ∙ is, seat.2)) seat.1
+      (λ at is. inr (seat.0, mine.others client.0 at ∙ is, seat.2)) seat.1
 
 -- An entry on an open link.
 
@@ -128,7 +128,7 @@ nobody-waits setup tables is has = grind (arith, common_steps, closes, opens)
 pub lends-framed : (service : Service) (log : Log) (e : Entry) (lends : Lends) → AllLawful (IsLawful service) (log ++ e ∷ []) → Fits log e
     → LendsSound service log lends → ((k : ℕ) → Calm service log e k)
     → ((link : LinkId) (lent : Lent) → lends.links link.0 ≡ Some lent → Leaves link log e)
-        → ((link : LinkId) → lends.closing ≡ link ∷ [] → CloseStands service (log ++ e ∷ []) lends link) → LendsSound service (log ++ e ∷ []) lends
+    → ((link : LinkId) → lends.closing ≡ link ∷ [] → CloseStands service (log ++ e ∷ []) lends link) → LendsSound service (log ++ e ∷ []) lends
 lends-framed service log e lends lawful fits sound calm leaves closes = record {
   rows = λ link lent is. (let stands = sound.rows link lent is in
       row-calm service log e lends link lent lawful fits stands (calm stands.turn.client) (leaves link lent is));
@@ -164,18 +164,18 @@ pub record OnLink (service : Service) (log : Log) (e : Entry) (link : LinkId) (t
 pub taken-out : (service : Service) (log : Log) (e : Entry) (client : ClientNo) (seat : Seat) (tables : Tables) (lends : Lends)
     → Sound service log None tables → Others service log e client.0 tables → tables.seats client.0 ≡ Some seat → LendsSound service (log ++ e ∷ []) lends
     → Apart client.0 tables.lends lends → Traces tables.lends lends → ((link : LinkId) → IsOpen link (log ++ e ∷ []) → IsOpen link log)
-        → Sound service (log ++ e ∷ []) (Some (record { client = client.0; link = seat.link })) (without_seat client (with_lends lends tables))
+    → Sound service (log ++ e ∷ []) (Some (record { client = client.0; link = seat.link })) (without_seat client (with_lends lends tables))
 taken-out service log e client seat tables lends sound others is stands apart traces opens = moved service log e client.0
     (Some (record { client = client.0; link = seat.link })) tables (set tables.seats client.0 None) lends sound others (record {
-  others = λ k differs. set-other tables.seats client.0 k None differs;
-  seat = λ other at. cc (set-same tables.seats client.0 None, at);
-  away = λ none. inl refl;
-  numbers = λ other there at of. grind (arith, common_steps, some-same);
-  known = λ other opened. inl (opens other opened);
-  from = λ other lent row. inl (traces.from other lent row);
-  to = traces.to;
-  closed = traces.closed;
-  closes = traces.closes;
-  lends = stands;
-  apart = apart;
-})
+      others = λ k differs. set-other tables.seats client.0 k None differs;
+      seat = λ other at. cc (set-same tables.seats client.0 None, at);
+      away = λ none. inl refl;
+      numbers = λ other there at of. grind (arith, common_steps, some-same);
+      known = λ other opened. inl (opens other opened);
+      from = λ other lent row. inl (traces.from other lent row);
+      to = traces.to;
+      closed = traces.closed;
+      closes = traces.closes;
+      lends = stands;
+      apart = apart;
+    })
