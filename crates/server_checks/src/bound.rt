@@ -1,9 +1,8 @@
 // The values of an execute.
-use check_lines::CaseFault;
+use check_lines::Answer;
 use mx_base::{Bytes, put_lenenc};
 use server_rule::LongParts;
 use session_vars::LongPart;
-use std::alloc::Global;
 
 /// The values of an execute, with one byte of the map of NULLs (client/server protocol, "COM_STMT_EXECUTE").
 #[derive(Drop)]
@@ -26,82 +25,89 @@ fn size_of_number(code: u8) -> Option<usize> {
     }
 }
 
-fn put_number(out: &mut Vec<u8>, size: usize, text: &str) -> Result<(), CaseFault> {
-    let Ok(number) = text.parse::<u64>() else {
-        return Err(CaseFault::Bad);
-    };
-    for byte in number.to_le_bytes().iter().take(size) {
-        out.push(*byte)?;
+fn append(answer: &mut Answer, list: &mut Vec<u8>, bytes: &[u8]) {
+    if list.extend_from_slice(bytes).is_err() {
+        answer.refused();
     }
-    Ok(())
 }
 
-fn put_text(out: &mut Vec<u8>, text: &str) -> Result<(), CaseFault> {
-    put_lenenc(out, text.len() as u64)?;
-    out.extend_from_slice(text.as_bytes())?;
-    Ok(())
+fn put_number(answer: &mut Answer, out: &mut Vec<u8>, size: usize, text: &str) {
+    match text.parse::<u64>() {
+        Ok(number) => {
+            let bytes = number.to_le_bytes();
+            append(answer, out, &bytes[..size.min(8)]);
+        }
+        Err(_) => answer.bad(),
+    }
+}
+
+fn put_text(answer: &mut Answer, out: &mut Vec<u8>, text: &str) {
+    answer.done(put_lenenc(out, text.len() as u64));
+    append(answer, out, text.as_bytes());
 }
 
 // A value, as its type spells it.
-fn put_value(bound: &mut Bound, code: &str, text: &str) -> Result<(), CaseFault> {
+fn put_value(answer: &mut Answer, bound: &mut Bound, code: &str, text: &str) {
     let Ok(code) = code.parse::<u8>() else {
-        return Err(CaseFault::Bad);
+        answer.bad();
+        return;
     };
-    bound.types.extend_from_slice(&[code, 0])?;
+    append(answer, &mut bound.types, &[code, 0]);
     match size_of_number(code) {
-        Some(size) => put_number(&mut bound.values, size, text),
-        None => put_text(&mut bound.values, text),
+        Some(size) => put_number(answer, &mut bound.values, size, text),
+        None => put_text(answer, &mut bound.values, text),
     }
 }
 
 // NULL is of the type NULL, and has a bit in the map.
-fn put_null(bound: &mut Bound, parameter: u16) -> Result<(), CaseFault> {
-    bound.types.extend_from_slice(&[6, 0])?;
+fn put_null(answer: &mut Answer, bound: &mut Bound, parameter: u16) {
+    append(answer, &mut bound.types, &[6, 0]);
     if let Some(nulls) = bound.nulls.first_mut() {
         *nulls |= if parameter == 0 { 1 } else { 2 };
     }
-    Ok(())
 }
 
 // What was sent ahead stands in no values; its type is that of a text.
-fn put_long(alloc: Global, bound: &mut Bound, parameter: u16, text: &str) -> Result<(), CaseFault> {
-    bound.types.extend_from_slice(&[253, 0])?;
-    let bytes = Bytes::from_slice(alloc, text.as_bytes())?;
-    bound.long.push(LongPart { parameter, bytes })?;
-    Ok(())
+fn put_long(answer: &mut Answer, bound: &mut Bound, parameter: u16, text: &str) {
+    append(answer, &mut bound.types, &[253, 0]);
+    let mut bytes = Bytes::new(answer.alloc());
+    answer.done(bytes.append(text.as_bytes()));
+    answer.done(bound.long.push(LongPart { parameter, bytes }));
 }
 
-fn put(alloc: Global, bound: &mut Bound, parameter: u16, piece: &str) -> Result<(), CaseFault> {
+fn put(answer: &mut Answer, bound: &mut Bound, parameter: u16, piece: &str) {
     match piece.split_once(':') {
-        None => put_null(bound, parameter),
-        Some(("long", text)) => put_long(alloc, bound, parameter, text),
-        Some((code, text)) => put_value(bound, code, text),
+        None => put_null(answer, bound, parameter),
+        Some(("long", text)) => put_long(answer, bound, parameter, text),
+        Some((code, text)) => put_value(answer, bound, code, text),
     }
 }
 
-fn put_all(alloc: Global, bound: &mut Bound, text: &str) -> Result<(), CaseFault> {
+fn put_all(answer: &mut Answer, bound: &mut Bound, text: &str) {
     if text.is_empty() {
-        return Ok(());
+        return;
     }
     let Some((first, second)) = text.split_once(' ') else {
-        return put(alloc, bound, 0, text);
+        put(answer, bound, 0, text);
+        return;
     };
-    put(alloc, bound, 0, first)?;
-    put(alloc, bound, 1, second)
+    put(answer, bound, 0, first);
+    put(answer, bound, 1, second);
 }
 
 impl Bound {
     /// At most two values: `<type>:<value>`, with the number of the type; `long:<value>` for a text that was sent ahead; or
     /// `null`. A blank stands between two.
-    pub fn of(alloc: Global, text: &str) -> Result<Bound, CaseFault> {
-        let nulls = vec![in alloc; 0; 1]?;
+    pub fn of(answer: &mut Answer, text: &str) -> Bound {
+        let alloc = answer.alloc();
         let mut bound = Bound {
             types: Vec::new(alloc),
-            nulls,
+            nulls: Vec::new(alloc),
             values: Vec::new(alloc),
             long: LongParts::new(alloc),
         };
-        put_all(alloc, &mut bound, text)?;
-        Ok(bound)
+        append(answer, &mut bound.nulls, &[0]);
+        put_all(answer, &mut bound, text);
+        bound
     }
 }

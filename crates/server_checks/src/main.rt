@@ -10,16 +10,24 @@ mod stage;
 mod turns;
 mod verb;
 
-use check_lines::{Case, CaseFault};
+use check_lines::{Case, CaseFault, Fields};
 use std::alloc::Global;
 use std::io;
 
-fn answer(alloc: Global, case: &mut Case<'_>) -> Result<String, CaseFault> {
-    match case.reader {
-        "run" => stage::follow(alloc, case.rest_text()),
-        "turns" => turns::follow(alloc, case.rest_text()),
-        _ => Err(CaseFault::Bad),
+fn read(fields: &mut Fields<'_>) {
+    let text = fields.rest_text();
+    match fields.case.reader {
+        "run" => stage::follow(&mut fields.answer, text),
+        "turns" => turns::follow(&mut fields.answer, text),
+        _ => fields.answer.bad(),
     }
+}
+
+fn answer(alloc: Global, case: &mut Case<'_>) -> Result<String, CaseFault> {
+    let mut fields = Fields::of(alloc, *case);
+    read(&mut fields);
+    *case = fields.case;
+    fields.answer.finished()
 }
 
 fn main(rt: HostRuntime) -> io::Result<()> {

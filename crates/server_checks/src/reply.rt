@@ -1,77 +1,106 @@
 // Replies as a case shows them.
-use crate::fields::{column_name, done_of, eof_status, err_parts, prepared_counts, take_text};
+use crate::fields::{
+    Done, column_name, done_of, eof_status, err_parts, prepared_counts, take_text,
+};
 use crate::verb::Verb;
-use check_lines::CaseFault;
+use check_lines::Answer;
 use mx_base::Bytes;
-use std::alloc::Global;
 
-fn text_of(bytes: &[u8]) -> Result<&str, CaseFault> {
-    str::from_utf8(bytes).map_err(|_| CaseFault::Bad)
-}
-
-fn found<T>(part: Option<T>) -> Result<T, CaseFault> {
-    part.ok_or(CaseFault::Bad)
+fn put_text(answer: &mut Answer, bytes: &[u8]) {
+    match str::from_utf8(bytes) {
+        Ok(text) => answer.text(text),
+        Err(_) => answer.bad(),
+    }
 }
 
 // AUTOCOMMIT is what an idle session shows.
-fn flags(status: u16) -> Result<&'static str, CaseFault> {
+fn put_flags(answer: &mut Answer, status: u16) {
     match status {
-        2 => Ok(""),
-        3 => Ok("+tx"),
-        0 => Ok("-autocommit"),
-        1 => Ok("-autocommit+tx"),
-        _ => Err(CaseFault::Bad),
+        2 => {}
+        3 => answer.text("+tx"),
+        0 => answer.text("-autocommit"),
+        1 => answer.text("-autocommit+tx"),
+        _ => answer.bad(),
     }
 }
 
-fn ok_text(alloc: Global, payload: &[u8]) -> Result<String, CaseFault> {
-    let done = found(done_of(payload))?;
-    let flags = flags(done.status)?;
-    let rows = done.rows;
-    let id = done.id;
-    if rows == 0 && id == 0 {
-        return Ok(format!(in alloc; "ok{flags}")?);
+fn put_done(answer: &mut Answer, done: Done) {
+    answer.text("ok");
+    put_flags(answer, done.status);
+    if done.rows != 0 || done.id != 0 {
+        answer.text(" rows=");
+        answer.display(done.rows);
+        answer.text(" id=");
+        answer.display(done.id);
     }
-    Ok(format!(in alloc; "ok{flags} rows={rows} id={id}")?)
 }
 
-fn err_text(alloc: Global, payload: &[u8]) -> Result<String, CaseFault> {
-    let (code, state, message) = found(err_parts(payload))?;
-    let state = text_of(state)?;
-    let message = text_of(message)?;
-    Ok(format!(in alloc; "err {code} {state} {message}")?)
+fn put_ok(answer: &mut Answer, payload: &[u8]) {
+    match done_of(payload) {
+        Some(done) => put_done(answer, done),
+        None => answer.bad(),
+    }
+}
+
+fn put_err(answer: &mut Answer, payload: &[u8]) {
+    match err_parts(payload) {
+        Some((code, state, message)) => {
+            answer.text("err ");
+            answer.display(code);
+            answer.text(" ");
+            put_text(answer, state);
+            answer.text(" ");
+            put_text(answer, message);
+        }
+        None => answer.bad(),
+    }
+}
+
+fn put_name(answer: &mut Answer, definition: &[u8]) {
+    match column_name(definition) {
+        Some(name) => put_text(answer, name),
+        None => answer.bad(),
+    }
 }
 
 // The name in each definition.
-fn put_names(out: &mut String, definitions: &[Bytes]) -> Result<(), CaseFault> {
-    let mut between = " [";
+fn put_names(answer: &mut Answer, definitions: &[Bytes]) {
+    answer.text(" [");
+    let start = answer.len();
     for definition in definitions {
-        out.push_str(between)?;
-        out.push_str(text_of(found(column_name(definition.as_slice()))?)?)?;
-        between = ", ";
+        answer.separate(start, ", ");
+        put_name(answer, definition.as_slice());
     }
-    out.push_str("]")?;
-    Ok(())
+    answer.text("]");
 }
 
-// So many definitions and an EOF with these flags, and what stands behind; nothing where there are none.
+// So many definitions and an EOF, and what stands behind.
+fn split_definitions(count: usize, payloads: &[Bytes]) -> Option<(&[Bytes], &Bytes, &[Bytes])> {
+    let (definitions, rest) = payloads.split_at_checked(count)?;
+    let (eof, rest) = rest.split_first()?;
+    Some((definitions, eof, rest))
+}
+
+// So many definitions and an EOF with these flags, and gives what stands behind; nothing where there are none.
 fn put_definitions<'a>(
-    out: &mut String,
+    answer: &mut Answer,
     status: Option<u16>,
     count: usize,
     payloads: &'a [Bytes],
-) -> Result<&'a [Bytes], CaseFault> {
+) -> &'a [Bytes] {
     if count == 0 {
-        out.push_str(" []")?;
-        return Ok(payloads);
+        answer.text(" []");
+        return payloads;
     }
-    let (definitions, rest) = found(payloads.split_at_checked(count))?;
-    put_names(out, definitions)?;
-    let (eof, rest) = found(rest.split_first())?;
-    if found(eof_status(eof.as_slice()))? != found(status)? {
-        return Err(CaseFault::Bad);
+    let Some((definitions, eof, rest)) = split_definitions(count, payloads) else {
+        answer.bad();
+        return payloads;
+    };
+    put_names(answer, definitions);
+    if status.is_none() || eof_status(eof.as_slice()) != status {
+        answer.bad();
     }
-    Ok(rest)
+    rest
 }
 
 // A cell, and what stands behind it.
@@ -84,46 +113,43 @@ fn take_cell(row: &[u8], is_null: bool) -> Option<(&[u8], &[u8])> {
 }
 
 // So many cells of a row. Those whose bit is set are NULL and have no bytes.
-fn put_cells(out: &mut String, count: usize, nulls: u8, row: &[u8]) -> Result<(), CaseFault> {
-    let mut between = " (";
+fn put_cells(answer: &mut Answer, count: usize, nulls: u8, row: &[u8]) {
+    answer.text(" (");
+    let start = answer.len();
     let mut nulls = nulls;
     let mut left = row;
     for _ in 0..count {
-        let (cell, rest) = found(take_cell(left, nulls % 2 == 1))?;
-        out.push_str(between)?;
-        out.push_str(text_of(cell)?)?;
-        between = ", ";
+        let Some((cell, rest)) = take_cell(left, nulls % 2 == 1) else {
+            answer.bad();
+            return;
+        };
+        answer.separate(start, ", ");
+        put_text(answer, cell);
         nulls /= 2;
         left = rest;
     }
     if !left.is_empty() {
-        return Err(CaseFault::Bad);
+        answer.bad();
     }
-    out.push_str(")")?;
-    Ok(())
+    answer.text(")");
 }
 
 // A row of texts, or one of a prepared statement with its map of NULLs (client/server protocol, "Binary Resultset Row").
-fn put_row(out: &mut String, is_binary: bool, count: usize, row: &[u8]) -> Result<(), CaseFault> {
+fn put_row(answer: &mut Answer, is_binary: bool, count: usize, row: &[u8]) {
     if !is_binary {
-        return put_cells(out, count, 0, row);
+        put_cells(answer, count, 0, row);
+        return;
     }
     match row {
-        [0, nulls, cells @ ..] => put_cells(out, count, *nulls / 4, cells),
-        _ => Err(CaseFault::Bad),
+        [0, nulls, cells @ ..] => put_cells(answer, count, *nulls / 4, cells),
+        _ => answer.bad(),
     }
 }
 
-fn put_rows(
-    out: &mut String,
-    is_binary: bool,
-    count: usize,
-    rows: &[Bytes],
-) -> Result<(), CaseFault> {
+fn put_rows(answer: &mut Answer, is_binary: bool, count: usize, rows: &[Bytes]) {
     for row in rows {
-        put_row(out, is_binary, count, row.as_slice())?;
+        put_row(answer, is_binary, count, row.as_slice());
     }
-    Ok(())
 }
 
 // The flags of the EOF that ends a reply.
@@ -131,66 +157,63 @@ fn last_status(payloads: &[Bytes]) -> Option<u16> {
     eof_status(payloads.last()?.as_slice())
 }
 
-fn headed(alloc: Global, head: &str, status: Option<u16>) -> Result<String, CaseFault> {
-    let mut out = String::from_str(alloc, head)?;
+fn put_head(answer: &mut Answer, head: &str, status: Option<u16>) {
+    answer.text(head);
     if let Some(status) = status {
-        out.push_str(flags(status)?)?;
+        put_flags(answer, status);
     }
-    Ok(out)
 }
 
 // A result set.
-fn table_text(
-    alloc: Global,
-    is_binary: bool,
-    count: usize,
-    payloads: &[Bytes],
-) -> Result<String, CaseFault> {
+fn put_table(answer: &mut Answer, is_binary: bool, count: usize, payloads: &[Bytes]) {
     let status = last_status(payloads);
-    let mut out = headed(alloc, "rows", status)?;
-    let rest = put_definitions(&mut out, status, count, payloads)?;
-    let (_, rows) = found(rest.split_last())?;
-    put_rows(&mut out, is_binary, count, rows)?;
-    Ok(out)
+    put_head(answer, "rows", status);
+    match put_definitions(answer, status, count, payloads).split_last() {
+        Some((_, rows)) => put_rows(answer, is_binary, count, rows),
+        None => answer.bad(),
+    }
 }
 
 // Parameters first, then columns.
-fn prepared_text(alloc: Global, first: &[u8], payloads: &[Bytes]) -> Result<String, CaseFault> {
-    let (columns, parameters) = found(prepared_counts(first))?;
+fn put_prepared(answer: &mut Answer, first: &[u8], payloads: &[Bytes]) {
+    let Some((columns, parameters)) = prepared_counts(first) else {
+        answer.bad();
+        return;
+    };
     let status = last_status(payloads);
-    let mut out = headed(alloc, "prepared", status)?;
-    let rest = put_definitions(&mut out, status, parameters, payloads)?;
-    let rest = put_definitions(&mut out, status, columns, rest)?;
-    if rest.is_empty() {
-        Ok(out)
-    } else {
-        Err(CaseFault::Bad)
+    put_head(answer, "prepared", status);
+    let rest = put_definitions(answer, status, parameters, payloads);
+    let rest = put_definitions(answer, status, columns, rest);
+    if !rest.is_empty() {
+        answer.bad();
     }
 }
 
 // The definitions of a table's columns, and an EOF.
-fn fields_text(alloc: Global, payloads: &[Bytes]) -> Result<String, CaseFault> {
+fn put_fields(answer: &mut Answer, payloads: &[Bytes]) {
+    let Some((_, definitions)) = payloads.split_last() else {
+        answer.bad();
+        return;
+    };
     let status = last_status(payloads);
-    let (_, definitions) = found(payloads.split_last())?;
-    let mut out = headed(alloc, "fields", status)?;
-    put_definitions(&mut out, status, definitions.len(), payloads)?;
-    Ok(out)
+    put_head(answer, "fields", status);
+    put_definitions(answer, status, definitions.len(), payloads);
 }
 
-fn rows_text(alloc: Global, verb: Verb, first: &[u8], rest: &[Bytes]) -> Result<String, CaseFault> {
+fn put_result(answer: &mut Answer, verb: Verb, first: &[u8], rest: &[Bytes]) {
     match first {
-        [count] => table_text(alloc, matches!(verb, Verb::Execute), *count as usize, rest),
-        _ => Err(CaseFault::Bad),
+        [count] => put_table(answer, matches!(verb, Verb::Execute), *count as usize, rest),
+        _ => answer.bad(),
     }
 }
 
-fn lone_text(alloc: Global, first: &[u8], rest: &[Bytes]) -> Result<String, CaseFault> {
+fn put_lone(answer: &mut Answer, first: &[u8], rest: &[Bytes]) {
     if !rest.is_empty() {
-        return Err(CaseFault::Bad);
+        answer.bad();
     }
     match first.first() {
-        Some(0xFF) => err_text(alloc, first),
-        _ => ok_text(alloc, first),
+        Some(0xFF) => put_err(answer, first),
+        _ => put_ok(answer, first),
     }
 }
 
@@ -198,15 +221,16 @@ fn lone_text(alloc: Global, first: &[u8], rest: &[Bytes]) -> Result<String, Case
 /// its code, SQL state and message; or `nothing`. An OK shows its affected rows and insert id unless both are 0, a result
 /// set the names of its columns in `[]` and each row in `()`, a prepare answer those of parameters and of columns. Bad
 /// where it is no reply to this command.
-pub fn reply_text(alloc: Global, verb: Verb, payloads: &[Bytes]) -> Result<String, CaseFault> {
+pub fn put_reply(answer: &mut Answer, verb: Verb, payloads: &[Bytes]) {
     let Some((first, rest)) = payloads.split_first() else {
-        return Ok(String::from_str(alloc, "nothing")?);
+        answer.text("nothing");
+        return;
     };
     match (verb, first.as_slice().first()) {
-        (_, Some(0xFF)) => lone_text(alloc, first.as_slice(), rest),
-        (Verb::Prepare, _) => prepared_text(alloc, first.as_slice(), rest),
-        (Verb::Fields, _) => fields_text(alloc, payloads),
-        (_, Some(0)) => lone_text(alloc, first.as_slice(), rest),
-        _ => rows_text(alloc, verb, first.as_slice(), rest),
+        (_, Some(0xFF)) => put_lone(answer, first.as_slice(), rest),
+        (Verb::Prepare, _) => put_prepared(answer, first.as_slice(), rest),
+        (Verb::Fields, _) => put_fields(answer, payloads),
+        (_, Some(0)) => put_lone(answer, first.as_slice(), rest),
+        _ => put_result(answer, verb, first.as_slice(), rest),
     }
 }

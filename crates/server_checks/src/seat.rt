@@ -1,8 +1,8 @@
 // A session at a server.
 use crate::bound::Bound;
-use crate::reply::reply_text;
+use crate::reply::put_reply;
 use crate::verb::{Step, Verb};
-use check_lines::CaseFault;
+use check_lines::Answer;
 use mem_server::MemServer;
 use mx_base::{Bytes, OutOfMemory};
 use server_rule::{Cmd, Session};
@@ -56,6 +56,13 @@ fn other(verb: Verb, rest: Bytes) -> Cmd {
     }
 }
 
+// These bytes once more.
+fn copied(answer: &mut Answer, bytes: &[u8]) -> Bytes {
+    let mut copy = Bytes::new(answer.alloc());
+    answer.done(copy.append(bytes));
+    copy
+}
+
 impl Seat {
     /// A fresh session.
     pub fn new(alloc: Global) -> Result<Seat, OutOfMemory> {
@@ -67,44 +74,41 @@ impl Seat {
     }
 
     // What is prepared is kept for the next execute.
-    fn keep(&mut self, alloc: Global, text: &str) -> Result<(), OutOfMemory> {
-        let text = Bytes::from_slice(alloc, text.as_bytes())?;
-        let schema = Bytes::from_slice(alloc, self.session.schema.as_slice())?;
-        self.text = text;
-        self.schema = schema;
-        Ok(())
+    fn keep(&mut self, answer: &mut Answer, text: &str) {
+        self.text = copied(answer, text.as_bytes());
+        self.schema = copied(answer, self.session.schema.as_slice());
     }
 
-    fn execute(&self, alloc: Global, values: &str) -> Result<Cmd, CaseFault> {
-        let text = Bytes::from_slice(alloc, self.text.as_slice())?;
-        let schema = Bytes::from_slice(alloc, self.schema.as_slice())?;
-        let settings = Settings::defaults(alloc)?;
-        let bound = Bound::of(alloc, values)?;
-        Ok(execute(text, schema, settings, bound))
+    fn execute(&self, answer: &mut Answer, values: &str) -> Result<Cmd, OutOfMemory> {
+        let settings = Settings::defaults(answer.alloc())?;
+        let text = copied(answer, self.text.as_slice());
+        let schema = copied(answer, self.schema.as_slice());
+        Ok(execute(text, schema, settings, Bound::of(answer, values)))
     }
 
-    fn command(&mut self, alloc: Global, step: &Step<'_>) -> Result<Cmd, CaseFault> {
+    fn command(&mut self, answer: &mut Answer, step: &Step<'_>) -> Result<Cmd, OutOfMemory> {
         if matches!(step.verb, Verb::Execute) {
-            return self.execute(alloc, step.rest);
+            return self.execute(answer, step.rest);
         }
         if matches!(step.verb, Verb::Prepare) {
-            self.keep(alloc, step.rest)?;
+            self.keep(answer, step.rest);
         }
-        let rest = Bytes::from_slice(alloc, step.rest.as_bytes())?;
+        let rest = copied(answer, step.rest.as_bytes());
         Ok(other(step.verb, rest))
     }
 
+    fn ask(&mut self, answer: &mut Answer, server: &mut MemServer, verb: Verb, cmd: &Cmd) {
+        match server.run(answer.alloc(), &mut self.session, cmd) {
+            Ok(reply) => put_reply(answer, verb, reply.as_slice()),
+            Err(OutOfMemory) => answer.refused(),
+        }
+    }
+
     /// Runs a step, and shows its reply.
-    pub fn run(
-        &mut self,
-        alloc: Global,
-        server: &mut MemServer,
-        step: &Step<'_>,
-    ) -> Result<String, CaseFault> {
-        let cmd = self.command(alloc, step)?;
-        match server.run(alloc, &mut self.session, &cmd) {
-            Ok(reply) => reply_text(alloc, step.verb, reply.as_slice()),
-            Err(OutOfMemory) => Err(CaseFault::OutOfMemory),
+    pub fn run(&mut self, answer: &mut Answer, server: &mut MemServer, step: &Step<'_>) {
+        match self.command(answer, step) {
+            Ok(cmd) => self.ask(answer, server, step.verb, &cmd),
+            Err(OutOfMemory) => answer.refused(),
         }
     }
 }

@@ -2,8 +2,9 @@
 use crate::answers::{Answering, answers};
 use crate::seat::Seat;
 use crate::verb::Step;
-use check_lines::CaseFault;
+use check_lines::Answer;
 use mem_server::MemServer;
+use mx_base::OutOfMemory;
 use std::alloc::Global;
 
 #[derive(Drop)]
@@ -14,21 +15,31 @@ struct Stage {
 }
 
 impl Answering for Stage {
-    fn answer(&mut self, alloc: Global, part: &str) -> Result<String, CaseFault> {
-        let step = Step::of(part)?;
+    fn answer(&mut self, answer: &mut Answer, part: &str) {
+        let Some(step) = Step::of(part) else {
+            answer.bad();
+            return;
+        };
         match step.who {
-            "a" => self.a.run(alloc, &mut self.server, &step),
-            "b" => self.b.run(alloc, &mut self.server, &step),
-            _ => Err(CaseFault::Bad),
+            "a" => self.a.run(answer, &mut self.server, &step),
+            "b" => self.b.run(answer, &mut self.server, &step),
+            _ => answer.bad(),
         }
     }
 }
 
-/// The replies to these steps, which stand between ` | `, of a server without tables and of two fresh sessions.
-pub fn follow(alloc: Global, text: &str) -> Result<String, CaseFault> {
+// A server without tables, and two fresh sessions.
+fn first_stage(alloc: Global) -> Result<Stage, OutOfMemory> {
     let a = Seat::new(alloc)?;
     let b = Seat::new(alloc)?;
     let server = MemServer::new(alloc);
-    let mut stage = Stage { server, a, b };
-    answers(alloc, &mut stage, text)
+    Ok(Stage { server, a, b })
+}
+
+/// The replies to these steps, which stand between ` | `, of a server without tables and of two fresh sessions.
+pub fn follow(answer: &mut Answer, text: &str) {
+    match first_stage(answer.alloc()) {
+        Ok(mut stage) => answers(answer, &mut stage, text),
+        Err(OutOfMemory) => answer.refused(),
+    }
 }

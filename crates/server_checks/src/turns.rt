@@ -1,6 +1,6 @@
 // Turns of a private world over a server that refuses.
 use crate::answers::{Answering, answers};
-use check_lines::{Case, CaseFault, shown};
+use check_lines::{Answer, Case, CaseFault};
 use mx_base::{Bytes, ClientNo, Hostgroup, OutOfMemory};
 use oracle::{Statement, Who, World};
 use server_rule::Cmd;
@@ -102,35 +102,48 @@ impl Private {
 }
 
 // The first payload of the answer to a message.
-fn answered(alloc: Global, world: &World, turn: Turn<'_>) -> Result<String, CaseFault> {
+fn put_answered(answer: &mut Answer, world: &World, turn: Turn<'_>) {
     let name = MessageKey {
         party: Party::accepted(ClientNo(turn.client)),
         ordinal: turn.number,
     };
-    let Some(answer) = world.answered(name) else {
-        return Ok(String::from_str(alloc, "none")?);
-    };
-    match answer.payloads.as_slice() {
-        [] => Ok(String::from_str(alloc, "nothing")?),
-        [first, ..] => shown(alloc, first.as_slice()),
+    match world.answered(name) {
+        Some(answered) => put_first(answer, answered.payloads.as_slice()),
+        None => answer.text("none"),
+    }
+}
+
+fn put_first(answer: &mut Answer, payloads: &[Bytes]) {
+    match payloads {
+        [] => answer.text("nothing"),
+        [first, ..] => answer.bytes(first.as_slice()),
+    }
+}
+
+impl Private {
+    fn turns(&mut self, answer: &mut Answer, turn: Turn<'_>) {
+        if turn.name == "answer" {
+            put_answered(answer, &self.world, turn);
+            return;
+        }
+        answer.done(self.take(answer.alloc(), turn));
+        answer.text("done");
     }
 }
 
 impl Answering for Private {
-    fn answer(&mut self, alloc: Global, part: &str) -> Result<String, CaseFault> {
-        let turn = Turn::of(part)?;
-        if turn.name == "answer" {
-            return answered(alloc, &self.world, turn);
+    fn answer(&mut self, answer: &mut Answer, part: &str) {
+        match Turn::of(part) {
+            Ok(turn) => self.turns(answer, turn),
+            Err(fault) => answer.fail(fault),
         }
-        self.take(alloc, turn)?;
-        Ok(String::from_str(alloc, "done")?)
     }
 }
 
 /// What each of these turns leaves, which stand between ` | `.
-pub fn follow(alloc: Global, text: &str) -> Result<String, CaseFault> {
-    let world = World::new(alloc);
-    let server = Refuser::new(alloc);
+pub fn follow(answer: &mut Answer, text: &str) {
+    let world = World::new(answer.alloc());
+    let server = Refuser::new(answer.alloc());
     let mut private = Private { world, server };
-    answers(alloc, &mut private, text)
+    answers(answer, &mut private, text);
 }

@@ -1,5 +1,4 @@
 // What a step asks for.
-use check_lines::CaseFault;
 
 /// What a step asks for (client/server protocol, "Command Phase").
 #[derive(Clone, Copy)]
@@ -21,16 +20,16 @@ pub enum Verb {
 }
 
 impl Verb {
-    /// The verb of this name. Bad where there is none.
-    pub fn named(name: &str) -> Result<Verb, CaseFault> {
+    /// The verb of this name.
+    pub fn named(name: &str) -> Option<Verb> {
         match name {
-            "init_db" => Ok(Verb::Choose),
-            "field_list" => Ok(Verb::Fields),
-            "prepare" => Ok(Verb::Prepare),
-            "execute" => Ok(Verb::Execute),
-            "reset" => Ok(Verb::Reset),
-            "quit" => Ok(Verb::Quit),
-            _ => Err(CaseFault::Bad),
+            "init_db" => Some(Verb::Choose),
+            "field_list" => Some(Verb::Fields),
+            "prepare" => Some(Verb::Prepare),
+            "execute" => Some(Verb::Execute),
+            "reset" => Some(Verb::Reset),
+            "quit" => Some(Verb::Quit),
+            _ => None,
         }
     }
 }
@@ -44,19 +43,19 @@ pub struct Step<'a> {
 }
 
 impl<'a> Step<'a> {
-    /// `<who> <text>` is a query, `<who>:<verb> <rest>` any other command. Bad where the verb is unknown.
-    pub fn of(text: &'a str) -> Result<Self, CaseFault> {
+    /// `<who> <text>` is a query, `<who>:<verb> <rest>` any other command. None where the verb is unknown.
+    pub fn of(text: &'a str) -> Option<Self> {
         let (head, rest) = match text.split_once(' ') {
             None => (text, ""),
             Some(parts) => parts,
         };
         match head.split_once(':') {
-            None => Ok(Step {
+            None => Some(Step {
                 who: head,
                 verb: Verb::Query,
                 rest,
             }),
-            Some((who, name)) => Ok(Step {
+            Some((who, name)) => Some(Step {
                 who,
                 verb: Verb::named(name)?,
                 rest,
