@@ -11,7 +11,7 @@ use mem_server::MemServer;
 use mx_wire::Entry;
 use std::alloc::Global;
 use told_plan::Plan;
-use told_tale::{Stop, ToldTale};
+use told_tale::{Stop, ToldTale, oracle};
 
 fn fault_of(stop: Stop) -> CaseFault {
     match stop {
@@ -62,8 +62,8 @@ pub fn read(tale: &mut ToldTale<MemServer>, entry: &Entry) -> Result<(), CaseFau
 pub fn read_all(tale: &mut ToldTale<MemServer>, log: &[Entry]) -> Result<(), CaseFault>
     requires { IsSound tests tables_out tale.old.told.own }
 {
-    for entry in log {
-        read(tale, entry)?;
+    match oracle(tale, log) {
+        Ok(()) => Ok(()),
+        Err(stop) => Err(fault_of(stop)),
     }
-    Ok(())
 }
