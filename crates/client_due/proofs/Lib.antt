@@ -3,3 +3,4 @@ pub mod Reading
 pub mod Stepping
 pub mod Turns
 pub mod Owing
+pub mod Counting

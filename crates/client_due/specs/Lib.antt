@@ -3,3 +3,4 @@ pub mod Told
 pub mod Known
 pub mod Standing
 pub mod Hearing
+pub mod Counting

@@ -6,6 +6,7 @@ ghost use Rattle.log_story.specs.Tale.{Client as TheClient};
 ghost use Rattle.client_due.specs.Known.{Known};
 
 use crate::answers::Answers;
+use crate::counted::{Counted, count_on, due_size, within};
 use crate::message::Message;
 use crate::told_client::ToldClient;
 use crate::written::{write_payloads, write_reply};
@@ -59,9 +60,10 @@ fn write_answers<A: Answers>(
 }
 
 impl ToldClient {
-    ghost use Rattle.std.specs.Prelude.{◌≡◌, ◌++◌, IfOk};
+    ghost use Rattle.std.specs.Prelude.{◌≡◌, ◌++◌, IfOk, IfSome};
     ghost use Rattle.log_story.specs.Owed.{due_bytes, due_for, unwritten};
     ghost use Rattle.log_story.specs.Tale.{Client as TheClient};
+    ghost use Rattle.client_due.specs.Counting.{IsCounted};
     ghost use Rattle.client_due.specs.Known.{Known};
     ghost use Rattle.client_due.specs.Standing.{IsTold};
 
@@ -73,13 +75,27 @@ impl ToldClient {
         self.written_out(alloc, answers, self.messages(), self.last())
     }
 
-    /// How many bytes for it aren't written, by what is said to its login and the answers to its messages that were taken up: while they
-    /// are too many, the next message waits. OutOfMemory where memory is refused.
-    pub fn unwritten<A: Answers>(&self, alloc: Global, answers: &A) -> Result<u64, OutOfMemory>
-        ensures { IfOk result (λ count. (known : Known) (client : TheClient) → IsTold known.plan.service self.now client → A.stands_for answers.now known → count ≡ unwritten known.replies known.plan known.moment client) }
+    /// Counts on, over the answers to those of its messages that were taken up, up to the first that may change.
+    pub fn counts<A: Answers>(&self, answers: &A, from: Counted) -> Counted
+        ensures { (known : Known) → A.stands_for answers.now known → IsCounted known self.now.heard.side.number from → IsCounted known self.now.heard.side.number result }
     {
-        let owed = self.written_out(alloc, answers, self.taken_up(), &[])?;
-        Ok((owed.len() as u64).saturating_sub(self.written()))
+        count_on(answers, self.number(), self.taken_up().len(), from)
+    }
+
+    /// How many bytes for it aren't written, by what is said to its login and the answers to its messages that were taken up: while they
+    /// are too many, the next message waits. Answers that were counted aren't looked at. None where more bytes are due than 64 bits count.
+    pub fn unwritten<A: Answers>(&self, answers: &A, counted: Counted) -> Option<u64>
+        ensures { IfSome result (λ count. (known : Known) (client : TheClient) → IsTold known.plan.service self.now client → A.stands_for answers.now known
+            → IsCounted known client.number counted → count ≡ unwritten known.replies known.plan known.moment client) }
+    {
+        let count = self.taken_up().len();
+        let from = within(counted, count);
+        let due = due_size(answers, self.number(), count, from);
+        let owed = (self.said().len() as u64).saturating_add(due);
+        if owed == u64::MAX {
+            return None;
+        }
+        Some(owed.saturating_sub(self.written()))
     }
 
     // What is said to its login, and the answers to these messages, with `last` behind them where each has one.

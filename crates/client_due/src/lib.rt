@@ -2,6 +2,7 @@
 #![tactic(auto)]
 
 mod answers;
+mod counted;
 mod due;
 mod heard;
 mod hearing;
@@ -11,5 +12,6 @@ mod told_client;
 mod written;
 
 pub use answers::Answers;
+pub use counted::Counted;
 pub use message::Message;
 pub use told_client::ToldClient;

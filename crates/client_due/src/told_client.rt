@@ -10,7 +10,7 @@ use std::marker::Model;
 
 /// A client of a log, by what was read of it and written to it so far. Bytes are kept until the message that they belong to is whole, and
 /// each is moved a bounded number of times. Of a client that was refused, or whose next message can't be, no more is kept. Only `new`,
-/// `hears`, `due` and `unwritten` take memory.
+/// `hears` and `due` take memory.
 #[derive(Drop)]
 pub struct ToldClient {
     link: LinkId,

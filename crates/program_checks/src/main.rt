@@ -1,9 +1,10 @@
 //! Runs the router over files, a wire and a sink in memory, a run for each case of stdin, and answers with the status and what was printed;
-//! runs it between clients that follow scripts and servers in memory; and shows how the serving loop calls a wire, and what real sockets
-//! answer.
+//! runs it between clients that follow scripts and servers in memory, and compares what clients are written with what they are due; and
+//! shows how the serving loop calls a wire, and what real sockets answer.
 #![tactic(auto)]
 
 mod configs;
+mod due;
 mod flood;
 mod given;
 mod names;
@@ -12,8 +13,7 @@ mod scripted;
 mod sockets;
 mod taken;
 
-use check_lines::{Case, CaseFault, Fields};
-use std::alloc::Global;
+use check_lines::Fields;
 use std::io;
 use std::thread::Threads;
 
@@ -26,24 +26,22 @@ fn read<R: Threads + Sync>(rt: &R, fields: &mut Fields<'_>) {
         "flood" => flood::answer(fields),
         "scripted" => scripted::one(rt, fields),
         "fails" => scripted::each_failing(rt, fields),
+        "due_growth" => due::growth(rt, fields),
+        "due_whole" => due::whole(rt, fields),
+        "due" => due::one(rt, fields),
+        "due_fails" => due::each_failing(rt, fields),
         _ => fields.answer.bad(),
     }
 }
 
-fn answer<R: Threads + Sync>(
-    rt: &R,
-    alloc: Global,
-    case: &mut Case<'_>,
-) -> Result<String, CaseFault> {
-    let mut fields = Fields::of(alloc, *case);
-    read(rt, &mut fields);
-    *case = fields.case;
-    fields.answer.finished()
-}
-
 fn main(rt: HostRuntime) -> io::Result<()> {
-    check_lines::run(&rt, |alloc, case| match case.reader {
-        "sockets" => sockets::answer(&rt, case),
-        _ => answer(&rt, alloc, case),
+    check_lines::run(&rt, |alloc, case| {
+        let mut fields = Fields::of(alloc, *case);
+        match case.reader {
+            "sockets" => sockets::answer(&rt, &mut fields),
+            _ => read(&rt, &mut fields),
+        }
+        *case = fields.case;
+        fields.answer.finished()
     })
 }

@@ -6,4 +6,8 @@ mod replies;
 mod runs;
 mod scripts;
 
-pub use runs::{each_failing, one};
+pub use accounts::{ANYONE, Account};
+pub use names::NAMES;
+pub use replies::calls_in;
+pub use runs::{each_failing, failing_of, one, serve, wire_of};
+pub use scripts::accounts_of;

@@ -63,6 +63,13 @@ module _ (setup : Setup) where
       → slice_get codes i ≡ None → ⊥
   unseen_there n m codes clients i client at told is none = subst (λ o. IsSeen setup m o client) none (seen_at n m codes clients i client at told is)
 
+  -- nobody stands where nobody came
+  pub none_at : (n : ℕ) (codes : List Told) (clients : List Client) (i : ℕ) → AreTold setup n codes clients → slice_get clients i ≡ None → slice_get codes i ≡ None
+  none_at n [] clients i told none = refl
+  none_at n (code ∷ codes) [] i told none = absurd told
+  none_at n (code ∷ codes) (client ∷ clients) zero told none = absurd (none-some client (sym none))
+  none_at n (code ∷ codes) (client ∷ clients) (suc i) told none = none_at (suc n) codes clients i told.1 none
+
   pub number_at : (n m : ℕ) (codes : List Told) (clients : List Client) (i : ℕ) (client : Client) → m ≡ i + n → AreTold setup n codes clients → slice_get clients i ≡ Some client
       → client.number.0 ≡ suc m
   number_at n m codes clients i client at told is = go (slice_get codes i) (seen_at n m codes clients i client at told is)

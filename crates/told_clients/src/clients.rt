@@ -1,5 +1,5 @@
 // The clients of a log.
-ghost use Rattle.std.specs.Prelude.{◌≡◌, ◌<◌, ◌+◌, ℕ, true, is_some, List, [], ◌∷◌, ◌++◌, suc, length, map, slice_get, Some, IfSome, OnOk, option_copied};
+ghost use Rattle.std.specs.Prelude.{◌≡◌, ◌<◌, ◌+◌, ℕ, true, is_some, List, [], ◌∷◌, ◌++◌, suc, length, map, slice_get, Some, None, IfSome, OnOk, option_copied};
 ghost use Rattle.mx_base.specs.declared.names.LinkId.{LinkId as TheLink};
 ghost use Rattle.client_session.specs.Setups.{Setup as Service};
 ghost use Rattle.private_model.specs.Story.{is_link_id, put as place};
@@ -60,8 +60,9 @@ impl Clients {
 
     /// The one at a place, counted from 0. Takes no memory.
     pub fn get(&self, at: usize) -> Option<&ToldClient>
-        ensures { (setup : Service) (clients : List Client) (client : Client) → AreClients setup self.now clients → slice_get clients at ≡ Some client
+        ensures some { (setup : Service) (clients : List Client) (client : Client) → AreClients setup self.now clients → slice_get clients at ≡ Some client
             → IsSeen setup at (option_copied result) client }
+        ensures none { (setup : Service) (clients : List Client) → AreClients setup self.now clients → slice_get clients at ≡ None → option_copied result ≡ None }
     {
         self.seat(at)
     }

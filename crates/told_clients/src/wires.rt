@@ -1,7 +1,10 @@
 // Links to servers by their names.
 ghost use Rattle.std.specs.Prelude.{◌≡◌, Some, None, OnOk, option_copied};
+ghost use Rattle.std.specs.Borrow.{sem};
+ghost use Rattle.std.specs.Option.{option_copied_mut};
 ghost use Rattle.mx_base.specs.declared.names.LinkId.{LinkId as TheLink};
 ghost use Rattle.private_model.specs.Story.{is_link_id, put};
+ghost use Rattle.told_clients.specs.Lending.{LendsWire};
 ghost use Rattle.told_clients.specs.Wires.{wire_at};
 
 use mx_base::{LinkId, OutOfMemory};
@@ -32,12 +35,12 @@ impl Wires {
         self.wires.get(&link)
     }
 
-    /// Takes a link out. Takes no memory.
-    pub fn take(&mut self, link: LinkId) -> Option<ToldLink>
-        ensures there { result ≡ wire_at self.old link }
-        ensures others { (l : TheLink) → wire_at self.new l ≡ put is_link_id (wire_at self.old) link None l }
+    /// The same, to be led on. Takes no memory.
+    pub fn at_mut(&mut self, link: LinkId) -> Option<&mut ToldLink>
+        ensures* writes_back { sem 𝓛 (LendsWire self.entry link result) }
+        ensures there { option_copied_mut result ≡ wire_at self.old link }
     {
-        self.wires.remove(&link)
+        self.wires.get_mut(&link)
     }
 
     /// Puts a link. After OutOfMemory nothing is promised.

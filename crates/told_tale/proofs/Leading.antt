@@ -17,7 +17,7 @@ use Rattle.told_clients.specs.Wires.{AreWires, IsWireAt, wire_at}
 use Rattle.told_clients.specs.declared.clients.Clients.{Clients}
 use Rattle.told_clients.specs.declared.wires.Wires.{Wires}
 use Rattle.told_clients.proofs.Homes.{same_link}
-use Rattle.told_clients.proofs.Wiring.{wires_on, wires_same, wires_stay}
+use Rattle.told_clients.proofs.Wiring.{wires_on}
 use Rattle.told_link.specs.Told.{IsWire}
 use Rattle.told_link.specs.declared.link.ToldLink.{ToldLink}
 use Rattle.told_story.specs.declared.told.Told.{Told}
@@ -53,27 +53,13 @@ module _ {R : Type 0} (stored : R → List ℕ) (step : Step) (setup : Setup) (p
     there = is.there;
   }
 
-  -- a link that isn't there was asked for
-  module _ (link : LinkId) (mid : Wires) (others : (l : LinkId) → wire_at mid l ≡ put is_link_id (wire_at code.wires) link None l) (none : wire_at code.wires link ≡ None) where
-    pub no_server : is_to_server tale link ≡ false
-    no_server = is.there link ∙ ap is_some none
+  -- there is no such link to a server
+  pub no_server : (link : LinkId) → wire_at code.wires link ≡ None → is_to_server tale link ≡ false
+  no_server link none = is.there link ∙ ap is_some none
 
-    pub clients_heard : (clients : Clients) (these : List Client) → AreClients plan.service clients these
-        → IsTale stored step setup plan (record code { clients = clients; wires = mid }) (record tale { clients = these })
-    clients_heard clients these are = record {
-      planned = is.planned;
-      keys = is.keys;
-      moment = is.moment;
-      told = is.told;
-      clients = are;
-      links = is.links;
-      wires = wires_stay code.wires mid link others none tale.wires is.wires;
-      there = λ l. is.there l ∙ ap is_some (sym (wires_same code.wires mid link others none l));
-    }
-
-  -- a link was taken out, went on with the story, and was put back
-  module _ (link : LinkId) (old_wire there : ToldLink) (mid new : Wires) (others : (l : LinkId) → wire_at mid l ≡ put is_link_id (wire_at code.wires) link None l)
-      (had : wire_at code.wires link ≡ Some old_wire) (back : (l : LinkId) → wire_at new l ≡ put is_link_id (wire_at mid) link (Some there) l) where
+  -- a link was led on with the story
+  module _ (link : LinkId) (old_wire there : ToldLink) (new : Wires) (had : wire_at code.wires link ≡ Some old_wire)
+      (back : (l : LinkId) → wire_at new l ≡ put is_link_id (wire_at code.wires) link (Some there) l) where
     pub is_server : is_to_server tale link ≡ true
     is_server = is.there link ∙ ap is_some had
 
@@ -85,8 +71,8 @@ module _ {R : Type 0} (stored : R → List ℕ) (step : Step) (setup : Setup) (p
       where
         go : (b : Bool) → is_link_id l link ≡ b → is_some (wire_at code.wires l) ≡ is_some (wire_at new l)
         go true same = ap (λ k. is_some (wire_at code.wires k)) (same_link l link same) ∙ ap is_some had
-            ∙ sym (ap is_some (back l ∙ ap (λ b. if b then Some there else wire_at mid l) same))
-        go false other = sym (ap is_some (back l ∙ ap (λ b. if b then Some there else wire_at mid l) other ∙ others l ∙ ap (λ b. if b then None else wire_at code.wires l) other))
+            ∙ sym (ap is_some (back l ∙ ap (λ b. if b then Some there else wire_at code.wires l) same))
+        go false other = sym (ap is_some (back l ∙ ap (λ b. if b then Some there else wire_at code.wires l) other))
 
     pub tale_led_on : (told : Told R) (after : Tale) → IsLedOn stored step setup told link there tale after → IsTale stored step setup plan (record code { told = told; wires = new }) after
     tale_led_on told after led = subst (IsTale stored step setup plan (record code { told = told; wires = new })) (sym led.same) (record {
@@ -96,7 +82,7 @@ module _ {R : Type 0} (stored : R → List ℕ) (step : Step) (setup : Setup) (p
       told = led.told;
       clients = is.clients;
       links = is.links;
-      wires = wires_on code.wires mid new link there others back tale.wires led.wire is.wires led.knows;
+      wires = wires_on code.wires new link there back tale.wires led.wire is.wires led.knows;
       there = λ l. is.there l ∙ stays l;
     })
 
@@ -104,13 +90,7 @@ module _ {R : Type 0} (stored : R → List ℕ) (step : Step) (setup : Setup) (p
   module _ (link : LinkId) (server : ServerId) (fresh : ToldLink) (new : Wires) (put_there : (l : LinkId) → wire_at new l ≡ put is_link_id (wire_at code.wires) link (Some fresh) l)
       (knows : IsWire fresh (new_wire server)) where
     pub opened_wires : AreWires new (put is_link_id tale.wires link (new_wire server))
-    opened_wires l = go (is_link_id l link) refl
-      where
-        go : (b : Bool) → is_link_id l link ≡ b → IsWireAt (wire_at new l) (put is_link_id tale.wires link (new_wire server) l)
-        go true same = subst (λ (w : Wire). IsWireAt (wire_at new l) w) (sym (ap (λ b. if b then new_wire server else tale.wires l) same))
-            (subst (λ o. IsWireAt o (new_wire server)) (sym (put_there l ∙ ap (λ b. if b then Some fresh else wire_at code.wires l) same)) knows)
-        go false other = subst (λ (w : Wire). IsWireAt (wire_at new l) w) (sym (ap (λ b. if b then new_wire server else tale.wires l) other))
-            (subst (λ o. IsWireAt o (tale.wires l)) (sym (put_there l ∙ ap (λ b. if b then Some fresh else wire_at code.wires l) other)) (is.wires l))
+    opened_wires = wires_on code.wires new link fresh put_there tale.wires (new_wire server) is.wires knows
 
     pub among : (l : LinkId) → list_any (is_link_id l) (tale.links ++ link ∷ []) ≡ is_some (wire_at new l)
     among l = go (is_link_id l link) refl

@@ -1,5 +1,5 @@
 // What messages are answered.
-ghost use Rattle.std.specs.Prelude.{◌≡◌, option_copied};
+ghost use Rattle.std.specs.Prelude.{◌≡◌, is_some, option_copied};
 ghost use Rattle.std.specs.Option.{option_map};
 ghost use Rattle.log_story.specs.Owed.{number_of};
 ghost use Rattle.log_story.specs.Plan.{own_at};
@@ -49,6 +49,13 @@ fn own(plan: &Plan, moment: u64, message: MessageName) -> Option<&ReplyList>
     Some(&answer.payloads)
 }
 
+// Whether the router answers to a message, now or later.
+fn has_own(plan: &Plan, message: MessageName) -> bool
+    ensures { result ≡ is_some ((plan_of plan.now).own message) }
+{
+    plan.own(key(message)).is_some()
+}
+
 // The number by which a client knows what a message prepares.
 fn number(plan: &Plan, message: MessageName) -> u64
     ensures { result ≡ number_of (plan_of plan.now) message }
@@ -68,6 +75,10 @@ impl Answers for Heard<'_> {
         own(self.plan, self.moment, message)
     }
 
+    fn has_own(&self, message: MessageName) -> bool {
+        has_own(self.plan, message)
+    }
+
     fn reply(&self, message: MessageName) -> Option<&Reply> {
         self.view.reply(key(message))
     }
@@ -84,6 +95,10 @@ impl<R: TameServer + Drop> Answers for Private<'_, R> {
 
     fn own(&self, message: MessageName) -> Option<&ReplyList> {
         own(self.plan, self.moment, message)
+    }
+
+    fn has_own(&self, message: MessageName) -> bool {
+        has_own(self.plan, message)
     }
 
     fn reply(&self, message: MessageName) -> Option<&Reply> {

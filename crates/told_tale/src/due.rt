@@ -1,5 +1,5 @@
 // What clients are due.
-ghost use Rattle.std.specs.Prelude.{◌≡◌, Some, IfOk, length, slice_get};
+ghost use Rattle.std.specs.Prelude.{◌≡◌, [], Some, None, IfOk, length, slice_get};
 ghost use Rattle.private_model.specs.Commands.{runs};
 ghost use Rattle.private_model.specs.View.{Setup};
 ghost use Rattle.log_story.specs.Headline.{private_of};
@@ -22,11 +22,12 @@ impl<R: TameServer + Drop> ToldTale<R> {
     }
 
     /// The bytes that the client at a place is due, counted from 0 in the order in which clients came, where its messages are answered by
-    /// sessions of its own: what is said to its login, and the answers in order up to the first that isn't there. None where no client
+    /// sessions of its own: what is said to its login, and the answers in order up to the first that isn't there. Nothing where no client
     /// stands there. OutOfMemory where memory is refused.
     pub fn due(&self, at: usize) -> Result<Vec<u8>, OutOfMemory>
-        ensures { IfOk result (λ due. (setup : Setup) (plan : log.Plan) (tale : Tale) (client : Client) → IsTale R.stored (runs R.step) setup plan self.now tale → slice_get tale.clients at ≡ Some client
+        ensures due { IfOk result (λ due. (setup : Setup) (plan : log.Plan) (tale : Tale) (client : Client) → IsTale R.stored (runs R.step) setup plan self.now tale → slice_get tale.clients at ≡ Some client
             → due.items ≡ due_bytes (private_of setup R.step tale).answers plan tale.moment client) }
+        ensures nothing { IfOk result (λ due. (setup : Setup) (plan : log.Plan) (tale : Tale) → IsTale R.stored (runs R.step) setup plan self.now tale → slice_get tale.clients at ≡ None → due.items ≡ []) }
     {
         let Some(client) = self.clients.get(at) else {
             return Ok(Vec::new(self.alloc));

@@ -14,7 +14,7 @@ pub enum Stop {
     NoServer,
     /// Two clients come on one link, so that no wire tells this log.
     LinkTwice,
-    /// More entries, clients or questions on a link come than 64 bits count.
+    /// More entries, clients, questions on a link or bytes for a client come than 64 bits count.
     TooMany,
 }
 

@@ -22,8 +22,8 @@ ghost use Rattle.told_tale.specs.Taking.{GoesAt, IsNext, IsTaken};
 use crate::answers::Heard;
 use crate::concern::Concern;
 use crate::{Stop, ToldTale};
-use client_due::{Answers, Message, ToldClient};
-use mx_base::{ClientNo, OutOfMemory};
+use client_due::{Answers, Counted, Message, ToldClient};
+use mx_base::ClientNo;
 use server_rule::TameServer;
 use session_state::MessageName;
 use std::alloc::Global;
@@ -92,14 +92,17 @@ fn is_answered(answers: &Heard<'_>, client: &ToldClient) -> bool
 }
 
 // Whether a client's next message is taken up.
-fn may_take(alloc: Global, answers: &Heard<'_>, client: &ToldClient) -> Result<bool, OutOfMemory>
+fn may_take(answers: &Heard<'_>, client: &ToldClient) -> Result<bool, Stop>
     ensures { IfOk result (λ may. (setup : Setup) (tale : Tale) (it : Client) (plan : log.Plan) → HasHeard setup plan answers.now tale → IsClient plan.service client.now it
         → client.now.taken ≡ it.taken → may ≡ (is_answered plan tale (view_of setup tale) it it.taken && has_room (view_of setup tale).replies plan tale.moment it)) }
 {
     if !is_answered(answers, client) {
         return Ok(false);
     }
-    Ok(client.unwritten(alloc, answers)? < answers.plan.room())
+    let Some(unwritten) = client.unwritten(answers, Counted::nothing()) else {
+        return Err(Stop::TooMany);
+    };
+    Ok(unwritten < answers.plan.room())
 }
 
 fn is_reset(payload: &[u8]) -> bool
@@ -188,7 +191,7 @@ impl<R: TameServer + Drop> ToldTale<R> {
             view: self.told.view(),
             moment: self.moment,
         };
-        if !may_take(self.alloc, &heard, client)? {
+        if !may_take(&heard, client)? {
             return Ok(false);
         }
         let by = Taking {

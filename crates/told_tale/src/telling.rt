@@ -44,21 +44,12 @@ impl<R: TameServer + Drop> ToldTale<R> {
         ensures sound { OnOk result (IsSound R.tests R.stored self.new.told.own) }
         ensures leads { OnOk result (Leads R.stored (runs R.step) self.old self.new (λ setup plan tale. told setup plan tale (Got link bytes.now))) }
     {
-        let Some(mut wire) = self.wires.take(link) else {
+        let Some(wire) = self.wires.at_mut(link) else {
             self.clients
                 .hears(self.alloc, self.plan.service(), link, bytes)?;
             return Ok(());
         };
-        says(
-            self.alloc,
-            &mut self.told,
-            &self.plan,
-            link,
-            &mut wire,
-            bytes,
-        )?;
-        self.wires.put(link, wire)?;
-        Ok(())
+        says(self.alloc, &mut self.told, &self.plan, link, wire, bytes)
     }
 
     // Bytes are written.
@@ -67,9 +58,8 @@ impl<R: TameServer + Drop> ToldTale<R> {
         ensures sound { OnOk result (IsSound R.tests R.stored self.new.told.own) }
         ensures leads { OnOk result (Leads R.stored (runs R.step) self.old self.new (λ setup plan tale. told setup plan tale (Wrote link tag bytes.now))) }
     {
-        let Some(mut wire) = self.wires.take(link) else {
-            let count = bytes.len();
-            self.clients.gets(link, count);
+        let Some(wire) = self.wires.at_mut(link) else {
+            self.clients.gets(link, bytes.len());
             return Ok(());
         };
         writes(
@@ -79,11 +69,9 @@ impl<R: TameServer + Drop> ToldTale<R> {
             &self.keys,
             link,
             tag,
-            &mut wire,
+            wire,
             bytes,
-        )?;
-        self.wires.put(link, wire)?;
-        Ok(())
+        )
     }
 
     // A server runs what stands on a link; a QUIT ends it.

@@ -9,16 +9,19 @@ pub struct Account {
     pub password: &'static [u8],
 }
 
+/// The user u, who has no password.
+pub const ANYONE: Account = Account {
+    user: b"u",
+    password: b"",
+};
+
 /// The account of a word: the users of the configuration, `liar` who is p with another password, and `stranger` who is in no
 /// configuration.
 pub fn account_of(word: &str) -> Option<Account>
     ensures { IfSome result (λ account. IsText account.user.now) }
 {
     match word {
-        "u" => Some(Account {
-            user: b"u",
-            password: b"",
-        }),
+        "u" => Some(ANYONE),
         "p" => Some(Account {
             user: b"p",
             password: b"secret",

@@ -1,5 +1,6 @@
 // Runs of the router over scripts.
 ghost use Rattle.std.specs.Prelude.{◌≡◌, [], IfOk, Some};
+ghost use Rattle.mx_wire.specs.Log.{Log};
 
 use crate::runs::{push_lines, serve_words};
 use crate::scripted::names::NAMES;
@@ -9,7 +10,7 @@ use check_lines::{Answer, CaseFault, Fields};
 use mem_server::MemServer;
 use mem_wire::{MemFiles, MemSink};
 use mx_base::Bytes;
-use mx_wire::Entry;
+use mx_wire::{Entry, Wire};
 use proxy_run::{Status, run};
 use recording::transcript;
 use scripted_wire::Scripted;
@@ -35,8 +36,8 @@ fn servers_of(alloc: Global, count: usize) -> Result<Vec<MemServer>, CaseFault> 
     Ok(servers)
 }
 
-// The wire between these clients and so many servers.
-fn wire_of(
+/// The wire between these clients and so many servers.
+pub fn wire_of(
     alloc: Global,
     servers: usize,
     scripts: &str,
@@ -49,13 +50,13 @@ fn wire_of(
     Ok(Scripted::new(alloc, servers, scripts, failing))
 }
 
-// Serves the configuration of one server over a wire, and gives the status.
-fn serve<R: Threads + Sync>(
+/// Serves the configuration of one server over a wire that has told nothing, and gives the status.
+pub fn serve<R: Threads + Sync, W: Wire>(
     rt: &R,
     alloc: Global,
-    wire: &mut Scripted<MemServer>,
+    wire: &mut W,
 ) -> Result<u8, CaseFault>
-    requires { wire.old.told ≡ Some [] }
+    requires { (log : Log) → W.told wire.old ≡ Some log → log ≡ [] }
 {
     let mut answer = Answer::new(alloc);
     let given = serve_words(&mut answer, "one_server");
@@ -110,8 +111,8 @@ fn served<R: Threads + Sync>(
     shows(alloc, status, wire.log(), clients)
 }
 
-// The calls that fail: numbers with commas between them, or `-`.
-fn failing_of(answer: &mut Answer, text: &str) -> Vec<u64> {
+/// The calls that fail: numbers with commas between them, or `-`.
+pub fn failing_of(answer: &mut Answer, text: &str) -> Vec<u64> {
     let mut failing = Vec::new(answer.alloc());
     if text != "-" {
         for number in text.split(',') {

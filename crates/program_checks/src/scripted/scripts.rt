@@ -3,7 +3,7 @@ ghost use Rattle.std.specs.Prelude.{IfOk};
 ghost use Rattle.std.specs.List.{All};
 ghost use Rattle.handshake.specs.Spelling.{IsText};
 
-use crate::scripted::accounts::account_of;
+use crate::scripted::accounts::{Account, account_of};
 use check_lines::CaseFault;
 use mx_base::Bytes;
 use scripted_wire::Script;
@@ -51,16 +51,28 @@ fn commands_of(alloc: Global, text: &str) -> Result<Vec<Bytes>, CaseFault> {
     Ok(commands)
 }
 
+// Who the client of a script is, and the text of its commands, where it has any.
+fn account_in(text: &str) -> Result<(Account, Option<&str>), CaseFault>
+    ensures { IfOk result (λ found. IsText found.0.user.now) }
+{
+    let (word, commands) = match text.split_once("; ") {
+        Some((word, commands)) => (word, Some(commands)),
+        None => (text, None),
+    };
+    match account_of(word) {
+        Some(account) => Ok((account, commands)),
+        None => Err(CaseFault::Bad),
+    }
+}
+
 // A script: who the client is, and behind `; ` its commands, where it has any.
 fn script_of(alloc: Global, text: &str) -> Result<Script, CaseFault>
     ensures { IfOk result (λ script. IsText script.user) }
 {
-    let (word, commands) = match text.split_once("; ") {
-        Some((word, rest)) => (word, commands_of(alloc, rest)?),
-        None => (text, Vec::new(alloc)),
-    };
-    let Some(account) = account_of(word) else {
-        return Err(CaseFault::Bad);
+    let (account, commands) = account_in(text)?;
+    let commands = match commands {
+        Some(commands) => commands_of(alloc, commands)?,
+        None => Vec::new(alloc),
     };
     Ok(Script {
         user: Bytes::from_slice(alloc, account.user)?,
@@ -82,4 +94,17 @@ pub fn scripts_of(alloc: Global, text: &str) -> Result<Vec<Script>, CaseFault>
         scripts.push(script)?;
     }
     Ok(scripts)
+}
+
+/// Who the clients of these scripts are, in order.
+pub fn accounts_of(alloc: Global, text: &str) -> Result<Vec<Account>, CaseFault> {
+    let mut accounts = Vec::new(alloc);
+    if text.is_empty() {
+        return Ok(accounts);
+    }
+    for part in text.split(" | ") {
+        let (account, _) = account_in(part)?;
+        accounts.push(account)?;
+    }
+    Ok(accounts)
 }

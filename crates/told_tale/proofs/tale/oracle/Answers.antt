@@ -31,4 +31,4 @@ returns-clause-sound g c = c.loop-entry.invariant.0
 pub returns-clause-leads : goal.returns-clause-leads
 returns-clause-leads g c = λ setup plan first is.
     let read = c.loop-entry.invariant.1 setup plan first is in
-    subst (IsTale g.R.TameServer.stored (runs g.R.TameServer.step) setup plan c.loop-entry.read) (sym (read.rest ∙ ap (fold (tale_step setup plan) read.now) (drop_all c.loop-entry.entry-index c.args.log.now (omega arith)))) read.stands
+    subst (IsTale g.R.TameServer.stored (runs g.R.TameServer.step) setup plan c.loop-entry.tale) (sym (read.rest ∙ ap (fold (tale_step setup plan) read.now) (drop_all c.loop-entry.entry-index c.args.log.now (omega arith)))) read.stands

@@ -8,5 +8,5 @@ use Rattle.told_tale.specs.Standing.{IsTale}
 use Rattle.told_tale.proofs.tale.oracle.Given as goal
 
 abbrev pub invariant-loop-entry : goal.invariant-loop-entry
-invariant-loop-entry g l = IsSound g.R.TameServer.tests g.R.TameServer.stored l.read.told.own
-    × ((setup : Setup) (plan : Plan) (first : Tale) → IsTale g.R.TameServer.stored (runs g.R.TameServer.step) setup plan l.fn.tale first → IsReading g.R.TameServer.stored (runs g.R.TameServer.step) setup plan l.read l.log l.entry-index first)
+invariant-loop-entry g l = IsSound g.R.TameServer.tests g.R.TameServer.stored l.tale.told.own
+    × ((setup : Setup) (plan : Plan) (first : Tale) → IsTale g.R.TameServer.stored (runs g.R.TameServer.step) setup plan l.fn.tale first → IsReading g.R.TameServer.stored (runs g.R.TameServer.step) setup plan l.tale l.log l.entry-index first)

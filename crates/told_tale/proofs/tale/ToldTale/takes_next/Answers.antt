@@ -11,7 +11,7 @@ use Rattle.told_tale.proofs.tale.ToldTale.takes_next.Goals as goal
 
 pub returns-then-not-branch-2-clause-next : goal.returns-then-not-branch-2-clause-next
 returns-then-not-branch-2-clause-next g c = λ setup plan tale client is here.
-    let seen = c.in-Some.ensures plan.service tale.clients client is.clients here in
+    let seen = c.in-Some.ensures.some plan.service tale.clients client is.clients here in
     let there = sym (c.in-Some-next_message.ensures.told plan client seen.told) in
     let same : c.in-Some.client.now.taken ≡ client.taken = same_count client.taken c.in-Some.client.now.taken seen.told.taken (subst (λ n. n < 18446744073709551615) c.taken.ensures c.in-Some-ordinal_behind.ensures.below) in
     let ordinal : c.in-Some-ordinal_behind.ordinal ≡ suc client.taken = c.in-Some-ordinal_behind.ensures.is ∙ ap suc (c.taken.ensures ∙ same) in
@@ -28,7 +28,7 @@ returns-then-not-branch-2-clause-next g c = λ setup plan tale client is here.
 
 pub returns-clause-next : goal.returns-clause-next
 returns-clause-next g c = λ setup plan tale client is here.
-    let seen = c.in-Some.ensures plan.service tale.clients client is.clients here in
+    let seen = c.in-Some.ensures.some plan.service tale.clients client is.clients here in
     let there = sym (c.in-Some-next_message.ensures.told plan client seen.told) in
     let same : c.in-Some.client.now.taken ≡ client.taken = same_count client.taken c.in-Some.client.now.taken seen.told.taken (subst (λ n. n < 18446744073709551615) c.taken.ensures c.in-Some-ordinal_behind.ensures.below) in
     let ordinal : c.in-Some-ordinal_behind.ordinal ≡ suc client.taken = c.in-Some-ordinal_behind.ensures.is ∙ ap suc (c.taken.ensures ∙ same) in

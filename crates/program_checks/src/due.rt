@@ -1,0 +1,17 @@
+// What clients are due by the logs of runs.
+
+mod compared;
+mod draft;
+mod line;
+mod openings;
+mod own_answers;
+mod routing;
+mod runs;
+mod seat;
+mod service;
+mod tapes;
+mod walk;
+mod written;
+
+pub use runs::{each_failing, one};
+pub use tapes::{growth, whole};
