@@ -21,10 +21,14 @@ use Rattle.told_tale.specs.Steps.{IsFolding, IsLed}
 
 module _ {R : Type 0} (stored : R → List ℕ) (step : Step) (setup : Setup) where
   pub led_first : (code : Told R) (tale : Tale) → IsTold stored step setup code tale.story → IsLed stored step setup code tale tale
-  led_first code tale told = record { same = refl; told = told }
+  led_first code tale told = record { same = refl; told = told; keeps = refl }
 
   pub led_more : (mid new : Told R) (tale at next : Tale) → IsLed stored step setup mid tale at → IsLed stored step setup new at next → IsLed stored step setup new tale next
-  led_more mid new tale at next first then = record { same = then.same ∙ ap (λ (t : Tale). record t { story = next.story }) first.same; told = then.told }
+  led_more mid new tale at next first then = record {
+    same = then.same ∙ ap (λ (t : Tale). record t { story = next.story }) first.same;
+    told = then.told;
+    keeps = then.keeps ∙ first.keeps;
+  }
 
   module _ {X : Type 0} (f : Tale → X → Tale) (all : List X) (tale : Tale) where
     pub folds_first : (code : Told R) → IsTold stored step setup code tale.story → IsFolding stored step setup code f all 0 tale

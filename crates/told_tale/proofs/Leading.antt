@@ -1,17 +1,18 @@
 -- A part of the walk leads the code from tale to tale.
-use Rattle.std.specs.Prelude.{◌≡◌, ℕ, Bool, true, false, is_some, List, [], ◌∷◌, ◌++◌, ◌||◌, if◌then◌else◌, Some, None}
+use Rattle.std.specs.Prelude.{◌≡◌, ℕ, Bool, true, false, is_some, List, [], ◌∷◌, ◌++◌, ◌||◌, if◌then◌else◌, Option, Some, None}
 use Rattle.std.specs.List.{list_any}
 use Rattle.std.proofs.Common.{◌∙◌, refl, sym, ap, subst}
 use Rattle.std.proofs.lemmas.List.Folds.{list_any-append}
 use Rattle.mx_base.specs.declared.names.LinkId.{LinkId}
 use Rattle.mx_base.specs.declared.names.ServerId.{ServerId}
 use Rattle.mx_wire.specs.declared.entry.Entry.{Entry}
-use Rattle.private_model.specs.Commands.{Step}
+use Rattle.session_state.specs.declared.names.MessageName.{MessageName}
+use Rattle.private_model.specs.Commands.{Reply, Step}
 use Rattle.private_model.specs.Story.{is_link_id, put}
 use Rattle.private_model.specs.View.{Setup}
 use Rattle.log_story.specs.Plan.{Plan}
 use Rattle.log_story.specs.Telling.{told as told_by}
-use Rattle.log_story.specs.Tale.{Client, Tale, Wire, is_to_server, new_wire}
+use Rattle.log_story.specs.Tale.{Client, Tale, is_to_server, new_wire, view_of}
 use Rattle.told_clients.specs.Clients.{AreClients}
 use Rattle.told_clients.specs.Wires.{AreWires, IsWireAt, wire_at}
 use Rattle.told_clients.specs.declared.clients.Clients.{Clients}
@@ -22,8 +23,11 @@ use Rattle.told_link.specs.Told.{IsWire}
 use Rattle.told_link.specs.declared.link.ToldLink.{ToldLink}
 use Rattle.told_story.specs.declared.told.Told.{Told}
 use Rattle.told_plan.specs.Plans.{plan_of}
+use Rattle.told_tale.proofs.Counting.{counted-heard}
+use Rattle.told_tale.specs.Counts.{AreCounted, IsReady, known_in}
 use Rattle.told_tale.specs.Standing.{IsTale, Leads}
 use Rattle.told_tale.specs.Steps.{IsLed, IsLedOn}
+use Rattle.told_tale.specs.declared.counts.Counts.{Counts}
 use Rattle.told_tale.specs.declared.tale.ToldTale.{ToldTale}
 
 module _ {R : Type 0} (stored : R → List ℕ) (step : Step) (setup : Setup) (plan : Plan) (code : ToldTale R) (tale : Tale) (is : IsTale stored step setup plan code tale) where
@@ -38,7 +42,22 @@ module _ {R : Type 0} (stored : R → List ℕ) (step : Step) (setup : Setup) (p
     links = is.links;
     wires = is.wires;
     there = is.there;
+    counted = subst (λ (replies : MessageName → Option Reply). AreCounted (record { plan = plan; moment = tale.moment; replies = replies }) code.counts) (sym led.keeps) is.counted;
   })
+
+  -- what was counted alone goes on
+  pub tale_counted : (counts : Counts) → AreCounted (known_in setup plan tale) counts → IsTale stored step setup plan (record code { counts = counts }) tale
+  tale_counted counts are = record {
+    planned = is.planned;
+    keys = is.keys;
+    moment = is.moment;
+    told = is.told;
+    clients = is.clients;
+    links = is.links;
+    wires = is.wires;
+    there = is.there;
+    counted = are;
+  }
 
   -- clients alone go on
   pub tale_of_clients : (clients : Clients) (these : List Client) → AreClients plan.service clients these → IsTale stored step setup plan (record code { clients = clients }) (record tale { clients = these })
@@ -51,6 +70,7 @@ module _ {R : Type 0} (stored : R → List ℕ) (step : Step) (setup : Setup) (p
     links = is.links;
     wires = is.wires;
     there = is.there;
+    counted = is.counted;
   }
 
   -- there is no such link to a server
@@ -74,8 +94,9 @@ module _ {R : Type 0} (stored : R → List ℕ) (step : Step) (setup : Setup) (p
             ∙ sym (ap is_some (back l ∙ ap (λ b. if b then Some there else wire_at code.wires l) same))
         go false other = sym (ap is_some (back l ∙ ap (λ b. if b then Some there else wire_at code.wires l) other))
 
-    pub tale_led_on : (told : Told R) (after : Tale) → IsLedOn stored step setup told link there tale after → IsTale stored step setup plan (record code { told = told; wires = new }) after
-    tale_led_on told after led = subst (IsTale stored step setup plan (record code { told = told; wires = new })) (sym led.same) (record {
+    pub tale_led_on : (told : Told R) (asked : Option MessageName) (after : Tale) → IsLedOn stored step setup told link there asked tale after → IsReady asked (view_of setup tale).replies code.counts
+        → IsTale stored step setup plan (record code { told = told; wires = new }) after
+    tale_led_on told asked after led ready = subst (IsTale stored step setup plan (record code { told = told; wires = new })) (sym led.same) (record {
       planned = is.planned;
       keys = is.keys;
       moment = is.moment;
@@ -84,6 +105,7 @@ module _ {R : Type 0} (stored : R → List ℕ) (step : Step) (setup : Setup) (p
       links = is.links;
       wires = wires_on code.wires new link there back tale.wires led.wire is.wires led.knows;
       there = λ l. is.there l ∙ stays l;
+      counted = counted-heard plan tale.moment (view_of setup tale).replies (view_of setup after).replies code.counts asked led.keeps ready is.counted;
     })
 
   -- a link is opened

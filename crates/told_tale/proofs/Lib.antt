@@ -2,3 +2,4 @@ pub mod Folding
 pub mod Leading
 pub mod Replies
 pub mod Takes
+pub mod Counting

@@ -4,6 +4,7 @@ use Rattle.std.proofs.Common.{◌∙◌, refl, sym, ap, subst}
 use Rattle.std.proofs.lemmas.Option.{none-some, same_Some}
 use Rattle.mx_base.specs.declared.names.LinkId.{LinkId}
 use Rattle.mx_base.specs.declared.tag.Tag.{Tag}
+use Rattle.session_state.specs.declared.names.MessageName.{MessageName}
 use Rattle.server_rule.specs.Servers.{is_some_of}
 use Rattle.reply_track.specs.Runs.{Ending}
 use Rattle.reply_track.specs.Runs.Ending.{Ended, Failed, Going}
@@ -21,6 +22,8 @@ use Rattle.told_link.specs.Told.{IsWire}
 use Rattle.told_link.specs.declared.link.ToldLink.{ToldLink}
 use Rattle.told_story.specs.Tells.{IsTold}
 use Rattle.told_story.specs.declared.told.Told.{Told}
+use Rattle.told_tale.proofs.Counting.{begun-silent, reply-keeps, run-leaves}
+use Rattle.told_tale.specs.Counts.{Keeps, message_in}
 use Rattle.told_tale.specs.Steps.{IsLedOn, awaited_in, is_asked_in, reply_said}
 use Rattle.told_tale.specs.declared.serving.Awaited.{Awaited}
 
@@ -53,22 +56,22 @@ swapped false false f = refl
 
 module _ {R : Type 0} (stored : R → List ℕ) (step : Step) (setup : Setup) where
   -- a login
-  module _ (plan : Plan) (link : LinkId) (new : Told R) (there : ToldLink) (wire : Wire) (tale : Tale) where
+  module _ (plan : Plan) (link : LinkId) (new : Told R) (there : ToldLink) (asked : Option MessageName) (wire : Wire) (tale : Tale) where
     abbrev account : Account
     account = record { user = (plan.logins link).user; found_rows = (plan.logins link).found_rows }
 
     pub login_there : (said : Opening) → steps.has_entered said ≡ true → IsWire there (steps.after_login said wire)
         → ((w : Wire) → IsWire there w → IsTold stored step setup new (LoggedIn link w.server account ∷ tale.story))
-        → IsLedOn stored step setup new link there tale (entered_by plan link wire said tale)
-    login_there (LogsIn said rest) is knows told = record { wire = steps.after_login (LogsIn said rest) wire; same = refl; knows = knows; told = told (steps.after_login (LogsIn said rest) wire) knows }
+        → IsLedOn stored step setup new link there asked tale (entered_by plan link wire said tale)
+    login_there (LogsIn said rest) is knows told = record { wire = steps.after_login (LogsIn said rest) wire; same = refl; knows = knows; told = told (steps.after_login (LogsIn said rest) wire) knows; keeps = λ m other. refl }
     login_there (Goes said) is knows told = absurd (cc)
     login_there (Fails said fault) is knows told = absurd (cc)
 
     pub login_goes : (said : Opening) → steps.has_entered said ≡ false → IsWire there (steps.after_login said wire) → IsTold stored step setup new tale.story
-        → IsLedOn stored step setup new link there tale (entered_by plan link wire said tale)
+        → IsLedOn stored step setup new link there asked tale (entered_by plan link wire said tale)
     login_goes (LogsIn said rest) isnt knows told = absurd (cc)
-    login_goes (Goes said) isnt knows told = record { wire = wire; same = refl; knows = knows; told = told }
-    login_goes (Fails said fault) isnt knows told = record { wire = wire; same = refl; knows = knows; told = told }
+    login_goes (Goes said) isnt knows told = record { wire = wire; same = refl; knows = knows; told = told; keeps = λ m other. refl }
+    login_goes (Fails said fault) isnt knows told = record { wire = wire; same = refl; knows = knows; told = told; keeps = λ m other. refl }
 
   -- a reply
   module _ (link : LinkId) (new : Told R) (there : ToldLink) (bytes : List ℕ) (tale : Tale) where
@@ -81,15 +84,23 @@ module _ {R : Type 0} (stored : R → List ℕ) (step : Step) (setup : Setup) wh
     abbrev stage : Stage
     stage = (link_in setup run link).stage
 
+    abbrev asked : Option MessageName
+    asked = message_in (link_in setup tale link).stage
+
     led : (w : Wire) (r : Option Reply) (happened : List Happening) → IsWire there w → (tell_reply link r (with_wire link w run)).story ≡ happened → IsTold stored step setup new happened
-        → (whole : Tale) → whole ≡ tell_reply link r (with_wire link w run) → IsLedOn stored step setup new link there tale whole
+        → (whole : Tale) → whole ≡ tell_reply link r (with_wire link w run) → IsLedOn stored step setup new link there asked tale whole
     led w r happened knows is told whole same = record {
       wire = w;
       same = same ∙ told_same r ∙ ap (λ (t : Tale). record (with_wire link w tale) { story = t.story }) (sym same);
       knows = knows;
       told = subst (IsTold stored step setup new) (sym (ap (λ (t : Tale). t.story) same ∙ is)) told;
+      keeps = λ m other. ap (λ (t : Tale). (view_of setup t).replies m) same ∙ kept r m other;
     }
       where
+        kept : (r : Option Reply) → Keeps asked (view_of setup tale).replies (view_of setup (tell_reply link r (with_wire link w run))).replies
+        kept None m other = ap (λ (replies : MessageName → Option Reply). replies m) (run-leaves setup (link_in setup tale link).stage link tale)
+        kept (Some reply) m other = reply-keeps setup link tale reply m other
+
         told_same : (r : Option Reply) → tell_reply link r (with_wire link w run) ≡ record (with_wire link w tale) { story = (tell_reply link r (with_wire link w run)).story }
         told_same None = ap (with_wire link w) (run_same (link_in setup tale link).stage link tale)
         told_same (Some reply) = ap (λ t. tell (Heard link reply) (with_wire link w t)) (run_same (link_in setup tale link).stage link tale)
@@ -107,12 +118,12 @@ module _ {R : Type 0} (stored : R → List ℕ) (step : Step) (setup : Setup) wh
         subst (λ (x : Awaited). hears link w (Answered question) t ≡ tell_reply link (steps.reply_by x.to_prepare w (read_as x.kind w)) (with_wire link (steps.after_reply (read_as x.kind w) w) t))
         (same_Some _ a is) (by_ending link question w t (read_as (kind_by (command_of question)) w))
 
-    pub no_reply : awaited_in stage ≡ None → IsWire there wire → IsTold stored step setup new run.story → IsLedOn stored step setup new link there tale (reply_said setup link bytes tale)
+    pub no_reply : awaited_in stage ≡ None → IsWire there wire → IsTold stored step setup new run.story → IsLedOn stored step setup new link there asked tale (reply_said setup link bytes tale)
     no_reply none knows told = led wire None run.story knows refl told (reply_said setup link bytes tale) (hears_none stage wire run none)
 
     module _ (a : Awaited) (is : awaited_in stage ≡ Some a) where
       pub some_reply : (reply : Option Reply) → reply ≡ steps.reply_read a.kind a.to_prepare bytes (tale.wires link) → IsWire there (steps.replies a.kind bytes (tale.wires link))
-          → IsTold stored step setup new (tell_reply link reply run).story → IsLedOn stored step setup new link there tale (reply_said setup link bytes tale)
+          → IsTold stored step setup new (tell_reply link reply run).story → IsLedOn stored step setup new link there asked tale (reply_said setup link bytes tale)
       some_reply None none knows told =
           led (steps.replies a.kind bytes (tale.wires link)) None run.story knows refl told (reply_said setup link bytes tale)
           (hears_ending stage wire run a is ∙ ap (λ r. tell_reply link r (with_wire link (steps.replies a.kind bytes (tale.wires link)) run)) (sym none))
@@ -133,12 +144,18 @@ module _ {R : Type 0} (stored : R → List ℕ) (step : Step) (setup : Setup) wh
     written b = if b then begins setup plan link tag bytes (tale.wires link) tale else with_wire link (steps.after_write bytes (tale.wires link)) tale
 
     pub goes_on : (quiet && steps.is_free (tale.wires link)) ≡ false → IsWire there (steps.after_write bytes (tale.wires link)) → IsTold stored step setup new tale.story
-        → IsLedOn stored step setup new link there tale (writes setup plan link tag bytes (tale.wires link) tale)
-    goes_on isnt knows told = subst (IsLedOn stored step setup new link there tale) (sym (ap written (may ∙ isnt)))
-        (record { wire = steps.after_write bytes (tale.wires link); same = refl; knows = knows; told = told })
+        → IsLedOn stored step setup new link there None tale (writes setup plan link tag bytes (tale.wires link) tale)
+    goes_on isnt knows told = subst (IsLedOn stored step setup new link there None tale) (sym (ap written (may ∙ isnt)))
+        (record { wire = steps.after_write bytes (tale.wires link); same = refl; knows = knows; told = told; keeps = λ m other. refl })
 
     pub begins_there : (quiet && steps.is_free (tale.wires link)) ≡ true → IsWire there (steps.after_begin tag (plan.steps link (tale.wires link).begun) bytes (tale.wires link))
         → IsTold stored step setup new (begun_by setup plan (view_of setup tale) link (tale.wires link).begun tag ++ tale.story)
-        → IsLedOn stored step setup new link there tale (writes setup plan link tag bytes (tale.wires link) tale)
-    begins_there is knows told = subst (IsLedOn stored step setup new link there tale) (sym (ap written (may ∙ is)))
-        (record { wire = steps.after_begin tag (plan.steps link (tale.wires link).begun) bytes (tale.wires link); same = refl; knows = knows; told = told })
+        → IsLedOn stored step setup new link there None tale (writes setup plan link tag bytes (tale.wires link) tale)
+    begins_there is knows told = subst (IsLedOn stored step setup new link there None tale) (sym (ap written (may ∙ is)))
+        (record {
+          wire = steps.after_begin tag (plan.steps link (tale.wires link).begun) bytes (tale.wires link);
+          same = refl;
+          knows = knows;
+          told = told;
+          keeps = λ m other. ap (λ (replies : MessageName → Option Reply). replies m) (begun-silent setup tale.story plan (view_of setup tale) link (tale.wires link).begun tag);
+        })

@@ -4,6 +4,7 @@ use Rattle.std.specs.Option.{option_map, option_map_or}
 use Rattle.std.proofs.lemmas.List.{drop_all}
 use Rattle.std.proofs.Common.{◌∙◌, refl, sym, ap, subst, arith}
 use Rattle.std.proofs.lemmas.Option.{none-some, same_Some, slice_get-map}
+use Rattle.mx_base.specs.declared.names.ClientNo.{ClientNo}
 use Rattle.mx_base.specs.declared.names.Hostgroup.{Hostgroup}
 use Rattle.packet_frame.specs.Packets.{Framed}
 use Rattle.session_state.specs.declared.names.MessageName.{MessageName}
@@ -24,11 +25,13 @@ use Rattle.told_question.specs.Due.{copy_told, due_told}
 use Rattle.told_story.specs.Tells.{IsTold}
 use Rattle.told_story.specs.declared.told.Told.{Told}
 use Rattle.told_tale.specs.Answers.{HasHeard, IsHeard}
+use Rattle.told_tale.specs.Counts.{AreCounted, known_in}
 use Rattle.told_tale.specs.Standing.{IsTale}
 use Rattle.told_tale.specs.Taking.{GoesAt, IsGoing, IsNextTaken, IsTaking, IsTaken, IsTakenUp, behind, next_of}
 use Rattle.told_tale.specs.declared.answers.Heard.{Heard}
+use Rattle.told_tale.specs.declared.counts.Counts.{Counts}
 use Rattle.told_tale.specs.declared.tale.ToldTale.{ToldTale}
-use Rattle.told_tale.proofs.Leading.{tale_led, tale_of_clients}
+use Rattle.told_tale.proofs.Leading.{tale_counted, tale_led, tale_of_clients}
 
 pub some_copied : {B A : Type 0} (f : B → A) (o : Option B) → is_some (option_map f o) ≡ is_some o
 some_copied f None = refl
@@ -71,6 +74,11 @@ module _ (setup : Setup) (client : Client) (ordinal : ℕ) (route : Route) (requ
   pub due_waits : captures ≡ true → due_by setup client ordinal route request tale ≡ None
   due_waits is = ap (λ b. if b then None else Some (copied (name_of client ordinal) request.command route.mirror (tell (BecameDue client.number route.hostgroup ordinal request.key request.command route.multiplex) tale))) is
 
+due-keeps : (setup : Setup) (message : MessageName) (client : ClientNo) (hostgroup : Hostgroup) (ordinal : ℕ) (request : Request) (multiplex : Option Bool) (tale : Tale) (mirror : Option Hostgroup)
+    → (view_of setup (tell_all (copy_told message request.command mirror ++ (BecameDue client hostgroup ordinal request.key request.command multiplex ∷ [])) tale)).replies ≡ (view_of setup tale).replies
+due-keeps setup message client hostgroup ordinal request multiplex tale None = refl
+due-keeps setup message client hostgroup ordinal request multiplex tale (Some other) = refl
+
 flipped : (b : Bool) → true ≡ not b → b ≡ false
 flipped true is = is
 flipped false is = refl
@@ -86,7 +94,7 @@ module _ {R : Type 0} (stored : R → List ℕ) (step : Step) (setup : Setup) (c
   due_taken true tells isnt same told = record {
     new = tell_all (due_told client.number ordinal route request) tale;
     is = due_there setup client ordinal route request tale (flipped (captures setup client ordinal route request tale) isnt);
-    led = record { same = refl; told = tells refl };
+    led = record { same = refl; told = tells refl; keeps = due-keeps setup (name_of client ordinal) client.number route.hostgroup ordinal request route.multiplex tale route.mirror };
   }
   due_taken false tells is same told =
       (due_waits setup client ordinal route request tale (flipped_back (captures setup client ordinal route request tale) is), subst (λ (code : Told R). IsTold stored step setup code tale.story) (sym (same refl)) told)
@@ -133,17 +141,19 @@ module _ (setup : Service) (code : Clients) (clients : List Client) (are : AreCl
 
 module _ {R : Type 0} (stored : R → List ℕ) (step : Step) (setup : Setup) (plan : Plan) where
   -- a message is taken up, and counted
-  pub next_taken_up : (code : ToldTale R) (told : Told R) (clients : Clients) (tale : Tale) (client : Client) (message : Framed) → IsTale stored step setup plan code tale
+  pub next_taken_up : (code : ToldTale R) (told : Told R) (clients : Clients) (counts : Counts) (tale : Tale) (client : Client) (message : Framed) → IsTale stored step setup plan code tale
       → slice_get (messages plan client) client.taken ≡ Some message → may setup plan client tale ≡ true
       → (up : IsTakenUp stored step setup told tale (taken setup plan client tale message))
-      → AreClients plan.service clients (replaced (behind client) tale.clients) → IsNextTaken stored step setup plan (record code { told = told; clients = clients }) client tale
-  next_taken_up code told clients tale client message is there may_be up are =
+      → AreClients plan.service clients (replaced (behind client) tale.clients) → AreCounted (known_in setup plan tale) counts
+      → IsNextTaken stored step setup plan (record code { told = told; clients = clients; counts = counts }) client tale
+  next_taken_up code told clients counts tale client message is there may_be up are counted =
       let same : up.new.clients ≡ tale.clients = ap (λ (t : Tale). t.clients) up.led.same in
       record {
         other = up.new;
         is = next_goes setup plan client tale message there may_be ∙ up.is;
         same = same;
-        stands = tale_of_clients stored step setup plan (record code { told = told }) up.new (tale_led stored step setup plan code tale is told up.new up.led) clients (replaced (behind client) up.new.clients)
+        stands = tale_of_clients stored step setup plan (record code { told = told; counts = counts }) up.new
+            (tale_led stored step setup plan (record code { counts = counts }) tale (tale_counted stored step setup plan code tale is counts counted) told up.new up.led) clients (replaced (behind client) up.new.clients)
             (subst (λ all. AreClients plan.service clients (replaced (behind client) all)) (sym same) are);
       }
 

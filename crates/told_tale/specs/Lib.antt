@@ -1,5 +1,6 @@
 pub mod Answers
 pub mod Concern
+pub mod Counts
 pub mod Reading
 pub mod Standing
 pub mod Steps

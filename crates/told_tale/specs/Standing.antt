@@ -19,6 +19,7 @@ use Rattle.told_plan.specs.KeyTable.{AreKeys}
 use Rattle.told_plan.specs.Plans.{plan_of}
 use Rattle.told_plan.specs.declared.keys.Keys.{Keys}
 use Rattle.told_story.specs.Tells.{IsTold}
+use Rattle.told_tale.specs.Counts.{AreCounted, known_in}
 use Rattle.told_tale.specs.declared.tale.ToldTale.{ToldTale}
 
 -- The code stands for a tale, by a plan.
@@ -31,6 +32,7 @@ pub record IsTale {R : Type 0} (stored : R → List ℕ) (step : Step) (setup : 
   pub links : tale.links ≡ code.links.items
   pub wires : AreWires code.wires tale.wires
   pub there : (l : LinkId) → is_to_server tale l ≡ is_some (wire_at code.wires l)
+  pub counted : AreCounted (known_in setup plan tale) code.counts
 
 -- of each tale that the old code stands for, the new one stands for what the step makes of it
 abbrev pub Leads : {R : Type 0} → (stored : R → List ℕ) → Step → (old new : ToldTale R) → (Setup → Plan → Tale → Tale) → Type 0

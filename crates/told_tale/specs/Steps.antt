@@ -2,31 +2,35 @@
 use Rattle.std.specs.Prelude.{◌≡◌, ℕ, Bool, true, false, List, fold, drop, Option, Some, None}
 use Rattle.mx_base.specs.declared.names.LinkId.{LinkId}
 use Rattle.reply_track.specs.declared.reply.ReplyKind.TheVariants as kind
+use Rattle.session_state.specs.declared.names.MessageName.{MessageName}
 use Rattle.server_side.specs.Login.{opening}
 use Rattle.private_model.specs.Commands.{Step, is_prepare}
 use Rattle.private_model.specs.Story.{command_of}
 use Rattle.private_model.specs.View.{Answered, Asked, Setup, Stage}
 use Rattle.log_story.specs.Plan.{Plan}
 use Rattle.log_story.specs.Servers.{entered_by, kind_by, read_as, reads_on, reset_by}
-use Rattle.log_story.specs.Tale.{Tale, Wire, with_wire}
+use Rattle.log_story.specs.Tale.{Tale, Wire, view_of, with_wire}
 use Rattle.log_story.specs.Telling.{wire_with}
 use Rattle.told_link.specs.Told.{IsWire}
 use Rattle.told_link.specs.declared.link.ToldLink.{ToldLink}
 use Rattle.told_story.specs.Tells.{IsTold}
 use Rattle.told_story.specs.declared.told.Told.{Told}
+use Rattle.told_tale.specs.Counts.{Keeps}
 use Rattle.told_tale.specs.declared.serving.Awaited.{Awaited}
 
--- the story goes on, and all else stays
+-- the story goes on, by no reply, and all else stays
 pub record IsLed {R : Type 0} (stored : R → List ℕ) (step : Step) (setup : Setup) (code : Told R) (old new : Tale) : Type 0 where
   pub same : new ≡ record old { story = new.story }
   pub told : IsTold stored step setup code new.story
+  pub keeps : (view_of setup new).replies ≡ (view_of setup old).replies
 
--- so it is, but for what is known of one link
-pub record IsLedOn {R : Type 0} (stored : R → List ℕ) (step : Step) (setup : Setup) (code : Told R) (link : LinkId) (there : ToldLink) (old new : Tale) : Type 0 where
+-- so it is, but for what is known of one link, and the reply to the message that is asked there
+pub record IsLedOn {R : Type 0} (stored : R → List ℕ) (step : Step) (setup : Setup) (code : Told R) (link : LinkId) (there : ToldLink) (asked : Option MessageName) (old new : Tale) : Type 0 where
   pub wire : Wire
   pub same : new ≡ record (with_wire link wire old) { story = new.story }
   pub knows : IsWire there wire
   pub told : IsTold stored step setup code new.story
+  pub keeps : Keeps asked (view_of setup old).replies (view_of setup new).replies
 
 -- a fold over what a tale has went on so far
 pub record IsFolding {R X : Type 0} (stored : R → List ℕ) (step : Step) (setup : Setup) (told : Told R) (f : Tale → X → Tale) (all : List X) (i : ℕ) (tale : Tale) : Type 0 where

@@ -2,7 +2,9 @@
 #![tactic(auto)]
 
 mod answers;
+mod asking;
 mod concern;
+mod counts;
 mod due;
 mod fault;
 mod freeing;

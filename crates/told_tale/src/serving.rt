@@ -1,9 +1,9 @@
 // What is read and written on links to servers.
-ghost use Rattle.std.specs.Prelude.{◌≡◌, ◌&&◌, IfOk, OnOk};
+ghost use Rattle.std.specs.Prelude.{◌≡◌, ◌&&◌, None, IfOk, OnOk};
 ghost use Rattle.private_model.specs.Commands.{runs};
 ghost use Rattle.private_model.specs.View.{Setup};
 ghost use Rattle.log_story.specs.Servers as story;
-ghost use Rattle.log_story.specs.Tale.{Tale, Wire};
+ghost use Rattle.log_story.specs.Tale.{Tale, Wire, link_in};
 ghost use Rattle.log_story.specs.Telling.{server_says};
 ghost use Rattle.private_turns.specs.Kept.{IsSound};
 ghost use Rattle.story_view.specs.Forms.{stage_of};
@@ -14,6 +14,7 @@ ghost use Rattle.told_link.specs.Told.{IsWire};
 ghost use Rattle.told_plan.specs.KeyTable.{AreKeys};
 ghost use Rattle.told_plan.specs.Plans.{plan_of};
 ghost use Rattle.told_story.specs.Tells.{IsTold};
+ghost use Rattle.told_tale.specs.Counts.{message_in};
 ghost use Rattle.told_tale.specs.Steps.{IsLedOn, awaited_in, is_asked_in, login_said, reply_said, reset_said};
 
 use crate::Stop;
@@ -48,7 +49,7 @@ fn logs_in<R: TameServer + Drop>(
     requires { IsSound R.tests R.stored told.old.own }
     ensures sound { OnOk result (IsSound R.tests R.stored told.new.own) }
     ensures goes { OnOk result ((setup : Setup) (tale : Tale) → IsTold R.stored (runs R.step) setup told.old tale.story → IsWire wire.old (tale.wires link)
-        → IsLedOn R.stored (runs R.step) setup told.new link wire.new tale (login_said (plan_of plan.now) link bytes.now tale)) }
+        → IsLedOn R.stored (runs R.step) setup told.new link wire.new (message_in (link_in setup tale link).stage) tale (login_said (plan_of plan.now) link bytes.now tale)) }
 {
     if wire.logs_in(plan.login(link), bytes)? {
         told.logged_in(link, wire.server())?;
@@ -65,7 +66,7 @@ fn resets<R: TameServer + Drop>(
 ) -> Result<(), Stop>
     ensures same { told.new ≡ told.old }
     ensures goes { OnOk result ((setup : Setup) (tale : Tale) → IsTold R.stored (runs R.step) setup told.old tale.story → IsWire wire.old (tale.wires link)
-        → IsLedOn R.stored (runs R.step) setup told.new link wire.new tale (reset_said link bytes.now tale)) }
+        → IsLedOn R.stored (runs R.step) setup told.new link wire.new (message_in (link_in setup tale link).stage) tale (reset_said link bytes.now tale)) }
 {
     wire.replies_to_reset(bytes)?;
     Ok(())
@@ -143,7 +144,7 @@ fn reads_on<R: TameServer + Drop>(
     requires { IsSound R.tests R.stored told.old.own }
     ensures sound { OnOk result (IsSound R.tests R.stored told.new.own) }
     ensures goes { OnOk result ((setup : Setup) (tale : Tale) → IsTold R.stored (runs R.step) setup told.old tale.story → IsWire wire.old (tale.wires link)
-        → IsLedOn R.stored (runs R.step) setup told.new link wire.new tale (reply_said setup link bytes.now tale)) }
+        → IsLedOn R.stored (runs R.step) setup told.new link wire.new (message_in (link_in setup tale link).stage) tale (reply_said setup link bytes.now tale)) }
 {
     runs_first(alloc, told, link)?;
     let Some(waits) = awaited_on(told.view(), link) else {
@@ -168,7 +169,7 @@ pub(crate) fn says<R: TameServer + Drop>(
     requires { IsSound R.tests R.stored told.old.own }
     ensures sound { OnOk result (IsSound R.tests R.stored told.new.own) }
     ensures goes { OnOk result ((setup : Setup) (tale : Tale) → IsTold R.stored (runs R.step) setup told.old tale.story → IsWire wire.old (tale.wires link)
-        → IsLedOn R.stored (runs R.step) setup told.new link wire.new tale (server_says setup (plan_of plan.now) link bytes.now tale)) }
+        → IsLedOn R.stored (runs R.step) setup told.new link wire.new (message_in (link_in setup tale link).stage) tale (server_says setup (plan_of plan.now) link bytes.now tale)) }
 {
     if !wire.entered() {
         return logs_in(told, plan, link, wire, bytes);
@@ -215,7 +216,7 @@ pub(crate) fn writes<R: TameServer + Drop>(
     requires { IsSound R.tests R.stored told.old.own }
     ensures sound { OnOk result (IsSound R.tests R.stored told.new.own) }
     ensures goes { OnOk result ((setup : Setup) (tale : Tale) → AreKeys setup keys.now → IsTold R.stored (runs R.step) setup told.old tale.story → IsWire wire.old (tale.wires link)
-        → IsLedOn R.stored (runs R.step) setup told.new link wire.new tale (story.writes setup (plan_of plan.now) link tag bytes.now (tale.wires link) tale)) }
+        → IsLedOn R.stored (runs R.step) setup told.new link wire.new None tale (story.writes setup (plan_of plan.now) link tag bytes.now (tale.wires link) tale)) }
 {
     if !may_begin(told.view(), link, wire) {
         wire.goes_on(bytes)?;

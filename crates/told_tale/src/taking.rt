@@ -16,13 +16,15 @@ ghost use Rattle.told_plan.specs.Plans.{plan_of};
 ghost use Rattle.told_story.specs.Tells.{IsTold};
 ghost use Rattle.told_tale.specs.Answers.{HasHeard, IsHeard};
 ghost use Rattle.told_tale.specs.Concern.{concerns_by};
+ghost use Rattle.told_tale.specs.Counts.{AreCounted, known_in};
 ghost use Rattle.told_tale.specs.Standing.{IsTale};
 ghost use Rattle.told_tale.specs.Taking.{GoesAt, IsNext, IsTaken};
 
 use crate::answers::Heard;
 use crate::concern::Concern;
+use crate::counts::Counts;
 use crate::{Stop, ToldTale};
-use client_due::{Answers, Counted, Message, ToldClient};
+use client_due::{Answers, Message, ToldClient};
 use mx_base::ClientNo;
 use server_rule::TameServer;
 use session_state::MessageName;
@@ -91,18 +93,40 @@ fn is_answered(answers: &Heard<'_>, client: &ToldClient) -> bool
     has_answer(answers, name)
 }
 
+// Whether there is room for the answer to a client's next message. What can be counted is kept.
+fn has_room(answers: &Heard<'_>, counts: &mut Counts, client: &ToldClient) -> Result<bool, Stop>
+    ensures room { IfOk result (λ room. (setup : Setup) (tale : Tale) (it : Client) (plan : log.Plan) → HasHeard setup plan answers.now tale → IsClient plan.service client.now it
+        → AreCounted (known_in setup plan tale) counts.old → room ≡ has_room (view_of setup tale).replies plan tale.moment it) }
+    ensures counted { OnOk result ((setup : Setup) (tale : Tale) (plan : log.Plan) → HasHeard setup plan answers.now tale → AreCounted (known_in setup plan tale) counts.old
+        → AreCounted (known_in setup plan tale) counts.new) }
+{
+    let number = client.number();
+    // What is counted is known of numbers of 64 bits alone.
+    let party = Party {
+        client: number,
+        copied: 0,
+    };
+    party.fits();
+    let counted = client.counts(answers, counts.at(number));
+    counts.put(number, counted)?;
+    let Some(unwritten) = client.unwritten(answers, counted) else {
+        return Err(Stop::TooMany);
+    };
+    Ok(unwritten < answers.plan.room())
+}
+
 // Whether a client's next message is taken up.
-fn may_take(answers: &Heard<'_>, client: &ToldClient) -> Result<bool, Stop>
-    ensures { IfOk result (λ may. (setup : Setup) (tale : Tale) (it : Client) (plan : log.Plan) → HasHeard setup plan answers.now tale → IsClient plan.service client.now it
-        → client.now.taken ≡ it.taken → may ≡ (is_answered plan tale (view_of setup tale) it it.taken && has_room (view_of setup tale).replies plan tale.moment it)) }
+fn may_take(answers: &Heard<'_>, counts: &mut Counts, client: &ToldClient) -> Result<bool, Stop>
+    ensures may { IfOk result (λ may. (setup : Setup) (tale : Tale) (it : Client) (plan : log.Plan) → HasHeard setup plan answers.now tale → IsClient plan.service client.now it
+        → client.now.taken ≡ it.taken → AreCounted (known_in setup plan tale) counts.old
+        → may ≡ (is_answered plan tale (view_of setup tale) it it.taken && has_room (view_of setup tale).replies plan tale.moment it)) }
+    ensures counted { OnOk result ((setup : Setup) (tale : Tale) (plan : log.Plan) → HasHeard setup plan answers.now tale → AreCounted (known_in setup plan tale) counts.old
+        → AreCounted (known_in setup plan tale) counts.new) }
 {
     if !is_answered(answers, client) {
         return Ok(false);
     }
-    let Some(unwritten) = client.unwritten(answers, Counted::nothing()) else {
-        return Err(Stop::TooMany);
-    };
-    Ok(unwritten < answers.plan.room())
+    has_room(answers, counts, client)
 }
 
 fn is_reset(payload: &[u8]) -> bool
@@ -191,7 +215,7 @@ impl<R: TameServer + Drop> ToldTale<R> {
             view: self.told.view(),
             moment: self.moment,
         };
-        if !may_take(&heard, client)? {
+        if !may_take(&heard, &mut self.counts, client)? {
             return Ok(false);
         }
         let by = Taking {

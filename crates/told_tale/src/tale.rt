@@ -12,6 +12,7 @@ ghost use Rattle.told_tale.specs.Standing.{IsSetUp, IsTale, Leads};
 
 use crate::Stop;
 use crate::concern::Concern;
+use crate::counts::Counts;
 use crate::freeing::free_links;
 use crate::leaving::end_clients;
 use mx_base::LinkId;
@@ -24,8 +25,9 @@ use told_clients::{Clients, Wires};
 use told_plan::{Keys, Plan};
 use told_story::Told;
 
-/// What is kept of a log as it is read: its story as its bytes tell it, with what the router knows and the private world, its clients and
-/// its links to servers. Behind an error nothing is promised. An entry costs a look at each client and each link to a server.
+/// What is kept of a log as it is read: its story as its bytes tell it, with what the router knows and the private world, its clients,
+/// its links to servers, and what was counted of what clients are due. Behind an error nothing is promised. An entry costs a look at each
+/// client and each link to a server.
 #[derive(Drop)]
 pub struct ToldTale<R: TameServer + Drop> {
     pub(crate) alloc: Global,
@@ -36,6 +38,7 @@ pub struct ToldTale<R: TameServer + Drop> {
     pub(crate) clients: Clients,
     pub(crate) links: Vec<LinkId>,
     pub(crate) wires: Wires,
+    pub(crate) counts: Counts,
 }
 
 // One entry more.
@@ -69,6 +72,7 @@ impl<R: TameServer + Drop> ToldTale<R> {
             clients: Clients::new(alloc),
             links: Vec::new(alloc),
             wires: Wires::new(alloc),
+            counts: Counts::new(alloc),
         }
     }
 

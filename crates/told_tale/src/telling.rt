@@ -8,6 +8,7 @@ ghost use Rattle.mx_wire.specs.declared.entry.Entry.TheVariants.{Got, Wrote};
 ghost use Rattle.private_turns.specs.Kept.{IsSound};
 ghost use Rattle.told_tale.specs.Standing.{Leads};
 
+use crate::asking::forget_asked;
 use crate::leaving::leave_link;
 use crate::serving::{says, writes};
 use crate::{Stop, ToldTale};
@@ -44,6 +45,7 @@ impl<R: TameServer + Drop> ToldTale<R> {
         ensures sound { OnOk result (IsSound R.tests R.stored self.new.told.own) }
         ensures leads { OnOk result (Leads R.stored (runs R.step) self.old self.new (λ setup plan tale. told setup plan tale (Got link bytes.now))) }
     {
+        forget_asked(&mut self.counts, self.told.view(), link);
         let Some(wire) = self.wires.at_mut(link) else {
             self.clients
                 .hears(self.alloc, self.plan.service(), link, bytes)?;

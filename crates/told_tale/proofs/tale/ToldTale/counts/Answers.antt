@@ -1,4 +1,6 @@
 use Rattle.std.proofs.Common.{◌∙◌, ap, suc, sym}
+use Rattle.log_story.specs.Tale.{view_of}
+use Rattle.told_tale.proofs.Counting.{counted-next}
 use Rattle.told_tale.proofs.tale.ToldTale.counts.Goals as goal
 
 pub returns-clause-leads : goal.returns-clause-leads
@@ -11,4 +13,5 @@ returns-clause-leads g c = λ setup plan tale is. record {
   links = is.links;
   wires = is.wires;
   there = is.there;
+  counted = counted-next plan tale.moment (view_of setup tale).replies c.args.self.now.counts is.counted;
 }

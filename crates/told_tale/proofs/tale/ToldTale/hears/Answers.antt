@@ -1,40 +1,46 @@
-use Rattle.std.proofs.Common.{◌∙◌, ◌≡◌, None, Some, ap, subst, sym}
+use Rattle.std.proofs.Common.{◌∙◌, ◌≡◌, Some, ap, subst, sym}
 use Rattle.std.specs.Prelude.{if◌then◌else◌, map}
 use Rattle.std.specs.Option.{OnSome, option_copied_mut}
 use Rattle.std.proofs.lemmas.Result.{on_ok_weaker}
 use Rattle.mx_base.specs.declared.names.LinkId.{LinkId}
 use Rattle.private_model.specs.Commands.{runs}
 use Rattle.private_model.specs.Story.{is_link_id, put}
-use Rattle.log_story.specs.Tale.{client_hears}
+use Rattle.log_story.specs.Tale.{client_hears, link_in, view_of}
 use Rattle.log_story.specs.Telling.{server_says, told}
 use Rattle.mx_wire.specs.declared.entry.Entry.TheVariants.{Got}
+use Rattle.story_view.specs.Known.{IsKnown}
 use Rattle.told_clients.specs.Clients.{AreClients}
 use Rattle.told_clients.specs.Wires.{wire_at}
 use Rattle.told_clients.specs.declared.wires.Wires.{Wires}
 use Rattle.told_plan.specs.Plans.{plan_of}
+use Rattle.told_tale.specs.Counts.{message_in}
 use Rattle.told_tale.specs.Standing.{IsTale}
-use Rattle.told_tale.proofs.Leading.{by_plan, is_server, knew, no_server, tale_led_on, tale_of_clients}
+use Rattle.told_tale.proofs.Leading.{by_plan, is_server, knew, no_server, tale_counted, tale_led_on, tale_of_clients}
 use Rattle.told_tale.proofs.tale.ToldTale.hears.Goals as goal
 
 pub returns-in_default-clause-leads : goal.returns-in_default-clause-leads
 returns-in_default-clause-leads g c =
-    by_plan g.R.TameServer.stored (runs g.R.TameServer.step) c.args.self.now (record c.args.self.now { clients = c.hears.new.self; wires = c.at_mut.follows.lender-at-none }) (λ setup plan tale. told setup plan tale (Got c.args.link c.args.bytes.now)) (λ setup tale is.
+    by_plan g.R.TameServer.stored (runs g.R.TameServer.step) c.args.self.now (record c.args.self.now { counts = c.forget_asked.new.counts; clients = c.hears.new.self; wires = c.at_mut.follows.lender-at-none }) (λ setup plan tale. told setup plan tale (Got c.args.link c.args.bytes.now)) (λ setup tale before.
+    let known : IsKnown setup c.view.result.now (view_of setup tale) = subst (λ code. IsKnown setup code (view_of setup tale)) (sym c.view.ensures) before.told.known in
+    let is = tale_counted g.R.TameServer.stored (runs g.R.TameServer.step) setup (plan_of c.args.self.now.plan) c.args.self.now tale before c.forget_asked.new.counts (c.forget_asked.ensures.counted setup (view_of setup tale) known (plan_of c.args.self.now.plan) tale.moment before.counted) in
     let none = sym c.at_mut.ensures.there ∙ ap option_copied_mut c.in_default.is in
     let same : c.at_mut.follows.lender-at-none ≡ c.args.self.now.wires = λ i. record { wires = c.at_mut.follows.holds-at-none i } in
-    subst (λ (wires : Wires). IsTale g.R.TameServer.stored (runs g.R.TameServer.step) setup (plan_of c.args.self.now.plan) (record c.args.self.now { clients = c.hears.new.self; wires = wires }) (told setup (plan_of c.args.self.now.plan) tale (Got c.args.link c.args.bytes.now))) (sym same)
-    (subst (IsTale g.R.TameServer.stored (runs g.R.TameServer.step) setup (plan_of c.args.self.now.plan) (record c.args.self.now { clients = c.hears.new.self }))
-    (sym (ap (λ b. if b then server_says setup (plan_of c.args.self.now.plan) c.args.link c.args.bytes.now tale else record tale { clients = (map (client_hears c.args.link c.args.bytes.now) tale.clients) }) (no_server g.R.TameServer.stored (runs g.R.TameServer.step) setup (plan_of c.args.self.now.plan) c.args.self.now tale is c.args.link none)))
-    (tale_of_clients g.R.TameServer.stored (runs g.R.TameServer.step) setup (plan_of c.args.self.now.plan) c.args.self.now tale is c.hears.new.self (map (client_hears c.args.link c.args.bytes.now) tale.clients)
+    subst (λ (wires : Wires). IsTale g.R.TameServer.stored (runs g.R.TameServer.step) setup (plan_of c.args.self.now.plan) (record c.args.self.now { counts = c.forget_asked.new.counts; clients = c.hears.new.self; wires = wires }) (told setup (plan_of c.args.self.now.plan) tale (Got c.args.link c.args.bytes.now))) (sym same)
+    (subst (IsTale g.R.TameServer.stored (runs g.R.TameServer.step) setup (plan_of c.args.self.now.plan) (record c.args.self.now { counts = c.forget_asked.new.counts; clients = c.hears.new.self }))
+    (sym (ap (λ b. if b then server_says setup (plan_of c.args.self.now.plan) c.args.link c.args.bytes.now tale else record tale { clients = (map (client_hears c.args.link c.args.bytes.now) tale.clients) }) (no_server g.R.TameServer.stored (runs g.R.TameServer.step) setup (plan_of c.args.self.now.plan) (record c.args.self.now { counts = c.forget_asked.new.counts }) tale is c.args.link none)))
+    (tale_of_clients g.R.TameServer.stored (runs g.R.TameServer.step) setup (plan_of c.args.self.now.plan) (record c.args.self.now { counts = c.forget_asked.new.counts }) tale is c.hears.new.self (map (client_hears c.args.link c.args.bytes.now) tale.clients)
     (subst (λ service. AreClients service c.hears.new.self (map (client_hears c.args.link c.args.bytes.now) tale.clients)) c.service.ensures
     (c.in_ok-hears.ensures tale.clients (subst (λ service. AreClients service c.args.self.now.clients tale.clients) (sym c.service.ensures) is.clients))))))
 
 pub returns-clause-leads : goal.returns-clause-leads
 returns-clause-leads g c = on_ok_weaker c.says.result (λ goes.
-    by_plan g.R.TameServer.stored (runs g.R.TameServer.step) c.args.self.now (record c.args.self.now { told = c.says.new.told; wires = c.at_mut.follows.lender c.says.new.wire }) (λ setup plan tale. told setup plan tale (Got c.args.link c.args.bytes.now)) (λ setup tale is.
+    by_plan g.R.TameServer.stored (runs g.R.TameServer.step) c.args.self.now (record c.args.self.now { counts = c.forget_asked.new.counts; told = c.says.new.told; wires = c.at_mut.follows.lender c.says.new.wire }) (λ setup plan tale. told setup plan tale (Got c.args.link c.args.bytes.now)) (λ setup tale before.
+    let known : IsKnown setup c.view.result.now (view_of setup tale) = subst (λ code. IsKnown setup code (view_of setup tale)) (sym c.view.ensures) before.told.known in
+    let is = tale_counted g.R.TameServer.stored (runs g.R.TameServer.step) setup (plan_of c.args.self.now.plan) c.args.self.now tale before c.forget_asked.new.counts (c.forget_asked.ensures.counted setup (view_of setup tale) known (plan_of c.args.self.now.plan) tale.moment before.counted) in
     let wires : Wires = c.at_mut.follows.lender c.says.new.wire in
     let had = sym c.at_mut.ensures.there ∙ ap option_copied_mut c.in-Some.is in
     let back = subst (λ o. OnSome o ((l : LinkId) → wire_at wires l ≡ put is_link_id (wire_at c.args.self.now.wires) c.args.link (Some c.says.new.wire) l)) c.in-Some.is (c.at_mut.follows.holds c.says.new.wire) in
-    subst (IsTale g.R.TameServer.stored (runs g.R.TameServer.step) setup (plan_of c.args.self.now.plan) (record c.args.self.now { told = c.says.new.told; wires = wires }))
-    (sym (ap (λ b. if b then server_says setup (plan_of c.args.self.now.plan) c.args.link c.args.bytes.now tale else record tale { clients = (map (client_hears c.args.link c.args.bytes.now) tale.clients) }) (is_server g.R.TameServer.stored (runs g.R.TameServer.step) setup (plan_of c.args.self.now.plan) c.args.self.now tale is c.args.link c.in-Some.wire.now c.says.new.wire wires had back)))
-    (tale_led_on g.R.TameServer.stored (runs g.R.TameServer.step) setup (plan_of c.args.self.now.plan) c.args.self.now tale is c.args.link c.in-Some.wire.now c.says.new.wire wires had back c.says.new.told (server_says setup (plan_of c.args.self.now.plan) c.args.link c.args.bytes.now tale)
-    (goes setup tale is.told (knew g.R.TameServer.stored (runs g.R.TameServer.step) setup (plan_of c.args.self.now.plan) c.args.self.now tale is c.args.link c.in-Some.wire.now c.says.new.wire wires had back))))) c.says.ensures.goes
+    subst (IsTale g.R.TameServer.stored (runs g.R.TameServer.step) setup (plan_of c.args.self.now.plan) (record c.args.self.now { counts = c.forget_asked.new.counts; told = c.says.new.told; wires = wires }))
+    (sym (ap (λ b. if b then server_says setup (plan_of c.args.self.now.plan) c.args.link c.args.bytes.now tale else record tale { clients = (map (client_hears c.args.link c.args.bytes.now) tale.clients) }) (is_server g.R.TameServer.stored (runs g.R.TameServer.step) setup (plan_of c.args.self.now.plan) (record c.args.self.now { counts = c.forget_asked.new.counts }) tale is c.args.link c.in-Some.wire.now c.says.new.wire wires had back)))
+    (tale_led_on g.R.TameServer.stored (runs g.R.TameServer.step) setup (plan_of c.args.self.now.plan) (record c.args.self.now { counts = c.forget_asked.new.counts }) tale is c.args.link c.in-Some.wire.now c.says.new.wire wires had back c.says.new.told (message_in (link_in setup tale c.args.link).stage) (server_says setup (plan_of c.args.self.now.plan) c.args.link c.args.bytes.now tale)
+    (goes setup tale is.told (knew g.R.TameServer.stored (runs g.R.TameServer.step) setup (plan_of c.args.self.now.plan) (record c.args.self.now { counts = c.forget_asked.new.counts }) tale is c.args.link c.in-Some.wire.now c.says.new.wire wires had back)) (c.forget_asked.ensures.ready setup (view_of setup tale) known)))) c.says.ensures.goes

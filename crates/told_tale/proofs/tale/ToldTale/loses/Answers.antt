@@ -25,4 +25,4 @@ returns-in_ok-gone-in-Some-clause-leads g c =
     tale_led g.R.TameServer.stored (runs g.R.TameServer.step) setup (plan_of c.args.self.now.plan) c.args.self.now tale is c.gone.new.self (is_lost_or_left c.args.link tale)
     (subst (IsLed g.R.TameServer.stored (runs g.R.TameServer.step) setup c.gone.new.self tale) (sym (ap (λ b. if b then tell (Gone c.args.link) tale else fold (client_leaves c.args.link) tale tale.clients)
     (is.there c.args.link ∙ ap is_some (sym c.in-Some.ensures))))
-    (record { same = refl; told = c.in_ok-gone-in-Some.ensures.tells setup tale.story is.told })))
+    (record { same = refl; told = c.in_ok-gone-in-Some.ensures.tells setup tale.story is.told; keeps = refl })))

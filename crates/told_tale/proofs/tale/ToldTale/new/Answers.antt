@@ -1,8 +1,12 @@
 use Rattle.std.proofs.Common.{ap, refl, subst, sym}
 use Rattle.std.specs.Prelude.{is_some}
-use Rattle.log_story.specs.Tale.{new_wire}
+use Rattle.client_due.proofs.Counting.{counted-first}
+use Rattle.client_due.specs.Counting.{IsCounted}
+use Rattle.client_due.specs.declared.counted.Counted.{Counted}
+use Rattle.log_story.specs.Tale.{first_tale, new_wire}
 use Rattle.told_clients.specs.Wires.{IsWireAt}
 use Rattle.told_plan.specs.Plans.{plan_of}
+use Rattle.told_tale.specs.Counts.{known_in}
 use Rattle.told_tale.proofs.tale.ToldTale.new.Goals as goal
 
 pub returns-clause-first : goal.returns-clause-first
@@ -15,4 +19,5 @@ returns-clause-first g c = λ setup is. record {
   links = sym c.new-3.ensures.items;
   wires = λ l. subst (λ o. IsWireAt o (new_wire (record { 0 = 0 }))) (sym (c.new-4.ensures l)) refl;
   there = λ l. sym (ap is_some (c.new-4.ensures l));
+  counted = λ client small. subst (λ (k : Counted). IsCounted (known_in setup (plan_of c.args.plan) first_tale) client k) (sym (c.new-5.ensures client)) (counted-first (known_in setup (plan_of c.args.plan) first_tale) client);
 }

@@ -14,4 +14,5 @@ returns-clause-leads g c = on_ok_weaker c.put.result (λ there setup plan tale i
   links = ap (λ links. links ++ c.args.link ∷ []) is.links ∙ sym c.in_ok-push.ensures.items;
   wires = opened_wires g.R.TameServer.stored (runs g.R.TameServer.step) setup plan c.args.self.now tale is c.args.link c.args.server c.new.result c.put.new.self there c.new.ensures;
   there = among g.R.TameServer.stored (runs g.R.TameServer.step) setup plan c.args.self.now tale is c.args.link c.args.server c.new.result c.put.new.self there c.new.ensures;
+  counted = is.counted;
 }) c.put.ensures

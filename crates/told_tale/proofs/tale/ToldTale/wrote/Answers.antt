@@ -35,5 +35,5 @@ returns-clause-leads g c = on_ok_weaker c.writes.result (λ goes.
     let back = subst (λ o. OnSome o ((l : LinkId) → wire_at wires l ≡ put is_link_id (wire_at c.args.self.now.wires) c.args.link (Some c.writes.new.wire) l)) c.in-Some.is (c.at_mut.follows.holds c.writes.new.wire) in
     subst (IsTale g.R.TameServer.stored (runs g.R.TameServer.step) setup (plan_of c.args.self.now.plan) (record c.args.self.now { told = c.writes.new.told; wires = wires }))
     (sym (ap (λ b. if b then writes setup (plan_of c.args.self.now.plan) c.args.link c.args.tag c.args.bytes.now (tale.wires c.args.link) tale else record tale { clients = (map (client_gets c.args.link (length c.args.bytes.now)) tale.clients) }) (is_server g.R.TameServer.stored (runs g.R.TameServer.step) setup (plan_of c.args.self.now.plan) c.args.self.now tale is c.args.link c.in-Some.wire.now c.writes.new.wire wires had back)))
-    (tale_led_on g.R.TameServer.stored (runs g.R.TameServer.step) setup (plan_of c.args.self.now.plan) c.args.self.now tale is c.args.link c.in-Some.wire.now c.writes.new.wire wires had back c.writes.new.told (writes setup (plan_of c.args.self.now.plan) c.args.link c.args.tag c.args.bytes.now (tale.wires c.args.link) tale)
-    (goes setup tale is.keys is.told (knew g.R.TameServer.stored (runs g.R.TameServer.step) setup (plan_of c.args.self.now.plan) c.args.self.now tale is c.args.link c.in-Some.wire.now c.writes.new.wire wires had back))))) c.writes.ensures.goes
+    (tale_led_on g.R.TameServer.stored (runs g.R.TameServer.step) setup (plan_of c.args.self.now.plan) c.args.self.now tale is c.args.link c.in-Some.wire.now c.writes.new.wire wires had back c.writes.new.told None (writes setup (plan_of c.args.self.now.plan) c.args.link c.args.tag c.args.bytes.now (tale.wires c.args.link) tale)
+    (goes setup tale is.keys is.told (knew g.R.TameServer.stored (runs g.R.TameServer.step) setup (plan_of c.args.self.now.plan) c.args.self.now tale is c.args.link c.in-Some.wire.now c.writes.new.wire wires had back)) tt))) c.writes.ensures.goes
