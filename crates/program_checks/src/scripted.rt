@@ -1,13 +1,13 @@
 // Runs of the router between clients that follow scripts and servers in memory.
 
-mod accounts;
 mod names;
 mod replies;
 mod runs;
 mod scripts;
+mod user;
 
-pub use accounts::{ANYONE, Account};
 pub use names::NAMES;
 pub use replies::calls_in;
 pub use runs::{each_failing, failing_of, one, serve, wire_of};
-pub use scripts::accounts_of;
+pub use scripts::users_of;
+pub use user::User;

@@ -4,7 +4,7 @@ use crate::due::own_answers;
 use crate::due::routing::{message_key, plan_messages, put_own};
 use crate::due::seat::Seat;
 use crate::due::service::service_of;
-use crate::scripted::{ANYONE, Account};
+use crate::scripted::User;
 use check_lines::CaseFault;
 use client_session::{Refusal, Setup};
 use mx_base::{Bytes, ClientNo, LinkId, Tag};
@@ -31,9 +31,9 @@ pub struct Draft {
 }
 
 // By what the router logs in for a client.
-fn login_of(alloc: Global, account: Account) -> Result<Login, CaseFault> {
-    let name = Bytes::from_slice(alloc, account.user)?;
-    let password = Bytes::from_slice(alloc, account.password)?;
+fn login_of(alloc: Global, user: User) -> Result<Login, CaseFault> {
+    let name = Bytes::from_slice(alloc, user.name())?;
+    let password = Bytes::from_slice(alloc, user.password())?;
     Ok(Login::new(name, password, false))
 }
 
@@ -45,7 +45,7 @@ fn number_at(at: usize) -> ClientNo {
 impl Draft {
     /// Nothing was read.
     pub fn new(alloc: Global, service: Setup) -> Result<Self, CaseFault> {
-        let others = login_of(alloc, ANYONE)?;
+        let others = login_of(alloc, User::U)?;
         let plan = Plan::new(
             alloc,
             service,
@@ -71,7 +71,7 @@ impl Draft {
     }
 
     /// An entry is read of a log whose clients are these users, in order.
-    pub fn reads(&mut self, clients: &[Account], entry: &Entry) -> Result<(), CaseFault> {
+    pub fn reads(&mut self, clients: &[User], entry: &Entry) -> Result<(), CaseFault> {
         self.moment = self.moment.saturating_add(1);
         match entry {
             Entry::Accepted { link, salt, .. } => self.comes(clients, *link, *salt),
@@ -88,17 +88,12 @@ impl Draft {
     }
 
     // A client comes.
-    fn comes(
-        &mut self,
-        clients: &[Account],
-        link: LinkId,
-        salt: [u8; 20],
-    ) -> Result<(), CaseFault> {
-        let account = match clients.get(self.seats.len()) {
-            Some(account) => *account,
-            None => ANYONE,
+    fn comes(&mut self, clients: &[User], link: LinkId, salt: [u8; 20]) -> Result<(), CaseFault> {
+        let user = match clients.get(self.seats.len()) {
+            Some(user) => *user,
+            None => User::U,
         };
-        self.seats.push(Seat::new(link, account))?;
+        self.seats.push(Seat::new(link, user))?;
         match self
             .clients
             .accept(self.alloc, self.plan.service(), link, salt)
@@ -164,7 +159,7 @@ impl Draft {
         self.lines.insert(link, Line::new(at))?;
         if let Some(seat) = self.seats.get_mut(at) {
             seat.has_line = true;
-            let account = login_of(self.alloc, seat.account)?;
+            let account = login_of(self.alloc, seat.user)?;
             self.plan.put_login(link, account)?;
         }
         Ok(())
@@ -251,7 +246,7 @@ impl Draft {
 }
 
 // Reads a whole log.
-fn read_log(draft: &mut Draft, clients: &[Account], log: &[Entry]) -> Result<(), CaseFault> {
+fn read_log(draft: &mut Draft, clients: &[User], log: &[Entry]) -> Result<(), CaseFault> {
     for entry in log {
         draft.reads(clients, entry)?;
     }
@@ -259,7 +254,7 @@ fn read_log(draft: &mut Draft, clients: &[Account], log: &[Entry]) -> Result<(),
 }
 
 /// What the router decided along a log, whose clients are these.
-pub fn plan_of(alloc: Global, clients: &[Account], log: &[Entry]) -> Result<Plan, CaseFault> {
+pub fn plan_of(alloc: Global, clients: &[User], log: &[Entry]) -> Result<Plan, CaseFault> {
     let mut draft = Draft::new(alloc, service_of(alloc)?)?;
     read_log(&mut draft, clients, log)?;
     Ok(draft.into_plan())

@@ -3,11 +3,11 @@ ghost use Rattle.std.specs.Prelude.{IfOk};
 ghost use Rattle.mem_rule.specs.Stored.{tables_out, tests};
 ghost use Rattle.private_turns.specs.Kept.{AreAccepted};
 
-use crate::scripted::{ANYONE, Account};
+use crate::scripted::User;
 use check_lines::CaseFault;
 use mem_server::MemServer;
 use mx_base::{Bytes, ClientNo, ServerId};
-use private_turns::{Account as Login, Accounts, Servers};
+use private_turns::{Account, Accounts, Servers};
 use session_state::Place;
 use session_vars::Settings;
 use std::alloc::Global;
@@ -39,29 +39,28 @@ fn places_of(alloc: Global) -> Result<(Keys, Openings), CaseFault> {
     Ok((Keys::new(alloc, Key { text, place }), openings))
 }
 
-fn login_of(alloc: Global, account: Account) -> Result<Login, CaseFault> {
-    Ok(Login {
-        user: Bytes::from_slice(alloc, account.user)?,
+fn account_of(alloc: Global, user: User) -> Result<Account, CaseFault> {
+    Ok(Account {
+        user: Bytes::from_slice(alloc, user.name())?,
         found_rows: false,
     })
 }
 
 // The clients are these, in order.
-fn put_clients(
-    alloc: Global,
-    accounts: &mut Accounts,
-    clients: &[Account],
-) -> Result<(), CaseFault> {
+fn put_clients(alloc: Global, accounts: &mut Accounts, clients: &[User]) -> Result<(), CaseFault> {
     let mut number = 0u64;
     for client in clients {
         number = number.saturating_add(1);
-        accounts.put(Party::accepted(ClientNo(number)), login_of(alloc, *client)?)?;
+        accounts.put(
+            Party::accepted(ClientNo(number)),
+            account_of(alloc, *client)?,
+        )?;
     }
     Ok(())
 }
 
-fn accounts_of(alloc: Global, clients: &[Account]) -> Result<Accounts, CaseFault> {
-    let mut accounts = Accounts::new(alloc, login_of(alloc, ANYONE)?);
+fn accounts_of(alloc: Global, clients: &[User]) -> Result<Accounts, CaseFault> {
+    let mut accounts = Accounts::new(alloc, account_of(alloc, User::U)?);
     put_clients(alloc, &mut accounts, clients)?;
     Ok(accounts)
 }
@@ -76,7 +75,7 @@ fn servers_of(alloc: Global) -> Result<Servers<MemServer>, CaseFault>
 }
 
 /// That of one server without tables, and of these clients.
-pub fn opening_of(alloc: Global, clients: &[Account]) -> Result<Opening, CaseFault>
+pub fn opening_of(alloc: Global, clients: &[User]) -> Result<Opening, CaseFault>
     ensures { IfOk result (λ opening. AreAccepted tests tables_out opening.servers) }
 {
     let accounts = accounts_of(alloc, clients)?;

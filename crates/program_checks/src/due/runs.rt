@@ -2,7 +2,7 @@
 use crate::due::compared::{Difference, compared};
 use crate::due::walk::walk_of;
 use crate::names::named;
-use crate::scripted::{NAMES, accounts_of, calls_in, failing_of, serve, wire_of};
+use crate::scripted::{NAMES, calls_in, failing_of, serve, users_of, wire_of};
 use check_lines::{Answer, CaseFault, Fields};
 use mx_wire::Entry;
 use std::alloc::Global;
@@ -19,7 +19,7 @@ struct Found {
 
 // What is found in a log of clients of these scripts.
 fn found_in(alloc: Global, scripts: &str, log: &[Entry], rests: bool) -> Result<Found, CaseFault> {
-    let clients = accounts_of(alloc, scripts)?;
+    let clients = users_of(alloc, scripts)?;
     let mut tale = walk_of(alloc, &clients, log)?;
     let difference = compared(alloc, &mut tale, log, rests)?;
     Ok(Found {

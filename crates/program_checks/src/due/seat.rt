@@ -1,5 +1,5 @@
 // A client, as its log is read.
-use crate::scripted::Account;
+use crate::scripted::User;
 use mx_base::LinkId;
 
 /// A client, as its log is read: its link, who it is, and the ordinals of its last messages: of those that were read, of those that go
@@ -7,7 +7,7 @@ use mx_base::LinkId;
 #[derive(Clone, Copy)]
 pub struct Seat {
     pub link: LinkId,
-    pub account: Account,
+    pub user: User,
     pub read: u64,
     pub routed: u64,
     pub written: u64,
@@ -19,10 +19,10 @@ pub struct Seat {
 
 impl Seat {
     /// A client that came.
-    pub fn new(link: LinkId, account: Account) -> Self {
+    pub fn new(link: LinkId, user: User) -> Self {
         Seat {
             link,
-            account,
+            user,
             read: 0,
             routed: 0,
             written: 0,

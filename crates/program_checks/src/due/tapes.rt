@@ -7,7 +7,7 @@ ghost use Rattle.recording.specs.Playable.{IsPlayable};
 use crate::due::walk::{read, read_all, walk_of};
 use crate::given::{entries_of, recording_of};
 use crate::names::{NAMES, named};
-use crate::scripted::{ANYONE, serve};
+use crate::scripted::{User, serve};
 use check_lines::{Answer, CaseFault, Fields};
 use mem_server::MemServer;
 use mem_wire::Tape;
@@ -91,7 +91,7 @@ fn push_named(answer: &mut Answer, text: &str) {
 }
 
 fn push_due(digits: &mut Answer, log: &[Entry], shown: Shown) {
-    match walk_of(digits.alloc(), &[ANYONE], log) {
+    match walk_of(digits.alloc(), &[User::U], log) {
         Ok(mut tale) => push_by(digits, &mut tale, log, shown),
         Err(fault) => digits.fail(fault),
     }

@@ -5,7 +5,7 @@ ghost use Rattle.private_turns.specs.Kept.{AreAccepted, IsSound};
 
 use crate::due::draft::plan_of;
 use crate::due::openings::{Opening, opening_of};
-use crate::scripted::Account;
+use crate::scripted::User;
 use check_lines::CaseFault;
 use mem_server::MemServer;
 use mx_wire::Entry;
@@ -37,7 +37,7 @@ fn walk_by(alloc: Global, plan: Plan, opening: Opening) -> ToldTale<MemServer>
 /// A walk that has read nothing, by what the router decided along this log, whose clients are these.
 pub fn walk_of(
     alloc: Global,
-    clients: &[Account],
+    clients: &[User],
     log: &[Entry],
 ) -> Result<ToldTale<MemServer>, CaseFault>
     ensures { IfOk result (λ tale. IsSound tests tables_out tale.told.own) }

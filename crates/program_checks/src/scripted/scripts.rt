@@ -3,7 +3,7 @@ ghost use Rattle.std.specs.Prelude.{IfOk};
 ghost use Rattle.std.specs.List.{All};
 ghost use Rattle.handshake.specs.Spelling.{IsText};
 
-use crate::scripted::accounts::{Account, account_of};
+use crate::scripted::user::User;
 use check_lines::CaseFault;
 use mx_base::Bytes;
 use scripted_wire::Script;
@@ -52,15 +52,13 @@ fn commands_of(alloc: Global, text: &str) -> Result<Vec<Bytes>, CaseFault> {
 }
 
 // Who the client of a script is, and the text of its commands, where it has any.
-fn account_in(text: &str) -> Result<(Account, Option<&str>), CaseFault>
-    ensures { IfOk result (λ found. IsText found.0.user.now) }
-{
+fn user_in(text: &str) -> Result<(User, Option<&str>), CaseFault> {
     let (word, commands) = match text.split_once("; ") {
         Some((word, commands)) => (word, Some(commands)),
         None => (text, None),
     };
-    match account_of(word) {
-        Some(account) => Ok((account, commands)),
+    match User::of(word) {
+        Some(user) => Ok((user, commands)),
         None => Err(CaseFault::Bad),
     }
 }
@@ -69,14 +67,14 @@ fn account_in(text: &str) -> Result<(Account, Option<&str>), CaseFault>
 fn script_of(alloc: Global, text: &str) -> Result<Script, CaseFault>
     ensures { IfOk result (λ script. IsText script.user) }
 {
-    let (account, commands) = account_in(text)?;
+    let (user, commands) = user_in(text)?;
     let commands = match commands {
         Some(commands) => commands_of(alloc, commands)?,
         None => Vec::new(alloc),
     };
     Ok(Script {
-        user: Bytes::from_slice(alloc, account.user)?,
-        password: Bytes::from_slice(alloc, account.password)?,
+        user: Bytes::from_slice(alloc, user.name())?,
+        password: Bytes::from_slice(alloc, user.password())?,
         commands,
     })
 }
@@ -97,14 +95,14 @@ pub fn scripts_of(alloc: Global, text: &str) -> Result<Vec<Script>, CaseFault>
 }
 
 /// Who the clients of these scripts are, in order.
-pub fn accounts_of(alloc: Global, text: &str) -> Result<Vec<Account>, CaseFault> {
-    let mut accounts = Vec::new(alloc);
+pub fn users_of(alloc: Global, text: &str) -> Result<Vec<User>, CaseFault> {
+    let mut users = Vec::new(alloc);
     if text.is_empty() {
-        return Ok(accounts);
+        return Ok(users);
     }
     for part in text.split(" | ") {
-        let (account, _) = account_in(part)?;
-        accounts.push(account)?;
+        let (user, _) = user_in(part)?;
+        users.push(user)?;
     }
-    Ok(accounts)
+    Ok(users)
 }
