@@ -8,7 +8,7 @@ use crate::{EndKind, ReplyEnd};
 use pin_classifier::{Class, Locking};
 
 /// The reasons for which a session keeps its link. None stands at first.
-#[derive(Clone, Copy, Debug, PartialEq, Eq)]
+#[derive(Clone, Copy)]
 pub struct Pin {
     /// It may have state that isn't tracked.
     pub deep: bool,

@@ -3,7 +3,7 @@ ghost use Rattle.std.specs.Prelude.{◌≡◌};
 ghost use Rattle.session_state.specs.Endings.{brings_id, is_err, is_ok, shows_transaction, warns};
 
 /// What ends a reply.
-#[derive(Clone, Copy, Debug, PartialEq, Eq)]
+#[derive(Clone, Copy, PartialEq, Eq)]
 pub enum EndKind {
     /// An OK.
     Ok,
@@ -17,7 +17,7 @@ pub enum EndKind {
 
 /// How a reply ended, as its last result says (client/server protocol, "OK_Packet", "ERR_Packet", "EOF_Packet",
 /// "COM_STMT_PREPARE Response"). A number that isn't there is 0.
-#[derive(Clone, Copy, Debug, PartialEq, Eq)]
+#[derive(Clone, Copy)]
 pub struct ReplyEnd {
     pub kind: EndKind,
     /// The status flags of the OK or EOF; None exactly for `Err` and `Prepared`.
