@@ -4,7 +4,7 @@ ghost use Rattle.mx_wire.specs.Tells.{HasCause};
 ghost use Rattle.mx_wire.specs.Outside.{HasUnder};
 
 /// Why a file wasn't read.
-#[derive(Clone, Copy, Debug, PartialEq, Eq)]
+#[derive(Clone, Copy, Debug)]
 pub enum FileFault {
     Failed,
     OutOfMemory,

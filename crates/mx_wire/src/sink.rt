@@ -4,7 +4,7 @@ ghost use Rattle.mx_wire.specs.Tells.{HasCause};
 ghost use Rattle.mx_wire.specs.Outside.{Takes, TakesFront};
 
 /// The sink failed.
-#[derive(Clone, Copy, Debug, PartialEq, Eq)]
+#[derive(Clone, Copy, Debug)]
 pub struct SinkFailed;
 
 /// Where the program prints.

@@ -10,14 +10,14 @@ ghost use Rattle.mx_wire.specs.declared.entry.Entry.TheVariants as entry;
 use mx_base::{Address, LinkId, OutOfMemory, Port, ServerId, Tag};
 
 /// The answer of `listen`.
-#[derive(Clone, Copy, Debug, PartialEq, Eq)]
+#[derive(Clone, Copy, Debug)]
 pub enum Listened {
     Done,
     Failed,
 }
 
 /// The answer of `wait`.
-#[derive(Clone, Copy, Debug, PartialEq, Eq)]
+#[derive(Clone, Copy, Debug)]
 pub enum Woke {
     Woke { now_ms: u64 },
     /// Nothing further will be ready.
@@ -26,7 +26,7 @@ pub enum Woke {
 }
 
 /// The answer of `accept`. Each byte of a salt is from 0x01 to 0x7F.
-#[derive(Clone, Copy, Debug, PartialEq, Eq)]
+#[derive(Clone, Copy, Debug)]
 pub enum Accepted {
     Link { id: LinkId, salt: [u8; 20] },
     NotReady,
@@ -34,14 +34,14 @@ pub enum Accepted {
 }
 
 /// The answer of `open`.
-#[derive(Clone, Copy, Debug, PartialEq, Eq)]
+#[derive(Clone, Copy, Debug)]
 pub enum Opened {
     Link { id: LinkId },
     Failed,
 }
 
 /// The answer of `read`.
-#[derive(Clone, Copy, Debug, PartialEq, Eq)]
+#[derive(Clone, Copy, Debug)]
 pub enum Got {
     /// So many bytes were read, at least one.
     Got { n: usize },
@@ -51,7 +51,7 @@ pub enum Got {
 }
 
 /// The answer of `write`.
-#[derive(Clone, Copy, Debug, PartialEq, Eq)]
+#[derive(Clone, Copy, Debug)]
 pub enum Took {
     /// So many bytes of the piece were taken, at least one.
     Took { n: usize },
