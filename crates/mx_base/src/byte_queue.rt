@@ -8,7 +8,7 @@ use std::marker::Model;
 /// Bytes that come at the back and go at the front, which contracts see as the list of those that are left.
 /// Each byte is moved a bounded number of times, however the bytes come and go: those that are left move to
 /// the front only when at least as many have gone.
-#[derive(Drop, Debug)]
+#[derive(Drop)]
 pub struct ByteQueue {
     items: Vec<u8>,
     gone: usize,

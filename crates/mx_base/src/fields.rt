@@ -5,7 +5,7 @@ ghost use Rattle.mx_base.specs.Fields.{number_at, lenenc_at, lenenc};
 use crate::OutOfMemory;
 
 /// What stands where a length-encoded number is due (client/server protocol, "Protocol::LengthEncodedInteger").
-#[derive(Clone, Copy, Debug, PartialEq, Eq)]
+#[derive(Clone, Copy, Debug)]
 pub enum Field {
     /// The number, and the place behind its spelling. A longer spelling of a small number is one too.
     Value { n: u64, next: usize },
