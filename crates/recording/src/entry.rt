@@ -3,7 +3,7 @@ use mx_base::{Bytes, Port};
 
 /// A link of a recording: `c<n>` is the client of the n-th `accept` line, and `s<k>` the server link of the k-th
 /// open that succeeded. Both count from 1.
-#[derive(Clone, Copy, Debug, PartialEq, Eq)]
+#[derive(Clone, Copy, Debug)]
 pub enum RecordLink {
     Client(u16),
     Server(u16),

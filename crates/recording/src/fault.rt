@@ -29,14 +29,14 @@ pub(crate) enum Kind {
 /// below the last; 6 a client's number out of order, or a line on a client that isn't accepted, or `bytes`,
 /// `end` or `fail` on a link that has ended or failed; 7 the line that passes 1,000,000 lines or 268,435,456
 /// bytes.
-#[derive(Clone, Copy, Debug, PartialEq, Eq)]
+#[derive(Clone, Copy, Debug)]
 pub struct RecordFault {
     pub line: u32,
     pub kind: u8,
 }
 
 /// Why `read_recording` gives no entries.
-#[derive(Clone, Copy, Debug, PartialEq, Eq)]
+#[derive(Clone, Copy, Debug)]
 pub enum RecordRefusal {
     Fault(RecordFault),
     OutOfMemory,
