@@ -11,7 +11,7 @@ use mx_base::{Bytes, OutOfMemory};
 use packet_frame::write_message;
 
 /// A table of texts: the names of its columns, and its rows with a cell for each column, None being NULL.
-#[derive(Drop, Debug)]
+#[derive(Drop)]
 pub struct Table {
     pub columns: Vec<Bytes>,
     pub rows: Vec<Vec<Option<Bytes>>>,
