@@ -78,10 +78,11 @@ pub(crate) fn done(rows: u64, id: u64) -> Answer
     Answer::Done { rows, id }
 }
 
-pub(crate) fn refused(fault: Fault) -> Answer
-    ensures { result ≡ Answer.Refused fault }
+// It is refused.
+pub(crate) fn refuse(did: &mut Did, fault: Fault)
+    ensures { did.new ≡ record did.old { answer = Answer.Refused fault } }
 {
-    Answer::Refused { fault }
+    did.answer = Answer::Refused { fault };
 }
 
 // What is left.

@@ -7,9 +7,7 @@ ghost use Rattle.mem_rule.specs.Scenes as scenes;
 ghost use Rattle.mem_rule.specs.Steps.{cell, change, commit, create, create_temporary, does, frees, get_lock, goes_on_with, insert, insert_at, lock_by, on_table, plain_note, row_note, rows_do, select, show, show_id, shown_by, stays, table_fault, unlock, variable, variable_by, warning_by, warnings};
 
 use crate::column::names;
-use crate::did::{
-    commit, goes_on_with, plain_note, put_freed, put_plain, refused, row_note, write,
-};
+use crate::did::{commit, goes_on_with, plain_note, put_freed, put_plain, refuse, row_note, write};
 use crate::note::{behind, put_text};
 use crate::scene::{Scene, named_lock, table_lock};
 use itoa::Buffer;
@@ -31,7 +29,7 @@ fn insert_at(
     ensures { OnOk result (did.new ≡ insert_at c.now id text.now) }
 {
     if c.seen(id).is_some() {
-        did.answer = refused(Fault::Duplicate);
+        refuse(did, Fault::Duplicate);
         return Ok(());
     }
     let note = row_note(alloc, NoteKind::Put, c.schema.as_slice(), id, text)?;
@@ -44,7 +42,7 @@ fn insert(alloc: Global, c: &Scene, text: &[u8], did: &mut Did) -> Result<(), Ou
 {
     let most = c.greatest_id();
     if most == u64::MAX {
-        did.answer = refused(Fault::Duplicate);
+        refuse(did, Fault::Duplicate);
         return Ok(());
     }
     let note = row_note(alloc, NoteKind::Put, c.schema.as_slice(), most + 1, text)?;
@@ -138,7 +136,7 @@ fn setting(alloc: Global, c: &Scene, name: &[u8], did: &mut Did) -> Result<(), O
     ensures { OnOk result (did.new ≡ shown_by (slot_named name.now) c.now name.now) }
 {
     let Some(slot) = Slot::named(name) else {
-        did.answer = refused(Fault::Syntax);
+        refuse(did, Fault::Syntax);
         return Ok(());
     };
     let row = text_bytes(alloc, value_text(c.session.settings.value(slot)))?;
@@ -200,8 +198,13 @@ fn begin(alloc: Global, c: &Scene, did: &mut Did) -> Result<(), OutOfMemory>
     requires { did.old ≡ stays c.now (Answer.Done 0 0) }
     ensures { OnOk result (did.new ≡ commit c.now (note_bytes (plain_note NoteKind.Begun []))) }
 {
-    let note = plain_note(alloc, NoteKind::Begun, b"")?;
     commit(alloc, c, did)?;
+    let note = Note {
+        kind: NoteKind::Begun,
+        key: Bytes::new(alloc),
+        id: 0,
+        text: Bytes::new(alloc),
+    };
     did.tx = behind(alloc, b"", &note)?;
     Ok(())
 }
@@ -211,7 +214,7 @@ fn create(alloc: Global, c: &Scene, did: &mut Did) -> Result<(), OutOfMemory>
     ensures { OnOk result (did.new ≡ create c.now) }
 {
     if c.is_locked(alloc)? {
-        did.answer = refused(Fault::Locked);
+        refuse(did, Fault::Locked);
         return Ok(());
     }
     commit(alloc, c, did)?;
@@ -327,7 +330,7 @@ fn on_table(alloc: Global, c: &Scene, said: &Said, did: &mut Did) -> Result<(), 
     ensures { OnOk result (did.new ≡ on_table (scenes.place c.now) c.now (rows_do said.now.form said.now c.now)) }
 {
     if let Some(fault) = table_fault(c) {
-        did.answer = refused(fault);
+        refuse(did, fault);
         return Ok(());
     }
     match said.form {
