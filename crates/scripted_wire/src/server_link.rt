@@ -48,6 +48,9 @@ fn asks_found_rows(capabilities: u32) -> bool
     capabilities & FOUND_ROWS != 0
 }
 
+// What was asked is done with.
+fn let_go(_asked: Asked) {}
+
 // The packets of a reply, the first with the sequence id `first`.
 fn spelled(alloc: Global, first: u8, payloads: &[Bytes]) -> Result<Vec<u8>, OutOfMemory>
     ensures { IfOk result (λ packets. packets.items ≡ spellings first payloads.now) }
@@ -211,13 +214,16 @@ impl ServerLink {
         requires some { IsSome self.old.client.framer.found }
         ensures { IfOk result (λ did. record { link = self.new; hosted = hosts.new; did = did } ≡ runs R.step first self.old hosts.old) }
     {
-        let asked = read_asked(alloc, self.client.payload())?;
-        self.client.done();
         let Some(seat) = self.seat else {
+            self.client.done();
             self.ended = true;
             return Ok(Did::Nothing);
         };
-        self.answer(alloc, hosts, first, seat, &asked)
+        let asked = read_asked(alloc, self.client.payload())?;
+        self.client.done();
+        let did = self.answer(alloc, hosts, first, seat, &asked);
+        let_go(asked);
+        did
     }
 
     // What is asked in a session is done.
