@@ -1,6 +1,6 @@
 -- The worked logs, computed.
 use Rattle.std.specs.Prelude.{◌≡◌, refl, true, ℕ, codes, List, Option, length, nat_eq, [], ◌∷◌, ◌++◌, Some, None}
-use Rattle.std.proofs.Common.{ap, arith, sym, inl, inr, ◌∙◌}
+use Rattle.std.proofs.Common.{ap, arith, sym, inl, inr, subst, ◌∙◌}
 use Rattle.std.specs.Fmt.{digits}
 use Rattle.packet_frame.specs.Packets.{first_message, spelling, spellings, split}
 use Rattle.handshake.specs.Response.{response_fields, head_fields, response_of}
@@ -21,8 +21,16 @@ use Rattle.session_state.specs.Pins.{no_pin}
 use Rattle.session_state.specs.declared.names.SessionName.{SessionName}
 use Rattle.private_model.specs.Lawful.{Begins, IsLawful}
 use Rattle.private_model.specs.View.{present}
+use Rattle.server_rule.specs.Laws.{IsTame}
+use Rattle.server_rule.specs.Servers.{Step, Tests}
+use Rattle.private_model.specs.Honest.{IsAccepted}
+use Rattle.private_model.specs.View.{Setup}
+use Rattle.small_server.specs.Tally.{tests}
+use Rattle.small_server.proofs.Lawfulness.{tally_tame}
+use Rattle.log_story.specs.Headline.{HasPrivateBytes}
+use Rattle.log_cases.specs.Cases.{IsWorked}
 use Rattle.small_server.proofs.Told.{begins_at, begins_with, begun_so, settled_so, told}
-use Rattle.small_server.specs.Stories.{anybody, came, due_at, insert, link, nowhere, session, setup, shared}
+use Rattle.small_server.specs.Stories.{anybody, came, due_at, insert, link, nowhere, reads, session, setup, shared}
 use Rattle.log_cases.specs.Aside.{asker, asks, begin, beside_log, beside_plan, beside_story, copy_log, copy_plan, copy_story, given_up, goes_on, is_answered}
 use Rattle.log_cases.specs.Aside.{is_given_up, is_woken, job_session, own_plan, ended_log, ended_plan, ended_story}
 use Rattle.log_cases.specs.Executed.{done, due_with, execute_log, execute_plan, execute_story, first_run, first_story, prepared_story, preparer, runs_with}
@@ -42,8 +50,21 @@ pub record IsComputed (plan : Plan) (log : Log) (story : Story) : Type 0 where
   pub told : story_of setup plan log ≡ story
   pub tested : log_tested setup plan server first_tale log ≡ true
 
-pub honest_so : (plan : Plan) (log : Log) (story : Story) → IsComputed plan log story → IsHonestLog setup plan server log
+honest_so : (plan : Plan) (log : Log) (story : Story) → IsComputed plan log story → IsHonestLog setup plan server log
 honest_so plan log story is = tested_so setup plan server first_tale log is.tested
+
+-- the law of private bytes
+abbrev pub PrivateBytes : Type 0
+PrivateBytes = (setup : Setup) (plan : Plan) (tests : Tests) (server : Step) (log : Log) → IsTame setup.reads tests server → IsAccepted setup tests
+    → IsLawful setup (story_of setup plan log) → IsHonestLog setup plan server log → HasPrivateBytes setup plan server log
+
+pub worked_so : PrivateBytes → (plan : Plan) (log : Log) (story : Story) → IsComputed plan log story → IsLawful setup story → IsWorked plan log story
+worked_so law plan log story is lawful = record {
+  told = is.told;
+  lawful = lawful;
+  honest = honest_so plan log story is;
+  private = law setup plan tests server log (tally_tame reads) (λ at. refl) (subst (IsLawful setup) (sym is.told) lawful) (honest_so plan log story is);
+}
 
 pub record AreComputed : Type 0 where
   pub worked : IsComputed plan log shared

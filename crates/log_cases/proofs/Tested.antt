@@ -1,5 +1,5 @@
 -- Whether a log is honest, by a test that can be computed.
-use Rattle.std.specs.Prelude.{◌≡◌, ◌<◌, ℕ, zero, suc, Bool, true, false, not, ◌&&◌, ◌||◌, is_some, nat_eq, nat_lt, bytes_eq, ◌/◌, drop, length, take, List, []}
+use Rattle.std.specs.Prelude.{◌≡◌, ◌<◌, ℕ, zero, suc, Bool, true, false, not, ◌&&◌, ◌||◌, nat_eq, nat_lt, bytes_eq, ◌/◌, drop, length, take, List, []}
 use Rattle.std.specs.Prelude.{◌∷◌, ◌++◌, Option, Some, None}
 use Rattle.std.specs.List.{list_all}
 use Rattle.std.proofs.Common.{refl, sym, ap, append-nil, arith, lit<, subst, ◌∙◌}
@@ -24,13 +24,11 @@ use Rattle.reply_track.proofs.Replying.{handed-on, payloads-again}
 use Rattle.session_vars.specs.declared.long_part.LongPart.{LongPart}
 use Rattle.server_side.specs.Login.{Opening, Goes, LogsIn, Fails, opening}
 use Rattle.server_rule.specs.Servers.{Step, is_some_of}
-use Rattle.private_model.specs.Names.{LinkId, ServerId}
-use Rattle.private_model.specs.Commands.{Args, Command, Quit, Reply, Run, is_made, number_in, runs}
-use Rattle.private_model.specs.Honest as model
-use Rattle.private_model.specs.Honest.{prepares}
-use Rattle.private_model.specs.Story.{Key, Question, command_of}
+use Rattle.private_model.specs.Names.{LinkId}
+use Rattle.private_model.specs.Commands.{Args, Command, Quit, Reply, Run, runs}
+use Rattle.private_model.specs.Story.{Question, command_of}
 use Rattle.private_model.specs.View.{Answered, Asked, Quiet, Setup, Stage}
-use Rattle.private_model.specs.Worlds.{Real, at_link, there_command}
+use Rattle.small_server.proofs.Honesty.{fresh_so, is_fresh}
 use Rattle.log_story.specs.Executes.{args_in, is_for}
 use Rattle.log_story.specs.Plan.{Asks, Closes, Plan, Resets, StepText, com_execute, step_payload, text_payload}
 use Rattle.log_story.specs.Tale.{Tale, Wire, is_reset_step, is_to_server, link_in}
@@ -211,57 +209,34 @@ written_so : (command : Command) (number : Option ℕ) (written : List ℕ) → 
 written_so (Run text schema settings args) number written so = execute_so number (written_in written).messages args written refl so
 written_so command number written so = (bytes_eq-Decides _ _).0 so
 
-abbrev is_unused : (prepares made : Bool) → Option Key → Bool
-is_unused prepares made entry = not prepares || (not made || not (is_some entry))
+-- what was written for a question that may run spells it
+abbrev written_tested : (live : ℕ → Option ℕ) → (written : List ℕ) → (alive : Bool) → Stage → Bool
+written_tested live written true (Asked question) = is_written (command_of question) (number_for question live) written
+written_tested live written _ _ = true
 
-unused_so : (prepares made : Bool) (entry : Option Key) → is_unused prepares made entry ≡ true → prepares ≡ true → made ≡ true → entry ≡ None
-unused_so false made entry so p m = isnt p
-unused_so true false entry so p m = isnt m
-unused_so true true None so p m = refl
-unused_so true true (Some key) so p m = isnt so
-
-module _ (server : Step) (real : Real) (link : LinkId) (live : ℕ → Option ℕ) (at : ServerId) (written : List ℕ) where
-  abbrev answer_at : Question → Reply
-  answer_at question = (at_link (runs server) real link at (there_command question live (real.peers link).table)).reply
-
-  abbrev run_tested : (alive : Bool) → Stage → Bool
-  run_tested true (Asked question) =
-      is_written (command_of question) (number_for question live) written
-      && is_unused (prepares question) (is_made (answer_at question)) ((real.peers link).table (number_in (answer_at question)))
-  run_tested _ _ = true
-
-  asked_so : (alive : Bool) (stage : Stage) → run_tested alive stage ≡ true → (question : Question) → alive ≡ true → stage ≡ Asked question
-      → IsWritten (command_of question) (number_for question live) written
-  asked_so true (Asked other) so question a s =
-      let same : other ≡ question = cc in
-      subst (λ q. IsWritten (command_of q) (number_for q live) written) same
-      (written_so (command_of other) (number_for other live) written (and_parts _ _ so).0)
-  asked_so true Quiet so question a s = absurd (cc)
-  asked_so true (Answered other) so question a s = absurd (cc)
-  asked_so false stage so question a s = isnt a
-
-  fresh_so : (alive : Bool) (stage : Stage) → run_tested alive stage ≡ true → model.IsTrueRun (runs server) real link live alive stage at
-  fresh_so true (Asked question) so =
-      record {
-        unused = unused_so (prepares question) (is_made (answer_at question)) ((real.peers link).table (number_in (answer_at question)))
-            (and_parts _ _ so).1;
-      }
-  fresh_so true Quiet so = tt
-  fresh_so true (Answered question) so = tt
-  fresh_so false stage so = tt
+asked_so : (live : ℕ → Option ℕ) (written : List ℕ) (alive : Bool) (stage : Stage) → written_tested live written alive stage ≡ true
+    → (question : Question) → alive ≡ true → stage ≡ Asked question → IsWritten (command_of question) (number_for question live) written
+asked_so live written true (Asked other) so question a s =
+    let same : other ≡ question = cc in
+    subst (λ q. IsWritten (command_of q) (number_for q live) written) same (written_so (command_of other) (number_for other live) written so)
+asked_so live written true Quiet so question a s = absurd (cc)
+asked_so live written true (Answered other) so question a s = absurd (cc)
+asked_so live written false stage so question a s = isnt a
 
 abbrev runs_tested : Setup → Step → Tale → LinkId → Bool
 runs_tested setup server tale link =
-    run_tested server (real_of setup server tale) link (link_in setup tale link).live (link_in setup tale link).server (tale.wires link).written
-    (link_in setup tale link).alive (link_in setup tale link).stage
+    written_tested (link_in setup tale link).live (tale.wires link).written (link_in setup tale link).alive (link_in setup tale link).stage
+    && is_fresh (runs server) (real_of setup server tale) link (link_in setup tale link).live (link_in setup tale link).alive
+    (link_in setup tale link).stage (link_in setup tale link).server
 
 run_so : (setup : Setup) (server : Step) (tale : Tale) (link : LinkId) → runs_tested setup server tale link ≡ true → IsTrueRun setup server tale link
-run_so setup server tale link so = record {
-  written = asked_so server (real_of setup server tale) link (link_in setup tale link).live (link_in setup tale link).server (tale.wires link).written
-      (link_in setup tale link).alive (link_in setup tale link).stage so;
-  fresh = fresh_so server (real_of setup server tale) link (link_in setup tale link).live (link_in setup tale link).server (tale.wires link).written
-      (link_in setup tale link).alive (link_in setup tale link).stage so;
-}
+run_so setup server tale link so =
+    let both = and_parts _ _ so in
+    record {
+      written = asked_so (link_in setup tale link).live (tale.wires link).written (link_in setup tale link).alive (link_in setup tale link).stage both.0;
+      fresh = fresh_so (runs server) (real_of setup server tale) link (link_in setup tale link).live (link_in setup tale link).alive
+          (link_in setup tale link).stage (link_in setup tale link).server both.1;
+    }
 
 -- What is read.
 

@@ -1,3 +1,4 @@
 pub mod Worked
 pub mod Aside
+pub mod Cases
 pub mod Executed

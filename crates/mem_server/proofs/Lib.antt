@@ -1,4 +1,3 @@
 mod Bindings
 mod Fitting
 mod Reading
-mod Writing

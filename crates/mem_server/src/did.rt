@@ -2,12 +2,13 @@
 ghost use Rattle.std.specs.Prelude.{◌≡◌, ◌∷◌, [], ◌++◌, IfOk, OnOk};
 ghost use Rattle.mem_rule.specs.Notes.{note_bytes};
 ghost use Rattle.mem_rule.specs.Scenes as scenes;
-ghost use Rattle.mem_rule.specs.Steps.{commit, frees, goes_on_with, plain_note, row_note, stays, write};
+ghost use Rattle.mem_rule.specs.Steps.{frees, plain_note, row_note, stays, write};
 
 use crate::note::{behind, notes_of};
 use crate::scene::Scene;
 use mem_rule::{Answer, Did, Fault, Note, NoteKind, Notes, Place};
 use mx_base::{Bytes, OutOfMemory};
+use server_rule::Session;
 use std::alloc::Global;
 
 pub(crate) fn copy(alloc: Global, bytes: &Bytes) -> Result<Bytes, OutOfMemory>
@@ -48,14 +49,6 @@ pub(crate) fn row_note(
     })
 }
 
-pub(crate) fn lone_note(alloc: Global, note: Note) -> Result<Notes, OutOfMemory>
-    ensures { IfOk result (λ notes. notes ≡ note ∷ []) }
-{
-    let mut notes = Notes::new(alloc);
-    notes.push(note)?;
-    Ok(notes)
-}
-
 pub(crate) fn put_plain(
     alloc: Global,
     out: &mut Notes,
@@ -77,13 +70,6 @@ pub(crate) fn put_freed(alloc: Global, out: &mut Notes, locks: &Bytes) -> Result
     put_plain(alloc, out, NoteKind::Freed, locks.as_slice())
 }
 
-// The notes that a session keeps, to be done to the data.
-pub(crate) fn kept(alloc: Global, c: &Scene) -> Result<Notes, OutOfMemory>
-    ensures { IfOk result (λ notes. notes ≡ scenes.kept c.now) }
-{
-    notes_of(alloc, c.session.tx.as_slice())
-}
-
 // Answers.
 
 pub(crate) fn done(rows: u64, id: u64) -> Answer
@@ -92,97 +78,60 @@ pub(crate) fn done(rows: u64, id: u64) -> Answer
     Answer::Done { rows, id }
 }
 
-pub(crate) fn refused(fault: Fault) -> Answer
-    ensures { result ≡ Answer.Refused fault }
+// It is refused.
+pub(crate) fn refuse(did: &mut Did, fault: Fault)
+    ensures { did.new ≡ record did.old { answer = Answer.Refused fault } }
 {
-    Answer::Refused { fault }
+    did.answer = Answer::Refused { fault };
 }
 
 // What is left.
 
 // Nothing but that it is done.
-pub(crate) fn goes_on(alloc: Global, c: &Scene) -> Result<Did, OutOfMemory>
-    ensures { IfOk result (λ did. did ≡ stays c.now (Answer.Done 0 0)) }
+pub(crate) fn goes_on(alloc: Global, session: &Session) -> Result<Did, OutOfMemory>
+    ensures { IfOk result (λ did. did ≡ record { writes = []; tx = session.now.tx; locks = session.now.locks; deep = session.now.deep; last_id = session.now.last_id; answer = Answer.Done 0 0 }) }
 {
-    let tx = copy(alloc, &c.session.tx)?;
-    let locks = copy(alloc, &c.session.locks)?;
-    let deep = copy(alloc, &c.session.deep)?;
+    let tx = copy(alloc, &session.tx)?;
+    let locks = copy(alloc, &session.locks)?;
+    let deep = copy(alloc, &session.deep)?;
     Ok(Did {
         writes: Notes::new(alloc),
         tx,
         locks,
         deep,
-        last_id: c.session.last_id,
+        last_id: session.last_id,
         answer: done(0, 0),
     })
 }
 
-// Nothing but an answer.
-pub(crate) fn stays(alloc: Global, c: &Scene, answer: Answer) -> Result<Did, OutOfMemory>
-    ensures { IfOk result (λ did. did ≡ stays c.now answer) }
+// What is kept reaches the data, and no transaction is left.
+pub(crate) fn commit(alloc: Global, c: &Scene, did: &mut Did) -> Result<(), OutOfMemory>
+    ensures { OnOk result (did.new ≡ record did.old { writes = scenes.kept c.now; tx = [] }) }
 {
-    let mut did = goes_on(alloc, c)?;
-    did.answer = answer;
-    Ok(did)
+    did.writes = notes_of(alloc, c.session.tx.as_slice())?;
+    did.tx = Bytes::new(alloc);
+    Ok(())
 }
 
-// These writes, and this transaction.
-pub(crate) fn leaves(alloc: Global, c: &Scene, writes: Notes, tx: Bytes) -> Result<Did, OutOfMemory>
-    ensures { IfOk result (λ did. did ≡ record (stays c.now (Answer.Done 0 0)) { writes = writes; tx = tx }) }
+// What is left in the session has this note more.
+pub(crate) fn goes_on_with(
+    alloc: Global,
+    c: &Scene,
+    note: &Note,
+    did: &mut Did,
+) -> Result<(), OutOfMemory>
+    ensures { OnOk result (did.new ≡ record did.old { deep = c.now.deep ++ note_bytes note.now }) }
 {
-    let mut did = goes_on(alloc, c)?;
-    did.writes = writes;
-    did.tx = tx;
-    Ok(did)
+    did.deep = behind(alloc, c.session.deep.as_slice(), note)?;
+    Ok(())
 }
 
-// What is kept reaches the data.
-pub(crate) fn commit(alloc: Global, c: &Scene, tx: Bytes) -> Result<Did, OutOfMemory>
-    ensures { IfOk result (λ did. did ≡ commit c.now tx) }
+// So has the transaction.
+fn keeps(alloc: Global, c: &Scene, note: &Note, did: &mut Did) -> Result<(), OutOfMemory>
+    ensures { OnOk result (did.new ≡ record did.old { tx = c.now.tx ++ note_bytes note.now }) }
 {
-    let writes = kept(alloc, c)?;
-    leaves(alloc, c, writes, tx)
-}
-
-// What is left in the session, with this note more.
-pub(crate) fn goes_on_with(alloc: Global, c: &Scene, note: &Note) -> Result<Did, OutOfMemory>
-    ensures { IfOk result (λ did. did ≡ goes_on_with c.now (c.now.deep ++ note_bytes note.now)) }
-{
-    let deep = behind(alloc, c.session.deep.as_slice(), note)?;
-    let mut did = goes_on(alloc, c)?;
-    did.deep = deep;
-    Ok(did)
-}
-
-// The transaction, with this note more.
-fn keeps(alloc: Global, c: &Scene, note: &Note) -> Result<Did, OutOfMemory>
-    ensures { IfOk result (λ did. did ≡ record (stays c.now (Answer.Done 0 0)) { tx = c.now.tx ++ note_bytes note.now }) }
-{
-    let tx = behind(alloc, c.session.tx.as_slice(), note)?;
-    let mut did = goes_on(alloc, c)?;
-    did.tx = tx;
-    Ok(did)
-}
-
-// This note for the data.
-fn writes(alloc: Global, c: &Scene, note: Note) -> Result<Did, OutOfMemory>
-    ensures { IfOk result (λ did. did ≡ record (stays c.now (Answer.Done 0 0)) { writes = note ∷ [] }) }
-{
-    let writes = lone_note(alloc, note)?;
-    let mut did = goes_on(alloc, c)?;
-    did.writes = writes;
-    Ok(did)
-}
-
-fn write_unanswered(alloc: Global, c: &Scene, note: Note) -> Result<Did, OutOfMemory>
-    ensures { IfOk result (λ did. did ≡ write c.now note (Answer.Done 0 0)) }
-{
-    match c.place() {
-        Place::Temporary => goes_on_with(alloc, c, &note),
-        Place::There(_) if c.keeps() => keeps(alloc, c, &note),
-        Place::There(_) => writes(alloc, c, note),
-        _ => goes_on(alloc, c),
-    }
+    did.tx = behind(alloc, c.session.tx.as_slice(), note)?;
+    Ok(())
 }
 
 // A write, to the temporary table, into the transaction, or to the data.
@@ -192,10 +141,16 @@ pub(crate) fn write(
     note: Note,
     rows: u64,
     id: u64,
-) -> Result<Did, OutOfMemory>
-    ensures { IfOk result (λ did. did ≡ write c.now note (Answer.Done rows id)) }
+    did: &mut Did,
+) -> Result<(), OutOfMemory>
+    requires { did.old ≡ stays c.now (Answer.Done 0 0) }
+    ensures { OnOk result (did.new ≡ write c.now note (Answer.Done rows id)) }
 {
-    let mut did = write_unanswered(alloc, c, note)?;
     did.answer = done(rows, id);
-    Ok(did)
+    match c.place() {
+        Place::Temporary => goes_on_with(alloc, c, &note, did),
+        Place::There(_) if c.keeps() => keeps(alloc, c, &note, did),
+        Place::There(_) => did.writes.push(note),
+        _ => Ok(()),
+    }
 }

@@ -1,5 +1,5 @@
 // The server.
-ghost use Rattle.std.specs.Prelude.{◌≡◌, ◌∷◌, [], IfOk, OnErr, Some, is_some, option_copied};
+ghost use Rattle.std.specs.Prelude.{◌≡◌, ◌∷◌, [], IfOk, OnErr, OnOk, Some, is_some, option_copied};
 ghost use Rattle.std.specs.Option.{unwrap_or};
 ghost use Rattle.mem_rule.specs.Answers.{ok_payload};
 ghost use Rattle.mem_rule.specs.Commands.{RunsIn, by_effect, ends, on_text, ran, says, scene, types_of};
@@ -9,13 +9,14 @@ ghost use Rattle.mem_rule.specs.Tables.{no_tables};
 ghost use Rattle.session_state.specs.Classes.{effect_in};
 
 use crate::answer::ok_reply;
+use crate::did::goes_on;
 use crate::outcome::{Outcome, chooses, ends, fails, ran_by, tracks};
 use crate::prepare::{fields, prepares};
 use crate::said::{Bindings, said_in};
 use crate::scene::Scene;
 use crate::statement::does;
 use crate::store::{Base, settle};
-use mem_rule::{Did, Fault, Notes, Said};
+use mem_rule::{Answer, Did, Fault, Notes, Said};
 use mx_base::{Bytes, OutOfMemory};
 use pin_classifier::{Shape, classify};
 use server_rule::{Cmd, ReplyList, Session};
@@ -59,11 +60,13 @@ fn did_in(
     schema: Option<&Bytes>,
     base: &Base,
     s: &Session,
-) -> Result<Did, OutOfMemory>
-    ensures { IfOk result (λ did. did ≡ does said.now.form said.now (scene base.now s.now (unwrap_or (option_copied schema.entry) s.now.schema))) }
+    did: &mut Did,
+) -> Result<(), OutOfMemory>
+    requires { did.old ≡ record { writes = []; tx = s.now.tx; locks = s.now.locks; deep = s.now.deep; last_id = s.now.last_id; answer = Answer.Done 0 0 } }
+    ensures { OnOk result (did.new ≡ does said.now.form said.now (scene base.now s.now (unwrap_or (option_copied schema.entry) s.now.schema))) }
 {
     let scene = Scene::new(alloc, base, s, schema_of(schema, s))?;
-    does(alloc, said, &scene)
+    does(alloc, said, &scene, did)
 }
 
 fn says(
@@ -77,7 +80,8 @@ fn says(
     ensures ok { IfOk result (λ out. says (Some said.now) is_binary (unwrap_or (option_copied schema.entry) s.old.schema) base.now s.old ≡ record { writes = out.writes; session = s.new; reply = out.reply }) }
     ensures err { OnErr result (s.new ≡ s.old) }
 {
-    let did = did_in(alloc, said, schema, base, s)?;
+    let mut did = goes_on(alloc, s)?;
+    did_in(alloc, said, schema, base, s, &mut did)?;
     ran_by(alloc, is_binary, said.form, s, did)
 }
 

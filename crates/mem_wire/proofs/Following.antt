@@ -15,7 +15,8 @@ use Rattle.mx_wire.specs.declared.entry.Entry.{Entry}
 use Rattle.mx_wire.specs.declared.entry.Entry.TheVariants as entry
 use Rattle.recording.specs.declared.entry.RecordEntry.{RecordEntry}
 use Rattle.mem_wire.specs.declared.stage.Stage.{Stage}
-use Rattle.mem_wire.specs.Adds.{late_entries, Adds, IsBounded, Calls}
+use Rattle.mx_wire.specs.Adds.{Adds, IsBounded}
+use Rattle.mem_wire.specs.Adds.{late_entries, Calls}
 use Rattle.mem_wire.specs.Below.{link_below, all_below, links_below}
 use Rattle.mem_wire.specs.Lines.{clients_at}
 use Rattle.mem_wire.specs.Play.{mark_at}

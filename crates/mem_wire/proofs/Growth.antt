@@ -1,13 +1,11 @@
 -- What one more line, or one more entry, adds.
-use Rattle.std.proofs.Common.{◌≡◌, ℕ, ◌<◌, ◌+◌, false, List, [], ◌∷◌, ◌++◌, length, take, get_or, Option, sym, ◌∙◌, ap, subst, append_assoc}
+use Rattle.std.proofs.Common.{◌≡◌, ℕ, ◌<◌, ◌+◌, false, List, [], ◌∷◌, ◌++◌, length, take, get_or, Option, sym, ◌∙◌, ap, subst}
 use Rattle.std.specs.List.{filter_map, cons_option}
 use Rattle.std.proofs.lemmas.List.{take_more}
 use Rattle.std.proofs.lemmas.List.Elements.{filter_map-append}
-use Rattle.mx_wire.specs.Log.{Log}
 use Rattle.recording.specs.declared.entry.RecordEntry.{RecordEntry}
 use Rattle.mem_wire.specs.Lines.{is_at}
 use Rattle.mem_wire.specs.Cuts.{NoMoment}
-use Rattle.mem_wire.specs.Adds.{Adds}
 
 pub no_moment-more : (lines : List RecordEntry) (line : RecordEntry) → NoMoment lines → is_at line ≡ false → NoMoment (lines ++ line ∷ [])
 no_moment-more [] line none this = (this, tt)
@@ -21,11 +19,3 @@ pub filter_map-next : {X : Type 0} (f : RecordEntry → Option X) (lines : List 
 filter_map-next f lines i d o within this =
     ap (filter_map f) (take_more lines i d within) ∙ filter_map-append f (take i lines) (get_or lines i d ∷ [])
     ∙ ap (λ given. filter_map f (take i lines) ++ cons_option given []) this
-
-pub adds-append : (old mid new : Option Log) (a b : Log) → Adds old a mid → Adds mid b new → Adds old (a ++ b) new
-adds-append old mid new a b first next = record {
-  told = λ log told.
-      let late = next.told log told in
-      let early = first.told late.0 late.1 in
-      (early.0, early.1, late.2 ∙ ap (λ (front : Log). front ++ b) early.2 ∙ append_assoc early.0 a b);
-}

@@ -6,10 +6,10 @@ use Rattle.mx_wire.specs.Tells.{Tells, Fits}
 use Rattle.mx_wire.specs.declared.entry.Entry.{Entry}
 use Rattle.recording.specs.declared.entry.RecordEntry.{RecordEntry}
 use Rattle.mem_wire.specs.declared.stage.Stage.{Stage}
-use Rattle.mem_wire.specs.Adds.{Adds, IsBounded, AddsIf, Calls, CallsIf}
+use Rattle.mx_wire.specs.Adds.{Adds, AddsIf, IsBounded, adds-append}
+use Rattle.mem_wire.specs.Adds.{Calls, CallsIf}
 use Rattle.mem_wire.specs.Steps.{IsWithin}
 use Rattle.mem_wire.specs.Follows.{Follows, IsTape}
-use Rattle.mem_wire.proofs.Growth.{adds-append}
 
 pub tells : (old : Option Log) (marks : Log) (e : Entry) (new : Option Log) → Calls old marks e new → AreMarks marks → ((log : Log) → old ≡ Some log → Fits (log ++ marks) e) → Tells old e new
 tells old marks e new call are fits = record {
@@ -64,7 +64,7 @@ pub calls_after : (told mid new : Option Log) (marks : Log) (e : Entry) → Adds
 calls_after told mid new marks e first last bounded = record { adds = adds-append told mid new marks (e ∷ []) first last; bounded = bounded }
 
 pub calls_after_if : (told mid new : Option Log) (marks : Log) (given : Option Entry) → Adds told marks mid → AddsIf mid given new → CallsIf told marks given new
-calls_after_if told mid new marks (Some e) first last = calls_after told mid new marks e first last.0 last.1
+calls_after_if told mid new marks (Some e) first last = calls_after told mid new marks e first last.adds last.bounded
 calls_after_if told mid new marks None first last = last
 
 -- the log before the last entry, and which entry it is

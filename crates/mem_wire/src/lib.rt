@@ -1,6 +1,7 @@
 //! The outside in memory: a wire that plays a recording and tells its log, files, and a sink.
 #![tactic(auto)]
 
+mod adding;
 mod calls;
 mod ending;
 mod late;
@@ -14,7 +15,6 @@ mod room;
 mod stage;
 mod steps;
 mod tape;
-mod told_log;
 mod track;
 mod tracks;
 mod turns;

@@ -1,16 +1,15 @@
 // Walks over the lines of a recording.
 ghost use Rattle.std.specs.Prelude.{◌≡◌, ℕ, ◌<◌, ◌≤◌, ◌-◌, ◌++◌, List, drop, take, length, slice_get, OnOk, false, All};
 ghost use Rattle.std.specs.List.{filter_map};
-ghost use Rattle.mem_wire.specs.Adds.{Adds};
+ghost use Rattle.mx_wire.specs.Adds.{Adds};
 ghost use Rattle.mem_wire.specs.Lines.{is_at, waiting_at, clients_at, name_at};
 ghost use Rattle.mem_wire.specs.Play.{mark_at, mark_on};
 ghost use Rattle.mem_wire.specs.Cuts.{NoMoment, EndsAtMoment, first_moment};
 
 use crate::marks::Mark;
-use crate::told_log::ToldLog;
 use crate::waiting::Waiting;
 use mx_base::{LinkId, OutOfMemory, Port};
-use mx_wire::Entry;
+use mx_wire::{Entry, ToldLog};
 use recording::{RecordEntry, RecordLink};
 
 // Whether the line begins a moment.

@@ -1,6 +1,6 @@
 // A wire that plays a recording.
 ghost use Rattle.std.specs.Prelude.{◌≡◌, List, [], length, Some, IfSome, option_map};
-ghost use Rattle.mx_wire.specs.Answers.{got_entry, took_entry, ReadsAtMost, TakesAtMost};
+ghost use Rattle.mx_wire.specs.Answers.{took_entry, TakesAtMost};
 ghost use Rattle.mx_wire.specs.Log.{Log as Told};
 ghost use Rattle.mx_wire.specs.Tells.{HasCause};
 ghost use Rattle.recording.specs.Playable.{IsPlayable};
@@ -8,14 +8,14 @@ ghost use Rattle.recording.specs.declared.entry.RecordEntry.{RecordEntry};
 ghost use Rattle.mem_wire.specs.Play.{IsPlay};
 ghost use Rattle.mem_wire.specs.Fitting.{takes};
 
+use crate::adding::{add_call, add_marks};
 use crate::lines::{first_moment, lines_of_moment, put_marks};
 use crate::naming::next_to_name;
 use crate::stage::Stage;
 use crate::steps;
-use crate::told_log::ToldLog;
 use http_server::Log;
 use mx_base::{Address, Bytes, LinkId, OutOfMemory, Port, ServerId, Tag};
-use mx_wire::{Accepted, Entry, Got, Listened, Opened, Took, Wire, Woke};
+use mx_wire::{Accepted, Entry, Got, Listened, Opened, ToldLog, Took, Wire, Woke, read_entry};
 use recording::RecordEntry;
 use std::alloc::Global;
 use std::marker::Model;
@@ -85,8 +85,11 @@ impl Wire for Tape {
     }
 
     fn listen(&mut self, port: Port, address: Address) -> Listened {
-        self.told
-            .add_call(&self.stage.late, Entry::Listening { port, address });
+        add_call(
+            &mut self.told,
+            &self.stage.late,
+            Entry::Listening { port, address },
+        );
         self.stage.late.clear();
         Listened::Done
     }
@@ -94,12 +97,12 @@ impl Wire for Tape {
     fn wait(&mut self, until_ms: u64) -> Woke {
         let rest = &self.entries[self.stage.cut..];
         let Some(now_ms) = first_moment(rest) else {
-            self.told.add_call(&self.stage.late, Entry::Over);
+            add_call(&mut self.told, &self.stage.late, Entry::Over);
             self.stage.late.clear();
             return Woke::Over;
         };
         let lines = &rest[..lines_of_moment(rest)];
-        self.told.add_marks(&self.stage.late);
+        add_marks(&mut self.told, &self.stage.late);
         put_marks(&mut self.told, &self.stage.opened, lines);
         self.told.add(Entry::Woke { until_ms, now_ms });
         if steps::wake(&mut self.stage, self.alloc, lines).is_err() {
@@ -109,7 +112,7 @@ impl Wire for Tape {
     }
 
     fn next_ready(&mut self) -> Option<LinkId> {
-        self.told.add_marks(&self.stage.late);
+        add_marks(&mut self.told, &self.stage.late);
         match next_to_name(&mut self.stage) {
             None => {
                 self.told.add(Entry::NoneNamed);
@@ -126,14 +129,18 @@ impl Wire for Tape {
 
     fn accept(&mut self, port: Port) -> Accepted {
         let Some(client) = steps::next_client(&self.stage, port) else {
-            self.told
-                .add_call(&self.stage.late, Entry::AcceptNothing { port });
+            add_call(
+                &mut self.told,
+                &self.stage.late,
+                Entry::AcceptNothing { port },
+            );
             self.stage.late.clear();
             return Accepted::NotReady;
         };
         let id = steps::next_link(&self.stage);
         let salt = client.salt;
-        self.told.add_call(
+        add_call(
+            &mut self.told,
             &self.stage.late,
             Entry::Accepted {
                 port,
@@ -154,8 +161,11 @@ impl Wire for Tape {
             return Opened::Failed;
         };
         if refused {
-            self.told
-                .add_call(&self.stage.late, Entry::OpenFailed { server, address });
+            add_call(
+                &mut self.told,
+                &self.stage.late,
+                Entry::OpenFailed { server, address },
+            );
             self.stage.late.clear();
             self.failed = self.failed.and(&0, &0);
             return Opened::Failed;
@@ -166,7 +176,7 @@ impl Wire for Tape {
             address,
             link: id,
         };
-        self.told.add_call(&self.stage.late, entry);
+        add_call(&mut self.told, &self.stage.late, entry);
         if steps::open(&mut self.stage, self.alloc).is_err() {
             self.told.stop();
         }
@@ -174,7 +184,7 @@ impl Wire for Tape {
     }
 
     fn read(&mut self, link: LinkId, into: &mut [u8]) -> Got {
-        self.told.add_marks(&self.stage.late);
+        add_marks(&mut self.told, &self.stage.late);
         let got = steps::read(&mut self.stage, link, into);
         self.told.add_if(read_entry(self.alloc, link, got, into));
         count_read(&mut self.failed, got);
@@ -182,7 +192,7 @@ impl Wire for Tape {
     }
 
     fn write(&mut self, link: LinkId, tag: Tag, piece: &[u8]) -> Took {
-        self.told.add_marks(&self.stage.late);
+        add_marks(&mut self.told, &self.stage.late);
         let took = steps::write(&mut self.stage, link, piece.len());
         self.told
             .add_if(write_entry(self.alloc, link, tag, took, piece));
@@ -191,25 +201,9 @@ impl Wire for Tape {
     }
 
     fn close(&mut self, link: LinkId) {
-        self.told.add_call(&self.stage.late, Entry::Closed { link });
+        add_call(&mut self.told, &self.stage.late, Entry::Closed { link });
         steps::close(&mut self.stage, link);
     }
-}
-
-// The entry of a read, where there is memory for it.
-fn read_entry(alloc: Global, link: LinkId, got: Got, into: &[u8]) -> Option<Entry>
-    requires { ReadsAtMost (length into.now) got }
-    ensures { IfSome result (λ e. e ≡ got_entry link into.now got) }
-{
-    Some(match got {
-        Got::Got { n } => {
-            let bytes = Bytes::from_slice(alloc, &into[..n]).ok()?;
-            Entry::Got { link, bytes }
-        }
-        Got::NotReady => Entry::ReadNothing { link },
-        Got::End => Entry::Ended { link },
-        Got::Failed => Entry::ReadFailed { link },
-    })
 }
 
 // The entry of a write, where there is memory for it.

@@ -5,9 +5,11 @@
 mod entry;
 mod files;
 mod sink;
+mod told_log;
 mod wire;
 
 pub use entry::Entry;
 pub use files::{FileFault, Files};
 pub use sink::{Sink, SinkFailed};
+pub use told_log::{ToldLog, read_entry};
 pub use wire::{Accepted, Got, Listened, Opened, Took, Wire, Woke};

@@ -8,7 +8,7 @@ use Rattle.mx_wire.specs.Log.{Log, AreMarks, IsMark, is_link, is_open, link_of, 
 use Rattle.mx_wire.specs.Tells.{Fits, IsOpen, OpenFor, Tells}
 use Rattle.mx_wire.specs.declared.entry.Entry.{Entry}
 use Rattle.mx_wire.specs.declared.entry.Entry.TheVariants as entry
-use Rattle.scripted_wire.specs.Adds.{Adds, AddsIf, AddsOne}
+use Rattle.mx_wire.specs.Adds.{Adds, AddsIf, AddsOne, adds-append}
 use Rattle.scripted_wire.specs.Marks.{mark_of, option_log}
 use Rattle.scripted_wire.specs.Sound.{AddsMarks, IsFollowed, IsSound, all_below, link_below}
 use Rattle.scripted_wire.specs.declared.did.Did.{Did}
@@ -86,14 +86,6 @@ mark_below n link did.Dropped low = and-both (nat_lt link.0 n) true low refl
 marks-append : (a b : Log) → AreMarks a → AreMarks b → AreMarks (a ++ b)
 marks-append [] b p q = q
 marks-append (e ∷ a) b p q = (p.0, marks-append a b p.1 q)
-
-adds-append : (old mid new : Option Log) (a b : Log) → Adds old a mid → Adds mid b new → Adds old (a ++ b) new
-adds-append old mid new a b first next = record {
-  told = λ log told.
-      let late = next.told log told in
-      let early = first.told late.0 late.1 in
-      (early.0, early.1, late.2 ∙ ap (λ (front : Log). front ++ b) early.2 ∙ append_assoc early.0 a b);
-}
 
 abbrev pub no_marks : (links : ℕ) (told : Option Log) → AddsMarks links told told
 no_marks links told = record { marks = []; are = tt; below = refl; adds = record { told = λ log is. (log, is, sym (append-nil log)) } }

@@ -1,7 +1,6 @@
 pub mod Marks
 pub mod Shown
 pub mod Giving
-pub mod Adds
 pub mod Scripts
 pub mod Hosts
 pub mod Asked

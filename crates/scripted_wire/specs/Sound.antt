@@ -3,7 +3,7 @@ use Rattle.std.specs.Prelude.{◌≡◌, ℕ, ◌≤◌, Bool, true, nat_lt, Opt
 use Rattle.std.specs.List.{list_all}
 use Rattle.mx_base.specs.declared.names.LinkId.{LinkId}
 use Rattle.mx_wire.specs.Log.{Log, AreMarks, link_of, moment_of}
-use Rattle.scripted_wire.specs.Adds.{Adds}
+use Rattle.mx_wire.specs.Adds.{Adds}
 
 abbrev pub link_below : ℕ → Option LinkId → Bool
 link_below next None = true

@@ -15,7 +15,6 @@ mod scripted;
 mod scripted_client;
 mod server_link;
 mod stage;
-mod told_log;
 mod waiting;
 
 pub use script::Script;

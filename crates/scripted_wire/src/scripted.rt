@@ -2,7 +2,7 @@
 ghost use Rattle.std.specs.Prelude.{◌≡◌, ◌+◌, ◌≤◌, true, [], length, Some, IfSome, option_map};
 ghost use Rattle.std.specs.List.{All};
 ghost use Rattle.handshake.specs.Spelling.{IsText};
-ghost use Rattle.mx_wire.specs.Answers.{accepted_entry, opened_entry, got_entry, ReadsAtMost};
+ghost use Rattle.mx_wire.specs.Answers.{accepted_entry, opened_entry};
 ghost use Rattle.mx_wire.specs.Tells.{Tells};
 ghost use Rattle.mx_wire.specs.declared.entry.Entry.TheVariants as entry;
 
@@ -11,9 +11,8 @@ use crate::hosts::Hosts;
 use crate::salt::salt_of;
 use crate::script::Script;
 use crate::stage::Stage;
-use crate::told_log::ToldLog;
 use mx_base::{Address, Bytes, LinkId, OutOfMemory, Port, ServerId, Tag};
-use mx_wire::{Accepted, Entry, Got, Listened, Opened, Took, Wire, Woke};
+use mx_wire::{Accepted, Entry, Got, Listened, Opened, ToldLog, Took, Wire, Woke, read_entry};
 use server_rule::TameServer;
 use std::alloc::Global;
 use std::marker::Model;
@@ -244,22 +243,6 @@ impl<R: TameServer> Wire for Scripted<R> {
         self.told.add(Entry::Closed { link });
         self.stage.close(link);
     }
-}
-
-// The entry of a read, where there is memory for it.
-fn read_entry(alloc: Global, link: LinkId, got: Got, into: &[u8]) -> Option<Entry>
-    requires { ReadsAtMost (length into.now) got }
-    ensures { IfSome result (λ e. e ≡ got_entry link into.now got) }
-{
-    Some(match got {
-        Got::Got { n } => {
-            let bytes = Bytes::from_slice(alloc, &into[..n]).ok()?;
-            Entry::Got { link, bytes }
-        }
-        Got::NotReady => Entry::ReadNothing { link },
-        Got::End => Entry::Ended { link },
-        Got::Failed => Entry::ReadFailed { link },
-    })
 }
 
 // The entry of a write of a whole piece, where it was heard and there is memory for it.

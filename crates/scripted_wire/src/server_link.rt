@@ -1,9 +1,11 @@
 // A link to a server in code.
-ghost use Rattle.std.specs.Prelude.{◌≡◌, ◌<◌, length, IsSome, IfOk, OnOk};
+ghost use Rattle.std.specs.Prelude.{◌≡◌, ◌<◌, [], codes, length, IsSome, IfOk, OnOk};
 ghost use Rattle.client_side.specs.Client.{HasFound};
-ghost use Rattle.packet_frame.specs.Packets.{spellings};
+ghost use Rattle.packet_frame.specs.Packets.{spelling, spellings};
+ghost use Rattle.reply_text.specs.Replies.{err_payload, ok_payload};
 ghost use Rattle.scripted_wire.specs.Giving.{Gives, is_some_of};
-ghost use Rattle.scripted_wire.specs.Serving.{Served, first_link, hears, link_read, asks_found_rows, served, rests, drops, lets_in, runs, answers, says, refuses};
+ghost use Rattle.scripted_wire.specs.Hosts.{ran};
+ghost use Rattle.scripted_wire.specs.Serving.{Served, answered, first_link, hears, link_read, asks_found_rows, served, rests, drops, lets_in, runs, answers, replied, says, refuses};
 
 use crate::asked::{Asked, read_asked};
 use crate::did::Did;
@@ -45,6 +47,9 @@ fn asks_found_rows(capabilities: u32) -> bool
 {
     capabilities & FOUND_ROWS != 0
 }
+
+// What was asked is done with.
+fn let_go(_asked: Asked) {}
 
 // The packets of a reply, the first with the sequence id `first`.
 fn spelled(alloc: Global, first: u8, payloads: &[Bytes]) -> Result<Vec<u8>, OutOfMemory>
@@ -153,6 +158,30 @@ impl ServerLink {
         Ok(Did::Dropped)
     }
 
+    // An OK is said.
+    fn say_ok(&mut self, alloc: Global, first: u8) -> Result<(), OutOfMemory>
+        ensures { OnOk result (self.new ≡ answered (spelling first (ok_payload 2 [])) self.old) }
+    {
+        let mut ok = Vec::new(alloc);
+        let _next = write_ok(&mut ok, first, AUTOCOMMIT, b"")?;
+        self.client.answer_grown(&ok)
+    }
+
+    // An ERR is said.
+    fn say_err(
+        &mut self,
+        alloc: Global,
+        first: u8,
+        code: u16,
+        text: &[u8],
+    ) -> Result<(), OutOfMemory>
+        ensures { OnOk result (self.new ≡ answered (spelling first (err_payload code (codes "08S01") text.now)) self.old) }
+    {
+        let mut err = Vec::new(alloc);
+        let _next = write_err(&mut err, first, code, b"08S01", text)?;
+        self.client.answer_grown(&err)
+    }
+
     // The router is let in, whoever it says it is.
     fn let_in<R: TameServer>(
         &mut self,
@@ -168,9 +197,7 @@ impl ServerLink {
         };
         let found_rows = asks_found_rows(response.capabilities);
         let seat = hosts.enter(alloc, self.server, response.user.as_slice(), found_rows)?;
-        let mut ok = Vec::new(alloc);
-        let _next = write_ok(&mut ok, first, AUTOCOMMIT, b"")?;
-        self.client.answer_grown(&ok)?;
+        self.say_ok(alloc, first)?;
         self.client.done();
         self.seat = Some(seat);
         Ok(Did::Answered)
@@ -187,13 +214,16 @@ impl ServerLink {
         requires some { IsSome self.old.client.framer.found }
         ensures { IfOk result (λ did. record { link = self.new; hosted = hosts.new; did = did } ≡ runs R.step first self.old hosts.old) }
     {
-        let asked = read_asked(alloc, self.client.payload())?;
-        self.client.done();
         let Some(seat) = self.seat else {
+            self.client.done();
             self.ended = true;
             return Ok(Did::Nothing);
         };
-        self.answer(alloc, hosts, first, seat, asked)
+        let asked = read_asked(alloc, self.client.payload())?;
+        self.client.done();
+        let did = self.answer(alloc, hosts, first, seat, &asked);
+        let_go(asked);
+        did
     }
 
     // What is asked in a session is done.
@@ -203,25 +233,37 @@ impl ServerLink {
         hosts: &mut Hosts<R>,
         first: u8,
         seat: usize,
-        asked: Asked,
+        asked: &Asked,
     ) -> Result<Did, OutOfMemory>
-        ensures { IfOk result (λ did. record { link = self.new; hosted = hosts.new; did = did } ≡ answers R.step first seat asked self.old hosts.old) }
+        ensures { IfOk result (λ did. record { link = self.new; hosted = hosts.new; did = did } ≡ answers R.step first seat asked.now self.old hosts.old) }
     {
         match asked {
-            Asked::Run(cmd) => {
-                let reply = hosts.run(seat, &cmd)?;
-                self.reply(alloc, first, reply)?;
-            }
+            Asked::Run(cmd) => self.run_in(alloc, hosts, first, seat, cmd),
             Asked::Quit => {
                 self.ended = true;
                 let _none = hosts.run(seat, &Cmd::Close)?;
+                Ok(Did::Ran)
             }
             Asked::Unknown => {
-                let mut err = Vec::new(alloc);
-                let _next = write_err(&mut err, first, 1047, b"08S01", b"Unknown command")?;
-                self.client.answer_grown(&err)?;
+                self.say_err(alloc, first, 1047, b"Unknown command")?;
+                Ok(Did::Ran)
             }
         }
+    }
+
+    // A command runs in a session, and its reply is said.
+    fn run_in<R: TameServer>(
+        &mut self,
+        alloc: Global,
+        hosts: &mut Hosts<R>,
+        first: u8,
+        seat: usize,
+        cmd: &Cmd,
+    ) -> Result<Did, OutOfMemory>
+        ensures { IfOk result (λ did. record { link = self.new; hosted = hosts.new; did = did } ≡ replied first (ran R.step seat cmd.now hosts.old) self.old) }
+    {
+        let reply = hosts.run(seat, cmd)?;
+        self.reply(alloc, first, reply)?;
         Ok(Did::Ran)
     }
 
@@ -253,9 +295,7 @@ impl ServerLink {
         if self.seat.is_some() {
             return self.end(hosts);
         }
-        let mut err = Vec::new(alloc);
-        let _next = write_err(&mut err, first, 1043, b"08S01", b"Bad handshake")?;
-        self.client.answer_grown(&err)?;
+        self.say_err(alloc, first, 1043, b"Bad handshake")?;
         self.ended = true;
         Ok(Did::Answered)
     }

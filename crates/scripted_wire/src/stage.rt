@@ -4,7 +4,9 @@ ghost use Rattle.std.specs.List.{All, list_all, position};
 ghost use Rattle.std.specs.Option.{option_map};
 ghost use Rattle.handshake.specs.Spelling.{IsText};
 ghost use Rattle.mx_wire.specs.Answers.{ReadsAtMost};
+ghost use Rattle.mx_wire.specs.Adds.{Adds};
 ghost use Rattle.scripted_wire.specs.Links.{has_news, link_rests, read_on};
+ghost use Rattle.scripted_wire.specs.Marks.{option_log};
 ghost use Rattle.scripted_wire.specs.Sound.{AddsMarks};
 ghost use Rattle.scripted_wire.specs.Stages.{IsFirst, KeepsLinks, Accepts, Opens, news_from, ReadsAt, Changes, closes, Writes, is_over, awake};
 
@@ -13,10 +15,9 @@ use crate::link::{Link, Peer};
 use crate::salt::salt_of;
 use crate::script::Script;
 use crate::server_link::ServerLink;
-use crate::told_log::ToldLog;
 use crate::waiting::Waiting;
 use mx_base::{ClientNo, LinkId, OutOfMemory};
-use mx_wire::Got;
+use mx_wire::{Entry, Got, ToldLog};
 use server_rule::TameServer;
 use std::alloc::Global;
 
@@ -49,6 +50,15 @@ fn first_news(links: &[Link]) -> Option<usize>
     ensures bound { IfSome result (λ at. at < length links.now) }
 {
     links.iter().position(|link| link.has_news())
+}
+
+// Adds a mark, where there is one.
+fn add_mark(told: &mut ToldLog, mark: Option<Entry>)
+    ensures { Adds told.old (option_log mark) told.new }
+{
+    if let Some(mark) = mark {
+        told.add(mark);
+    }
 }
 
 impl Stage {
@@ -155,7 +165,7 @@ impl Stage {
         let mut worked = false;
         for at in 0..self.links.len() {
             let did = self.links[at].serve(alloc, hosts)?;
-            told.add_mark(did.mark(LinkId(at as u64)));
+            add_mark(told, did.mark(LinkId(at as u64)));
             worked = worked || did.is_work();
         }
         Ok(worked)

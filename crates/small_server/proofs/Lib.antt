@@ -1,2 +1,3 @@
+pub mod Honesty
 pub mod Lawfulness
 pub mod Told

@@ -13,7 +13,7 @@ use Rattle.private_model.proofs.Maps.{link_ids, link_of, name_of, one_put}
 use Rattle.private_model.specs.Commands.{Account, Command, Reply}
 use Rattle.private_model.specs.Story.{BecameDue, Capture, Dropped, Due, End, Freed, Gone, Heard, Left, LoggedIn, Mirrored, Own, Prep, Question, Ran, Sent, Statement, Sync, Unprepared, for_statement, is_client, is_link_id, is_message, is_name, message_of, put}
 use Rattle.private_model.specs.View as view
-use Rattle.private_model.specs.View.{Answered, Asked, Carried, Joined, Lent, Nobody, Quiet, Stage, held_by, held_for, held_freed, lives_left, new_link, place_after, view_heard, view_step}
+use Rattle.private_model.specs.View.{Answered, Asked, Carried, Joined, Lent, Nobody, Quiet, Setup, Stage, View, held_by, held_for, held_freed, lives_left, new_link, place_after, view_heard, view_step}
 use Rattle.story_view.specs.Heard.{IsHeard, heard_held, held_said, message_said, replies_kept}
 use Rattle.story_view.specs.Known.{Follows, IsAnswered, IsKnown, Knows, kept, seen}
 use Rattle.story_view.specs.Steps as steps
@@ -39,6 +39,21 @@ put_known {N} is p f g h k x y before here after j = go (is j k) ∙ sym (after 
 links_known : (f : LinkId → view.Link) (old new : Links) (link : LinkId) (x : view.Link) (step : Seen → Seen) → ((l : LinkId) → seen (f l) ≡ link_at old l) → seen x ≡ step (seen (f link))
     → Changes old new link step → (l : LinkId) → seen (put is_link_id f link x l) ≡ link_at new l
 links_known f old new link x step before here after = put_known is_link_id seen f (link_at old) (link_at new) link x _ before (here ∙ ap step (before link)) after
+
+-- one link is another, and nothing else
+link_known : (setup : Setup) (v : View) (code : StoryView) (links : Links) (link : LinkId) (x : view.Link) (step : Seen → Seen) → IsKnown setup code v
+    → seen x ≡ step (seen (v.links link)) → Changes code.links links link step
+    → IsKnown setup (record code { links = links }) (record v { links = put is_link_id v.links link x })
+link_known setup v code links link x step is here changes = record {
+  reads = is.reads;
+  openings = is.openings;
+  held = is.held;
+  lives = is.lives;
+  places = is.places;
+  dues = is.dues;
+  replies = is.replies;
+  links = links_known v.links code.links links link x step is.links here changes;
+}
 
 -- of sessions it isn't kept which link carries them
 home_kept : (f : SessionName → view.Held) (g : SessionName → Held) (n : SessionName) (home : Option LinkId) → ((j : SessionName) → kept (f j) ≡ g j) → (j : SessionName)
@@ -81,16 +96,8 @@ unprepared_known code link number setup v is = record {
 
 pub logged_in_known : (code : StoryView) (links : Links) (link : LinkId) (server : ServerId) (account : Account) → Changes code.links links link (λ l. steps.new_link server)
     → Follows code (record code { links = links }) (LoggedIn link server account)
-logged_in_known code links link server account changes setup view is = record {
-  reads = is.reads;
-  openings = is.openings;
-  held = is.held;
-  lives = is.lives;
-  places = is.places;
-  dues = is.dues;
-  replies = is.replies;
-  links = links_known view.links code.links links link (new_link server account) (λ l. steps.new_link server) is.links refl changes;
-}
+logged_in_known code links link server account changes setup view is =
+    link_known setup view code links link (new_link server account) (λ l. steps.new_link server) is refl changes
 
 pub became_due_known : (code : StoryView) (dues : Dues) (client : ClientNo) (hostgroup : Hostgroup) (ordinal key : ℕ) (command : Command) (multiplex : Option Bool)
     → ((n : SessionName) → due_at dues n ≡ put is_name (due_at code.dues) (record { client = client; hostgroup = hostgroup; life = life_at code.lives client hostgroup })
@@ -132,16 +139,10 @@ ran_seen reads false (Asked question) link = refl
 ran_seen reads false (Answered question) link = refl
 
 pub ran_known : (code : StoryView) (links : Links) (link : LinkId) → Changes code.links links link steps.ran → Follows code (record code { links = links }) (Ran link)
-ran_known code links link changes setup v is = record {
-  reads = is.reads;
-  openings = is.openings;
-  held = is.held;
-  lives = is.lives;
-  places = is.places;
-  dues = is.dues;
-  replies = is.replies;
-  links = links_known v.links code.links links link (view.ran_by setup.reads (v.links link).alive (v.links link).stage (v.links link)) steps.ran is.links (ran_seen setup.reads (v.links link).alive (v.links link).stage (v.links link)) changes;
-}
+ran_known code links link changes setup v is =
+    let stage = (v.links link).stage in
+    link_known setup v code links link (view.ran_by setup.reads (v.links link).alive stage (v.links link)) steps.ran is
+    (ran_seen setup.reads (v.links link).alive stage (v.links link)) changes
 
 pub freed_known : (code : StoryView) (links : Links) (link : LinkId) → Changes code.links links link steps.freed → Follows code (record code { links = links }) (Freed link)
 freed_known code links link changes setup v is = record {
@@ -156,16 +157,8 @@ freed_known code links link changes setup v is = record {
 }
 
 pub dropped_known : (code : StoryView) (links : Links) (link : LinkId) → Changes code.links links link steps.dropped → Follows code (record code { links = links }) (Dropped link)
-dropped_known code links link changes setup v is = record {
-  reads = is.reads;
-  openings = is.openings;
-  held = is.held;
-  lives = is.lives;
-  places = is.places;
-  dues = is.dues;
-  replies = is.replies;
-  links = links_known v.links code.links links link (record (v.links link) { alive = false }) steps.dropped is.links refl changes;
-}
+dropped_known code links link changes setup v is =
+    link_known setup v code links link (record (v.links link) { alive = false }) steps.dropped is refl changes
 
 pub gone_known : (code : StoryView) (links : Links) (lives : Lives) (link : LinkId) → Changes code.links links link steps.lost
     → ((c : ClientNo) (h : Hostgroup) → life_at lives c h ≡ lives_without (link_at code.links link).carries (life_at code.lives) c h)

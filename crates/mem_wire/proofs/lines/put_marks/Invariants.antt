@@ -1,6 +1,6 @@
 use Rattle.std.proofs.Common.{take}
 use Rattle.std.specs.List.{filter_map}
-use Rattle.mem_wire.specs.Adds.{Adds}
+use Rattle.mx_wire.specs.Adds.{Adds}
 use Rattle.mem_wire.specs.Play.{mark_at}
 use Rattle.mem_wire.proofs.lines.put_marks.Given as goal
 

@@ -38,7 +38,7 @@ invariant_of-self-else-is_err c =
     let some : 0 < count = c.lines_of_moment.ensures.some (first-some rest c.in-Some.now_ms (sym c.first_moment.ensures ∙ c.in-Some.is)) in
     goes_on _ s c.wake.new.stage c.self.inside.told _ (wake-marks s (take count rest)) (entry.Woke c.args.until_ms c.in-Some.now_ms) c.self.invariant
     (within-wakes _ _ _ s c.wake.new.stage c.self.invariant.within wakes (omega arith) (wake-end s.cut count rest c.self.inside.entries.items is c.self.invariant.within.cut))
-    (wake-calls c.self.inside.told _ _ _ s (take count rest) c.deref-2.result.now _ c.deref-2.ensures.value c.add_marks.ensures c.put_marks.ensures c.add.ensures.added c.add.ensures.bounded)
+    (wake-calls c.self.inside.told _ _ _ s (take count rest) c.deref-2.result.now _ c.deref-2.ensures.value c.add_marks.ensures c.put_marks.ensures c.add.ensures.adds c.add.ensures.bounded)
     (λ log told_is follows. follows-woken _ s c.wake.new.stage c.in-Some.now_ms count c.args.until_ms rest log c.self.invariant.within follows is (sym c.first_moment.ensures ∙ c.in-Some.is) some c.lines_of_moment.ensures.end (wake-end s.cut count rest c.self.inside.entries.items is c.self.invariant.within.cut) c.lines_of_moment.ensures.none c.lines_of_moment.ensures.at wakes)
 
 pub returns-else-is_err-clause-told : goal.returns-else-is_err-clause-told
@@ -50,6 +50,6 @@ returns-else-is_err-clause-told c =
     let is = take_rest c.deref.result.now s.cut ∙ ap (drop s.cut) c.deref.ensures.value in
     let some : 0 < count = c.lines_of_moment.ensures.some (first-some rest c.in-Some.now_ms (sym c.first_moment.ensures ∙ c.in-Some.is)) in
     rw (← c.self.view_is) (tells told (wake-marks s (take count rest)) (entry.Woke c.args.until_ms c.in-Some.now_ms) _
-    (wake-calls told _ _ _ s (take count rest) c.deref-2.result.now _ c.deref-2.ensures.value c.add_marks.ensures c.put_marks.ensures c.add.ensures.added c.add.ensures.bounded)
+    (wake-calls told _ _ _ s (take count rest) c.deref-2.result.now _ c.deref-2.ensures.value c.add_marks.ensures c.put_marks.ensures c.add.ensures.adds c.add.ensures.bounded)
     (marks_are s (take count rest))
     (λ log told_is. wake-later _ s (take count rest) c.in-Some.now_ms count c.args.until_ms rest log (c.self.invariant.follows log told_is) is (sym c.first_moment.ensures ∙ c.in-Some.is) some c.lines_of_moment.ensures.none))

@@ -1,15 +1,17 @@
 // The log that a wire in memory tells.
-ghost use Rattle.std.specs.Prelude.{◌≡◌, ◌∷◌, [], Some, None, option_map, is_some, not};
-ghost use Rattle.scripted_wire.specs.Adds.{Adds, IsBounded, AddsOne, AddsIf};
-ghost use Rattle.scripted_wire.specs.Marks.{option_log};
+ghost use Rattle.std.specs.Prelude.{◌≡◌, Some, None, [], IfSome, is_some, length, not, option_map};
+ghost use Rattle.mx_wire.specs.Adds.{AddsIf, AddsOne};
+ghost use Rattle.mx_wire.specs.Answers.{ReadsAtMost, got_entry};
 
-use mx_wire::Entry;
+use crate::{Entry, Got};
+use mx_base::{Bytes, LinkId};
 use std::alloc::Global;
 use std::marker::Model;
 
-/// A log that is told until there is no memory for an entry, or until it would have 2^48 entries.
+/// A log that is told until there is no memory for an entry, or until it would have 2^48 entries. A contract sees the entries, where
+/// they are told.
 #[derive(Drop)]
-pub(crate) struct ToldLog {
+pub struct ToldLog {
     entries: Vec<Entry>,
     untold: bool,
 }
@@ -64,15 +66,6 @@ impl ToldLog {
         }
     }
 
-    /// Adds a mark, where there is one.
-    pub fn add_mark(&mut self, mark: Option<Entry>)
-        ensures { Adds self.old (option_log mark) self.new }
-    {
-        if let Some(mark) = mark {
-            self.add(mark);
-        }
-    }
-
     /// Adds an entry where there was memory for it, or tells the log no more.
     pub fn add_if(&mut self, entry: Option<Entry>)
         ensures { AddsIf self.old entry self.new }
@@ -89,4 +82,20 @@ impl ToldLog {
     {
         self.untold = true;
     }
+}
+
+/// The entry of a read, where there is memory for it.
+pub fn read_entry(alloc: Global, link: LinkId, got: Got, into: &[u8]) -> Option<Entry>
+    requires { ReadsAtMost (length into.now) got }
+    ensures { IfSome result (λ e. e ≡ got_entry link into.now got) }
+{
+    Some(match got {
+        Got::Got { n } => {
+            let bytes = Bytes::from_slice(alloc, &into[..n]).ok()?;
+            Entry::Got { link, bytes }
+        }
+        Got::NotReady => Entry::ReadNothing { link },
+        Got::End => Entry::Ended { link },
+        Got::Failed => Entry::ReadFailed { link },
+    })
 }

@@ -1,7 +1,0 @@
-use Rattle.std.proofs.Common.{take}
-use Rattle.mem_wire.specs.Adds.{Adds}
-use Rattle.mem_wire.specs.Marks.{entries_of}
-use Rattle.mem_wire.proofs.told_log.ToldLog.add_marks.Given as goal
-
-abbrev pub invariant-loop-mark : goal.invariant-loop-mark
-invariant-loop-mark l = Adds l.initial.self (entries_of l.late.link (take l.mark-index l.late.marks)) l.self
