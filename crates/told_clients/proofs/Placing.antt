@@ -1,5 +1,5 @@
 -- Clients of a log by their places.
-use Rattle.std.specs.Prelude.{◌≡◌, ◌+◌, ℕ, zero, suc, false, nat_eq, List, [], ◌∷◌, ◌++◌, length, map, set, drop, slice_get, Option, Some, None}
+use Rattle.std.specs.Prelude.{◌≡◌, ◌+◌, ℕ, zero, suc, false, is_some, nat_eq, List, [], ◌∷◌, ◌++◌, length, map, set, drop, slice_get, Option, Some, None}
 use Rattle.std.proofs.Common.{◌∙◌, refl, sym, ap, subst, arith}
 use Rattle.std.proofs.lemmas.Option.{none-some, same_Some}
 use Rattle.mx_base.specs.declared.names.LinkId.{LinkId}
@@ -26,6 +26,16 @@ first_not j = grind arith
 
 apart_more : (i j : ℕ) → nat_eq i j ≡ false → nat_eq (suc i) (suc j) ≡ false
 apart_more i j is = grind arith
+
+pub none_of : {X : Type 0} (o : Option X) → is_some o ≡ false → o ≡ None
+none_of None isnt = refl
+none_of (Some x) isnt = absurd (cc)
+
+-- nor is there anything behind the end
+pub none_later : {X : Type 0} (xs : List X) (i : ℕ) → slice_get xs i ≡ None → slice_get xs (suc i) ≡ None
+none_later [] i none = refl
+none_later (x ∷ xs) zero none = absurd (none-some x (sym none))
+none_later (x ∷ xs) (suc i) none = none_later xs i none
 
 pub all_stay : (f : Client → Client) (clients : List Client) → ((j : ℕ) (client : Client) → slice_get clients j ≡ Some client → f client ≡ client) → map f clients ≡ clients
 all_stay f [] stay = refl

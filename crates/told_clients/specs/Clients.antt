@@ -1,9 +1,13 @@
 -- The clients that the code's tables have.
-use Rattle.std.specs.Prelude.{◌≡◌, ℕ, suc, Bool, false, nat_eq, List, [], ◌∷◌, map, slice_get, Option, Some, None, if◌then◌else◌}
+use Rattle.std.specs.Prelude.{◌≡◌, ◌<◌, ℕ, suc, Bool, true, false, nat_eq, List, [], ◌∷◌, map, slice_get, Option, Some, None, if◌then◌else◌}
+use Rattle.std.specs.BTreeSet.{contains}
 use Rattle.std.specs.HashMap.{get_by}
+use Rattle.std.specs.Ordering.{nat_cmp}
 use Rattle.mx_base.specs.declared.names.LinkId.{LinkId}
 use Rattle.client_session.specs.Setups.{Setup}
 use Rattle.private_model.specs.Story.{is_client, is_link_id}
+use Rattle.log_story.specs.Owed.{messages}
+use Rattle.log_story.specs.Plan.{Plan}
 use Rattle.log_story.specs.Tale.{Client}
 use Rattle.client_due.specs.Standing.{IsTold}
 use Rattle.client_due.specs.Told.{Told}
@@ -32,9 +36,32 @@ AreFound home n (client ∷ clients) = (home client.link ≡ Some n) × AreFound
 abbrev pub home_at : Clients → LinkId → Option ℕ
 home_at code link = get_by (λ key. is_link_id link key) code.homes
 
+-- no message of it is whole that wasn't taken up
+abbrev pub IsIdle : Setup → Client → Type 0
+IsIdle setup client = (plan : Plan) → plan.service ≡ setup → slice_get (messages plan client) client.taken ≡ None
+
+-- all others wait
+abbrev pub DoWait : Setup → (waits : ℕ → Bool) → List Client → Type 0
+DoWait setup waits clients = (n : ℕ) (client : Client) → slice_get clients n ≡ Some client → waits n ≡ false → IsIdle setup client
+
 pub record AreClients (setup : Setup) (code : Clients) (clients : List Client) : Type 0 where
   pub told : AreTold setup 0 code.clients.items clients
   pub found : AreFound (home_at code) 0 clients
+  pub waiting : DoWait setup (contains nat_cmp code.waiting) clients
+
+-- so it is where this says no
+abbrev pub RestsUnless : Clients → (at : ℕ) → (waits : Bool) → Type 0
+RestsUnless code at waits = (setup : Setup) (clients : List Client) (client : Client) → AreTold setup 0 code.clients.items clients → slice_get clients at ≡ Some client
+    → waits ≡ false → IsIdle setup client
+
+-- the one at a place waits, unless it is idle, and so do those that did
+pub record Waits (old new : Clients) (at : ℕ) : Type 0 where
+  pub kept : (n : ℕ) → contains nat_cmp old.waiting n ≡ true → contains nat_cmp new.waiting n ≡ true
+  pub here : RestsUnless old at (contains nat_cmp new.waiting at)
+
+abbrev pub IsBefore : (n : ℕ) → Option ℕ → Type 0
+IsBefore n None = Unit {0}
+IsBefore n (Some at) = n < at
 
 -- a client goes on as this one
 abbrev pub replaced : Client → List Client → List Client

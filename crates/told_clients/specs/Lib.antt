@@ -1,3 +1,4 @@
 pub mod Clients
 pub mod Wires
 pub mod Lending
+pub mod Links

@@ -1,23 +1,27 @@
 // The clients of a log.
-ghost use Rattle.std.specs.Prelude.{◌≡◌, ◌<◌, ◌+◌, ℕ, true, is_some, List, [], ◌∷◌, ◌++◌, suc, length, map, slice_get, Some, None, IfSome, OnOk, option_copied};
+ghost use Rattle.std.specs.Prelude.{◌≡◌, ◌<◌, ◌≤◌, ◌+◌, ℕ, true, false, is_some, List, [], ◌∷◌, ◌++◌, suc, length, map, slice_get, Some, None, IfNone, IfOk, IfSome, OnOk, option_copied};
+ghost use Rattle.std.specs.BTreeSet.{contains};
+ghost use Rattle.std.specs.Ordering.{nat_cmp};
 ghost use Rattle.mx_base.specs.declared.names.LinkId.{LinkId as TheLink};
 ghost use Rattle.client_session.specs.Setups.{Setup as Service};
 ghost use Rattle.private_model.specs.Story.{is_link_id, put as place};
 ghost use Rattle.log_story.specs.Tale.{Client, client_gets, client_hears, new_client};
-ghost use Rattle.told_clients.specs.Clients.{AreClients, AreTold, IsHome, IsSeen, home_at, replaced};
+ghost use Rattle.told_clients.specs.Clients.{AreClients, AreTold, IsBefore, IsHome, IsIdle, IsSeen, RestsUnless, Waits, home_at, replaced};
 
 use crate::Fault;
 use client_due::ToldClient;
 use client_session::Setup;
 use mx_base::{ClientNo, LinkId, OutOfMemory};
 use std::alloc::Global;
-use std::collections::HashMap;
+use std::collections::{BTreeSet, HashMap};
 
 /// The clients of a log in the order in which they came. Their numbers count from 1, and no two have one link.
 #[derive(Drop)]
 pub struct Clients {
     clients: Vec<ToldClient>,
     homes: HashMap<LinkId, usize>,
+    /// The places of those of whom a message is whole that wasn't taken up, and of some others.
+    waiting: BTreeSet<usize>,
 }
 
 // The number of a client behind so many.
@@ -35,6 +39,7 @@ impl Clients {
         Clients {
             clients: Vec::new(alloc),
             homes: HashMap::new(alloc),
+            waiting: BTreeSet::new(alloc),
         }
     }
 
@@ -67,16 +72,17 @@ impl Clients {
         self.seat(at)
     }
 
-    /// A client comes on a link, with this salt (client/server protocol, "Connection Phase"). After an error nothing is promised.
+    /// A client comes on a link, with this salt (client/server protocol, "Connection Phase"); its number. After an error nothing is promised.
     pub fn accept(
         &mut self,
         alloc: Global,
         setup: &Setup,
         link: LinkId,
         salt: [u8; 20],
-    ) -> Result<(), Fault>
-        ensures { OnOk result ((clients : List Client) → AreClients setup.now self.old clients
+    ) -> Result<ClientNo, Fault>
+        ensures clients { OnOk result ((clients : List Client) → AreClients setup.now self.old clients
             → AreClients setup.now self.new (clients ++ new_client (length clients + 1) link salt ∷ [])) }
+        ensures number { IfOk result (λ number. (clients : List Client) → AreClients setup.now self.old clients → number.0 ≡ length clients + 1) }
     {
         if self.is_found(link) {
             return Err(Fault::LinkTwice);
@@ -87,7 +93,8 @@ impl Clients {
         };
         let client = ToldClient::new(alloc, setup, ClientNo(number), link, salt)?;
         self.put(at, link, client)?;
-        Ok(())
+        self.waits(at)?;
+        Ok(ClientNo(number))
     }
 
     // Whether a client has this link.
@@ -101,6 +108,7 @@ impl Clients {
     fn put(&mut self, at: usize, link: LinkId, client: ToldClient) -> Result<(), OutOfMemory>
         ensures clients { OnOk result (self.new.clients.items ≡ self.old.clients.items ++ client ∷ []) }
         ensures homes { OnOk result ((l : TheLink) → home_at self.new l ≡ place is_link_id (home_at self.old) link (Some at) l) }
+        ensures waiting { self.new.waiting ≡ self.old.waiting }
     {
         self.clients.push(client)?;
         self.homes.insert(link, at)?;
@@ -119,8 +127,29 @@ impl Clients {
         }
     }
 
-    // Where the client of a link stands.
-    fn home(&self, link: LinkId) -> Option<usize>
+    // The client at a place waits, where a message of it is whole that wasn't taken up.
+    fn waits(&mut self, at: usize) -> Result<(), OutOfMemory>
+        ensures same { self.new ≡ record self.old { waiting = self.new.waiting } }
+        ensures waits { OnOk result (Waits self.old self.new at) }
+    {
+        if self.has_next(at) {
+            self.waiting.insert(at)?;
+        }
+        Ok(())
+    }
+
+    // Whether a message of the client at a place is whole that wasn't taken up.
+    fn has_next(&self, at: usize) -> bool
+        ensures { RestsUnless self.now at result }
+    {
+        match self.seat(at) {
+            None => false,
+            Some(client) => client.next_message().is_some(),
+        }
+    }
+
+    /// Where the client of a link stands, counted from 0. Takes no memory.
+    pub fn home(&self, link: LinkId) -> Option<usize>
         ensures within { IfSome result (λ at. at < length self.now.clients.items) }
         ensures is { (setup : Service) (clients : List Client) → AreClients setup self.now clients → IsHome result link clients }
     {
@@ -144,7 +173,10 @@ impl Clients {
     {
         match self.home(link) {
             None => Ok(()),
-            Some(at) => self.clients[at].hears(alloc, setup, bytes),
+            Some(at) => {
+                self.clients[at].hears(alloc, setup, bytes)?;
+                self.waits(at)
+            }
         }
     }
 
@@ -156,6 +188,33 @@ impl Clients {
         match self.home(link) {
             None => {}
             Some(at) => self.clients[at].gets(count),
+        }
+    }
+
+    /// The first place from this one on where a client may wait whose message is whole and wasn't taken up; none waits before it. Takes no
+    /// memory.
+    pub fn next_waiting(&self, from: usize) -> Option<usize>
+        ensures later { IfSome result (λ at. from ≤ at) }
+        ensures rests { (setup : Service) (clients : List Client) (n : ℕ) (client : Client) → AreClients setup self.now clients → from ≤ n → IsBefore n result
+            → slice_get clients n ≡ Some client → IsIdle setup client }
+    {
+        self.next_place(from)
+    }
+
+    fn next_place(&self, from: usize) -> Option<usize>
+        ensures later { IfSome result (λ at. from ≤ at) }
+        ensures least { IfSome result (λ at. (n : ℕ) → from ≤ n → contains nat_cmp self.now.waiting n ≡ true → at ≤ n) }
+        ensures none { IfNone result ((n : ℕ) → from ≤ n → contains nat_cmp self.now.waiting n ≡ false) }
+    {
+        self.waiting.range(from..).next().copied()
+    }
+
+    /// The client at a place was looked at: it waits no longer, where no message of it is whole that wasn't taken up. Takes no memory.
+    pub fn rests(&mut self, at: usize)
+        ensures { (setup : Service) (clients : List Client) → AreClients setup self.old clients → AreClients setup self.new clients }
+    {
+        if !self.has_next(at) {
+            self.waiting.remove(&at);
         }
     }
 

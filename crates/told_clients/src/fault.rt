@@ -1,12 +1,12 @@
 // Why a client isn't taken.
 use mx_base::OutOfMemory;
 
-/// Why a client that came isn't taken.
+/// Why a client that came, or a link that was opened, isn't taken.
 #[derive(Clone, Copy)]
 pub enum Fault {
     /// Memory was refused.
     OutOfMemory,
-    /// Its link stands for another client, so that no wire tells this log.
+    /// Its link stands for another client, or was opened before, so that no wire tells this log.
     LinkTwice,
     /// More clients come than 64 bits count.
     TooMany,

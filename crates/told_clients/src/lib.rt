@@ -3,8 +3,10 @@
 
 mod clients;
 mod fault;
+mod links;
 mod wires;
 
 pub use clients::Clients;
 pub use fault::Fault;
+pub use links::Links;
 pub use wires::Wires;

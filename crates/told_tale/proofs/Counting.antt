@@ -1,5 +1,5 @@
 -- What was counted of answers stays right as the story goes on.
-use Rattle.std.specs.Prelude.{◌≡◌, ◌<◌, ℕ, suc, Bool, true, false, ◌&&◌, nat_eq, nat_le, List, [], ◌∷◌, ◌++◌, if◌then◌else◌, Option, Some, None}
+use Rattle.std.specs.Prelude.{◌≡◌, ◌<◌, ℕ, suc, Bool, true, false, ◌&&◌, nat_eq, nat_le, List, [], ◌∷◌, ◌++◌, if◌then◌else◌, unwrap_or, Option, Some, None}
 use Rattle.std.specs.Option.{option_map_or}
 use Rattle.std.proofs.Common.{◌∙◌, refl, sym, ap, subst, arith}
 use Rattle.std.proofs.lemmas.Bool.Decides.{nat_tests}
@@ -12,16 +12,16 @@ use Rattle.mx_base.specs.declared.tag.Tag.TheVariants as tag
 use Rattle.session_state.specs.declared.names.SessionName.{SessionName}
 use Rattle.session_state.specs.declared.names.MessageName.{MessageName}
 use Rattle.private_model.proofs.Maps.{number_of, same_number}
-use Rattle.private_model.specs.Commands.{Command, Reply}
-use Rattle.private_model.specs.Story.{Capture, End, Happening, Own, Prep, Question, Sent, Statement, Story, Sync, is_client, put}
-use Rattle.private_model.specs.View.{Answered, Asked, Carried, Joined, Lent, Link, Nobody, Quiet, Setup, Stage, View, present, ran_by, view_after, view_heard}
+use Rattle.private_model.specs.Commands.{Command, Quit, Reply}
+use Rattle.private_model.specs.Story.{Capture, End, Happening, Left, Own, Prep, Question, Sent, Statement, Story, Sync, is_client, is_link_id, put}
+use Rattle.private_model.specs.View.{Answered, Asked, Carried, Joined, Lent, Link, Nobody, Quiet, Setup, Stage, View, asked, closed_number, heard, present, ran_by, session_in, view_after, view_heard}
 use Rattle.server_rule.specs.Classes.{Reads}
 use Rattle.client_due.proofs.Counting.{counted-first, counted-later}
 use Rattle.client_due.specs.Counting.{IsCounted, name_at}
 use Rattle.client_due.specs.Known.{Known}
 use Rattle.client_due.specs.declared.counted.Counted.{Counted}
 use Rattle.log_story.specs.Plan.{Asks, Closes, Plan, Resets, Route, StepText, job_of}
-use Rattle.log_story.specs.Servers.{begun_by, breach, copy_by, due_or, quits_by, routed, runs_first, statement_of, stepped, with_run}
+use Rattle.log_story.specs.Servers.{begun_by, breach, copy_by, due_or, ended_by, quits_by, routed, runs_first, statement_of, stepped, with_run}
 use Rattle.log_story.specs.Tale.{Tale, link_in, view_of}
 use Rattle.told_tale.specs.Counts.{AreCounted, IsReady, Keeps, counted_at, is_asked, message_in}
 use Rattle.told_tale.specs.declared.counts.Counts.{Counts}
@@ -108,6 +108,24 @@ heard-keeps setup view link reply (Answered (Own command)) m other = refl
 heard-keeps setup view link reply (Answered (End n)) m other = refl
 heard-keeps setup view link reply (Answered (Capture n)) m other = refl
 
+-- as one link is put, another stays
+pub other-stays : (links : LinkId → Link) (link : LinkId) (x : Link) (l : LinkId) → is_link_id l link ≡ false → put is_link_id links link x l ≡ links l
+other-stays links link x l other = ap (λ b. if b then x else links l) other
+
+-- a reply is one of its link alone
+pub heard-others : (setup : Setup) (view : View) (link : LinkId) (reply : Reply) (stage : Stage) (l : LinkId) → is_link_id l link ≡ false
+    → (view_heard setup view link reply stage).links l ≡ view.links l
+heard-others setup view link reply Quiet l other = refl
+heard-others setup view link reply (Asked question) l other = refl
+heard-others setup view link reply (Answered question) l other = other-stays view.links link (heard setup.reads question reply (view.links link)) l other
+
+pub run-others : (setup : Setup) (stage : Stage) (link : LinkId) (tale : Tale) (l : LinkId) → is_link_id l link ≡ false
+    → link_in setup (runs_first stage link tale) l ≡ link_in setup tale l
+run-others setup (Asked question) link tale l other =
+    let there = link_in setup tale link in other-stays (view_of setup tale).links link (ran_by setup.reads there.alive there.stage there) l other
+run-others setup Quiet link tale l other = refl
+run-others setup (Answered question) link tale l other = refl
+
 -- what runs leaves the message that is asked, and all replies
 ran-asks : (reads : Reads) (alive : Bool) (stage : Stage) (link : Link) → link.stage ≡ stage → message_in (ran_by reads alive stage link).stage ≡ message_in stage
 ran-asks reads true (Asked question) link is = refl
@@ -144,53 +162,71 @@ module _ (setup : Setup) (link : LinkId) (tale : Tale) where
       heard-keeps setup (view_of setup (with_run setup link tale)) link reply (link_in setup (with_run setup link tale) link).stage m (ap (λ asked. is_asked asked m) run-asks ∙ other)
       ∙ ap (λ (replies : MessageName → Option Reply). replies m) (run-leaves setup there.stage link tale)
 
--- No happening by which a question begins is a reply.
+-- No happening by which a question begins is a reply, or is one of another link.
+
+pub record Stays (link : LinkId) (old new : View) : Type 0 where
+  pub replies : new.replies ≡ old.replies
+  pub others : (l : LinkId) → is_link_id l link ≡ false → new.links l ≡ old.links l
 
 module _ (setup : Setup) (story : Story) where
-  abbrev Silent : List Happening → Type 0
-  Silent happenings = (view_after setup (happenings ++ story)).replies ≡ (view_after setup story).replies
-
   module _ (plan : Plan) (view : View) (link : LinkId) where
+    abbrev before_it : View
+    before_it = view_after setup story
+
+    abbrev Silent : List Happening → Type 0
+    Silent happenings = Stays link before_it (view_after setup (happenings ++ story))
+
+    sent : (question : Question) → Silent (Sent link question ∷ [])
+    sent question = record { replies = refl; others = other-stays before_it.links link (asked question (before_it.links link)) }
+
+    sent_as_left : (client : ClientNo) (question : Question) → Silent (Left client ∷ Sent link question ∷ [])
+    sent_as_left client question = record { replies = refl; others = other-stays before_it.links link (asked question (before_it.links link)) }
+
+    nothing : Silent []
+    nothing = record { replies = refl; others = λ l other. refl }
+
     routed-silent : (client : ClientNo) (ordinal : ℕ) (happens : Route → List Happening) → ((route : Route) → Silent (happens route)) → Silent (routed plan link client ordinal happens)
     routed-silent client ordinal happens silent = by (plan.routes (record { client = client; ordinal = ordinal }))
       where
         by : (route : Option Route) → Silent (option_map_or happens route (breach link client ∷ []))
-        by None = refl
+        by None = sent (Sync (record { client = client; hostgroup = record { 0 = 0 }; life = 0 }) Quit)
         by (Some route) = silent route
 
     stepped-silent : (question : Command → Question) (step : StepText) → Silent (stepped link question step)
-    stepped-silent question (Asks command) = refl
-    stepped-silent question (Closes number) = refl
-    stepped-silent question (Resets number) = refl
+    stepped-silent question (Asks command) = sent (question command)
+    stepped-silent question (Closes number) = record { replies = refl; others = other-stays before_it.links link (closed_number number (before_it.links link)) }
+    stepped-silent question (Resets number) = nothing
 
     copy-silent : (n : SessionName) (carries : Carried) → Silent (copy_by view link n carries)
-    copy-silent n Nobody = refl
-    copy-silent n (Lent who) = refl
+    copy-silent n Nobody = sent_as_left n.client (statement_of view 1 n)
+    copy-silent n (Lent who) = sent_as_left n.client (statement_of view 1 n)
     copy-silent n (Joined who) = by (is_client who.client n.client)
       where
         by : (b : Bool) → Silent (if b then Sent link (End who) ∷ [] else Sent link (statement_of view 1 n) ∷ [])
-        by true = refl
-        by false = refl
+        by true = sent (End who)
+        by false = sent (statement_of view 1 n)
 
     mirror-silent : (job : ClientNo) (mirror : Option Hostgroup) → Silent (option_map_or (λ hostgroup. copy_by view link (present view job hostgroup) (view.links link).carries) mirror (breach link job ∷ []))
-    mirror-silent job None = refl
+    mirror-silent job None = sent (Sync (record { client = job; hostgroup = record { 0 = 0 }; life = 0 }) Quit)
     mirror-silent job (Some hostgroup) = copy-silent (present view job hostgroup) (view.links link).carries
 
     own-silent : (quits : Bool) (step : StepText) → Silent (if quits then [] else stepped link Own step)
-    own-silent true step = refl
+    own-silent true step = nothing
     own-silent false step = stepped-silent Own step
 
     pub begun-silent : (begun : ℕ) (for : Tag) → Silent (begun_by setup plan view link begun for)
     begun-silent begun (tag.For client ordinal) =
-        routed-silent client ordinal (λ route. Sent link (statement_of view ordinal (present view client route.hostgroup)) ∷ []) (λ route. refl)
+        routed-silent client ordinal (λ route. Sent link (statement_of view ordinal (present view client route.hostgroup)) ∷ [])
+        (λ route. sent (statement_of view ordinal (present view client route.hostgroup)))
     begun-silent begun (tag.Prep client ordinal) =
         let key : Route → ℕ = λ route. (due_or view client ordinal (view.dues (present view client route.hostgroup))).key in
-        routed-silent client ordinal (λ route. Sent link (Prep (present view client route.hostgroup) (key route) (setup.keys (key route)).text) ∷ []) (λ route. refl)
+        routed-silent client ordinal (λ route. Sent link (Prep (present view client route.hostgroup) (key route) (setup.keys (key route)).text) ∷ [])
+        (λ route. sent (Prep (present view client route.hostgroup) (key route) (setup.keys (key route)).text))
     begun-silent begun (tag.Mirror client ordinal) =
         let job = job_of (record { client = client; ordinal = ordinal }) in
         routed-silent client ordinal (λ route. option_map_or (λ hostgroup. copy_by view link (present view job hostgroup) (view.links link).carries) route.mirror (breach link job ∷ []))
         (λ route. mirror-silent job route.mirror)
     begun-silent begun (tag.Sync client hostgroup) = stepped-silent (Sync (present view client hostgroup)) (plan.steps link begun)
-    begun-silent begun (tag.End client hostgroup) = refl
+    begun-silent begun (tag.End client hostgroup) = sent (ended_by view (unwrap_or (session_in (view.links link).carries) (present view client hostgroup)))
     begun-silent begun tag.Own = own-silent (quits_by (plan.steps link begun)) (plan.steps link begun)
-    begun-silent begun tag.Reply = refl
+    begun-silent begun tag.Reply = nothing

@@ -1,13 +1,8 @@
 -- A fold goes on over what a tale has.
-use Rattle.std.specs.Prelude.{◌≡◌, ◌+◌, ◌<◌, ◌≤◌, ℕ, Bool, true, false, List, ◌∷◌, fold, drop, get_or, length}
+use Rattle.std.specs.Prelude.{◌≡◌, ◌+◌, ◌-◌, ◌<◌, ◌≤◌, ℕ, zero, suc, Bool, true, false, List, [], ◌∷◌, fold, drop, get_or, length, slice_get, Option, Some, None}
 use Rattle.std.proofs.Common.{◌∙◌, refl, sym, ap, subst, arith}
-use Rattle.std.specs.List.{list_any}
 use Rattle.std.proofs.lemmas.List.{drop_all}
-use Rattle.std.proofs.lemmas.List.Folds.{list_any_at}
-use Rattle.mx_base.specs.declared.names.LinkId.{LinkId}
-use Rattle.private_model.proofs.Maps.{same_number}
-use Rattle.private_model.specs.Story.{is_link_id}
-use Rattle.std.proofs.lemmas.Option.{slice_get_read}
+use Rattle.std.proofs.lemmas.Option.{none-some, same_Some, slice_get_read}
 use Rattle.client_due.specs.Told.{Told as Code}
 use Rattle.client_session.specs.Setups.{Setup as Service}
 use Rattle.private_model.specs.Commands.{Step}
@@ -21,13 +16,14 @@ use Rattle.told_tale.specs.Steps.{IsFolding, IsLed}
 
 module _ {R : Type 0} (stored : R → List ℕ) (step : Step) (setup : Setup) where
   pub led_first : (code : Told R) (tale : Tale) → IsTold stored step setup code tale.story → IsLed stored step setup code tale tale
-  led_first code tale told = record { same = refl; told = told; keeps = refl }
+  led_first code tale told = record { same = refl; told = told; keeps = refl; idles = λ l is. is }
 
   pub led_more : (mid new : Told R) (tale at next : Tale) → IsLed stored step setup mid tale at → IsLed stored step setup new at next → IsLed stored step setup new tale next
   led_more mid new tale at next first then = record {
     same = then.same ∙ ap (λ (t : Tale). record t { story = next.story }) first.same;
     told = then.told;
     keeps = then.keeps ∙ first.keeps;
+    idles = λ l is. then.idles l (first.idles l is);
   }
 
   module _ {X : Type 0} (f : Tale → X → Tale) (all : List X) (tale : Tale) where
@@ -46,6 +42,48 @@ module _ {R : Type 0} (stored : R → List ℕ) (step : Step) (setup : Setup) wh
     folded code i past so_far =
         let done : fold f tale all ≡ so_far.at = so_far.rest ∙ ap (fold f so_far.at) (drop_all i all past) in
         subst (λ (t : Tale). IsLed stored step setup code tale t) (sym done) so_far.led
+
+-- What a fold does nothing with is passed over.
+
+pub drop_at : {X : Type 0} (xs : List X) (i : ℕ) (x : X) → slice_get xs i ≡ Some x → drop i xs ≡ x ∷ drop (i + 1) xs
+drop_at [] i x is = absurd (none-some x is)
+drop_at (y ∷ xs) zero x is = ap (λ z. z ∷ xs) (same_Some y x is)
+drop_at (y ∷ xs) (suc i) x is = drop_at xs i x is ∙ ap (λ k. x ∷ drop k (y ∷ xs)) (later i)
+  where
+    later : (i : ℕ) → suc (i + 1) ≡ suc i + 1
+    later i = omega arith
+
+pub past_at : {X : Type 0} (xs : List X) (i : ℕ) → slice_get xs i ≡ None → length xs ≤ i
+past_at [] i none = omega arith
+past_at (x ∷ xs) zero none = absurd (none-some x (sym none))
+past_at (x ∷ xs) (suc i) none = let past = past_at xs i none in omega (arith, past)
+
+module _ {S X : Type 0} (f : S → X → S) (all : List X) (now : S) where
+  skip_one : (i : ℕ) → ((x : X) → slice_get all i ≡ Some x → f now x ≡ now) → fold f now (drop i all) ≡ fold f now (drop (i + 1) all)
+  skip_one i stays = by (slice_get all i) refl
+    where
+      by : (o : Option X) → slice_get all i ≡ o → fold f now (drop i all) ≡ fold f now (drop (i + 1) all)
+      by None none =
+          let past = past_at all i none in
+          ap (fold f now) (drop_all i all past) ∙ sym (ap (fold f now) (drop_all (i + 1) all (omega (arith, past))))
+      by (Some x) here = ap (fold f now) (drop_at all i x here) ∙ ap (λ s. fold f s (drop (i + 1) all)) (stays x here)
+
+  skip : (d i : ℕ) → ((n : ℕ) (x : X) → i ≤ n → n < i + d → slice_get all n ≡ Some x → f now x ≡ now) → fold f now (drop i all) ≡ fold f now (drop (i + d) all)
+  skip zero i stays = ap (λ k. fold f now (drop k all)) (ends i)
+    where
+      ends : (i : ℕ) → i ≡ i + 0
+      ends i = omega arith
+  skip (suc d) i stays =
+      skip_one i (λ x here. stays i x (omega arith) (omega arith) here) ∙ skip d (i + 1) (λ n x from below. stays n x (omega (arith, from)) (omega (arith, below))) ∙ ap (λ k. fold f now (drop k all)) (later i d)
+    where
+      later : (i d : ℕ) → i + 1 + d ≡ i + suc d
+      later i d = omega arith
+
+  pub skip_to : (i k : ℕ) → i ≤ k → ((n : ℕ) (x : X) → i ≤ n → n < k → slice_get all n ≡ Some x → f now x ≡ now) → fold f now (drop i all) ≡ fold f now (drop k all)
+  skip_to i k below stays = skip (k - i) i (λ n x from inside. stays n x from (omega (arith, below, inside))) ∙ ap (λ j. fold f now (drop j all)) (omega (arith, below))
+
+  pub skip_rest : (i : ℕ) → ((n : ℕ) (x : X) → i ≤ n → slice_get all n ≡ Some x → f now x ≡ now) → fold f now (drop i all) ≡ now
+  skip_rest i stays = skip (length all) i (λ n x from inside. stays n x from) ∙ ap (fold f now) (drop_all (i + length all) all (omega arith))
 
 -- a fold over clients comes to the next
 module _ {R : Type 0} (stored : R → List ℕ) (step : Step) (setup : Setup) (service : Service) (f : Tale → Client → Tale) (codes : List Code) (tale : Tale)
@@ -66,7 +104,3 @@ same_moment stored step setup code old new led = ap (λ (t : Tale). t.moment) le
 
 pub apart : {A : Type 0} {b : Bool} → b ≡ true → b ≡ false → A
 apart is isnt = absurd (cc)
-
--- a link of the list is found there
-pub among : (links : List LinkId) (i : ℕ) (d : LinkId) → i < length links → list_any (is_link_id (get_or links i d)) links ≡ true
-among links i d inside = list_any_at (is_link_id (get_or links i d)) links i d inside (same_number (get_or links i d).0)

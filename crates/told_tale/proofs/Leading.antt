@@ -1,5 +1,5 @@
 -- A part of the walk leads the code from tale to tale.
-use Rattle.std.specs.Prelude.{◌≡◌, ℕ, Bool, true, false, is_some, List, [], ◌∷◌, ◌++◌, ◌||◌, if◌then◌else◌, Option, Some, None}
+use Rattle.std.specs.Prelude.{◌≡◌, ℕ, Bool, true, false, is_some, List, [], ◌∷◌, ◌++◌, ◌||◌, if◌then◌else◌, length, slice_get, Option, Some, None}
 use Rattle.std.specs.List.{list_any}
 use Rattle.std.proofs.Common.{◌∙◌, refl, sym, ap, subst}
 use Rattle.std.proofs.lemmas.List.Folds.{list_any-append}
@@ -12,8 +12,10 @@ use Rattle.private_model.specs.Story.{is_link_id, put}
 use Rattle.private_model.specs.View.{Setup}
 use Rattle.log_story.specs.Plan.{Plan}
 use Rattle.log_story.specs.Telling.{told as told_by}
-use Rattle.log_story.specs.Tale.{Client, Tale, is_to_server, new_wire, view_of}
+use Rattle.log_story.specs.Tale.{Client, Tale, is_to_server, link_in, new_wire, view_of}
 use Rattle.told_clients.specs.Clients.{AreClients}
+use Rattle.told_clients.specs.Links.{AreLinks, is_lent}
+use Rattle.told_clients.specs.declared.links.Links.{Links}
 use Rattle.told_clients.specs.Wires.{AreWires, IsWireAt, wire_at}
 use Rattle.told_clients.specs.declared.clients.Clients.{Clients}
 use Rattle.told_clients.specs.declared.wires.Wires.{Wires}
@@ -25,10 +27,21 @@ use Rattle.told_story.specs.declared.told.Told.{Told}
 use Rattle.told_plan.specs.Plans.{plan_of}
 use Rattle.told_tale.proofs.Counting.{counted-heard}
 use Rattle.told_tale.specs.Counts.{AreCounted, IsReady, known_in}
-use Rattle.told_tale.specs.Standing.{IsTale, Leads}
-use Rattle.told_tale.specs.Steps.{IsLed, IsLedOn}
+use Rattle.told_tale.proofs.Folding.{apart}
+use Rattle.told_tale.specs.Standing.{DoEnd, IsTale, Leads}
+use Rattle.told_tale.specs.Steps.{IsLed, IsLedOn, is_idle}
 use Rattle.told_tale.specs.declared.counts.Counts.{Counts}
+use Rattle.told_tale.specs.declared.moments.Moments.{Moments}
 use Rattle.told_tale.specs.declared.tale.ToldTale.{ToldTale}
+
+-- what isn't so now wasn't so
+pub unlent : (was is : Bool) → (was ≡ true → is ≡ true) → is ≡ false → was ≡ false
+unlent true is kept isnt = apart (kept refl) isnt
+unlent false is kept isnt = refl
+
+-- wherever the link stands it may be lent
+abbrev pub IsMarked : Links → LinkId → Tale → Type 0
+IsMarked links link tale = (n : ℕ) → slice_get tale.links n ≡ Some link → is_lent links n ≡ true
 
 module _ {R : Type 0} (stored : R → List ℕ) (step : Step) (setup : Setup) (plan : Plan) (code : ToldTale R) (tale : Tale) (is : IsTale stored step setup plan code tale) where
   -- the story alone goes on
@@ -40,6 +53,8 @@ module _ {R : Type 0} (stored : R → List ℕ) (step : Step) (setup : Setup) (p
     told = led.told;
     clients = is.clients;
     links = is.links;
+    lent = λ n link there isnt. led.idles link (is.lent n link there isnt);
+    ending = is.ending;
     wires = is.wires;
     there = is.there;
     counted = subst (λ (replies : MessageName → Option Reply). AreCounted (record { plan = plan; moment = tale.moment; replies = replies }) code.counts) (sym led.keeps) is.counted;
@@ -54,20 +69,58 @@ module _ {R : Type 0} (stored : R → List ℕ) (step : Step) (setup : Setup) (p
     told = is.told;
     clients = is.clients;
     links = is.links;
+    lent = is.lent;
+    ending = is.ending;
     wires = is.wires;
     there = is.there;
     counted = are;
   }
 
   -- clients alone go on
-  pub tale_of_clients : (clients : Clients) (these : List Client) → AreClients plan.service clients these → IsTale stored step setup plan (record code { clients = clients }) (record tale { clients = these })
-  tale_of_clients clients these are = record {
+  pub tale_of_clients : (clients : Clients) (these : List Client) → AreClients plan.service clients these → length these ≡ length tale.clients
+      → IsTale stored step setup plan (record code { clients = clients }) (record tale { clients = these })
+  tale_of_clients clients these are count = record {
     planned = is.planned;
     keys = is.keys;
     moment = is.moment;
     told = is.told;
     clients = are;
     links = is.links;
+    lent = is.lent;
+    ending = subst (DoEnd plan code.ending) (sym count) is.ending;
+    wires = is.wires;
+    there = is.there;
+    counted = is.counted;
+  }
+
+  -- a client more came
+  pub tale_more : (clients : Clients) (moments : Moments) (these : List Client) → AreClients plan.service clients these → DoEnd plan moments (length these)
+      → IsTale stored step setup plan (record code { clients = clients; ending = moments }) (record tale { clients = these })
+  tale_more clients moments these are ends = record {
+    planned = is.planned;
+    keys = is.keys;
+    moment = is.moment;
+    told = is.told;
+    clients = are;
+    links = is.links;
+    lent = is.lent;
+    ending = ends;
+    wires = is.wires;
+    there = is.there;
+    counted = is.counted;
+  }
+
+  -- a link that may be lent is known to be
+  pub tale_lent : (links : Links) → AreLinks links tale.links → ((n : ℕ) → is_lent code.links n ≡ true → is_lent links n ≡ true) → IsTale stored step setup plan (record code { links = links }) tale
+  tale_lent links are kept = record {
+    planned = is.planned;
+    keys = is.keys;
+    moment = is.moment;
+    told = is.told;
+    clients = is.clients;
+    links = are;
+    lent = λ n link there isnt. is.lent n link there (unlent (is_lent code.links n) (is_lent links n) (kept n) isnt);
+    ending = is.ending;
     wires = is.wires;
     there = is.there;
     counted = is.counted;
@@ -94,19 +147,25 @@ module _ {R : Type 0} (stored : R → List ℕ) (step : Step) (setup : Setup) (p
             ∙ sym (ap is_some (back l ∙ ap (λ b. if b then Some there else wire_at code.wires l) same))
         go false other = sym (ap is_some (back l ∙ ap (λ b. if b then Some there else wire_at code.wires l) other))
 
-    pub tale_led_on : (told : Told R) (asked : Option MessageName) (after : Tale) → IsLedOn stored step setup told link there asked tale after → IsReady asked (view_of setup tale).replies code.counts
+    pub tale_led_on : (told : Told R) (asked : Option MessageName) (after : Tale) → IsLedOn stored step setup told link there asked tale after → IsReady asked (view_of setup tale).replies code.counts → IsMarked code.links link tale
         → IsTale stored step setup plan (record code { told = told; wires = new }) after
-    tale_led_on told asked after led ready = subst (IsTale stored step setup plan (record code { told = told; wires = new })) (sym led.same) (record {
+    tale_led_on told asked after led ready marked = subst (IsTale stored step setup plan (record code { told = told; wires = new })) (sym led.same) (record {
       planned = is.planned;
       keys = is.keys;
       moment = is.moment;
       told = led.told;
       clients = is.clients;
       links = is.links;
+      lent = λ n l at isnt. unlent n l at isnt (is_link_id l link) refl;
+      ending = is.ending;
       wires = wires_on code.wires new link there back tale.wires led.wire is.wires led.knows;
       there = λ l. is.there l ∙ stays l;
       counted = counted-heard plan tale.moment (view_of setup tale).replies (view_of setup after).replies code.counts asked led.keeps ready is.counted;
     })
+      where
+        unlent : (n : ℕ) (l : LinkId) → slice_get tale.links n ≡ Some l → is_lent code.links n ≡ false → (b : Bool) → is_link_id l link ≡ b → is_idle (link_in setup after l) ≡ true
+        unlent n l at isnt true same = apart (marked n (at ∙ ap (λ k. Some k) (same_link l link same))) isnt
+        unlent n l at isnt false other = ap is_idle (led.others l other) ∙ is.lent n l at isnt
 
   -- a link is opened
   module _ (link : LinkId) (server : ServerId) (fresh : ToldLink) (new : Wires) (put_there : (l : LinkId) → wire_at new l ≡ put is_link_id (wire_at code.wires) link (Some fresh) l)

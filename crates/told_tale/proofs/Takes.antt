@@ -1,23 +1,25 @@
 -- How messages are taken up.
 use Rattle.std.specs.Prelude.{◌≡◌, ◌+◌, ◌<◌, ◌≤◌, ℕ, zero, suc, min, Bool, true, false, not, is_some, ◌&&◌, ◌||◌, nat_eq, List, [], ◌∷◌, ◌++◌, drop, fold, length, slice_get, if◌then◌else◌, Option, Some, None}
 use Rattle.std.specs.Option.{option_map, option_map_or}
-use Rattle.std.proofs.lemmas.List.{drop_all}
+use Rattle.std.proofs.lemmas.List.{length-map}
 use Rattle.std.proofs.Common.{◌∙◌, refl, sym, ap, subst, arith}
 use Rattle.std.proofs.lemmas.Option.{none-some, same_Some, slice_get-map}
 use Rattle.mx_base.specs.declared.names.ClientNo.{ClientNo}
 use Rattle.mx_base.specs.declared.names.Hostgroup.{Hostgroup}
+use Rattle.mx_base.specs.declared.names.LinkId.{LinkId}
+use Rattle.mx_wire.specs.declared.entry.Entry.{Entry}
 use Rattle.packet_frame.specs.Packets.{Framed}
 use Rattle.session_state.specs.declared.names.MessageName.{MessageName}
 use Rattle.client_session.specs.Setups.{Setup as Service}
 use Rattle.private_model.specs.Commands.{Command, Step}
 use Rattle.private_model.specs.Story.{BecameDue, is_client}
 use Rattle.private_model.specs.View.{Setup, View, present}
-use Rattle.log_story.specs.Clients.{captures_first, copied, due_by, is_answered, next_taken, taken_by, taken_up}
+use Rattle.log_story.specs.Clients.{captures_first, client_goes_on, copied, due_by, is_answered, is_event_of, next_taken, taken_by, taken_up}
 use Rattle.log_story.specs.Executes.{Request}
 use Rattle.log_story.specs.Owed.{has_room, messages, name_of}
-use Rattle.log_story.specs.Plan.{Plan, Route, own_at}
+use Rattle.log_story.specs.Plan.{Plan, Route, is_by_now, own_at}
 use Rattle.log_story.specs.Servers.{tell_all}
-use Rattle.log_story.specs.Tale.{Client, Tale, tell, view_of, with_client}
+use Rattle.log_story.specs.Tale.{Client, Tale, link_in, tell, view_of, with_client}
 use Rattle.told_clients.specs.Clients.{AreClients, replaced}
 use Rattle.told_clients.specs.declared.clients.Clients.{Clients}
 use Rattle.told_clients.proofs.Homes.{leaves, replaces}
@@ -25,12 +27,16 @@ use Rattle.told_question.specs.Due.{copy_told, due_told}
 use Rattle.told_story.specs.Tells.{IsTold}
 use Rattle.told_story.specs.declared.told.Told.{Told}
 use Rattle.told_tale.specs.Answers.{HasHeard, IsHeard}
+use Rattle.told_tale.specs.Concern.{concerns_by}
 use Rattle.told_tale.specs.Counts.{AreCounted, known_in}
+use Rattle.told_tale.specs.declared.concern.Concern.{Concern}
 use Rattle.told_tale.specs.Standing.{IsTale}
+use Rattle.told_tale.specs.Steps.{is_idle}
 use Rattle.told_tale.specs.Taking.{GoesAt, IsGoing, IsNextTaken, IsTaking, IsTaken, IsTakenUp, behind, next_of}
 use Rattle.told_tale.specs.declared.answers.Heard.{Heard}
 use Rattle.told_tale.specs.declared.counts.Counts.{Counts}
 use Rattle.told_tale.specs.declared.tale.ToldTale.{ToldTale}
+use Rattle.told_tale.proofs.Folding.{drop_at, skip_rest, skip_to}
 use Rattle.told_tale.proofs.Leading.{tale_counted, tale_led, tale_of_clients}
 
 pub some_copied : {B A : Type 0} (f : B → A) (o : Option B) → is_some (option_map f o) ≡ is_some o
@@ -79,6 +85,12 @@ due-keeps : (setup : Setup) (message : MessageName) (client : ClientNo) (hostgro
 due-keeps setup message client hostgroup ordinal request multiplex tale None = refl
 due-keeps setup message client hostgroup ordinal request multiplex tale (Some other) = refl
 
+due-idles : (setup : Setup) (message : MessageName) (client : ClientNo) (hostgroup : Hostgroup) (ordinal : ℕ) (request : Request) (multiplex : Option Bool) (tale : Tale) (mirror : Option Hostgroup)
+    (l : LinkId) → is_idle (link_in setup tale l) ≡ true
+    → is_idle (link_in setup (tell_all (copy_told message request.command mirror ++ (BecameDue client hostgroup ordinal request.key request.command multiplex ∷ [])) tale) l) ≡ true
+due-idles setup message client hostgroup ordinal request multiplex tale None l is = is
+due-idles setup message client hostgroup ordinal request multiplex tale (Some other) l is = is
+
 flipped : (b : Bool) → true ≡ not b → b ≡ false
 flipped true is = is
 flipped false is = refl
@@ -94,7 +106,12 @@ module _ {R : Type 0} (stored : R → List ℕ) (step : Step) (setup : Setup) (c
   due_taken true tells isnt same told = record {
     new = tell_all (due_told client.number ordinal route request) tale;
     is = due_there setup client ordinal route request tale (flipped (captures setup client ordinal route request tale) isnt);
-    led = record { same = refl; told = tells refl; keeps = due-keeps setup (name_of client ordinal) client.number route.hostgroup ordinal request route.multiplex tale route.mirror };
+    led = record {
+      same = refl;
+      told = tells refl;
+      keeps = due-keeps setup (name_of client ordinal) client.number route.hostgroup ordinal request route.multiplex tale route.mirror;
+      idles = due-idles setup (name_of client ordinal) client.number route.hostgroup ordinal request route.multiplex tale route.mirror;
+    };
   }
   due_taken false tells is same told =
       (due_waits setup client ordinal route request tale (flipped_back (captures setup client ordinal route request tale) is), subst (λ (code : Told R). IsTold stored step setup code tale.story) (sym (same refl)) told)
@@ -154,7 +171,7 @@ module _ {R : Type 0} (stored : R → List ℕ) (step : Step) (setup : Setup) (p
         same = same;
         stands = tale_of_clients stored step setup plan (record code { told = told; counts = counts }) up.new
             (tale_led stored step setup plan (record code { counts = counts }) tale (tale_counted stored step setup plan code tale is counts counted) told up.new up.led) clients (replaced (behind client) up.new.clients)
-            (subst (λ all. AreClients plan.service clients (replaced (behind client) all)) (sym same) are);
+            (subst (λ all. AreClients plan.service clients (replaced (behind client) all)) (sym same) are) (length-map up.new.clients _);
       }
 
   pub taking_first : (code : ToldTale R) (at most : ℕ) (client : Client) (tale : Tale) → IsTale stored step setup plan code tale → slice_get tale.clients at ≡ Some client
@@ -187,16 +204,36 @@ module _ {R : Type 0} (stored : R → List ℕ) (step : Step) (setup : Setup) (p
 
 -- Clients go on one after the other.
 
-pub drop_at : {X : Type 0} (xs : List X) (i : ℕ) (x : X) → slice_get xs i ≡ Some x → drop i xs ≡ x ∷ drop (i + 1) xs
-drop_at [] i x is = absurd (none-some x is)
-drop_at (y ∷ xs) zero x is = ap (λ z. z ∷ xs) (same_Some y x is)
-drop_at (y ∷ xs) (suc i) x is = drop_at xs i x is ∙ ap (λ k. x ∷ drop k (y ∷ xs)) (later i)
-  where
-    later : (i : ℕ) → suc (i + 1) ≡ suc i + 1
-    later i = omega arith
-
 apart_below : (i j : ℕ) → i + 1 ≤ j → nat_eq i j ≡ false
 apart_below i j below = grind arith
+
+module _ {R : Type 0} (stored : R → List ℕ) (step : Step) (setup : Setup) (plan : Plan) (f : Tale → Client → Tale) (tale : Tale) where
+  pub going_first : (code : ToldTale R) → IsTale stored step setup plan code tale → IsGoing stored step setup plan code f 0 tale
+  going_first code is = record { now = tale; stands = is; rest = refl; later = λ j from. refl }
+
+  pub going_more : (old new : ToldTale R) (i at : ℕ) (client : Client) (so_far : IsGoing stored step setup plan old f i tale) → i ≤ at
+      → ((n : ℕ) (c : Client) → i ≤ n → n < at → slice_get tale.clients n ≡ Some c → f so_far.now c ≡ so_far.now) → slice_get tale.clients at ≡ Some client
+      → GoesAt stored step setup plan new at so_far.now (f so_far.now client) → IsGoing stored step setup plan new f (at + 1) tale
+  going_more old new i at client so_far past stays here goes = record {
+    now = f so_far.now client;
+    stands = goes.stands;
+    rest = so_far.rest ∙ skip_to f tale.clients so_far.now i at past stays ∙ ap (fold f so_far.now) (drop_at tale.clients at client here);
+    later = λ j from. goes.others j (apart_below at j from) ∙ so_far.later j (omega (arith, past, from));
+  }
+
+  pub going_done : (code : ToldTale R) (i : ℕ) (so_far : IsGoing stored step setup plan code f i tale)
+      → ((n : ℕ) (c : Client) → i ≤ n → slice_get tale.clients n ≡ Some c → f so_far.now c ≡ so_far.now) → IsTale stored step setup plan code (fold f tale tale.clients)
+  going_done code i so_far stays = subst (IsTale stored step setup plan code) (sym (so_far.rest ∙ skip_rest f tale.clients so_far.now i stays)) so_far.stands
+
+  -- who rests is known to
+  pub going_rests : (code : ToldTale R) (clients : Clients) (i : ℕ) (so_far : IsGoing stored step setup plan code f i tale) → AreClients plan.service clients so_far.now.clients
+      → IsGoing stored step setup plan (record code { clients = clients }) f i tale
+  going_rests code clients i so_far are = record {
+    now = so_far.now;
+    stands = tale_of_clients stored step setup plan code so_far.now so_far.stands clients so_far.now.clients are refl;
+    rest = so_far.rest;
+    later = so_far.later;
+  }
 
 pub record IsElement {X : Type 0} (xs : List X) (i : ℕ) : Type 0 where
   pub it : X
@@ -207,18 +244,16 @@ element [] i inside = absurd (omega (arith, inside))
 element (x ∷ xs) zero inside = record { it = x; here = refl }
 element (x ∷ xs) (suc i) inside = let rest = element xs i (omega (arith, inside)) in record { it = rest.it; here = rest.here }
 
-module _ {R : Type 0} (stored : R → List ℕ) (step : Step) (setup : Setup) (plan : Plan) (f : Tale → Client → Tale) (tale : Tale) where
-  pub going_first : (code : ToldTale R) → IsTale stored step setup plan code tale → IsGoing stored step setup plan code f 0 tale
-  going_first code is = record { now = tale; stands = is; rest = refl; later = λ j from. refl }
+-- A client goes on by nothing that it isn't concerned by, and where no message of it waits.
+module _ (setup : Setup) (plan : Plan) (view : View) (e : Entry) (concern : Concern) (now : Tale) (client : Client) (concerns : is_event_of view client e ≡ concerns_by concern client)
+    (rests : concerns_by concern client ≡ true → slice_get (messages plan client) client.taken ≡ None) where
+  abbrev goes : Bool → Bool → Tale
+  goes event ended = if event && not ended then taken_up (length (messages plan client)) setup plan client now else now
 
-  pub going_more : (old new : ToldTale R) (i : ℕ) (client : Client) (so_far : IsGoing stored step setup plan old f i tale) → slice_get tale.clients i ≡ Some client
-      → GoesAt stored step setup plan new i so_far.now (f so_far.now client) → IsGoing stored step setup plan new f (i + 1) tale
-  going_more old new i client so_far here goes = record {
-    now = f so_far.now client;
-    stands = goes.stands;
-    rest = so_far.rest ∙ ap (fold f so_far.now) (drop_at tale.clients i client here);
-    later = λ j from. goes.others j (apart_below i j from) ∙ so_far.later j (omega (arith, from));
-  }
-
-  pub going_done : (code : ToldTale R) (i : ℕ) → length tale.clients ≤ i → IsGoing stored step setup plan code f i tale → IsTale stored step setup plan code (fold f tale tale.clients)
-  going_done code i past so_far = subst (IsTale stored step setup plan code) (sym (so_far.rest ∙ ap (fold f so_far.now) (drop_all i tale.clients past))) so_far.stands
+  pub rests_on : client_goes_on setup plan view e now client ≡ now
+  rests_on = ap (λ b. goes b (is_by_now now.moment (plan.ends client.number))) concerns ∙ by (concerns_by concern client) (is_by_now now.moment (plan.ends client.number)) refl
+    where
+      by : (event ended : Bool) → concerns_by concern client ≡ event → goes event ended ≡ now
+      by false ended is = refl
+      by true true is = refl
+      by true false is = take_none setup plan (length (messages plan client)) client now (none_next setup plan client now (rests is))

@@ -1,6 +1,8 @@
 pub mod Answers
 pub mod Concern
 pub mod Counts
+pub mod Freeing
+pub mod Moments
 pub mod Reading
 pub mod Standing
 pub mod Steps

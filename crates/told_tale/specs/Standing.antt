@@ -1,5 +1,5 @@
 -- Which tale the code stands for.
-use Rattle.std.specs.Prelude.{◌≡◌, ℕ, is_some, List, Some}
+use Rattle.std.specs.Prelude.{◌≡◌, ◌<◌, ℕ, suc, true, is_some, List, length, Some}
 use Rattle.mx_base.specs.declared.names.ClientNo.{ClientNo}
 use Rattle.mx_base.specs.declared.names.LinkId.{LinkId}
 use Rattle.mx_base.specs.declared.names.ServerId.{ServerId}
@@ -14,13 +14,21 @@ use Rattle.private_turns.specs.declared.servers.Servers.{Servers}
 use Rattle.story_view.specs.Tables.{opening_at}
 use Rattle.story_view.specs.declared.places.Openings.{Openings}
 use Rattle.told_clients.specs.Clients.{AreClients}
+use Rattle.told_clients.specs.Links.{AreLinks}
 use Rattle.told_clients.specs.Wires.{AreWires, wire_at}
 use Rattle.told_plan.specs.KeyTable.{AreKeys}
 use Rattle.told_plan.specs.Plans.{plan_of}
 use Rattle.told_plan.specs.declared.keys.Keys.{Keys}
 use Rattle.told_story.specs.Tells.{IsTold}
 use Rattle.told_tale.specs.Counts.{AreCounted, known_in}
+use Rattle.told_tale.specs.Moments.{has_moment}
+use Rattle.told_tale.specs.Steps.{AreLent}
+use Rattle.told_tale.specs.declared.moments.Moments.{Moments}
 use Rattle.told_tale.specs.declared.tale.ToldTale.{ToldTale}
+
+-- at each moment at which one of the first clients is ended, so many, it is known that one is
+abbrev pub DoEnd : Plan → Moments → (count : ℕ) → Type 0
+DoEnd plan moments count = (n moment : ℕ) → n < count → plan.ends (record { 0 = suc n }) ≡ Some moment → has_moment moments moment ≡ true
 
 -- The code stands for a tale, by a plan.
 pub record IsTale {R : Type 0} (stored : R → List ℕ) (step : Step) (setup : Setup) (plan : Plan) (code : ToldTale R) (tale : Tale) : Type 0 where
@@ -29,7 +37,9 @@ pub record IsTale {R : Type 0} (stored : R → List ℕ) (step : Step) (setup : 
   pub moment : tale.moment ≡ code.moment
   pub told : IsTold stored step setup code.told tale.story
   pub clients : AreClients plan.service code.clients tale.clients
-  pub links : tale.links ≡ code.links.items
+  pub links : AreLinks code.links tale.links
+  pub lent : AreLent setup code.links tale
+  pub ending : DoEnd plan code.ending (length tale.clients)
   pub wires : AreWires code.wires tale.wires
   pub there : (l : LinkId) → is_to_server tale l ≡ is_some (wire_at code.wires l)
   pub counted : AreCounted (known_in setup plan tale) code.counts

@@ -12,7 +12,7 @@ pub enum Stop {
     TooLarge,
     /// A link goes to a server that isn't there.
     NoServer,
-    /// Two clients come on one link, so that no wire tells this log.
+    /// Two clients come on one link, or a link to a server is opened twice, so that no wire tells this log.
     LinkTwice,
     /// More entries, clients, questions on a link or bytes for a client come than 64 bits count.
     TooMany,

@@ -7,7 +7,7 @@ ghost use Rattle.log_story.specs.Clients.{client_leaves, clients_are_ended, ende
 ghost use Rattle.log_story.specs.Plan.{is_now};
 ghost use Rattle.log_story.specs.Tale.{Client, Tale};
 ghost use Rattle.private_turns.specs.Kept.{IsSound};
-ghost use Rattle.told_clients.specs.Clients.{AreTold};
+ghost use Rattle.told_clients.specs.Clients.{AreClients, AreTold};
 ghost use Rattle.told_plan.specs.Plans.{plan_of};
 ghost use Rattle.told_story.specs.Tells.{IsTold};
 ghost use Rattle.told_tale.specs.Steps.{IsLed};
@@ -18,6 +18,7 @@ use mx_base::LinkId;
 use server_rule::TameServer;
 use std::alloc::Global;
 use story_view::Party;
+use told_clients::Clients;
 use told_plan::Plan;
 use told_story::Told;
 
@@ -91,15 +92,18 @@ pub(crate) fn leave_link<R: TameServer + Drop>(
     alloc: Global,
     told: &mut Told<R>,
     link: LinkId,
-    clients: &[ToldClient],
+    clients: &Clients,
 ) -> Result<(), Stop>
     requires { IsSound R.tests R.stored told.old.own }
     ensures sound { OnOk result (IsSound R.tests R.stored told.new.own) }
     ensures leads { OnOk result ((setup : Setup) (tale : Tale) (service : Service) → IsTold R.stored (runs R.step) setup told.old tale.story
-        → AreTold service 0 clients.now tale.clients → IsLed R.stored (runs R.step) setup told.new tale (fold (client_leaves link) tale tale.clients)) }
+        → AreClients service clients.now tale.clients → IsLed R.stored (runs R.step) setup told.new tale (fold (client_leaves link) tale tale.clients)) }
 {
-    for client in clients {
-        leave_client(alloc, told, link, client)?;
-    }
-    Ok(())
+    let Some(at) = clients.home(link) else {
+        return Ok(());
+    };
+    let Some(client) = clients.get(at) else {
+        return Ok(());
+    };
+    leave_client(alloc, told, link, client)
 }

@@ -9,6 +9,8 @@ mod due;
 mod fault;
 mod freeing;
 mod leaving;
+mod moments;
+mod places;
 mod serving;
 mod taking;
 mod tale;

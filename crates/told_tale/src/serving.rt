@@ -180,7 +180,7 @@ pub(crate) fn says<R: TameServer + Drop>(
     reads_on(alloc, told, link, wire, bytes)
 }
 
-fn is_quiet_by(stage: &Stage) -> bool
+pub(crate) fn is_quiet_by(stage: &Stage) -> bool
     ensures { result ≡ story.is_quiet (stage_of stage.now) }
 {
     matches!(stage, Stage::Quiet)
@@ -223,8 +223,8 @@ pub(crate) fn writes<R: TameServer + Drop>(
         return Ok(());
     }
     let begun = wire.begun();
-    let step = copy_step(alloc, plan.step(link, begun))?;
     begins(alloc, told, plan, keys, link, begun, tag)?;
+    let step = copy_step(alloc, plan.step(link, begun))?;
     wire.begins(tag, step, bytes)?;
     Ok(())
 }

@@ -1,5 +1,5 @@
 // Messages that are taken up.
-ghost use Rattle.std.specs.Prelude.{◌≡◌, ◌<◌, ◌&&◌, ◌||◌, ℕ, suc, true, not, is_some, nat_eq, Some, None, IfOk, IfSome, OnOk, length, slice_get, slice_index_or};
+ghost use Rattle.std.specs.Prelude.{◌≡◌, ◌<◌, ◌≤◌, ◌&&◌, ◌||◌, ℕ, suc, true, not, is_some, nat_eq, Some, None, IfOk, IfSome, OnOk, length, slice_get, slice_index_or};
 ghost use Rattle.private_model.specs.Commands.{runs};
 ghost use Rattle.private_model.specs.View.{Setup, View};
 ghost use Rattle.mx_wire.specs.declared.entry.Entry.{Entry};
@@ -11,6 +11,7 @@ ghost use Rattle.log_story.specs.Plan as log;
 ghost use Rattle.log_story.specs.Plan.{com_reset, is_by_now, own_at};
 ghost use Rattle.log_story.specs.Tale.{Client, Tale, view_of};
 ghost use Rattle.private_turns.specs.Kept.{IsSound};
+ghost use Rattle.told_clients.specs.Clients.{IsBefore};
 ghost use Rattle.told_plan.specs.KeyTable.{AreKeys};
 ghost use Rattle.told_plan.specs.Plans.{plan_of};
 ghost use Rattle.told_story.specs.Tells.{IsTold};
@@ -23,6 +24,7 @@ ghost use Rattle.told_tale.specs.Taking.{GoesAt, IsNext, IsTaken};
 use crate::answers::Heard;
 use crate::concern::Concern;
 use crate::counts::Counts;
+use crate::places::{first_from, next_place, place_of};
 use crate::{Stop, ToldTale};
 use client_due::{Answers, Message, ToldClient};
 use mx_base::ClientNo;
@@ -257,6 +259,38 @@ impl<R: TameServer + Drop> ToldTale<R> {
         Ok(())
     }
 
+    // The first place from this one on where a client may stand that such an entry concerns and of whom a message is whole that wasn't
+    // taken up.
+    fn place_concerned(&self, concern: Concern, from: usize) -> Option<usize>
+        ensures later { IfSome result (λ at. from ≤ at) }
+        ensures rests { (setup : Setup) (plan : log.Plan) (tale : Tale) (n : ℕ) (client : Client) → IsTale R.stored (runs R.step) setup plan self.now tale → from ≤ n → IsBefore n result
+            → slice_get tale.clients n ≡ Some client → concerns_by concern client ≡ true → slice_get (messages plan client) client.taken ≡ None }
+    {
+        match concern {
+            Concern::Each => self.clients.next_waiting(from),
+            Concern::Nobody => None,
+            Concern::At { link, carried } => {
+                let count = self.clients.count();
+                first_from(from, self.clients.home(link), place_of(count, carried))
+            }
+        }
+    }
+
+    // The same where such a client may stand indeed.
+    fn next_concerned(&self, concern: Concern, from: usize) -> Option<usize>
+        ensures later { IfSome result (λ at. from ≤ at) }
+        ensures within { IfSome result (λ at. (setup : Setup) (plan : log.Plan) (tale : Tale) → IsTale R.stored (runs R.step) setup plan self.now tale → at < length tale.clients) }
+        ensures rests { (setup : Setup) (plan : log.Plan) (tale : Tale) (n : ℕ) (client : Client) → IsTale R.stored (runs R.step) setup plan self.now tale → from ≤ n → IsBefore n result
+            → slice_get tale.clients n ≡ Some client → concerns_by concern client ≡ true → slice_get (messages plan client) client.taken ≡ None }
+    {
+        let at = self.place_concerned(concern, from)?;
+        if at < self.clients.count() {
+            Some(at)
+        } else {
+            None
+        }
+    }
+
     // Whether the messages of the client at a place go on at an entry.
     fn is_to_go_on(&self, at: usize, concern: Concern) -> bool
         ensures { (setup : Setup) (plan : log.Plan) (tale : Tale) (client : Client) → IsTale R.stored (runs R.step) setup plan self.now tale → slice_get tale.clients at ≡ Some client
@@ -289,8 +323,14 @@ impl<R: TameServer + Drop> ToldTale<R> {
         ensures goes { OnOk result ((setup : Setup) (plan : log.Plan) (tale : Tale) (view : View) (e : Entry) → ((client : Client) → is_event_of view client e ≡ concerns_by concern client)
             → IsTale R.stored (runs R.step) setup plan self.old tale → IsTale R.stored (runs R.step) setup plan self.new (clients_go_on setup plan view e tale)) }
     {
-        for at in 0..self.clients.count() {
+        let mut from = 0;
+        'going: while let Some(at) = self.next_concerned(concern, from) {
             self.goes_at(at, concern)?;
+            self.clients.rests(at);
+            let Some(next) = next_place(at) else {
+                return Err(Stop::TooMany);
+            };
+            from = next;
         }
         Ok(())
     }

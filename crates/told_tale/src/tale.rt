@@ -15,19 +15,19 @@ use crate::concern::Concern;
 use crate::counts::Counts;
 use crate::freeing::free_links;
 use crate::leaving::end_clients;
-use mx_base::LinkId;
+use crate::moments::Moments;
 use mx_wire::Entry;
 use private_turns::{Accounts, Servers};
 use server_rule::TameServer;
 use std::alloc::Global;
 use story_view::Openings;
-use told_clients::{Clients, Wires};
+use told_clients::{Clients, Links, Wires};
 use told_plan::{Keys, Plan};
 use told_story::Told;
 
 /// What is kept of a log as it is read: its story as its bytes tell it, with what the router knows and the private world, its clients,
 /// its links to servers, and what was counted of what clients are due. Behind an error nothing is promised. An entry costs a look at each
-/// client and each link to a server.
+/// link that may carry a session, and a wake one at each client of which a whole message waits.
 #[derive(Drop)]
 pub struct ToldTale<R: TameServer + Drop> {
     pub(crate) alloc: Global,
@@ -36,9 +36,10 @@ pub struct ToldTale<R: TameServer + Drop> {
     pub(crate) moment: u64,
     pub(crate) told: Told<R>,
     pub(crate) clients: Clients,
-    pub(crate) links: Vec<LinkId>,
+    pub(crate) links: Links,
     pub(crate) wires: Wires,
     pub(crate) counts: Counts,
+    pub(crate) ending: Moments,
 }
 
 // One entry more.
@@ -70,9 +71,10 @@ impl<R: TameServer + Drop> ToldTale<R> {
             moment: 0,
             told: Told::new(alloc, openings, accounts, servers),
             clients: Clients::new(alloc),
-            links: Vec::new(alloc),
+            links: Links::new(alloc),
             wires: Wires::new(alloc),
             counts: Counts::new(alloc),
+            ending: Moments::new(alloc),
         }
     }
 
@@ -102,6 +104,9 @@ impl<R: TameServer + Drop> ToldTale<R> {
         ensures sound { OnOk result (IsSound R.tests R.stored self.new.told.own) }
         ensures leads { OnOk result (Leads R.stored (runs R.step) self.old self.new (λ setup plan tale. clients_are_ended plan tale)) }
     {
+        if !self.ending.has(self.moment) {
+            return Ok(());
+        }
         end_clients(
             self.alloc,
             &mut self.told,
@@ -117,8 +122,8 @@ impl<R: TameServer + Drop> ToldTale<R> {
         ensures sound { OnOk result (IsSound R.tests R.stored self.new.told.own) }
         ensures leads { OnOk result (Leads R.stored (runs R.step) self.old self.new (λ setup plan tale. links_are_freed setup plan tale)) }
     {
-        let links = self.links.as_slice();
-        free_links(&mut self.told, &self.plan, self.moment, links, &self.wires)
+        let (told, links) = (&mut self.told, &mut self.links);
+        free_links(told, &self.plan, self.moment, links, &self.wires)
     }
 
     /// Reads an entry more of the log.

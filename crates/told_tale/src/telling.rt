@@ -12,7 +12,7 @@ use crate::asking::forget_asked;
 use crate::leaving::leave_link;
 use crate::serving::{says, writes};
 use crate::{Stop, ToldTale};
-use mx_base::{LinkId, OutOfMemory, ServerId, Tag};
+use mx_base::{LinkId, ServerId, Tag};
 use mx_wire::Entry;
 use server_rule::TameServer;
 use told_link::ToldLink;
@@ -24,19 +24,23 @@ impl<R: TameServer + Drop> ToldTale<R> {
         ensures sound { OnOk result (IsSound R.tests R.stored self.new.told.own) }
         ensures leads { OnOk result (Leads R.stored (runs R.step) self.old self.new (λ setup plan tale. record tale { clients = tale.clients ++ new_client (length tale.clients + 1) link salt ∷ [] })) }
     {
-        self.clients
-            .accept(self.alloc, self.plan.service(), link, salt)?;
+        let service = self.plan.service();
+        let number = self.clients.accept(self.alloc, service, link, salt)?;
+        if let Some(moment) = self.plan.end(number) {
+            self.ending.put(moment)?;
+        }
         Ok(())
     }
 
     // A link to a server is opened.
-    fn opens(&mut self, server: ServerId, link: LinkId) -> Result<(), OutOfMemory>
+    fn opens(&mut self, server: ServerId, link: LinkId) -> Result<(), Stop>
         requires { IsSound R.tests R.stored self.old.told.own }
         ensures sound { OnOk result (IsSound R.tests R.stored self.new.told.own) }
         ensures leads { OnOk result (Leads R.stored (runs R.step) self.old self.new (λ setup plan tale. with_wire link (new_wire server) (record tale { links = tale.links ++ link ∷ [] }))) }
     {
-        self.links.push(link)?;
-        self.wires.put(link, ToldLink::new(self.alloc, server))
+        self.links.open(link)?;
+        self.wires.put(link, ToldLink::new(self.alloc, server))?;
+        Ok(())
     }
 
     // Bytes are read.
@@ -46,6 +50,7 @@ impl<R: TameServer + Drop> ToldTale<R> {
         ensures leads { OnOk result (Leads R.stored (runs R.step) self.old self.new (λ setup plan tale. told setup plan tale (Got link bytes.now))) }
     {
         forget_asked(&mut self.counts, self.told.view(), link);
+        self.links.lend(link)?;
         let Some(wire) = self.wires.at_mut(link) else {
             self.clients
                 .hears(self.alloc, self.plan.service(), link, bytes)?;
@@ -60,6 +65,7 @@ impl<R: TameServer + Drop> ToldTale<R> {
         ensures sound { OnOk result (IsSound R.tests R.stored self.new.told.own) }
         ensures leads { OnOk result (Leads R.stored (runs R.step) self.old self.new (λ setup plan tale. told setup plan tale (Wrote link tag bytes.now))) }
     {
+        self.links.lend(link)?;
         let Some(wire) = self.wires.at_mut(link) else {
             self.clients.gets(link, bytes.len());
             return Ok(());
@@ -114,7 +120,7 @@ impl<R: TameServer + Drop> ToldTale<R> {
         ensures leads { OnOk result (Leads R.stored (runs R.step) self.old self.new (λ setup plan tale. is_lost_or_left link tale)) }
     {
         match self.wires.at(link) {
-            None => leave_link(self.alloc, &mut self.told, link, self.clients.as_slice()),
+            None => leave_link(self.alloc, &mut self.told, link, &self.clients),
             Some(_) => Ok(self.told.gone(link)?),
         }
     }
@@ -127,7 +133,7 @@ impl<R: TameServer + Drop> ToldTale<R> {
     {
         match entry {
             Entry::Accepted { link, salt, .. } => self.accepts(*link, *salt),
-            Entry::Opened { server, link, .. } => Ok(self.opens(*server, *link)?),
+            Entry::Opened { server, link, .. } => self.opens(*server, *link),
             Entry::Got { link, bytes } => self.hears(*link, bytes.as_slice()),
             Entry::Wrote { link, tag, bytes } => self.wrote(*link, *tag, bytes.as_slice()),
             Entry::Exec { link } => self.executes(*link),

@@ -9,6 +9,7 @@ use Rattle.told_clients.specs.Wires.{IsWireAt}
 use Rattle.told_plan.specs.Plans.{plan_of}
 use Rattle.told_tale.specs.Steps.{IsLed}
 use Rattle.told_tale.proofs.Folding.{apart}
+use Rattle.told_tale.proofs.Idling.{freed-idles}
 use Rattle.told_tale.proofs.freeing.free_if_done.Goals as goal
 
 pub returns-in_default-clause-leads : goal.returns-in_default-clause-leads
@@ -22,7 +23,7 @@ returns-in_ok-freed-clause-leads g c = λ setup tale told moment are there.
     ap (λ m. is_done (plan_of c.args.plan.now) m (view_of setup tale) (tale.wires c.args.link) (link_in setup tale c.args.link)) moment
     ∙ sym (c.is_done.ensures setup (view_of setup tale) known (tale.wires c.args.link) knows) ∙ c.if-is_done.true in
     subst (IsLed g.R.TameServer.stored (runs g.R.TameServer.step) setup c.freed.new.self tale) (sym (ap (λ b. if b then tell (Freed c.args.link) tale else tale) is))
-    (record { same = refl; told = c.in_ok-freed.ensures.tells setup tale.story told; keeps = refl })
+    (record { same = refl; told = c.in_ok-freed.ensures.tells setup tale.story told; keeps = refl; idles = freed-idles setup tale c.args.link })
 
 pub returns-else-is_done-clause-leads : goal.returns-else-is_done-clause-leads
 returns-else-is_done-clause-leads g c = λ setup tale told moment are there.
@@ -32,4 +33,4 @@ returns-else-is_done-clause-leads g c = λ setup tale told moment are there.
     ap (λ m. is_done (plan_of c.args.plan.now) m (view_of setup tale) (tale.wires c.args.link) (link_in setup tale c.args.link)) moment
     ∙ sym (c.is_done.ensures setup (view_of setup tale) known (tale.wires c.args.link) knows) ∙ c.if-is_done.false in
     subst (IsLed g.R.TameServer.stored (runs g.R.TameServer.step) setup c.args.told.now tale) (sym (ap (λ b. if b then tell (Freed c.args.link) tale else tale) isnt))
-    (record { same = refl; told = told; keeps = refl })
+    (record { same = refl; told = told; keeps = refl; idles = λ l is. is })

@@ -23,3 +23,4 @@ returns-in-Some c = λ setup clients are.
     (slice_get_read old.clients.items (length old.clients.items) c.in-Some.at c.index_mut.result.now refl (c.in-Some.ensures.within) c.index_mut.ensures.value) in
     record { told = own_link client.link (λ (x : Client). IsTold setup code x) _ client (c.gets.ensures setup client told.told); number = told.number })
     (λ client. refl)
+    (λ n is. is) (λ client is isnt. are.waiting c.in-Some.at client is isnt)

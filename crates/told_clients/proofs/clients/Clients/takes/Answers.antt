@@ -1,10 +1,13 @@
 use Rattle.std.proofs.Common.{◌∙◌, arith, refl, ap, subst, sym, suc, length}
 use Rattle.std.proofs.lemmas.Option.{same_Some, slice_get_read, slice_get_within}
+use Rattle.std.specs.BTreeSet.{contains}
+use Rattle.std.specs.Ordering.{nat_cmp}
+use Rattle.log_story.specs.Owed.{messages}
 use Rattle.log_story.specs.Tale.{Client}
 use Rattle.client_due.specs.Told.{Told}
-use Rattle.told_clients.specs.Clients.{IsNumbered}
-use Rattle.told_clients.proofs.Homes.{clients_on, leaves, replaces}
-use Rattle.told_clients.proofs.Placing.{same_count, seen_there}
+use Rattle.told_clients.specs.Clients.{IsIdle, IsNumbered}
+use Rattle.told_clients.proofs.Homes.{clients_on, leaves, replaces, waits_on}
+use Rattle.told_clients.proofs.Placing.{none_later, same_count, seen_there}
 use Rattle.told_clients.specs.declared.clients.Clients.{Clients}
 use Rattle.told_clients.proofs.clients.Clients.takes.Goals as goal
 
@@ -15,11 +18,15 @@ returns-then-at-len c = λ setup clients client are is.
     let code : Told = c.takes.new.self in
     let told = seen_there setup 0 c.args.at old.clients.items clients c.args.at client c.index_mut.result.now (omega arith) are.told is
     (slice_get_read old.clients.items (length old.clients.items) c.args.at c.index_mut.result.now refl (omega arith) c.index_mut.ensures.value) in
+    let others = leaves setup old clients are c.args.at client next is refl in
     clients_on setup old _ clients c.args.at code are refl refl _
     (λ other there. subst (λ (x : Client). IsNumbered setup c.args.at code x) (sym (replaces setup old clients are c.args.at client next is refl other there))
     (record { told = c.takes.ensures setup client told.told; number = told.number }))
     (λ other there. ap (λ (x : Client). x.link) (replaces setup old clients are c.args.at client next is refl other there) ∙ ap (λ (x : Client). x.link) (same_Some client other (sym is ∙ there)))
-    (leaves setup old clients are c.args.at client next is refl)
+    others
+    (waits_on setup clients c.args.at _ others (contains nat_cmp old.waiting) (contains nat_cmp old.waiting) (λ n it. it) are.waiting
+    (λ other there isnt. subst (IsIdle setup) (sym (replaces setup old clients are c.args.at client next is refl other there))
+    (λ plan same. none_later (messages plan client) client.taken (are.waiting c.args.at client is isnt plan same))))
 
 pub returns-else-at-len : goal.returns-else-at-len
 returns-else-at-len c = λ setup clients client are is.

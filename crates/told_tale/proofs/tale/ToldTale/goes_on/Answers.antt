@@ -1,30 +1,37 @@
-use Rattle.std.proofs.Common.{◌≡◌, ◌∙◌, arith, length}
+use Rattle.std.proofs.Common.{◌∙◌, ◌+◌, subst, sym}
 use Rattle.private_model.specs.Commands.{runs}
 use Rattle.log_story.specs.Clients.{client_goes_on}
-use Rattle.told_tale.proofs.Takes.{element, going_done, going_first, going_more}
+use Rattle.told_tale.specs.Taking.{IsGoing}
+use Rattle.told_tale.proofs.Takes.{element, going_done, going_first, going_more, going_rests, rests_on}
 use Rattle.told_tale.proofs.tale.ToldTale.goes_on.Goals as goal
 
-pub loop-at-init : goal.loop-at-init
-loop-at-init g c = (c.requires, λ setup plan tale view e concerns is. going_first g.R.TameServer.stored (runs g.R.TameServer.step) setup plan (client_goes_on setup plan view e) tale c.args.self.now is)
+pub going-init : goal.going-init
+going-init g c = (c.requires, λ setup plan tale view e concerns is. going_first g.R.TameServer.stored (runs g.R.TameServer.step) setup plan (client_goes_on setup plan view e) tale c.args.self.now is)
 
 pub goes_at-requires : goal.goes_at-requires
-goes_at-requires g c = c.loop-at.invariant.0
+goes_at-requires g c = c.going.invariant.0
 
-pub loop-at-preserved : goal.loop-at-preserved
-loop-at-preserved g c = (
+pub going-preserved : goal.going-preserved
+going-preserved g c = (
   c.in_ok-goes_at.ensures.sound,
   λ setup plan tale view e concerns is.
-      let so_far = c.loop-at.invariant.1 setup plan tale view e concerns is in
-      let count : c.count-at-end.result ≡ length tale.clients = c.count-at-end.ensures plan.service tale.clients is.clients in
-      let its = element tale.clients c.loop-at.at (omega (arith, count, c.loop-at-test.true)) in
-      going_more g.R.TameServer.stored (runs g.R.TameServer.step) setup plan (client_goes_on setup plan view e) tale c.loop-at.self c.goes_at.new.self c.loop-at.at its.it so_far its.here
-      (c.in_ok-goes_at.ensures.goes setup plan so_far.now its.it view e (concerns its.it) so_far.stands (so_far.later c.loop-at.at (omega arith) ∙ its.here)),
+      let so_far = c.going.invariant.1 setup plan tale view e concerns is in
+      let its = element so_far.now.clients c.in-Some.at (c.in-Some.ensures.within setup plan so_far.now so_far.stands) in
+      let now = going_more g.R.TameServer.stored (runs g.R.TameServer.step) setup plan (client_goes_on setup plan view e) tale c.going.self c.goes_at.new.self c.going.from c.in-Some.at its.it so_far
+      c.in-Some.ensures.later
+      (λ n client from below here. rests_on setup plan view e c.args.concern so_far.now client (concerns client)
+      (c.in-Some.ensures.rests setup plan so_far.now n client so_far.stands from below (so_far.later n from ∙ here)))
+      (sym (so_far.later c.in-Some.at c.in-Some.ensures.later) ∙ its.here)
+      (c.in_ok-goes_at.ensures.goes setup plan so_far.now its.it view e (concerns its.it) so_far.stands its.here) in
+      subst (λ next. IsGoing g.R.TameServer.stored (runs g.R.TameServer.step) setup plan (record c.goes_at.new.self { clients = c.rests.new.self }) (client_goes_on setup plan view e) next tale)
+      (sym c.in-Some-next_place.ensures)
+      (going_rests g.R.TameServer.stored (runs g.R.TameServer.step) setup plan (client_goes_on setup plan view e) tale c.goes_at.new.self c.rests.new.self (c.in-Some.at + 1) now
+      (c.rests.ensures plan.service now.now.clients now.stands.clients)),
 )
-
-pub returns-clause-sound : goal.returns-clause-sound
-returns-clause-sound g c = c.loop-at.invariant.0
 
 pub returns-clause-goes : goal.returns-clause-goes
 returns-clause-goes g c = λ setup plan tale view e concerns is.
-    let count : c.count-at-end.result ≡ length tale.clients = c.count-at-end.ensures plan.service tale.clients is.clients in
-    going_done g.R.TameServer.stored (runs g.R.TameServer.step) setup plan (client_goes_on setup plan view e) tale c.loop-at.self c.loop-at.at (omega (arith, count, c.loop-at-test.false)) (c.loop-at.invariant.1 setup plan tale view e concerns is)
+    let so_far = c.going.invariant.1 setup plan tale view e concerns is in
+    going_done g.R.TameServer.stored (runs g.R.TameServer.step) setup plan (client_goes_on setup plan view e) tale c.going.self c.going.from so_far
+    (λ n client from here. rests_on setup plan view e c.args.concern so_far.now client (concerns client)
+    (c.in_default.ensures.rests setup plan so_far.now n client so_far.stands from tt (so_far.later n from ∙ here)))

@@ -1,5 +1,6 @@
-use Rattle.std.proofs.Common.{ap, refl, subst, sym}
+use Rattle.std.proofs.Common.{ap, arith, refl, subst, sym}
 use Rattle.std.specs.Prelude.{is_some}
+use Rattle.std.proofs.lemmas.Option.{none-some}
 use Rattle.client_due.proofs.Counting.{counted-first}
 use Rattle.client_due.specs.Counting.{IsCounted}
 use Rattle.client_due.specs.declared.counted.Counted.{Counted}
@@ -16,7 +17,9 @@ returns-clause-first g c = λ setup is. record {
   moment = refl;
   told = c.new.ensures.first setup is.reads is.places is.logins is.brings;
   clients = c.new-2.ensures (plan_of c.args.plan).service;
-  links = sym c.new-3.ensures.items;
+  links = c.new-3.ensures;
+  lent = λ n link there isnt. absurd (none-some link there);
+  ending = λ n moment inside at. absurd (omega (arith, inside));
   wires = λ l. subst (λ o. IsWireAt o (new_wire (record { 0 = 0 }))) (sym (c.new-4.ensures l)) refl;
   there = λ l. sym (ap is_some (c.new-4.ensures l));
   counted = λ client small. subst (λ (k : Counted). IsCounted (known_in setup (plan_of c.args.plan) first_tale) client k) (sym (c.new-5.ensures client)) (counted-first (known_in setup (plan_of c.args.plan) first_tale) client);

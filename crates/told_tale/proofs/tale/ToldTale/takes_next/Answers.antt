@@ -36,7 +36,7 @@ returns-then-not-branch-2-clause-next g c = λ setup plan tale client is here.
     c.if-not-branch-2.true up in (
       next_goes setup plan client tale c.in-Some-next_message.message.now there may_be ∙ waits.0,
       tale_led g.R.TameServer.stored (runs g.R.TameServer.step) setup plan (record c.args.self.now { counts = c.may_take.new.counts }) tale (tale_counted g.R.TameServer.stored (runs g.R.TameServer.step) setup plan c.args.self.now tale is c.may_take.new.counts counted)
-          c.take_up.new.told tale (record { same = refl; told = waits.1; keeps = refl }),
+          c.take_up.new.told tale (record { same = refl; told = waits.1; keeps = refl; idles = λ l is. is }),
     )
 
 pub returns-clause-next : goal.returns-clause-next

@@ -24,5 +24,5 @@ returns-in-WriteFailed-clause-leads g c = on_ok_weaker c.loses-in-WriteFailed.re
 pub returns-in-Closed-clause-leads : goal.returns-in-Closed-clause-leads
 returns-in-Closed-clause-leads g c = on_ok_weaker c.loses-in-Closed.result (λ leads. by_entry g.R.TameServer.stored (runs g.R.TameServer.step) c.args.self.now c.loses-in-Closed.new.self c.args.entry.now _ c.in-Closed.is leads) c.loses-in-Closed.ensures.leads
 
-pub returns-in_ok-opens-in-Opened-clause-leads : goal.returns-in_ok-opens-in-Opened-clause-leads
-returns-in_ok-opens-in-Opened-clause-leads g c = by_entry g.R.TameServer.stored (runs g.R.TameServer.step) c.args.self.now c.opens.new.self c.args.entry.now _ c.in-Opened.is c.in_ok-opens-in-Opened.ensures.leads
+pub returns-in-Opened-clause-leads : goal.returns-in-Opened-clause-leads
+returns-in-Opened-clause-leads g c = on_ok_weaker c.opens.result (λ leads. by_entry g.R.TameServer.stored (runs g.R.TameServer.step) c.args.self.now c.opens.new.self c.args.entry.now _ c.in-Opened.is leads) c.opens.ensures.leads
