@@ -9,7 +9,9 @@ mod routing;
 mod runs;
 mod seat;
 mod service;
+mod shown;
 mod tapes;
+mod visit;
 mod walk;
 mod written;
 

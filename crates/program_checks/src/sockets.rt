@@ -27,17 +27,8 @@ fn beginning(buffer: &[u8]) -> &[u8] {
     buffer.get(..8).unwrap_or(buffer)
 }
 
-// What the calls of a link answer, as its client says abc, is told hi and goes.
-fn talk(
-    answer: &mut Answer,
-    wire: &mut MioWire<'_, HostRuntime>,
-    link: LinkId,
-    mut client: TcpStream,
-) {
-    let mut buffer = [0u8; 65_536];
-    answer.debug(wire.read(link, &mut buffer));
-    answer.text(" ");
-    answer.debug(wire.write(link, Tag::Reply, b"hi"));
+// A client is told hi, and says abc.
+fn says(answer: &mut Answer, client: &mut TcpStream) {
     let mut heard = [0u8; 2];
     if client.read_exact(&mut heard).is_err() || client.write_all(b"abc").is_err() {
         answer.bad();
@@ -45,13 +36,31 @@ fn talk(
     answer.text(" ");
     answer.debug(heard);
     answer.text("; ");
+}
+
+// What the calls of a link answer, as its client says abc and is told hi.
+fn talk(
+    answer: &mut Answer,
+    wire: &mut MioWire<'_, HostRuntime>,
+    link: LinkId,
+    client: &mut TcpStream,
+) {
+    let mut buffer = [0u8; 65_536];
+    answer.debug(wire.read(link, &mut buffer));
+    answer.text(" ");
+    answer.debug(wire.write(link, Tag::Reply, b"hi"));
+    says(answer, client);
     is_named(answer, wire, link);
     answer.debug(wire.read(link, &mut buffer));
     answer.text(" ");
     answer.debug(beginning(&buffer));
     answer.text(" ");
     answer.debug(wire.read(link, &mut buffer));
-    drop(client);
+}
+
+// And as it has gone.
+fn part(answer: &mut Answer, wire: &mut MioWire<'_, HostRuntime>, link: LinkId) {
+    let mut buffer = [0u8; 65_536];
     answer.text("; ");
     is_named(answer, wire, link);
     answer.debug(wire.read(link, &mut buffer));
@@ -66,7 +75,7 @@ fn is_named(answer: &mut Answer, wire: &mut MioWire<'_, HostRuntime>, link: Link
 }
 
 // Whether each byte of the salt of the client that waits at the port may stand there, and what its link does then.
-fn come(answer: &mut Answer, wire: &mut MioWire<'_, HostRuntime>, client: TcpStream) {
+fn come(answer: &mut Answer, wire: &mut MioWire<'_, HostRuntime>, mut client: TcpStream) {
     let _ = wire.wait(u64::MAX);
     match wire.accept(Port::Traffic) {
         Accepted::Link { id, salt } => {
@@ -74,7 +83,9 @@ fn come(answer: &mut Answer, wire: &mut MioWire<'_, HostRuntime>, client: TcpStr
             answer.text(" ");
             answer.debug(wire.accept(Port::Traffic));
             answer.text(" / ");
-            talk(answer, wire, id, client);
+            talk(answer, wire, id, &mut client);
+            drop(client);
+            part(answer, wire, id);
         }
         _ => answer.bad(),
     }
@@ -120,17 +131,21 @@ fn find_taken(rt: &HostRuntime, answer: &mut Answer, wire: &mut MioWire<'_, Host
     answer.debug(wire.accept(Port::Admin));
 }
 
+fn show(rt: &HostRuntime, answer: &mut Answer, word: &str, wire: &mut MioWire<'_, HostRuntime>) {
+    match word {
+        "talk" => come_and_go(rt, answer, wire),
+        "taken" => find_taken(rt, answer, wire),
+        _ => answer.bad(),
+    }
+}
+
 /// `sockets talk` is a client that comes over a real socket, is told hi, says abc and goes; `sockets taken` a port that is taken. The answer
 /// is what each call of the wire answers.
 pub fn answer(rt: &HostRuntime, fields: &mut Fields<'_>) {
     let word = fields.text();
     let answer = &mut fields.answer;
     match MioWire::new(rt, rt.alloc()) {
-        Ok(mut wire) => match word {
-            "talk" => come_and_go(rt, answer, &mut wire),
-            "taken" => find_taken(rt, answer, &mut wire),
-            _ => answer.bad(),
-        },
+        Ok(mut wire) => show(rt, answer, word, &mut wire),
         Err(_) => answer.refused(),
     }
 }

@@ -98,7 +98,7 @@ impl Draft {
             .clients
             .accept(self.alloc, self.plan.service(), link, salt)
         {
-            Ok(()) => Ok(()),
+            Ok(_) => Ok(()),
             Err(Fault::OutOfMemory) => Err(CaseFault::OutOfMemory),
             Err(_) => Err(CaseFault::Bad),
         }
@@ -255,7 +255,10 @@ fn read_log(draft: &mut Draft, clients: &[User], log: &[Entry]) -> Result<(), Ca
 
 /// What the router decided along a log, whose clients are these.
 pub fn plan_of(alloc: Global, clients: &[User], log: &[Entry]) -> Result<Plan, CaseFault> {
-    let mut draft = Draft::new(alloc, service_of(alloc)?)?;
-    read_log(&mut draft, clients, log)?;
-    Ok(draft.into_plan())
+    let service = service_of(alloc)?;
+    let mut draft = Draft::new(alloc, service)?;
+    match read_log(&mut draft, clients, log) {
+        Ok(()) => Ok(draft.into_plan()),
+        Err(fault) => Err(fault),
+    }
 }

@@ -1,6 +1,6 @@
 // What clients are due by runs over scripts.
-use crate::due::compared::{Difference, compared};
-use crate::due::walk::walk_of;
+use crate::due::compared::Difference;
+use crate::due::visit::{Visit, walk_for};
 use crate::names::named;
 use crate::scripted::{NAMES, calls_in, failing_of, serve, users_of, wire_of};
 use check_lines::{Answer, CaseFault, Fields};
@@ -20,8 +20,12 @@ struct Found {
 // What is found in a log of clients of these scripts.
 fn found_in(alloc: Global, scripts: &str, log: &[Entry], rests: bool) -> Result<Found, CaseFault> {
     let clients = users_of(alloc, scripts)?;
-    let mut tale = walk_of(alloc, &clients, log)?;
-    let difference = compared(alloc, &mut tale, log, rests)?;
+    let mut difference = None;
+    let visit = Visit::Compares {
+        rests,
+        difference: &mut difference,
+    };
+    walk_for(alloc, &clients, log, visit)?;
     Ok(Found {
         entries: log.len(),
         clients: clients.len(),
