@@ -3,8 +3,6 @@ ghost use Rattle.std.specs.Prelude.{◌≡◌, ◌↔◌, ◌∷◌, [], IsTrue,
 ghost use Rattle.check_lines.specs.Words.{first_word, behind_word};
 
 use crate::fault::CaseFault;
-use crate::field::bytes_of;
-use std::alloc::Global;
 
 /// A case: the name of its reader, and the fields that aren't read yet. One blank stands before each field.
 #[derive(Clone, Copy)]
@@ -22,6 +20,15 @@ fn split_word(text: &str) -> (&str, &str)
         Some(parts) => parts,
         None => (text, ""),
     }
+}
+
+// A decimal number of this type.
+fn number_of<N: TryFrom<u64> + Drop>(text: &str) -> Option<N>
+where
+    N::Error: Drop,
+{
+    let number = text.parse::<u64>().ok()?;
+    N::try_from(number).ok()
 }
 
 impl<'a> Case<'a> {
@@ -60,18 +67,10 @@ impl<'a> Case<'a> {
     where
         N::Error: Drop,
     {
-        let Ok(number) = self.text()?.parse::<u64>() else {
-            return Err(CaseFault::Bad);
-        };
-        match N::try_from(number) {
-            Ok(number) => Ok(number),
-            Err(_) => Err(CaseFault::Bad),
+        match self.text() {
+            Ok(text) => number_of(text).ok_or(CaseFault::Bad),
+            Err(fault) => Err(fault),
         }
-    }
-
-    /// The next field, as bytes (`bytes_of`).
-    pub fn bytes(&mut self, alloc: Global) -> Result<Vec<u8>, CaseFault> {
-        bytes_of(alloc, self.text()?)
     }
 
     /// The rest of the line, blanks and all, of a reader whose last field is a text. It may be empty.
@@ -82,10 +81,5 @@ impl<'a> Case<'a> {
         let rest = self.rest;
         self.rest = "";
         rest
-    }
-
-    /// The rest of the line, blanks and all, as bytes (`bytes_of`).
-    pub fn rest_bytes(&mut self, alloc: Global) -> Result<Vec<u8>, CaseFault> {
-        bytes_of(alloc, self.rest_text())
     }
 }

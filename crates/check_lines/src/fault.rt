@@ -3,7 +3,7 @@ use mx_base::OutOfMemory;
 use std::alloc::{AllocError, AllocFailed};
 
 /// Why a case has no answer.
-#[derive(Clone, Copy, Debug)]
+#[derive(Clone, Copy)]
 pub enum CaseFault {
     /// No reader has this name, or the line doesn't give what it reads.
     Bad,

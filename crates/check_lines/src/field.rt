@@ -13,29 +13,43 @@ pub fn bytes_of(alloc: Global, field: &str) -> Result<Vec<u8>, CaseFault>
     ensures { IfOk result (λ bytes. vec_len bytes ≤ MOST_BYTES) }
 {
     let mut bytes = Vec::new(alloc);
-    match field.strip_prefix("hex:") {
-        Some(pieces) => {
-            for piece in pieces.split('+') {
-                append_piece(alloc, &mut bytes, piece)?;
-            }
-        }
-        None => append_times(&mut bytes, field.as_bytes(), 1)?,
-    }
+    append_field(&mut bytes, alloc, field)?;
     Ok(bytes)
 }
 
-// Appends what a piece spells.
-fn append_piece(alloc: Global, bytes: &mut Vec<u8>, piece: &str) -> Result<(), CaseFault>
+// Appends what a field spells.
+fn append_field(bytes: &mut Vec<u8>, alloc: Global, field: &str) -> Result<(), CaseFault>
     requires { vec_len bytes.old ≤ MOST_BYTES }
     ensures { vec_len bytes.new ≤ MOST_BYTES }
 {
-    let (digits, count) = match piece.split_once('*') {
-        Some((digits, count)) => (digits, count.parse::<usize>().ok()),
-        None => (piece, Some(1)),
+    match field.strip_prefix("hex:") {
+        Some(pieces) => append_pieces(bytes, alloc, pieces),
+        None => append_times(bytes, field.as_bytes(), 1),
+    }
+}
+
+fn append_pieces(bytes: &mut Vec<u8>, alloc: Global, pieces: &str) -> Result<(), CaseFault>
+    requires { vec_len bytes.old ≤ MOST_BYTES }
+    ensures { vec_len bytes.new ≤ MOST_BYTES }
+{
+    for piece in pieces.split('+') {
+        append_piece(bytes, alloc, piece)?;
+    }
+    Ok(())
+}
+
+// Appends what a piece spells.
+fn append_piece(bytes: &mut Vec<u8>, alloc: Global, piece: &str) -> Result<(), CaseFault>
+    requires { vec_len bytes.old ≤ MOST_BYTES }
+    ensures { vec_len bytes.new ≤ MOST_BYTES }
+{
+    let (digits, count) = piece.split_once('*').unwrap_or((piece, "1"));
+    let Ok(count) = count.parse() else {
+        return Err(CaseFault::Bad);
     };
-    match (hex::decode(alloc, digits), count) {
-        (Ok(once), Some(count)) => append_times(bytes, &once, count),
-        _ => Err(CaseFault::Bad),
+    match hex::decode(alloc, digits) {
+        Ok(once) => append_times(bytes, &once, count),
+        Err(_) => Err(CaseFault::Bad),
     }
 }
 

@@ -9,7 +9,6 @@ mod fault;
 mod field;
 mod fields;
 mod runner;
-mod show;
 
 pub use answer::Answer;
 pub use case::Case;
@@ -17,4 +16,3 @@ pub use fault::CaseFault;
 pub use field::{MOST_BYTES, bytes_of};
 pub use fields::Fields;
 pub use runner::run;
-pub use show::shown;

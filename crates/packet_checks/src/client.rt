@@ -1,8 +1,7 @@
 // The link of a client.
-use crate::login::show_response;
-use crate::show::{bytes, debug, word};
+use crate::show::{Shows, bytes, debug, word};
 use crate::steps::{Steps, take_steps};
-use crate::text::{is_text, number_of};
+use crate::text::{is_text, parsed};
 use check_lines::{Answer, Fields};
 use client_side::{Client, ClientStep};
 use mx_base::{ClientNo, OutOfMemory};
@@ -56,16 +55,16 @@ fn look(answer: &mut Answer, client: &Client, call: &str) {
 // Who the client says it is.
 fn login(answer: &mut Answer, client: &Client) {
     match client.login() {
-        Some(response) => show_response(answer, response),
+        Some(response) => response.show(answer),
         None => word(answer, "none"),
     }
 }
 
 // So many bytes were written.
 fn written(answer: &mut Answer, client: &mut Client, count: &str) {
-    let count = number_of(answer, count);
-    if count <= client.outgoing().len() as u64 {
-        client.taken(count as usize);
+    let count = parsed(answer, count);
+    if count <= client.outgoing().len() {
+        client.taken(count);
     } else {
         answer.bad();
     }

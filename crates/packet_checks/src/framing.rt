@@ -1,7 +1,7 @@
 // Messages out of packets, and back.
 use crate::show::{bytes, debug, with_id};
 use crate::steps::{Steps, take_steps};
-use crate::text::id_of;
+use crate::text::parsed;
 use check_lines::{Answer, Fields};
 use mx_base::{Bytes, OutOfMemory};
 use packet_frame::{Framer, Payloads, payloads_of, write_message};
@@ -30,13 +30,13 @@ impl Steps for Framer {
 
 // The message that is found next.
 fn next(answer: &mut Answer, framer: &mut Framer, first: &str) {
-    let first = id_of(answer, first);
+    let first = parsed(answer, first);
     debug(answer, framer.next(first));
 }
 
 // The message that is found next, which is taken.
 fn take(answer: &mut Answer, framer: &mut Framer, first: &str) {
-    let first = id_of(answer, first);
+    let first = parsed(answer, first);
     match framer.next(first) {
         Ok(Some(_)) => {
             bytes(answer, framer.payload());
@@ -67,12 +67,23 @@ fn show(answer: &mut Answer, found: &Payloads) {
     }
 }
 
-/// The pieces of a text between which this character stands.
-pub fn pieces_of(answer: &mut Answer, text: &str, between: char) -> Vec<Bytes> {
+/// What a part of a text spells.
+pub trait Spelled: Drop {
+    fn spelled(answer: &mut Answer, text: &str) -> Self;
+}
+
+impl Spelled for Bytes {
+    fn spelled(answer: &mut Answer, text: &str) -> Self {
+        Bytes::from_vec(answer.spelled(text))
+    }
+}
+
+/// What the parts of a text spell between which this character stands.
+pub fn pieces_of<S: Spelled>(answer: &mut Answer, text: &str, between: char) -> Vec<S> {
     let mut pieces = Vec::new(answer.alloc());
     for piece in text.split(between) {
-        let bytes = answer.spelled(piece);
-        if pieces.push(Bytes::from_vec(bytes)).is_err() {
+        let piece = S::spelled(answer, piece);
+        if pieces.push(piece).is_err() {
             answer.refused();
         }
     }

@@ -1,7 +1,7 @@
 // The payloads of a login, read.
 ghost use Rattle.std.specs.Prelude.{◌≡◌, ◌<◌, ◌↔◌, length, slice_index, IsTrue};
 
-use crate::show::{number, part, spell, spell_next, spell_or_none};
+use crate::show::{Shows, number, part, shown, spell, spell_next, spell_or_none};
 use check_lines::{Answer, Fields};
 use handshake::{Greeting, HandFault, Response, Switch, read_greeting, read_response, read_switch};
 
@@ -14,51 +14,35 @@ pub fn read(fields: &mut Fields<'_>) {
 
 fn show(answer: &mut Answer, reader: &str, payload: &[u8]) {
     match reader {
-        "read_greeting" => greeting(answer, payload),
-        "read_response" => response(answer, payload),
+        "read_greeting" => shown(answer, read_greeting(answer.alloc(), payload)),
+        "read_response" => shown(answer, read_response(answer.alloc(), payload)),
         "read_switch" => switch(answer, payload),
         _ => fronts(answer, reader, payload),
     }
 }
 
-// A greeting, or its fault.
-fn greeting(answer: &mut Answer, payload: &[u8]) {
-    match read_greeting(answer.alloc(), payload) {
-        Ok(greeting) => show_greeting(answer, &greeting),
-        Err(fault) => answer.debug(fault),
-    }
-}
-
-// A response, or its fault.
-fn response(answer: &mut Answer, payload: &[u8]) {
-    match read_response(answer.alloc(), payload) {
-        Ok(response) => show_response(answer, &response),
-        Err(fault) => answer.debug(fault),
-    }
-}
-
 // A request to switch, or its fault.
 fn switch(answer: &mut Answer, payload: &[u8]) {
-    if !may_switch(payload) {
-        return answer.bad();
-    }
-    match read_switch(answer.alloc(), payload) {
-        Ok(switch) => show_switch(answer, &switch),
-        Err(fault) => answer.debug(fault),
+    if may_switch(payload) {
+        shown(answer, read_switch(answer.alloc(), payload));
+    } else {
+        answer.bad();
     }
 }
 
 // The fields of a greeting.
-fn show_greeting(answer: &mut Answer, greeting: &Greeting) {
-    spell(answer, greeting.version.as_slice());
-    answer.text(" ");
-    answer.display(greeting.connection);
-    spell_next(answer, &greeting.salt);
-    answer.text(" ");
-    show_capabilities(answer, greeting.capabilities);
-    number(answer, greeting.collation);
-    answer.display(greeting.status);
-    spell_next(answer, greeting.plugin.as_slice());
+impl Shows for Greeting {
+    fn show(&self, answer: &mut Answer) {
+        spell(answer, self.version.as_slice());
+        answer.text(" ");
+        answer.display(self.connection);
+        spell_next(answer, &self.salt);
+        answer.text(" ");
+        show_capabilities(answer, self.capabilities);
+        number(answer, self.collation);
+        answer.display(self.status);
+        spell_next(answer, self.plugin.as_slice());
+    }
 }
 
 // Capabilities in hex digits, and a blank.
@@ -67,22 +51,26 @@ fn show_capabilities(answer: &mut Answer, capabilities: u32) {
     answer.text(" ");
 }
 
-/// The fields of a response.
-pub fn show_response(answer: &mut Answer, response: &Response) {
-    part(answer);
-    show_capabilities(answer, response.capabilities);
-    number(answer, response.max_packet);
-    answer.display(response.collation);
-    spell_next(answer, response.user.as_slice());
-    spell_next(answer, response.answer.as_slice());
-    spell_or_none(answer, &response.schema);
-    spell_or_none(answer, &response.plugin);
+// The fields of a response.
+impl Shows for Response {
+    fn show(&self, answer: &mut Answer) {
+        part(answer);
+        show_capabilities(answer, self.capabilities);
+        number(answer, self.max_packet);
+        answer.display(self.collation);
+        spell_next(answer, self.user.as_slice());
+        spell_next(answer, self.answer.as_slice());
+        spell_or_none(answer, &self.schema);
+        spell_or_none(answer, &self.plugin);
+    }
 }
 
 // The fields of a request to switch.
-fn show_switch(answer: &mut Answer, switch: &Switch) {
-    spell(answer, switch.plugin.as_slice());
-    spell_next(answer, &switch.salt);
+impl Shows for Switch {
+    fn show(&self, answer: &mut Answer) {
+        spell(answer, self.plugin.as_slice());
+        spell_next(answer, &self.salt);
+    }
 }
 
 // Whether a payload is empty or begins as a request to switch.

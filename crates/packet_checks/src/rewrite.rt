@@ -7,7 +7,8 @@ use crate::show::appended;
 use crate::text::is_text;
 use check_lines::{Answer, Fields};
 use handshake::{
-    Greeting, Response, read_greeting, read_response, write_greeting, write_response, write_switch,
+    Greeting, HandFault, Response, read_greeting, read_response, write_greeting, write_response,
+    write_switch,
 };
 use mx_base::Bytes;
 
@@ -20,43 +21,44 @@ pub fn again(fields: &mut Fields<'_>) {
 
 fn write(answer: &mut Answer, reader: &str, out: &mut Vec<u8>, payload: &[u8]) {
     match reader {
-        "rewrite_greeting" => greeting(answer, out, payload),
-        "rewrite_response" => response(answer, out, payload),
+        "rewrite_greeting" => rewritten(answer, out, read_greeting(answer.alloc(), payload)),
+        "rewrite_response" => rewritten(answer, out, read_response(answer.alloc(), payload)),
         _ => answer.bad(),
     }
 }
 
-// The bytes before, and a greeting as it is read.
-fn greeting(answer: &mut Answer, out: &mut Vec<u8>, payload: &[u8]) {
-    match read_greeting(answer.alloc(), payload) {
-        Ok(greeting) => put_greeting(answer, out, &greeting),
+// What can be written where it can be read.
+trait Rewrites: Drop {
+    fn rewrite(&self, answer: &mut Answer, out: &mut Vec<u8>);
+}
+
+// The bytes before, and what is read.
+fn rewritten<T: Rewrites>(answer: &mut Answer, out: &mut Vec<u8>, read: Result<T, HandFault>) {
+    match read {
+        Ok(value) => value.rewrite(answer, out),
         Err(_) => answer.bad(),
     }
 }
 
-fn put_greeting(answer: &mut Answer, out: &mut Vec<u8>, greeting: &Greeting) {
-    if is_text(greeting.version.as_slice()) && is_text(greeting.plugin.as_slice()) {
-        let done = write_greeting(out, greeting);
-        appended(answer, done, out);
-    } else {
-        answer.bad();
+impl Rewrites for Greeting {
+    fn rewrite(&self, answer: &mut Answer, out: &mut Vec<u8>) {
+        if is_text(self.version.as_slice()) && is_text(self.plugin.as_slice()) {
+            let done = write_greeting(out, self);
+            appended(answer, done, out);
+        } else {
+            answer.bad();
+        }
     }
 }
 
-// The bytes before, and a response as it is read.
-fn response(answer: &mut Answer, out: &mut Vec<u8>, payload: &[u8]) {
-    match read_response(answer.alloc(), payload) {
-        Ok(response) => put_response(answer, out, &response),
-        Err(_) => answer.bad(),
-    }
-}
-
-fn put_response(answer: &mut Answer, out: &mut Vec<u8>, response: &Response) {
-    if may_be_written(response) {
-        let done = write_response(out, response);
-        appended(answer, done, out);
-    } else {
-        answer.bad();
+impl Rewrites for Response {
+    fn rewrite(&self, answer: &mut Answer, out: &mut Vec<u8>) {
+        if may_be_written(self) {
+            let done = write_response(out, self);
+            appended(answer, done, out);
+        } else {
+            answer.bad();
+        }
     }
 }
 

@@ -1,7 +1,7 @@
 // The link to a server.
 use crate::show::{bytes, debug, spell_next, word};
 use crate::steps::{Steps, take_steps};
-use crate::text::{id_of, is_text, number_of};
+use crate::text::{is_text, parsed};
 use check_lines::{Answer, Fields};
 use mx_base::{ClientNo, Tag};
 use server_side::{Backend, BackendFault, Heard, Stage};
@@ -93,7 +93,7 @@ fn write(answer: &mut Answer, backend: &mut Backend) {
 // A command is to be written, where the router is logged in and none is.
 fn command(answer: &mut Answer, backend: &mut Backend, argument: &str) {
     let (first, payload) = argument.split_once(':').unwrap_or((argument, ""));
-    let first = id_of(answer, first);
+    let first = parsed(answer, first);
     let payload = answer.spelled(payload);
     if backend.stage() != Stage::In || backend.has_command() {
         answer.bad();
@@ -104,9 +104,9 @@ fn command(answer: &mut Answer, backend: &mut Backend, argument: &str) {
 
 // So many bytes were written of what is left.
 fn take(answer: &mut Answer, backend: &mut Backend, count: &str) {
-    let count = number_of(answer, count);
+    let count = parsed(answer, count);
     match backend.outgoing() {
-        Some(left) if count <= left.bytes.len() as u64 => backend.taken(count as usize),
+        Some(left) if count <= left.bytes.len() => backend.taken(count),
         _ => answer.bad(),
     }
 }

@@ -3,6 +3,19 @@ use check_lines::Answer;
 use mx_base::{Bytes, OutOfMemory};
 use std::{fmt, str};
 
+/// A value whose fields are shown.
+pub trait Shows {
+    fn show(&self, answer: &mut Answer);
+}
+
+/// The fields of a value that is read, or its fault.
+pub fn shown<T: Shows + Drop, E: fmt::Debug + Drop>(answer: &mut Answer, read: Result<T, E>) {
+    match read {
+        Ok(value) => value.show(answer),
+        Err(fault) => answer.debug(fault),
+    }
+}
+
 /// A part that is to follow.
 pub fn part(answer: &mut Answer) {
     answer.separate(0, "; ");

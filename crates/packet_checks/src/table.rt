@@ -1,7 +1,7 @@
 // Tables that the router writes.
 ghost use Rattle.std.specs.Prelude.{◌≡◌, ◌<◌, length};
 
-use crate::framing::pieces_of;
+use crate::framing::{Spelled, pieces_of};
 use crate::show::with_id;
 use check_lines::{Answer, Fields};
 use mx_base::Bytes;
@@ -15,7 +15,7 @@ pub fn write(fields: &mut Fields<'_>) {
     let names = fields.text();
     let cells = fields.text();
     let columns = pieces_of(&mut fields.answer, names, ',');
-    let row = cells_of(&mut fields.answer, cells);
+    let row = pieces_of(&mut fields.answer, cells, ',');
     if columns.is_empty() || row.len() != columns.len() {
         fields.answer.bad();
     } else {
@@ -45,23 +45,13 @@ fn written(
     }
 }
 
-// The cells of a row.
-fn cells_of(answer: &mut Answer, texts: &str) -> Vec<Option<Bytes>> {
-    let mut cells = Vec::new(answer.alloc());
-    for text in texts.split(',') {
-        let cell = cell(answer, text);
-        if cells.push(cell).is_err() {
-            answer.refused();
-        }
-    }
-    cells
-}
-
 // A cell.
-fn cell(answer: &mut Answer, text: &str) -> Option<Bytes> {
-    if text == "NULL" {
-        None
-    } else {
-        Some(Bytes::from_vec(answer.spelled(text)))
+impl Spelled for Option<Bytes> {
+    fn spelled(answer: &mut Answer, text: &str) -> Self {
+        if text == "NULL" {
+            None
+        } else {
+            Some(Bytes::spelled(answer, text))
+        }
     }
 }

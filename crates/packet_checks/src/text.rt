@@ -3,6 +3,7 @@ ghost use Rattle.std.specs.Prelude.{◌↔◌, IsTrue};
 ghost use Rattle.handshake.specs.Spelling.{IsText};
 
 use check_lines::Answer;
+use std::str::FromStr;
 
 /// Whether bytes are a text, which has no NUL.
 pub fn is_text(bytes: &[u8]) -> bool
@@ -12,23 +13,15 @@ pub fn is_text(bytes: &[u8]) -> bool
 }
 
 /// The number that an argument spells.
-pub fn number_of(answer: &mut Answer, argument: &str) -> u64 {
+pub fn parsed<N: FromStr + Default + Drop>(answer: &mut Answer, argument: &str) -> N
+where
+    N::Err: Drop,
+{
     match argument.parse() {
         Ok(number) => number,
         Err(_) => {
             answer.bad();
-            0
-        }
-    }
-}
-
-/// The sequence id that an argument spells.
-pub fn id_of(answer: &mut Answer, argument: &str) -> u8 {
-    match argument.parse() {
-        Ok(id) => id,
-        Err(_) => {
-            answer.bad();
-            0
+            N::default()
         }
     }
 }

@@ -1,5 +1,5 @@
 use Rattle.std.proofs.Common.{◌≤◌, vec_len}
-use Rattle.check_lines.proofs.field.bytes_of.Given as goal
+use Rattle.check_lines.proofs.field.append_pieces.Given as goal
 
 abbrev pub invariant-loop-piece : goal.invariant-loop-piece
 invariant-loop-piece l =
