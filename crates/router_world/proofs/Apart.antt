@@ -1,10 +1,9 @@
 -- Tables with one other row.
-use Rattle.router_world.proofs.Names.{common_steps, arith, ◌≡◌, ◌≢◌, ℕ, Bool, true, false, nat_eq, cond, Option, Some, refl, ap, same_number, nat_eq-true}
-use Rattle.router_world.proofs.Names.{set, ◌⊎◌, [], ◌∷◌, None, sym, ◌∙◌, ClientNo, LinkId, Log, In, Phase, Lent, Lends, Service, subst, some-same, Ask, Turn}
-use Rattle.router_world.proofs.Names.{turn_of, List, inl, inr, Account, BackendState, is_begun, Command, Forms, LinkAt, Framed, next_id, Answered, Told}
-use Rattle.router_world.proofs.Names.{is_query, Answer, spelt, is_here, Work, message_of, work_of, replied}
-use Rattle.router_world.proofs.Sound.{Enters, Owned, RowStands, Free, Gone, Busy, Waits, Logs, On, Serves, AskStands, CloseStands, AtMostOne, Waiting, Owns}
-use Rattle.router_world.proofs.Sound.{LendsBut, LendsSound, One}
+use Rattle.router_world.proofs.Names.{common_steps, arith, ◌≡◌, ◌≢◌, ℕ, Bool, true, false, nat_eq, cond, Option, Some, refl, ap, same_number, nat_eq-true, set}
+use Rattle.router_world.proofs.Names.{◌⊎◌, [], ◌∷◌, None, sym, ◌∙◌, ClientNo, LinkId, Log, Phase, Lent, Lends, Service, subst, some-same, Ask, Turn, turn_of}
+use Rattle.router_world.proofs.Names.{List, inl, inr, Framed, next_id, Answered, Told, is_query, Answer, spelt, is_here, Work, message_of, work_of, replied}
+use Rattle.router_world.proofs.Sound.{Owned, RowStands, Free, Gone, Busy, Waits, Logs, On, Serves, AskStands, CloseStands, AtMostOne, Waiting, Owns, LendsBut}
+use Rattle.router_world.proofs.Sound.{LendsSound, One}
 use Rattle.client_talk.specs.declared.session.Phase.TheVariants as phase
 
 pub no-some : {X : Type 0} {x : X} {o : Option X} → o ≡ None → o ≡ Some x → ⊥

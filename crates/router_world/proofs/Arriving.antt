@@ -1,15 +1,14 @@
 -- A client comes: nothing was sent for it before, nor refused.
 use Rattle.router_world.proofs.Names.{common_steps, lawful-last, ◌≡◌, ◌⊎◌, ◌≤◌, ℕ, suc, ◌+◌, Bool, true, false, nat_lt, List, [], ◌∷◌, ◌++◌, length, fold}
 use Rattle.router_world.proofs.Names.{Option, Some, None, refl, sym, ◌∙◌, ap, arith, length-append, LinkId, Traffic, Log, AllLawful, lawful-each, Entry}
-use Rattle.router_world.proofs.Names.{Accepted, nat_eq-true, Account, counted, Arrival, arrivals, arrivals_behind, arrival_of, without, connected}
-use Rattle.router_world.proofs.Names.{connected_step, carrier_of, Turn, Service, user_of, is_refused, IsLawful, Cause, NotOpened, NotLoggedIn, some-same}
-use Rattle.router_world.proofs.Names.{refusal-cause, and-true, carrier-more, arrival-stays, subst, inl, inr, ClientNo, Port, of_link, open_step, is_open}
-use Rattle.router_world.proofs.Names.{got_bytes, wrote_bytes, same_number, of_link-same, step-same, step-other, lawful-more, IsOpen, Fits, is_served}
-use Rattle.router_world.proofs.Names.{is_traffic, Session, new_session, set, most_command, none-if, arrivals-more, Parting, Seat, replied, Tables, admitted}
-use Rattle.router_world.proofs.Names.{flat_map, Admin}
+use Rattle.router_world.proofs.Names.{Accepted, nat_eq-true, counted, Arrival, arrivals, arrivals_behind, arrival_of, without, connected, connected_step}
+use Rattle.router_world.proofs.Names.{carrier_of, Turn, Service, is_refused, IsLawful, Cause, NotOpened, NotLoggedIn, some-same, refusal-cause, and-true}
+use Rattle.router_world.proofs.Names.{carrier-more, arrival-stays, subst, inl, inr, ClientNo, Port, of_link, open_step, is_open, got_bytes, wrote_bytes}
+use Rattle.router_world.proofs.Names.{same_number, of_link-same, step-same, step-other, lawful-more, IsOpen, Fits, is_served, is_traffic, Session, new_session}
+use Rattle.router_world.proofs.Names.{set, most_command, none-if, arrivals-more, Parting, Seat, replied, Tables, admitted, flat_map, Admin}
 use Rattle.router_world.proofs.{Hands.put-back, Hands.numbered-seat, Hands.known-as, Hands.away-gone, Calm.Spares, Calm.unrefused-more, Calm.carrier-same}
 use Rattle.router_world.proofs.{Seats.new-seat, Silences.Bystands, Silences.seats-left, Silences.lends-left, Stepping.IsQuiet, Lawful.get-behind}
-use Rattle.router_world.proofs.Apart.{link-or-other, apart-numbers, set-other, Here, There, row-of, one-same, set-same}
+use Rattle.router_world.proofs.Apart.{link-or-other, apart-numbers, set-other, row-of, one-same, set-same}
 use Rattle.router_world.proofs.Sound.{Happens, SeatStands, PartAt, PartStands, Sound, Clients, Parts, AtMostOne, One, Refused, Strange}
 use Rattle.{router_world.specs.Tables.to_part, router_world.specs.World.comes, router_world.specs.World.admitted_if, std.proofs.lemmas.Option.slice_get_past}
 use Rattle.router_world.proofs.Connecting.{is_among, counts-all, among-end, connected-more}

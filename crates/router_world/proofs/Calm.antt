@@ -1,12 +1,11 @@
 -- What an entry leaves of what is said of a link, and of a client's command.
 use Rattle.router_world.proofs.Names.{arith, common_steps, ◌≡◌, ℕ, Bool, true, false, ◌||◌, cond, List, [], ◌∷◌, ◌++◌, Option, Some, None, option_and_then}
-use Rattle.router_world.proofs.Names.{flat_map, filter_map, list_any, sym, ◌∙◌, ap, append-nil, filter_map-append, flat_map-append, list_any-append, LinkId}
-use Rattle.router_world.proofs.Names.{Log, link_of, is_link, got_bytes, read_of, written_of, is_open, reply_said, bytes-other, step-other, Entry, Account}
-use Rattle.router_world.proofs.Names.{is_loss, was_lost, was_broken, until_loss, heard_of, piece, pieces_of, carries, carrier_of, Answer, Turn, Service}
-use Rattle.router_world.proofs.Names.{user_on, refused_by, is_turn, is_refused, reply_on, reply_to, RefusedOrSent, refused-more, carrier-stays, carrier-more}
-use Rattle.router_world.proofs.Names.{replied, suc, is_some, option_map, AllLawful, Framed, parsed, Setup, Arrival, arrival_of, Talk, messages_of, no_server}
-use Rattle.router_world.proofs.Names.{talk_with, Work, answer, answer_by, first_without, work_in, work_of, IsLawful, in-work, arrival-stays, messages-grow}
-use Rattle.router_world.proofs.Names.{message-stays}
+use Rattle.router_world.proofs.Names.{list_any, sym, ◌∙◌, ap, list_any-append, LinkId, Log, link_of, is_link, read_of, written_of, is_open, reply_said}
+use Rattle.router_world.proofs.Names.{bytes-other, step-other, Entry, Account, is_loss, was_lost, was_broken, until_loss, heard_of, piece, pieces_of, carries}
+use Rattle.router_world.proofs.Names.{carrier_of, Answer, Turn, Service, user_on, refused_by, is_turn, is_refused, reply_on, reply_to, RefusedOrSent}
+use Rattle.router_world.proofs.Names.{refused-more, carrier-stays, carrier-more, replied, suc, is_some, option_map, AllLawful, Framed, parsed, Setup, Arrival}
+use Rattle.router_world.proofs.Names.{arrival_of, Talk, messages_of, no_server, talk_with, Work, answer, answer_by, first_without, work_in, work_of, IsLawful}
+use Rattle.router_world.proofs.Names.{in-work, arrival-stays, messages-grow, message-stays}
 use Rattle.{mx_wire.specs.Growth.of_link-other, promises.specs.Sends.Asks, promises.specs.Due.answer_when, promises.specs.Due.query_answer}
 use Rattle.promises.proofs.{InWork.refused-stays, InWork.query-answer, InWork.asks-open, Causes.then-of, Moments.due-stays}
 use Rattle.promises.proofs.Staying.{user-on-stays, reply-stays, talk-more, answer-stays}

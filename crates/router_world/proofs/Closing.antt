@@ -2,19 +2,17 @@
 use Rattle.router_world.proofs.Names.{arith, common_steps, ◌≡◌, ◌≢◌, ◌⊎◌, ℕ, Bool, true, false, nat_eq, ◌&&◌, List, [], ◌∷◌, ◌++◌, length, Some, None, refl}
 use Rattle.router_world.proofs.Names.{option_and_then, list_any, sym, ◌∙◌, ap, subst, inl, inr, list_any-append, LinkId, Traffic, Log, link_of, open_step}
 use Rattle.router_world.proofs.Names.{is_open, written_of, wrote_bytes, lawful-more, IsOpen, Fits, of_link-same, step-same, step-other, bytes-idle, Entry}
-use Rattle.router_world.proofs.Names.{Closed, Arrival, connected, is_served, Lent, Lends, Service, is_write, was_offered, or-inr, clients-unowned}
-use Rattle.router_world.proofs.Names.{arrival-stays, Parting, Tables, with_lends, closed_by, Phase, too_many_connections, carries, refused_by, refused_on}
-use Rattle.router_world.proofs.Names.{turn_of, suc}
+use Rattle.router_world.proofs.Names.{Closed, Arrival, connected, is_served, Lends, Service, is_write, was_offered, or-inr, clients-unowned, arrival-stays}
+use Rattle.router_world.proofs.Names.{Parting, Tables, with_lends, closed_by, Phase, too_many_connections, carries, refused_by, refused_on, turn_of, suc}
 use Rattle.router_world.proofs.{Hands.away-gone, Hands.known-as, Calm.Leaves, Calm.leaves-other, Frames.ask-calm, Frames.row-calm}
 use Rattle.{std.proofs.lemmas.Bool.false_from_ne_true, lend_core.specs.Changes.without_close, packet_frame.specs.Packets.spelling}
 use Rattle.router_world.{proofs.Apart.link-or-other, proofs.Apart.one-same, proofs.Apart.serves-apart, proofs.Apart.apart-numbers, specs.World.fewer}
 use Rattle.router_world.proofs.Connecting.{open-kept, is_among, counts-all, closed-same, traffic_as, traffic-came, connected-more, length-without}
-use Rattle.router_world.proofs.Sound.{Happens, CloseStands, RowStands, LendsSound, PartAt, Refused, Offered, PartStands, Sound, Serves, Known, Clients, Servers}
-use Rattle.router_world.proofs.Sound.{Parts, Closes, AtMostOne, Nobody, One}
+use Rattle.router_world.proofs.Sound.{Happens, CloseStands, LendsSound, PartAt, Refused, Offered, PartStands, Sound, Serves, Known, Clients, Servers, Parts}
+use Rattle.router_world.proofs.Sound.{Closes, AtMostOne, Nobody, One}
 use Rattle.router_world.proofs.Stepping.{client-spares, arrivals-plain, IsPlain, connected-plain}
 use Rattle.promises.proofs.Causes.{not-both, turn-opened}
-use Rattle.router_world.proofs.Silences.{silent-calm, Silence, Passes, lends-pass, sounds-mute, Bystands, rows-left, seats-left, lends-left}
-use Rattle.client_talk.specs.declared.session.Phase.TheVariants as phase
+use Rattle.router_world.proofs.Silences.{silent-calm, Passes, lends-pass, sounds-mute, Bystands, rows-left, seats-left, lends-left}
 
 passes-closed : {service : Service} {log : Log} {tables : Tables} (link : LinkId) → Happens service log (Closed link) tables → Passes service log (Closed link)
 passes-closed link shut = record { silence = grind (arith, common_steps, sounds-mute); fits = shut.fits; lawful = shut.lawful }

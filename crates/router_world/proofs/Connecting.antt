@@ -1,8 +1,8 @@
 -- Lists of links.
 use Rattle.router_world.proofs.Names.{common_steps, ◌≡◌, ℕ, ◌+◌, Bool, true, false, nat_eq, not, ◌&&◌, ◌||◌, List, [], ◌∷◌, ◌++◌, length, refl, ◌∙◌, ap, inl}
-use Rattle.router_world.proofs.Names.{inr, arith, LinkId, bool_cases, without, ◌-◌, slice_get, Some, None, list_any, list_any-append, fold-append, Traffic}
-use Rattle.router_world.proofs.Names.{Admin, Log, link_of, open_step, is_open, AllLawful, lawful-each, IsNew, IsOpen, Fits, step-same, step-other, Entry}
-use Rattle.router_world.proofs.Names.{Accepted, Opened, Closed, Arrival, arrivals_behind, arrival_of, is_traffic, connected_step, connected, some-same, came_as}
+use Rattle.router_world.proofs.Names.{inr, arith, LinkId, bool_cases, without, slice_get, Some, None, list_any, list_any-append, fold-append, Traffic}
+use Rattle.router_world.proofs.Names.{Admin, Log, open_step, is_open, AllLawful, lawful-each, IsNew, Fits, step-same, step-other, Entry}
+use Rattle.router_world.proofs.Names.{Accepted, Opened, Closed, Arrival, arrivals_behind, connected_step, connected, some-same, came_as}
 use Rattle.router_world.proofs.Names.{came-names, named-none, same-link, or-inl, or-inr}
 use Rattle.{router_world.proofs.Calm.or-none, promises.proofs.Causes.or-cases, mx_wire.specs.Growth.nat_eq-sym}
 use Rattle.std.proofs.lemmas.Bool.{or_parts, or_from, eqb-true}

@@ -2,7 +2,7 @@
 use Rattle.router_world.proofs.Names.{common_steps, and_from, ◌≡◌, ℕ, suc, ◌+◌, true, false, is_some, ◌&&◌, cond, List, [], ◌∷◌, ◌++◌, slice_get, Option, Some}
 use Rattle.router_world.proofs.Names.{refl, option_and_then, sym, ◌∙◌, ap, append-nil, arith, Log, Framed, parsed, Arrival, arrival_of, messages_of, Answer}
 use Rattle.router_world.proofs.Names.{Service, talk_with, answer, answer_by, message_of, due_at, first_without, answers, replied, answer_of, answers_by}
-use Rattle.router_world.proofs.Names.{first_open, ◌||◌, LinkId, Entry, is_served, was_lost, turned_away, due, arrival-stays, due_said, Setup}
+use Rattle.router_world.proofs.Names.{first_open, LinkId, Entry, is_served, was_lost, turned_away, due, arrival-stays, due_said, Setup}
 use Rattle.promises.{proofs.Moments.first-some, specs.Due.query_answer, specs.Due.answer_when, specs.Due.is_answered}
 use Rattle.{std.proofs.lemmas.Bool.or_parts, exchange.specs.Logins.loses, exchange.specs.Logins.before_loss}
 

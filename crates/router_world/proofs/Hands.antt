@@ -3,17 +3,17 @@ use Rattle.router_world.proofs.Names.{common_steps, ◌≡◌, ◌⊎◌, ℕ, B
 use Rattle.router_world.proofs.Names.{ClientNo, LinkId, Log, nat_eq-true, is_finished, Lent, Lends, set, Service, some-same, none-if, Seat, Tables, with_lends}
 use Rattle.router_world.proofs.Names.{◌++◌, IsOpen, Arrival, arrival_of, is_traffic, Parting, Account, Phase, Query, is_ending, Turned, Ask, asked, gone, ◌<◌}
 use Rattle.router_world.proofs.Names.{◌≤◌, is_some, List, length, arith, append-nil, Framed, next_id, FrameFault, ClientState, Opening, WaitsToLogIn, Says}
-use Rattle.router_world.proofs.Names.{FailsToSay, opening-says-more, is_served, Talk, heard_more, opening_of, account, if_known, messages_of, front, front_in}
-use Rattle.router_world.proofs.Names.{Session, most_command, carrier_of, Answer, talk_with, user_of, Work, work_of, ends_in, ends_by, if_user, messages-grow}
+use Rattle.router_world.proofs.Names.{FailsToSay, opening-says-more, is_served, Talk, heard_more, opening_of, account, messages_of, front, front_in}
+use Rattle.router_world.proofs.Names.{Session, most_command, carrier_of, Answer, talk_with, user_of, Work, work_of, ends_in, ends_by, messages-grow}
 use Rattle.router_world.proofs.Names.{replied, first_open, SeatAt, IsWorking, due_said, work_said, over_said, in-work, ◌≢◌, is_query, turned, Asks, written_of}
 use Rattle.router_world.proofs.Names.{was_lost, is_here, due, has_ended}
 use Rattle.promises.proofs.{Staying.account-more, Staying.Grown, Moments.work-due}
 use Rattle.router_world.proofs.Apart.{none-one, link-or-other, apart-links, apart-numbers, set-same, set-other, Row, row-of, Apart, Traces, serves-apart}
 use Rattle.router_world.proofs.Apart.{gone-apart, Went, Idle, one-same, Here, There, no-some, Stood}
-use Rattle.{std.proofs.lemmas.Bool.and_parts, client_talk.specs.Sessions.account_in, client_session.specs.Answers.account_in as account_by}
+use Rattle.{std.proofs.lemmas.Bool.and_parts, client_talk.specs.Sessions.account_in}
 use Rattle.{client_session.specs.Answers.commands_in, packet_frame.specs.Packets.spelling, client_side.specs.Laws.opening-fails-more}
 use Rattle.router_world.proofs.Sound.{Sits, SeatStands, LendsSound, Sound, InHand, OnHand, Known, Clients, Servers, Parts, Closes, Gone, Serves, PartAt}
-use Rattle.router_world.proofs.Sound.{PartStands, AtMostOne, One, AskStands, Free, Busy, AreFormed, IsAsked, IsHeard, Done}
+use Rattle.router_world.proofs.Sound.{PartStands, AtMostOne, One, AskStands, Free, Busy, AreFormed, IsAsked, Done}
 use Rattle.router_world.specs.{Tables.with_seat, World.parts, World.asking, World.leaving, World.seated_or_parts, World.goes_on}
 use Rattle.router_world.proofs.{Connecting.came-traffic, LinksGone.asked-sound, LinksGone.gone-sound, Dues.first-replied, Dues.due-unlost, Frames.over-no-query}
 use Rattle.router_world.proofs.SeatsAnswers.{goes-all, open-from, open-more, open-due, due-alone, front-more, over-in, SeatTurned}

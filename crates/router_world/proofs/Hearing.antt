@@ -1,10 +1,9 @@
 -- A session that goes on never counts fewer messages, and what is read of a link is short.
-use Rattle.router_world.proofs.Names.{common_steps, ◌≡◌, ◌<◌, ◌≤◌, ◌*◌, ℕ, zero, suc, true, [], ◌∷◌, ◌++◌, length, Option, Some, None, ap, arith, length-append}
-use Rattle.router_world.proofs.Names.{inl, LinkId, Log, read_of, AllLawful, lawful-each, Fits, bytes-same, bytes-other, Entry, Framed, Response, Account}
-use Rattle.router_world.proofs.Names.{ClientStep, counted, Setup, Asked, Session, logs_in_as, arrives_as, step_by, step, turned, left_to_say, ◌≢◌, is_some}
-use Rattle.router_world.proofs.Names.{List, sym, ◌∙◌, append-nil, Split, split, Arrival, arrival_of, is_served, Talk, heard_more, account_in, account}
-use Rattle.router_world.proofs.Names.{messages_of, Phase, Turned, said_in, Lends, carrier_of, Answer, Service, talk_with, replied, first_open, SeatAt, IsIdle}
-use Rattle.router_world.proofs.Names.{Unanswered, work_said, subst}
+use Rattle.router_world.proofs.Names.{common_steps, ◌≡◌, ◌<◌, ◌≤◌, ◌*◌, ℕ, zero, suc, true, [], ◌++◌, length, Option, Some, None, ap, arith, length-append, inl}
+use Rattle.router_world.proofs.Names.{LinkId, Log, read_of, AllLawful, lawful-each, Fits, bytes-same, bytes-other, Framed, Account, Setup, Session, step}
+use Rattle.router_world.proofs.Names.{turned, left_to_say, ◌≢◌, is_some, List, sym, ◌∙◌, append-nil, Split, split, Arrival, arrival_of, is_served, Talk}
+use Rattle.router_world.proofs.Names.{heard_more, account_in, account, messages_of, Phase, Turned, said_in, Lends, carrier_of, Answer, Service, talk_with}
+use Rattle.router_world.proofs.Names.{replied, first_open, SeatAt, IsIdle, Unanswered, work_said, subst}
 use Rattle.{promises.proofs.Staying.account-more, client_talk.specs.Going.goes_on, client_talk.specs.Events.kept_with}
 use Rattle.router_world.proofs.SeatsAnswers.{open-from, commands-more, taken-nothing, SeatTurned}
 use Rattle.router_world.proofs.{Seats.said-seat, Sound.AreFormed, Sound.LendsSound, Sound.Free, Sound.Gone, Sound.Serves, Apart.no-some}

@@ -8,16 +8,15 @@ use Rattle.router_world.proofs.Names.{length-append, Opened, OpenFailed, Target,
 use Rattle.router_world.proofs.Names.{tables_after, turn_for, turn_at, turns_behind, turns, nat_lt, left_by, command_left, closes, awaits, IsOurs, take, Tag}
 use Rattle.router_world.proofs.Names.{Reply, Wrote, Sent, left, left_in, Parting, reply_sent, seat_sends, sends_by, sends, close_of, farewell_of, IsFront}
 use Rattle.router_world.proofs.Names.{IsFarewell, ◌<◌, nat_eq, drop, For, BackendState, is_begun, Handed, IsPrefix, commands_on, Enters, Clean, GoesOn}
-use Rattle.router_world.proofs.Names.{IsLawful, begun, IsInside, LinkAt, Entering, Inside, is_some, ServerId, Address, ServerAt, MayOpen, owner-turn, Traffic}
-use Rattle.router_world.proofs.Names.{spelling-some, is_served, too_many_connections, user_on, was_offered, first_closing, IsClosing, Closed, Standing, Sends}
-use Rattle.router_world.proofs.Names.{Runs, IsMessage, IsHanded, In}
+use Rattle.router_world.proofs.Names.{IsLawful, IsInside, Entering, Inside, is_some, ServerId, Address, MayOpen, owner-turn, Traffic, spelling-some, is_served}
+use Rattle.router_world.proofs.Names.{too_many_connections, user_on, was_offered, first_closing, IsClosing, Closed, Standing, Sends, Runs, IsMessage, IsHanded}
+use Rattle.router_world.proofs.Names.{In}
 use Rattle.router_world.proofs.{Hands.away-gone, Hands.numbered-seat, Stepping.IsQuiet, Stepping.quiet-closes, Frames.user-there}
-use Rattle.promises.proofs.{Causes.arrival-as, Clean.before-loss, Clean.pieces-bytes}
-use Rattle.router_world.specs.{World.turn_of as turn_asked, Acts.target_of}
+use Rattle.{promises.proofs.Causes.arrival-as, promises.proofs.Clean.before-loss, promises.proofs.Clean.pieces-bytes, router_world.specs.Acts.target_of}
 use Rattle.{mx_base.specs.declared.tag.Tag.TheVariants.Own as OwnTag, std.proofs.lemmas.List.take-append-drop, packet_frame.specs.Packets.spelling}
 use Rattle.promises.specs.{Sends.Continues, Sends.Begins, Sends.MaySay, Closes.MayPart, Closes.MayClose}
-use Rattle.router_world.proofs.Sound.{SeatStands, RowStands, Gone, Sound, Clients, Servers, Parts, Closes, AtMostOne, Nobody, One, Waiting, Covers}
-use Rattle.router_world.proofs.Sound.{HandedStands, carried_by, AskStands, Own, Left, PartAt, Done, Refused, Offered, Strange, PartStands, CloseStands, IsAsked}
+use Rattle.router_world.proofs.Sound.{RowStands, Gone, Sound, Clients, Servers, Parts, Closes, AtMostOne, Nobody, One, Waiting, Covers, HandedStands, AskStands}
+use Rattle.router_world.proofs.Sound.{Own, Left, PartAt, Done, Refused, Offered, Strange, PartStands, CloseStands, IsAsked}
 use Rattle.router_world.proofs.RowsStanding.{standing-entering, commands-inside, standing-clean, standing-sends, standing_by, standing-inside, begun-some}
 use Rattle.router_world.proofs.RowsStanding.{said-at, entering-at, standing-runs}
 use Rattle.client_talk.specs.declared.session.Phase.TheVariants as phase

@@ -1,23 +1,22 @@
 -- What an entry of one client's link to a server, or an open for a client, leaves of the links and the commands of others.
 use Rattle.router_world.proofs.Names.{common_steps, ◌≡◌, ℕ, Bool, true, false, ◌&&◌, nat_eq, [], ◌∷◌, ◌++◌, Some, None, refl, sym, ◌∙◌, ap, subst, ServerId}
 use Rattle.router_world.proofs.Names.{Address, ClientNo, LinkId, Log, link_of, is_link, open_step, IsOpen, Fits, AllLawful, lawful-last, same_number, Entry}
-use Rattle.router_world.proofs.Names.{Opened, OpenFailed, Ask, Lent, Lends, was_lost, login_on, carries, Turn, Service, next_turn, turn_of, owner_of, is_turn}
+use Rattle.router_world.proofs.Names.{Opened, OpenFailed, Ask, Lent, Lends, was_lost, carries, Turn, Service, next_turn, turn_of}
 use Rattle.router_world.proofs.Names.{IsLawful, Cause, NotOpened, NotLoggedIn, some-same, refusal-cause, turn-stays, ◌≢◌, zero, suc, cond, List, append-nil}
-use Rattle.router_world.proofs.Names.{arith, list_any-append, Tag, For, got_bytes, of_link-same, step-same, Wrote, Account, BackendState, Handed, In, is_loss}
+use Rattle.router_world.proofs.Names.{arith, list_any-append, Tag, For, of_link-same, step-same, Account, BackendState, Handed, In, is_loss}
 use Rattle.router_world.proofs.Names.{heard_of, piece, pieces_of, is_command, carrier_of, user_on, is_refused, RefusedOrSent, replied, reply_said, LinkAt}
-use Rattle.router_world.proofs.Names.{Entering, Inside, Option, Answered, breaks_off, login_fails, user_of, MayDrop, asks-unrefused, refused-or-sent}
+use Rattle.router_world.proofs.Names.{Entering, Inside, Option, Answered, login_fails, user_of, MayDrop, asks-unrefused, refused-or-sent}
 use Rattle.router_world.proofs.Names.{user-stays, Got, set, Command, Forms, Standing, standing_on, standing_said, Answer, IsEntering, IsInside, is_begun}
 use Rattle.router_world.proofs.Names.{none-if, inr, is_here, spelt, message-stays, in-work, ◌<◌, ◌⊎◌}
 use Rattle.router_world.proofs.Calm.{or-none, Leaves, leaves-other, sent-unrefused, unsent-still, unrefused-more, asks-server, asks-stay}
-use Rattle.router_world.proofs.Apart.{apart-links, apart-numbers, RowNow, Was, OneRow, Mine, none-mine, none-one, Comes, Came, set-same, put-other, Stays}
-use Rattle.router_world.proofs.Apart.{no-some, set-other, Quiet, Closes, Answers, one-stood}
+use Rattle.router_world.proofs.Apart.{apart-links, apart-numbers, RowNow, Was, OneRow, none-mine, none-one, Comes, Came, set-same, put-other, Stays}
+use Rattle.router_world.proofs.Apart.{no-some, set-other, Quiet, Answers, one-stood}
 use Rattle.{exchange.specs.Logins.goes_on, packet_frame.specs.Packets.spelling, reply_track.specs.declared.tracker.Tracker.Tracker}
 use Rattle.promises.proofs.{Links.one-each, Links.lost-none, Clean.heard-more, Clean.pieces-more}
 use Rattle.router_world.proofs.Frames.{Calm, row-calm, ask-calm, owner-turn, Unbegun, still-none, user-there, gone-stays, same-ordinal}
 use Rattle.router_world.proofs.Sound.{AskStands, Owned, RowStands, CloseStands, AtMostOne, Waiting, Owns, LendsBut, LendsSound, carried_by, Busy, Waits, Logs}
 use Rattle.router_world.proofs.Sound.{On, IsAsked, HandedStands, Enters, Free, Own, Left}
 use Rattle.router_world.proofs.{RowsStanding.unanswered-at, RowsPieces.pieces-some, LinksGone.standing-unlost}
-use Rattle.server_side.specs.declared.stage.Stage.TheVariants as stage
 
 -- The entry is of a link that was opened for client n, and writes no other client's command; or it is an open, which was for that client where it fails.
 pub data Concerns (service : Service) (log : Log) (n : ℕ) : Entry → Type 0 where

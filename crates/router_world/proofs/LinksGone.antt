@@ -1,14 +1,13 @@
 -- What the bytes of a whole command say of the reply to it is what its message asks for.
-use Rattle.router_world.proofs.Names.{common_steps, ◌∙◌, sym, ap, arith, length-append, length-drop, length-take-le, Framed, longest, next_id, nat_eq-true}
-use Rattle.router_world.proofs.Names.{Results, Fields, kind_to, id_after, parsed, form_of, form_at, ◌≡◌, ◌≤◌, ℕ, zero, suc, ◌+◌, ◌-◌, ◌*◌, ◌/◌, Bool, true}
-use Rattle.router_world.proofs.Names.{false, nat_eq, cond, List, [], ◌∷◌, length, take, drop, slice_index_or, refl, ◌≢◌, ◌⊎◌, not, ◌++◌, Option, Some, None}
-use Rattle.router_world.proofs.Names.{subst, ClientNo, LinkId, Log, same_number, Account, is_begun, Handed, Lent, Lends, set, with_link, without_link, gone}
-use Rattle.router_world.proofs.Names.{was_lost, heard_of, pieces_of, Forms, Enters, Clean, Runs, standing_on, Service, is_here, MayDrop, some-same}
-use Rattle.router_world.proofs.Names.{standing_said, begun, LinkAt, Entering, Inside, is_some, For, command_of, Ask, takes_at, takes_command, commanded, queued}
-use Rattle.router_world.proofs.Names.{asked, asked_by}
+use Rattle.router_world.proofs.Names.{common_steps, ◌∙◌, sym, ap, arith, length-append, length-drop, length-take-le, longest, next_id, nat_eq-true, Results}
+use Rattle.router_world.proofs.Names.{Fields, kind_to, parsed, form_at, ◌≡◌, ◌≤◌, ℕ, zero, suc, ◌+◌, ◌-◌, ◌*◌, ◌/◌, Bool, true, false, nat_eq, cond, List, []}
+use Rattle.router_world.proofs.Names.{◌∷◌, length, take, drop, slice_index_or, refl, ◌≢◌, ◌⊎◌, not, ◌++◌, Option, Some, None, subst, ClientNo, LinkId, Log}
+use Rattle.router_world.proofs.Names.{same_number, Account, is_begun, Handed, Lent, Lends, set, with_link, without_link, gone, was_lost, heard_of, pieces_of}
+use Rattle.router_world.proofs.Names.{Forms, Runs, standing_on, Service, is_here, some-same, standing_said, LinkAt, Entering, Inside, is_some, For, command_of}
+use Rattle.router_world.proofs.Names.{Ask, takes_at, takes_command, commanded, queued, asked, asked_by}
 use Rattle.{std.proofs.lemmas.Bool.not-false, packet_frame.specs.Packets.packet, packet_frame.specs.Packets.packets, packet_frame.specs.Packets.spelling}
-use Rattle.{packet_frame.specs.Packets.id_behind, promises.specs.Sends.kind_asked, std.specs.Prelude.filter, lend_core.specs.Events.left_at}
-use Rattle.{lend_core.specs.Events.left_on, lend_core.specs.Events.left_by, lend_core.specs.Events.asked_on, router_world.proofs.Frames.owner-turn}
+use Rattle.{promises.specs.Sends.kind_asked, std.specs.Prelude.filter, lend_core.specs.Events.left_at, lend_core.specs.Events.left_on}
+use Rattle.{lend_core.specs.Events.left_by, lend_core.specs.Events.asked_on, router_world.proofs.Frames.owner-turn}
 use Rattle.router_world.proofs.Apart.{set-same, set-other, MayGo, Went, none-one, one-same, but-one, put-other, kept-row, Stays, Closes, OneRow, Asked}
 use Rattle.router_world.proofs.Apart.{one-stood, still-stood, Stood, no-some, RowGoes}
 use Rattle.router_world.proofs.RowsStanding.{inside-at, standing-entering, standing-clean, inside-after, no-bytes}

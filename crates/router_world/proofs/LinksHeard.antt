@@ -5,10 +5,10 @@ use Rattle.{std.proofs.lemmas.Bool.and_right, client_session.specs.declared.refu
 use Rattle.router_world.proofs.Names.{◌≡◌, ℕ, true, false, not, is_some, cond, List, [], ◌∷◌, ◌++◌, Some, None, refl, Bool, ◌&&◌, nat_eq, length, sym, ◌∙◌}
 use Rattle.router_world.proofs.Names.{common_steps, ap, subst, append-nil, inl, ClientNo, LinkId, For, Log, Fits, lawful-last, Entry, Got, Account, opening-got}
 use Rattle.router_world.proofs.Names.{BackendState, command_of, Hears, GotFault, got_of, Handed, BackendFault, LoggedIn, Part, bad_server_bytes, Ask, Lent}
-use Rattle.router_world.proofs.Names.{Lends, with_link, without_link, without_ask, takes_at, takes_command, commanded, due_on, heard, was_lost, heard_of}
+use Rattle.router_world.proofs.Names.{Lends, with_link, without_link, without_ask, takes_at, takes_command, commanded, due_on, was_lost, heard_of}
 use Rattle.router_world.proofs.Names.{has_failed, login_on, breaks_off, Command, pieces_of, carrier_of, Spoilt, Clean, Runs, Service, some-same}
 use Rattle.router_world.proofs.Names.{refused-or-sent, carrier-stays, replied, bytes_in, standing_said, reply_said, Entering, Inside, IsInside, IsEntering}
-use Rattle.router_world.proofs.Names.{begun, Owner, is_here, MayDrop, IsSpoilt, HasGone, Standing, standing_on, arith, ◌<◌}
+use Rattle.router_world.proofs.Names.{begun, Owner, is_here, MayDrop, IsSpoilt, HasGone, Standing, standing_on, arith}
 use Rattle.server_side.specs.{Login.opening, Hearing.Got as Gets, Handing.without_reply}
 use Rattle.server_side.specs.declared.hear.Heard.TheVariants.{Quiet as GoesOn, Whole}
 use Rattle.lend_core.specs.Decisions.{logged_in, replied as answers, place_of, told_by, kept_or_closed, failed}
@@ -19,7 +19,6 @@ use Rattle.router_world.proofs.LinksAt.{said-got, got-at, got-standing, Held, he
 use Rattle.router_world.proofs.LinksAt.{shut-idle, shut-answered, busy-here, left-busy, unowned-left, alike-came, puts, NoCommand, handed-later, ask-later}
 use Rattle.router_world.proofs.LinksAt.{own-idle, answers-one, LogsInAt, InsideAt, Drops, HoldsInside}
 use Rattle.router_world.proofs.LinksFailed.{failed-came, begun-alone, carried, id-begun}
-use Rattle.server_side.specs.declared.stage.Stage.TheVariants as stage
 
 -- a login that is there has nothing behind it
 logged-in-alone : {user : Account} {heard : List ℕ} {pieces : List Command} {backend left : BackendState} (piece : List ℕ)

@@ -10,7 +10,6 @@ use Rattle.router_world.proofs.{RowsStanding.command-taken, RowsStanding.own-tak
 use Rattle.router_world.proofs.Apart.{set-same, set-other, Came, no-some, apart-numbers}
 use Rattle.router_world.proofs.Sound.{AskStands, HandedStands, carried_by, RowStands}
 use Rattle.router_world.proofs.LinksAt.{AtRow, calm-own, alike-came, NoCommand, Commands, IsLike, handed-later, ask-later, command-is}
-use Rattle.server_side.specs.declared.stage.Stage.TheVariants as stage
 
 -- Of what a link has to write its bytes are, and what is left then.
 pub data LeftIn (backend : BackendState) (l : Sent) : Type 0 where

@@ -19,14 +19,13 @@ pub use Rattle.exchange.specs.Logins.{IsPrefix, breaks_off, has_failed, heard_of
 pub use Rattle.exchange.specs.Logins.{was_lost}
 pub use Rattle.exchange.specs.Replies.{Answer, Clean, Enters, Form, Forms, Never, Replies, Runs, Sends, Spoilt, Standing, command_reply, cut, heard_by}
 pub use Rattle.exchange.specs.Replies.{replies_by, reply_at, spelt, standing_in, standing_on, stands}
-pub use Rattle.{handshake.specs.declared.response.Response.Response, lend_core.specs.Lends.Lends, lend_core.specs.Lends.Told, lend_core.specs.Lends.oldest}
-pub use Rattle.{lend_core.specs.Lends.set, mx_base.specs.Fields.AreBytes, mx_base.specs.Sent.Sent, ready_loop.specs.Drained.write_dry}
+pub use Rattle.{handshake.specs.declared.response.Response.Response, mx_base.specs.Fields.AreBytes, mx_base.specs.Sent.Sent, ready_loop.specs.Drained.write_dry}
 pub use Rattle.{ready_loop.specs.Machine.Target, reply_track.proofs.Replying.SameEnd, reply_track.proofs.Replying.same-end}
 pub use Rattle.{server_side.specs.Hearing.Fails as GotFault, server_side.specs.Hearing.Hears, server_side.specs.Hearing.got_of}
-pub use Rattle.lend_core.specs.Changes.{owns_none, taken_on, to_close, with_link, without_ask, without_link}
-pub use Rattle.lend_core.specs.Decisions.{commanded, due_on, offered_at, queued, refusal_for, takes_at, takes_command}
+pub use Rattle.lend_core.specs.{Lends.Lends, Lends.Told, Lends.oldest, Lends.set, Changes.taken_on, Changes.with_link, Changes.without_ask}
+pub use Rattle.lend_core.specs.{Changes.without_link, Decisions.commanded, Decisions.due_on, Decisions.queued, Decisions.takes_at, Decisions.takes_command}
 pub use Rattle.lend_core.specs.Events.{asked, asked_by, gone, heard, is_waiting, left_in, lost, open_failed, opened}
-pub use Rattle.lend_core.specs.declared.{ask.Answered.Answered, ask.Ask.Ask, lent.Due.Due, lent.Lent.Lent}
+pub use Rattle.lend_core.specs.declared.{ask.Answered.Answered, ask.Ask.Ask, lent.Lent.Lent}
 pub use Rattle.mx_base.specs.declared.names.{Address.Address, ClientNo.ClientNo, LinkId.LinkId, ServerId.ServerId}
 pub use Rattle.mx_base.specs.declared.names.Port.{Port, TheVariants.Admin, TheVariants.Traffic}
 pub use Rattle.mx_base.specs.declared.tag.Tag.{Tag, TheVariants.For, TheVariants.Own, TheVariants.Reply}
@@ -42,32 +41,30 @@ pub use Rattle.promises.proofs.Causes.{and-true, came-names, came_as, clients-un
 pub use Rattle.promises.proofs.InWork.{asks-unrefused, in-work, refused-more, some-same}
 pub use Rattle.promises.proofs.Links.{carrier-more, owner-turn, refused-or-sent, tries-more}
 pub use Rattle.promises.proofs.Staying.{arrival-stays, arrivals-more, carrier-stays, lost-stays, message-stays, messages-grow, turn-stays, user-stays}
-pub use Rattle.promises.specs.Closes.{Gone as HasGone, IsDone, IsSpoilt, MayDrop, Unneeded, ends_by, ends_in, has_ended, if_user, is_write, was_offered}
+pub use Rattle.promises.specs.Closes.{Gone as HasGone, IsDone, IsSpoilt, MayDrop, Unneeded, ends_by, ends_in, has_ended, is_write, was_offered}
 pub use Rattle.promises.specs.Due.{Work, answer, answer_by, answers, due, due_at, first_without, message_of, reply_on, reply_to, turned_away, work_in, work_of}
 pub use Rattle.promises.specs.{Follows.Cause, Follows.NotLoggedIn, Follows.NotOpened, Follows.RefusedOrSent, Follows.behind_replies, Headline.IsLawful}
 pub use Rattle.promises.specs.{Headline.IsServed, Headline.Keeps, Headline.Serves, Rest.RestsAt, Sends.GoesOn, Sends.MayOpen, Sends.form_of, Sends.owner_for}
-pub use Rattle.promises.specs.Owners.{Owner, is_here, is_here_as, is_refused, is_turn, owner_of, refused, refused_by, refused_for, refused_on, talk_with}
-pub use Rattle.promises.specs.Owners.{user_of, user_on}
+pub use Rattle.promises.specs.Owners.{Owner, is_here, is_refused, is_turn, owner_of, refused, refused_by, refused_for, refused_on, talk_with, user_of, user_on}
 pub use Rattle.promises.specs.Service.{Service, Turn, next_turn, open_tries, open_try, turn_by, turn_of}
 pub use Rattle.reply_track.specs.{Replying.id_after, Replying.kind_to, Replying.to_command, Tracking.started, declared.place.State.State}
 pub use Rattle.reply_track.specs.Runs.{Ended, Ending, Failed, Going, renumbered, run}
 pub use Rattle.reply_track.specs.declared.reply.ReplyKind.{ReplyKind, TheVariants.Command as Results, TheVariants.Fields}
-pub use Rattle.router_world.specs.Acts.{IsClosing, IsFarewell, IsFront, IsOurs, asks, awaited_if, awaits, close_of, closes, farewell_of, first_closing, opens}
-pub use Rattle.router_world.specs.Acts.{reads, reply_sent, seat_sends, sends, sends_by}
+pub use Rattle.router_world.specs.Acts.{IsClosing, IsFarewell, IsFront, IsOurs, asks, awaits, close_of, closes, farewell_of, first_closing, opens, reads}
+pub use Rattle.router_world.specs.Acts.{reply_sent, seat_sends, sends, sends_by}
 pub use Rattle.router_world.specs.{Owed.lends, Replied.answer_of, Replied.answers_by, Replied.first_open, Replied.replied, Tables.Tables, Tables.no_tables}
 pub use Rattle.router_world.specs.{Tables.with_lends, Tables.without_seat, declared.seat.Parting.Parting, declared.seat.Seat.Seat}
 pub use Rattle.router_world.specs.Rows.{Entering, HearsPart, Inside, IsEntering, IsHanded, IsHearing, IsInside, IsMessage, LinkAt, begun, begun_by, bytes_in}
-pub use Rattle.router_world.specs.Rows.{commands_said, form_at, is_of, piece_bytes, replies_said, reply_said, standing_said}
-pub use Rattle.router_world.specs.Seats.{Asks, IsIdle, IsTaken, IsWorking, PhaseAt, SeatAt, Unanswered, due_said, over_said, unanswered_from, work_said}
+pub use Rattle.router_world.specs.Rows.{commands_said, form_at, is_of, replies_said, reply_said, standing_said}
+pub use Rattle.router_world.specs.Seats.{Asks, IsIdle, IsTaken, IsWorking, SeatAt, Unanswered, due_said, over_said, unanswered_from, work_said}
 pub use Rattle.router_world.specs.World.{admitted, closed_by, on_seat, tables_after, told, turn_at, turn_for, turns, turns_behind}
 pub use Rattle.server_side.specs.{Account.Account, Laws.opening-got, Login.Fails, Login.Goes, Login.LogsIn, Login.said_of, Reading.IsOpening, Reading.TellsOf}
 pub use Rattle.server_side.specs.Backend.{BackendState, command_left, command_of, command_taken, is_begun, left, left_by, new_backend, taken_by}
 pub use Rattle.server_side.specs.declared.{command.Command.Command as Handed, fault.BackendFault.BackendFault, hear.Heard.TheVariants.LoggedIn}
 pub use Rattle.server_side.specs.declared.{hear.Heard.TheVariants.Part, stage.Stage.TheVariants.In}
-pub use Rattle.std.proofs.Common.{ap, append-nil, append_assoc, arith, inl, inr, length-append, length-drop, length-take-le, subst, sym, take-append-drop}
-pub use Rattle.std.proofs.Common.{take_all, ◌∙◌}
+pub use Rattle.std.proofs.Common.{ap, append-nil, append_assoc, arith, inl, inr, length-append, length-drop, length-take-le, subst, sym, take-append-drop, ◌∙◌}
 pub use Rattle.std.proofs.lemmas.{Bool.and_from, Bool.and_parts, Bool.and_right, Bool.or_parts, Grind.flat_map-append, Grind.common_steps}
-pub use Rattle.std.proofs.lemmas.List.{drop_all, nil_from_length, Elements.filter_map-append, Folds.list_all-append, Folds.list_any-append, Sums.fold-append}
+pub use Rattle.std.proofs.lemmas.List.{nil_from_length, Elements.filter_map-append, Folds.list_all-append, Folds.list_any-append, Sums.fold-append}
 pub use Rattle.std.specs.{List.cons_option, List.filter_map, List.flat_map, List.list_all, List.list_any, Option.option_and_then, Option.option_map}
 pub use Rattle.std.specs.Prelude.{Bool, List, None, Option, Result, Some, [], cond, drop, false, fold, is_some, length, nat_eq, nat_lt, not, refl, slice_get}
 pub use Rattle.std.specs.Prelude.{slice_index_or, suc, take, true, zero, ℕ, ◌%◌, ◌&&◌, ◌*◌, ◌++◌, ◌+◌, ◌-◌, ◌/◌, ◌<◌, ◌||◌, ◌∷◌, ◌≡◌, ◌≢◌, ◌≤◌, ◌⊎◌}

@@ -4,7 +4,7 @@ use Rattle.router_world.proofs.Names.{drop, fold, Option, Some, None, refl, list
 use Rattle.router_world.proofs.Names.{length-append, and_parts, and_from, or_parts, list_all-append, filter_map-append, flat_map-append, LinkId, Tag, Log, Fits}
 use Rattle.router_world.proofs.Names.{AllLawful, lawful-each, Entry, Framed, Found, longest, first_message-whole-more, is_empty, Command, piece, pieces_of}
 use Rattle.router_world.proofs.Names.{most_command, whole_by, with_piece, commands_in, behind, place_in, bytes_in, is_of}
-use Rattle.{std.specs.Prelude.nat_le, std.proofs.lemmas.Bool.leb-false, std.proofs.lemmas.Bool.or_from, exchange.specs.Commands.same_tag}
+use Rattle.{std.specs.Prelude.nat_le, std.proofs.lemmas.Bool.leb-false, std.proofs.lemmas.Bool.or_from}
 use Rattle.packet_frame.specs.{Packets.Nothing, Packets.Whole, Packets.Faulty, Packets.first_message, Packets.spelling, RoundTrip.first_message-again}
 
 -- a piece has a byte

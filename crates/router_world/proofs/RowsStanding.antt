@@ -1,21 +1,20 @@
 -- A link to a server as bytes are handed to it and written.
 use Rattle.router_world.proofs.Names.{common_steps, ◌≡◌, ◌≢◌, ◌⊎◌, ◌≤◌, ◌<◌, ℕ, zero, suc, ◌+◌, ◌-◌, Bool, true, false, ◌||◌, cond, List, [], ◌∷◌, ◌++◌, length}
-use Rattle.router_world.proofs.Names.{take, drop, Option, Some, None, refl, list_any, sym, ◌∙◌, ap, subst, append-nil, append_assoc, arith, length-append}
-use Rattle.router_world.proofs.Names.{length-drop, take-append-drop, length-take-le, inl, inr, or_parts, list_any-append, fold-append, Sent, Tag, Own, AreBytes}
-use Rattle.router_world.proofs.Names.{first_message-empty, run, renumbered, started, to_command, Account, said_of, BackendState, new_backend, left, Handed}
-use Rattle.router_world.proofs.Names.{IsPrefix, Forms, Command, most_command, with_piece, is_command, behind, commands_in, some-same, form_at, bytes_in, is_of}
-use Rattle.router_world.proofs.Names.{begun_by, begun, IsMessage, IsHanded, IsEntering, IsHearing, HearsPart, IsInside, LinkAt, Entering, Inside, nat_eq, State}
-use Rattle.router_world.proofs.Names.{Ending, Going, Ended, Failed, ReplyKind, kind_to, id_after, SameEnd, same-end, Answer, spelt, Never, Form, heard_by}
-use Rattle.router_world.proofs.Names.{command_reply, ◌&&◌, slice_get, list_all, option_and_then, LogsIn, is_empty, is_whole, place_in, commands_behind, Replies}
-use Rattle.router_world.proofs.Names.{replies_by, Clean, Sends, Runs, Spoilt, stands, standing_in, reply_at, behind_replies, commands_said, replies_said}
-use Rattle.router_world.proofs.Names.{standing_said, reply_said, nat_eq-true, nat_eq-false, spelling-some, In, cut, Standing, Enters}
+use Rattle.router_world.proofs.Names.{take, drop, Option, Some, None, refl, list_any, sym, ◌∙◌, ap, subst, append-nil, arith, length-append, length-drop}
+use Rattle.router_world.proofs.Names.{take-append-drop, length-take-le, inl, Tag, Own, AreBytes, first_message-empty, run, renumbered, started, to_command}
+use Rattle.router_world.proofs.Names.{Account, said_of, BackendState, new_backend, Handed, IsPrefix, Forms, Command, with_piece, is_command, behind}
+use Rattle.router_world.proofs.Names.{commands_in, form_at, bytes_in, is_of, begun_by, begun, IsMessage, IsHanded, IsEntering, IsHearing, HearsPart, IsInside}
+use Rattle.router_world.proofs.Names.{LinkAt, Entering, Inside, nat_eq, State, Ending, Going, Ended, Failed, ReplyKind, kind_to, id_after, SameEnd, same-end}
+use Rattle.router_world.proofs.Names.{Answer, spelt, Never, Form, heard_by, command_reply, ◌&&◌, slice_get, list_all, option_and_then, LogsIn, is_empty}
+use Rattle.router_world.proofs.Names.{is_whole, place_in, commands_behind, Replies, replies_by, Clean, Sends, Runs, Spoilt, stands, standing_in, reply_at}
+use Rattle.router_world.proofs.Names.{behind_replies, commands_said, replies_said, standing_said, reply_said, nat_eq-true, nat_eq-false, spelling-some, In, cut}
+use Rattle.router_world.proofs.Names.{Standing, Enters}
 use Rattle.promises.proofs.Clean.{with-piece-behind, behind-append, command-reply-grammar, replies-behind}
 use Rattle.std.{proofs.Common.take-add, proofs.Common.lit<, proofs.Math.Seq.take-append_seam, proofs.Math.Seq.take-append-add, proofs.lemmas.Bool.or_left}
 use Rattle.std.{proofs.lemmas.Option.slice_get_past, proofs.lemmas.Option.slice_get_read, proofs.lemmas.List.get_or_push, specs.Prelude.if◌then◌else◌}
-use Rattle.packet_frame.specs.Packets.{spelling, spellings}
-use Rattle.server_side.specs.{Login.opening, Login.Opening, Laws.opening-new, Laws.opening-logged_in, Backend.taken, Handing.handed, Reading.IsLoggingIn}
-use Rattle.reply_track.specs.{declared.reply.ReplyEnd.ReplyEnd, Grammar.renamed, Replying.replied, Replying.payloads_in}
-use Rattle.{reply_track.proofs.Finishing.AreBytes-append, client_session.specs.Errors.connection_lost}
+use Rattle.{packet_frame.specs.Packets.spellings, client_session.specs.Errors.connection_lost}
+use Rattle.server_side.specs.{Login.opening, Login.Opening, Laws.opening-new, Laws.opening-logged_in, Handing.handed, Reading.IsLoggingIn}
+use Rattle.reply_track.{specs.declared.reply.ReplyEnd.ReplyEnd, specs.Replying.replied, specs.Replying.payloads_in, proofs.Finishing.AreBytes-append}
 use Rattle.reply_track.proofs.Replying.{run-more, renumbered-more, length-renumbered, ended-shorter, failed-shorter, IsHandedOn, handed-on}
 use Rattle.exchange.specs.Replies.{Wholly, heard_as, rest_of, error_by, or_else, Heard, Partly}
 use Rattle.router_world.proofs.RowsPieces.{bytes-more, behind-past, behind-short, behind-one, part-spelt, with-piece-on, of-commands, place-last, whole-spelt}

@@ -8,7 +8,7 @@ use Rattle.router_world.proofs.Names.{message_size, Nothing, Whole, Faulty, firs
 use Rattle.router_world.proofs.Names.{fed, counted, Opening, Says, opening-says-more, account_of, heard_more, opening_of, if_known, commands, messages_of}
 use Rattle.router_world.proofs.Names.{front_in, fault_answer, ends_by, work_said}
 use Rattle.{promises.proofs.Staying.by-stays, promises.proofs.InWork.query-answer, promises.proofs.InWork.some-same, router_world.specs.Seats.IsOf}
-use Rattle.{client_talk.specs.Asked.asked_by, client_talk.specs.declared.step.Turn.Turn, client_talk.specs.Steps.Step, client_side.specs.Client.past_message}
+use Rattle.{client_talk.specs.declared.step.Turn.Turn, client_talk.specs.Steps.Step, client_side.specs.Client.past_message}
 use Rattle.client_session.specs.{Answers.quit_by, Answers.commands_in, Answers.client_messages, Openings.opening-shorter}
 use Rattle.packet_frame.specs.{Packets.first_message, Laws.split-nothing, Laws.split-whole, Laws.split-faulty, Laws.split-count}
 use Rattle.client_talk.specs.declared.asked.Asked.TheVariants as asked

@@ -4,7 +4,7 @@ use Rattle.router_world.proofs.Names.{zero, suc, ◌+◌, Bool, true, List, ◌+
 use Rattle.router_world.proofs.Names.{append_assoc, length-drop, split, message_size, Response, Stage, ClientStep, ClientState, Says, IsLoggingIn}
 use Rattle.router_world.proofs.Names.{command_found, next_of, next_same, Account, account_of, Talk, opening_of, if_known, commands, messages_of, front_in}
 use Rattle.router_world.proofs.Names.{front, own_ok, Session, logs_in, logs_in_as, step_by, step, still, left_to_say, Answer, ◌∷◌, FrameFault, with_front}
-use Rattle.router_world.proofs.Names.{first_message-goes, parsed, counted, has_server, fault_answer, is_query, is_quit, payload_of, Asked, Phase, asked_of}
+use Rattle.router_world.proofs.Names.{first_message-goes, parsed, counted, has_server, fault_answer, is_query, is_quit, payload_of, Asked, asked_of}
 use Rattle.router_world.proofs.Names.{arrives_as, ended, turned_by, turned, spelt, answer_of, IsWorking, inl, inr, length-append}
 use Rattle.router_world.specs.Seats.{IsOf}
 use Rattle.packet_frame.specs.Packets.{message_within, first_message, spelling}

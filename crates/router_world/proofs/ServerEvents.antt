@@ -1,6 +1,6 @@
 -- What comes of bytes on a link to a server, and of its loss.
 use Rattle.router_world.proofs.Names.{common_steps, ◌≡◌, ℕ, true, false, cond, List, [], ◌∷◌, ◌++◌, Option, Some, None, refl, sym, ◌∙◌, ap, AreBytes, LinkId}
-use Rattle.router_world.proofs.Names.{append-nil, Log, Fits, Entry, Got, Wrote, Account, Lent, Lends, heard, lost, is_loss, was_lost, heard_of, login_on}
+use Rattle.router_world.proofs.Names.{append-nil, Log, Fits, Entry, Got, Wrote, Account, Lent, Lends, heard, lost, is_loss, was_lost, heard_of}
 use Rattle.router_world.proofs.Names.{breaks_off, piece, pieces_of, carries, Service, some-same, refused-or-sent, carrier-stays, reply_said, ◌≤◌, ◌<◌, nat_eq}
 use Rattle.router_world.proofs.Names.{arith, Tag, nat_eq-true, login_fails, is_command, is_turn, and-true, refusal-cause, is_some, ◌&&◌, length, ClientNo}
 use Rattle.router_world.proofs.Names.{is_link, lawful-more, has_server, Phase, Told, taken_on, is_waiting, left_in, Seat, Tables, with_lends, told, IsFront}
@@ -16,7 +16,6 @@ use Rattle.router_world.proofs.LinksAt.{held, HoldsLogin, HoldsNone, HoldsUnsent
 use Rattle.router_world.proofs.LinksAt.{BusyHere, LogsHere, OnHere, busy-here}
 use Rattle.router_world.proofs.Calm.{Spares, carrier-same, unrefused-more, Leaves, leaves-other, asks-server}
 use Rattle.router_world.proofs.LinksWritten.{LeftIn, OfLogin, OfCommand, left-in, wrote-came, front-left, wrote-others, WroteAt}
-use Rattle.server_side.specs.declared.stage.Stage.TheVariants as stage
 use Rattle.client_talk.specs.declared.session.Phase.TheVariants as phase
 
 -- An entry by which a link is lost writes nothing, and opens and closes none.

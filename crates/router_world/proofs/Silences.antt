@@ -7,7 +7,7 @@ use Rattle.router_world.proofs.Names.{filter_map, inl, inr, link_of, is_link, of
 use Rattle.router_world.proofs.Names.{is_failure, until_loss, breaks_off, piece, user_of, refused_on, IsLawful, Seat, Tables, is_some, ◌||◌, option_map}
 use Rattle.router_world.proofs.Names.{Arrival, arrival_in, arrival_of, is_served, Talk, opening_of, account, messages_of, standing_on, talk_with, Owner}
 use Rattle.router_world.proofs.Names.{work_of, due, ends_in, ends_by, has_ended, MayDrop, IsSpoilt, HasGone, Unneeded, arrival-stays, due_said, list_any-append}
-use Rattle.router_world.proofs.Names.{Lends, was_offered, or-inl, turn-stays, lawful-more, open_step}
+use Rattle.router_world.proofs.Names.{Lends, or-inl, turn-stays, lawful-more, open_step}
 use Rattle.router_world.proofs.{Connecting.open-kept, Connecting.counts-all, Apart.apart-numbers, Hands.work-is, Dues.due-unlost, Dues.due-lost}
 use Rattle.router_world.proofs.Sound.{Sits, LendsSound, Sound, CloseStands, PartAt, Done, Refused, Offered, Strange, Happens}
 use Rattle.promises.{specs.Owners.talk_of, specs.Closes.is_over, proofs.Clean.of-link-more}
