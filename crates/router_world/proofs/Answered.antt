@@ -60,13 +60,12 @@ module _ {service : Service} {log : Log} {e : Entry} {n : ℕ} {tables : Tables}
       → ((i : ℕ) → Busy tables.lends n i → replied service n i then ≡ None) → Sound service then None (with_lends news.lends tables)
   quiet-step busy free gone none = moved service log e n None tables tables.seats news.lends sound others (record {
     others = λ k apart. refl;
-    seat = λ seat is. (let was = sound.seats n seat is in record {
-      stands = seat-stays service log e n seat from.happens.lawful was.stands (from.later seat is) (from.seats n seat is)
-          (λ user working. none seat.session.client.arrived (rw working at was.serves));
-      serves = serves-quiet seat.session.phase tables.lends news.lends n seat.session.client.arrived busy free gone was.serves;
-      unfinished = was.unfinished;
-      numbered = was.numbered;
-    });
+    seat = λ seat is. (let was = sound.seats n seat is in assumption (
+      seat-stays service log e n seat from.happens.lawful was.stands (from.later seat is) (from.seats n seat is)
+          (λ user working. none seat.session.client.arrived (rw working at was.serves)),
+      serves-quiet seat.session.phase tables.lends news.lends n
+          seat.session.client.arrived busy free gone was.serves,
+    ));
     away = λ is. inr (gone (away-gone tables.lends n (sound.away n is)));
     numbers = λ link seat is on. inr is;
     known = λ link opened. inl (from.opens link opened);
@@ -120,14 +119,14 @@ module _ {service : Service} {log : Log} {e : Entry} {n : ℕ} {tables : Tables}
         → (news.lends.closing ≡ []) ⊎ (news.lends.owned n ≡ None) → Sound service then None (goes_on (record { 0 = n }) seat.link
         (answered service.setup (spelt (next_id message.last) answer) seat.session) (without_seat (record { 0 = n }) (with_lends news.lends tables)))
     seated answer message there now free idle closable = subst (λ (p : Phase). Sound service then None
-        (goes_on (record { 0 = n }) seat.link (answered service.setup packets (record { client = client; phase = p })) (without_seat (record { 0 = n })
-        (with_lends news.lends tables))))
+        (goes_on (record { 0 = n }) seat.link (answered service.setup packets (record { client = client; phase = p }))
+        (without_seat (record { 0 = n }) (with_lends news.lends tables))))
         (sym works) (goes-on service then (record { 0 = n }) seat.link turned (without_seat (record { 0 = n }) (with_lends news.lends tables))
         (taken-out service log e (record { 0 = n }) seat tables news.lends sound others is from.came.sound from.came.apart from.came.traces from.opens)
         (set-same tables.seats n None) ((sound.seats n seat is).numbered) from.quiet.unparted stands
-        (next-turned service then n was.came written old turned news.lends from.came.sound closable (λ has. idle) came was.served free (λ enters. absurd
-        (never-enters (talk_with service n was.came log) (reply then) written turned.session user working.account at.seat enters)) (λ other same. cc) (λ
-        some. (unsent turned.session.client.arrived (behind turned.query some at.asks)).0) from.happens.formed at-then)
+        (next-turned service then n was.came written old turned news.lends from.came.sound closable (λ has. idle) came was.served free
+        (λ enters. absurd (never-enters (talk_with service n was.came log) (reply then) written turned.session user working.account at.seat enters))
+        (λ other same. cc) (λ some. (unsent turned.session.client.arrived (behind turned.query some at.asks)).0) from.happens.formed at-then)
         (finished-parted service then n (record { link = seat.link; session = turned.session }) stands)) where
           packets : List ℕ
           packets = spelt (next_id message.last) answer

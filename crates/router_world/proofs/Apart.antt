@@ -249,13 +249,11 @@ one-stood {service} {log} {n} {link} {lends} {other} lent but one_closes closes 
   at-most (Closes none out stands last) = subst AtMostOne (sym last) (One link)
 
   closing : RowGoes service log link lends other → (l : LinkId) → other.closing ≡ l ∷ [] → CloseStands service log other l
-  closing (Stays now is stands same) l at = (let was = closes l (sym same ∙ at) in
-      grind (
-        arith,
-        common_steps,
-        (one.links l.0 (apart-links l link (λ on. no-some (ap (λ (x : LinkId). lends.links x.0) (sym on) ∙ was.unlent) there))
-            ∙ was.unlent),
-      ))
+  closing (Stays now is stands same) l at = (let was = closes l (sym same ∙ at) in grind (
+    arith,
+    common_steps,
+    (one.links l.0 (apart-links l link (λ on. no-some (ap (λ (x : LinkId). lends.links x.0) (sym on) ∙ was.unlent) there)) ∙ was.unlent),
+  ))
   closing (Closes none out stands last) l at = subst (CloseStands service log other) (one-same link l (sym last ∙ at)) stands
 
   to : RowGoes service log link lends other → ((now : Lent) × (other.links link.0 ≡ Some now)) ⊎ (other.closing ≡ link ∷ [])

@@ -214,12 +214,9 @@ pub coming-step : {service : Service} {log : Log} {port : Port} {link : LinkId} 
 coming-step {log = log} {port = Admin} {tables = tables} coming short = away-step coming tables.here []
     (cc ((sound coming).here, connected-more log (e coming))) (Strange refl) (among coming)
 coming-step {service} {log} {port = Traffic} {link} {salt} {tables} coming short = by (nat_lt tables.here service.setup.max_clients) refl where
-  room : (b : Bool) → nat_lt tables.here service.setup.max_clients ≡ b → nat_lt (length (connected log)) service.setup.max_clients ≡ b
-  room b is = grind (arith, common_steps)
-
   by : (b : Bool) → nat_lt tables.here service.setup.max_clients ≡ b → Sound service (then coming) None (admitted_if b
       (record { 0 = counted tables.came }) link salt service.setup (record tables { came = counted tables.came; here = counted tables.here }))
   by true is = seated-step coming (record { 0 = counted tables.came }) (counted tables.here) (number-now coming) refl (grind
-      (arith, common_steps, connected-more, fold-few, length-append)) short (room true is)
+      (arith, common_steps, connected-more, fold-few, length-append)) short (grind (arith, common_steps))
   by false full = away-step coming (counted tables.here) _ (grind (arith, common_steps, connected-more, fold-few, length-append)) (Refused
-      (room false full) refl (ap (flat_map wrote_bytes) (alone coming))) (among coming)
+      (grind (arith, common_steps)) refl (ap (flat_map wrote_bytes) (alone coming))) (among coming)

@@ -121,11 +121,12 @@ module _ {service : Service} {log : Log} {e : Entry} {client : ClientNo} {link :
   -- a client whose end was read before is due what it was
   still-ended : IsEnded service log client.0 came seat.session → is_loss e ≡ false → (session : Session) → session.phase ≡ seat.session.phase → written_of
       came.link then ++ session.client.outgoing ≡ written_of came.link log ++ seat.session.client.outgoing → IsEnded service then client.0 came session
-  still-ended went none session same told = record {
-    lost = keeps is_loss none ∙ went.lost;
-    ends = same ∙ went.ends;
-    told = told ∙ went.told ∙ sym (due-lost service client.0 came log e sits.stands.is_came sits.stands.served went.lost);
-  }
+  still-ended went none session same told = assumption (
+    keeps is_loss none ∙ went.lost,
+    same ∙ went.ends,
+    told ∙ went.told
+        ∙ sym (due-lost service client.0 came log e sits.stands.is_came sits.stands.served went.lost),
+  )
 
   -- and its session goes on
   stands : is_failure e ≡ false → (session : Session) → StateThen session → SeatStands service then client.0 (record { link = seat.link; session = session })
@@ -149,9 +150,8 @@ module _ {service : Service} {log : Log} {e : Entry} {client : ClientNo} {link :
   pub broken-client : is_failure e ≡ true → is_loss e ≡ true → Sound service then None (breaks_off client link tables)
   broken-client failure loss = (let went = away (holds is_loss loss) in
       let taken : Sound service then (Some (record { client = client.0; link = link })) (without_seat client tables) = rw on.same at out in
-      part-with service then client link (with_lends (gone client tables.lends) (without_seat client tables))
-      (relend service then client.0 link (without_seat client tables) (gone client tables.lends) taken (set-same tables.seats client.0 None) quiet.unparted
-      went.sound went.apart went.traces)
+      part-with service then client link (with_lends (gone client tables.lends) (without_seat client tables)) (relend service then client.0 link
+      (without_seat client tables) (gone client tables.lends) taken (set-same tables.seats client.0 None) quiet.unparted went.sound went.apart went.traces)
       (set-same tables.seats client.0 None) on.number went.gone quiet.unparted (record {
         came = came;
         is_came = arrived;

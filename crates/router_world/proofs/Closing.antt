@@ -29,15 +29,14 @@ opened-behind log link other opened = grind (arith, common_steps, link-or-other,
 pub closed-client : (service : Service) (log : Log) (link : LinkId) (parting : Parting) (tables : Tables) → Sound service log None tables → Happens service log
     (Closed link) tables → tables.parting ≡ parting ∷ [] → parting.link ≡ link → Sound service (log ++ Closed link ∷ []) None (closed_by (parting ∷ []) tables)
 closed-client service log link parting tables sound shut is same = (let then : Log = log ++ Closed link ∷ [] in
-    let here : (b : Bool) → is_among parting.link (connected log) ≡ b → fewer b tables.here ≡ length (connected then) =
-    λ b counted. grind (arith, common_steps, length-without, counts-all, connected-more, closed-same) in
+    let here : (b : Bool) → is_among parting.link (connected log) ≡ b
+    → fewer b tables.here ≡ length (connected then) = λ b counted. grind (arith, common_steps, length-without, counts-all, connected-more, closed-same) in
     (let stands : PartStands service log tables.numbers tables.lends parting = sound.parts parting is in
     let unnumbered : tables.numbers link.0 ≡ None = ap (λ (l : LinkId). tables.numbers l.0) (sym same) ∙ stands.unnumbered in
     let unlent : tables.lends.links link.0 ≡ None = ap (λ (l : LinkId). tables.lends.links l.0) (sym same) ∙ stands.unlent in
-    let by-standing : Bystands service log (Closed link) link tables = bystands-closed shut unnumbered unlent in
-    let closing : (other : LinkId) → tables.lends.closing ≡ other ∷ [] → Leaves other log (Closed link) =
-    λ other closes. leaves-other other log (Closed link) (ap (λ (l : LinkId). nat_eq other.0 l.0) (sym same) ∙ stands.unclosing other closes) in
-    record {
+    let by-standing : Bystands service log (Closed link) link tables = bystands-closed shut unnumbered unlent in let closing : (other : LinkId)
+    → tables.lends.closing ≡ other ∷ [] → Leaves other log (Closed link) = λ other closes. leaves-other other log (Closed link)
+    (ap (λ (l : LinkId). nat_eq other.0 l.0) (sym same) ∙ stands.unclosing other closes) in record {
       came = sound.came ∙ ap length (sym (arrivals-plain log (Closed link) (λ before. refl)));
       here = here parting.is_client (stands.counted);
       counts = counts-all then (lawful-more Fits log (Closed link) shut.told shut.fits);
@@ -67,8 +66,8 @@ pub closed-server : (service : Service) (log : Log) (link : LinkId) (tables : Ta
     → tables.parting ≡ [] → tables.lends.closing ≡ link ∷ [] → Sound service (log ++ Closed link ∷ []) None (with_lends (without_close tables.lends) tables)
 closed-server service log link tables sound shut unparted is = (let among : is_among link (connected log) ≡ false = sound.counts.among link
     ∙ ap (λ b. b && is_open link log)
-    (false_from_ne_true (list_any (traffic_as link) log) (λ came. not-both link log shut.told (traffic-came link log came) (turn-opened service link log
-    stands.turn stands.is_turn))) in
+    (false_from_ne_true (list_any (traffic_as link) log)
+    (λ came. not-both link log shut.told (traffic-came link log came) (turn-opened service link log stands.turn stands.is_turn))) in
     record {
       came = sound.came ∙ ap length (sym (arrivals-plain log (Closed link) (λ before. refl)));
       here = sound.here ∙ sym (closed-same log link among);

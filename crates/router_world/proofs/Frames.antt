@@ -149,8 +149,7 @@ module _ (service : Service) (log : Log) (e : Entry) where
         | Logs ask is same link lent owns at stage ↦ unbegun ask is same
         | On unasked link lent command owns at stage has tag ↦ (let row = sound.rows link lent at in let owner = sound.owned n link owns in
             let mine = owner-turn service log lends link lent n row.turn.client row.owned (cc (
-              some-same lent owner.lent (sym at
-                  ∙ owner.there),
+              some-same lent owner.lent (sym at ∙ owner.there),
               owner.owner,
             )) in let stands : HandedStands service log n link command = rw mine at (row.command command has) in ap
             (λ k. replied service n k then) (same-ordinal n i stands.ordinal command.tag tag stands.tag)

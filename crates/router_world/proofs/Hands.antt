@@ -136,7 +136,7 @@ part-with service log client link tables sound out number gone none parted = (le
           { stands = was.stands; serves = was.serves; unfinished = was.unfinished; numbered = set-other tables.numbers link.0 seat.link.0 None (apart k seat is) ∙ was.numbered });
       numbers = λ other someone is. grind (arith, common_steps, numbers, row-of);
       unlent = λ other someone is. unlent other someone (row-of tables.numbers link.0 None other.0 someone is);
-      unclosing = λ other is. grind (arith, common_steps, set-other, closing);
+      unclosing = λ other is. grind (arith, common_steps, set-other, apart-links);
       away = λ k is. away k (sound.away k is);
       lends = sound.lends;
       one_parts = subst AtMostOne (sym the) (One mine);
@@ -155,11 +155,8 @@ part-with service log client link tables sound out number gone none parted = (le
       unlent : (other : LinkId) (someone : ClientNo) → Row tables.numbers link.0 None other.0 someone → tables.lends.links other.0 ≡ None
       unlent other someone h2 = grind (arith, common_steps)
 
-      closing : (other : LinkId) → tables.lends.closing ≡ other ∷ [] → nat_eq other.0 link.0 ≡ false
-      closing other is = grind (arith, common_steps, apart-links)
-
       stands : PartStands service log new.numbers tables.lends mine
-      stands = grind (arith, common_steps, set-same, unlent, closing, came-traffic)
+      stands = grind (arith, common_steps, set-same, unlent, apart-links, came-traffic)
 
 -- A client's session goes on: its query is asked for, and where it ends nothing more is.
 
@@ -202,14 +199,11 @@ goes-on service log client link turned tables sound out number unparted stands n
   by : Stood service log client.0 tables.lends lends × Serves turned.session.phase lends client.0 turned.session.client.arrived → Sound service log None
       (goes_on client link turned tables)
   by now = at (is_finished turned.session) refl (relend service log client.0 link tables lends sound out unparted now.0.sound now.0.apart now.0.traces) where
-    gone-at : (at : Phase) → is_ending at ≡ true → Serves at lends client.0 turned.session.client.arrived → Gone lends client.0
-    gone-at at is serves = grind (arith, common_steps)
-
     at : (b : Bool) → is_finished turned.session ≡ b → Sound service log (Some (record { client = client.0; link = link })) (with_lends lends tables)
         → Sound service log None (seated_or_parts b client (record { link = link; session = turned.session }) (with_lends lends tables))
     at false going sound = put-back client sound out number stands now.1 going
     at true is sound = part-with service log client link (with_lends lends tables) sound out number
-        (gone-at turned.session.phase (and_parts (is_ending turned.session.phase) _ is).0 now.1) unparted (parted is)
+        (grind (arith, common_steps, (and_parts (is_ending turned.session.phase) _ is).0)) unparted (parted is)
 
 -- A query that came up for work is in work, by the promises; and a client at its end stays so.
 
@@ -346,8 +340,9 @@ next-turned service log n came written old turned lends sound none idle is serve
       asks query same so p phase-is = (let stands : AskStands service log n
           (ask_for so.0 query) = working-ask came query is served at.seat.mine.short formed so.1 so.3 so.4 so.5 (unsent (λ none. (no-some none same))) in
           subst (λ (q : Phase). Next service log n lends q turned.session.client.arrived (Some query)) (sym so.2 ∙ phase-is)
-          (Comes so.0 query free (idle (Rattle.router_world.proofs.Calm.asks-server service n (ask_for so.0 query).ordinal stands.asked.message stands.asked.due
-          log stands.asked.asks)) stands so.3))
+          (Comes so.0 query free
+          (idle (Rattle.router_world.proofs.Calm.asks-server service n (ask_for so.0 query).ordinal stands.asked.message stands.asked.due log
+          stands.asked.asks)) stands so.3))
 
       by : (q : Option Query) → turned.query ≡ q → Asks q talk reply old turned.session → (p : Phase) → turned.session.phase ≡ p
           → Next service log n lends p turned.session.client.arrived q

@@ -76,14 +76,13 @@ module _ {reply : ℕ → Option Answer} {written : List ℕ} where
   later-query : {talk : Talk} {old : Session} {user : Account} {next : Turned} (bytes : List ℕ) (session : Session) → IsIdle talk reply user session.client
       → SeatTurned (heard_more talk bytes) reply written old next → next.query ≢ None → session.client.arrived < next.session.client.arrived
   later-query {talk} {user} {next} bytes session idle at some = (let work = work-of-query at some in
-      let messages : (messages_of (heard_more talk bytes)).messages ≡ idle.taken.past ++
-      (split talk.setup.limit 0 (session.client.framer.kept ++ bytes)).messages = ap (λ c. (split talk.setup.limit 0 c).messages)
-      (commands-more talk bytes user idle.account) ∙ ap (λ (s : Split). s.messages) (idle.taken.whatever bytes) in
+      let messages : (messages_of (heard_more talk bytes)).messages ≡ idle.taken.past ++ (split talk.setup.limit 0
+      (session.client.framer.kept ++ bytes)).messages = ap (λ c. (split talk.setup.limit 0 c).messages) (commands-more talk bytes user idle.account)
+      ∙ ap (λ (s : Split). s.messages) (idle.taken.whatever bytes) in
       let all : first_open talk.setup reply 1 idle.taken.past ≡ None = ap (first_open talk.setup reply 1) (sym (append-nil idle.taken.past))
       ∙ sym (ap (λ (s : Split). first_open talk.setup reply 1 s.messages) (taken-nothing idle.taken idle.none)) ∙ idle.all in
-      let more : length idle.taken.past < next.session.client.arrived = later-work (heard_more talk bytes) reply idle.taken.past
-      (split talk.setup.limit 0 (session.client.framer.kept ++ bytes)).messages
-      (record { ordinal = next.session.client.arrived; message = work.message }) messages all work.work in
+      let more : length idle.taken.past < next.session.client.arrived = later-work (heard_more talk bytes) reply idle.taken.past (split talk.setup.limit 0
+      (session.client.framer.kept ++ bytes)).messages (record { ordinal = next.session.client.arrived; message = work.message }) messages all work.work in
       let count : session.client.arrived ≡ length idle.taken.past = idle.taken.arrived in omega arith)
 
   never-entering : {session : Session} (talk : Talk) (more : List ℕ) (user : Account) → account talk ≡ Some user

@@ -17,7 +17,7 @@ use Rattle.router_world.proofs.Sound.{Sound, IsAsked, HandedStands, RowStands, B
 use Rattle.router_world.proofs.Sound.{SeatStands, PartAt, Refused, Covers}
 use Rattle.router_world.proofs.{Stepping.IsQuiet, Stepping.nobody-waits, Stepping.done, Calm.asks-server, Frames.owner-turn, Frames.over-no-query}
 use Rattle.router_world.proofs.{RowsStanding.entering-at, Seats.WaitsFor, Seats.work-here, Dues.due-refused}
-use Rattle.router_world.proofs.Lawful.{own-live, is-of, IsOf, OfClient, OfServer, owned-row, of-client, unowned, owner-is, row-user, row-written, row-sound}
+use Rattle.router_world.proofs.Lawful.{own-live, is-of, IsOf, OfClient, OfServer, owned-row, of-client, unowned, row-user, row-written, row-sound}
 use Rattle.router_world.proofs.Lawful.{row-enters, row-inside, row-message, row-sends, row-runs, row-commands, asked-spelt, Writes, ToClient, ToServer}
 use Rattle.router_world.proofs.Lawful.{Farewell, writes-so, lawful-entry, comes-of, Was, Now}
 use Rattle.client_talk.specs.declared.session.Phase.TheVariants as phase
@@ -68,10 +68,6 @@ module _ {service : Service} {log : Log} {tables : Tables} (told : AllLawful Fit
   unnumbered : {link : LinkId} (lent : Lent) → tables.lends.links link.0 ≡ Some lent → tables.numbers link.0 ≡ None
   unnumbered {link} lent is = grind (arith, common_steps, none-if)
 
-  row-full : {link : LinkId} (lent : Lent) (l : ToSend) → IsOpen link log → tables.lends.links link.0 ≡ Some lent → left lent.backend ≡ Some l
-      → write_dry link log ≡ true
-  row-full lent l opened is some = grind (arith, common_steps)
-
   -- Each open link is read dry, but that of a client at its end.
   all-read : (link : LinkId) → IsOpen link log → (read_dry link log ≡ true) ⊎ IsEnding service link log
   all-read link opened = by (is-of sound link quiet opened) where
@@ -98,7 +94,7 @@ module _ {service : Service} {log : Log} {tables : Tables} (told : AllLawful Fit
     -- a command there was written whole, or the link takes no more
     whole-or-full : {command : Handed} → lent.backend.command ≡ Some command
         → (command.sent ≡ length command.bytes) ⊎ ((command.sent < length command.bytes) × (write_dry link log ≡ true))
-    whole-or-full {command} has = grind (arith, common_steps, left-some, row-full, row-message)
+    whole-or-full {command} has = grind (arith, common_steps, left-some, row-message)
 
     row-busy : is_begun lent.backend.command ≡ true → IsBusy service.forms lent.backend.account link log
     row-busy begun = (let has = begun-there lent.backend.command begun in let some : has.0.sent ≢ 0 = nat_eq-false has.0.sent 0 has.2 in
@@ -110,7 +106,7 @@ module _ {service : Service} {log : Log} {tables : Tables} (told : AllLawful Fit
     -- a query in work stays there while the login goes on, or as its command
     logs-in : {n i : ℕ} {bytes : List ℕ} {id : ℕ} → lent.backend.stage ≢ In → (asked : IsAsked service n i bytes id log)
         → Stays service.forms n i asked.message lent.backend.account link log
-    logs-in outside asked = grind (arith, common_steps, entering-at, (row-enters row), append-nil, (row-written row), row-full)
+    logs-in outside asked = grind (arith, common_steps, entering-at, (row-enters row), append-nil, (row-written row))
 
     stays-on : {command : Handed} {n i : ℕ} → lent.backend.command ≡ Some command → command.tag ≡ For (record { 0 = n }) i
         → (asked : IsAsked service n i command.bytes command.first log) → Stays service.forms n i asked.message lent.backend.account link log
@@ -136,7 +132,7 @@ module _ {service : Service} {log : Log} {tables : Tables} (told : AllLawful Fit
         is_due = asked.asks.is_due;
         link = link;
         opened = row.opened;
-        owner = grind (arith, common_steps, owner-is);
+        owner = grind (arith, common_steps);
         user = lent.backend.account;
         is_user = row-user row;
         on = stays;

@@ -126,9 +126,6 @@ pub asked-spelt : {service : Service} {n i : ℕ} {bytes : List ℕ} {id : ℕ} 
 asked-spelt asked = grind (arith, common_steps)
 
 module _ {service : Service} {log : Log} {lends : Lends} {link : LinkId} {lent : Lent} (row : RowStands service log lends link lent) where
-  pub owner-is : (message : Framed) (due : Log) → owner_of service link log ≡ Some (owner_for service row.turn.client message due)
-  owner-is message due = grind (arith, common_steps)
-
   pub row-user : user_on service link log ≡ Some lent.backend.account
   row-user = grind (arith, common_steps, user-there)
 
@@ -350,7 +347,7 @@ module _ {service : Service} {log : Log} {tables : Tables} {link : LinkId} {lent
     due = stands.asked.due;
     asks = stands.asked.asks;
     form = stands.asked.form;
-    owner = owner-is row stands.asked.message stands.asked.due;
+    owner = grind (arith, common_steps);
     user = lent.backend.account;
     is_user = row.user;
     logged_in = record {

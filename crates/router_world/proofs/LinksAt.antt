@@ -148,14 +148,11 @@ outside-at {heard} {pieces} {backend} at inside = rw inside at at.login.is
 pub held : {service : Service} {log : Log} {lends : Lends} {link : LinkId} {lent : Lent} (row : RowStands service log lends link lent)
     → Held service log lends link lent row.turn
 held {service} {log} {lends} {link} {lent} row = by row.at row.owned where
-  begins : (c : Handed) → lent.backend.command ≡ Some c → is_begun lent.backend.command ≡ true → 0 < c.sent
-  begins c has begun = grind (arith, common_steps)
-
   sent : (c : Handed) → lent.backend.command ≡ Some c → (k : ℕ) → c.sent ≡ k → Owned service log lends link row.turn.client lent
       → HoldsIn log lends link lent row.turn.client
   sent c has zero none (Own own owns) = HoldsUnsent own owns c has none
   sent c has (suc k) some (Own own owns) = HoldsBegun own owns c has (omega arith)
-  sent c has k some (Left none gone begun) = HoldsLeft none gone c has (begins c has begun)
+  sent c has k some (Left none gone begun) = HoldsLeft none gone c has (grind (arith, common_steps))
 
   inside : (o : Option Handed) → lent.backend.command ≡ o → Owned service log lends link row.turn.client lent → HoldsIn log lends link lent row.turn.client
   inside (Some c) has owned = sent c has c.sent refl owned
@@ -264,8 +261,8 @@ module _ {service : Service} {log : Log} {e : Entry} {lends : Lends} {link : Lin
       record { sound = stood.sound; apart = stood.apart; traces = stood.traces; comes = comes }) where
         rows : (l : LinkId) (x : Lent) → nat_eq l.0 link.0 ≡ false → lends.links l.0 ≡ Some x → RowNow service new n lends other l x
         rows l x apart was = (let second = at.sound.rows l x was in Was was second.turn (turn-stays service l log (e ∷ []) second.turn second.is_turn)
-            (apart-numbers second.turn.client n (λ mine. (let same = same-row n (lawful-last Fits log e at.fits).0 (lawful-last (IsLawful service) log e
-            at.lawful).0 second mine at.row refl in
+            (apart-numbers second.turn.client n
+            (λ mine. (let same = same-row n (lawful-last Fits log e at.fits).0 (lawful-last (IsLawful service) log e at.lawful).0 second mine at.row refl in
             let no' : true ≡ false = sym (same_number link.0) ∙ ap (λ (k : LinkId). nat_eq k.0 link.0) (sym same) ∙ apart in cc))))
 
   -- what is said of the link then
@@ -397,10 +394,8 @@ module _ {service : Service} {log : Log} {e : Entry} {lends : Lends} {link : Lin
       → ((k : ℕ) → nat_eq k n ≡ false → owned k ≡ lends.owned k) → owned n ≡ None → ((ask : Ask) → asks n ≡ Some ask → AskStands service new n ask)
       → AtMostOne waiting → ((client : ClientNo) → waiting ≡ client ∷ [] → Waiting (shut link lends owned asks waiting) client)
       → OneRow service new n link lends (shut link lends owned asks waiting)
-  shut-news {owned} {asks} {waiting} may others theirs unowned ask one_waits waits = grind (arith, common_steps, set-other, none-one, set-same, stands, no-some)
-    where
-      stands : CloseStands service new (shut link lends owned asks waiting) link
-      stands = grind (arith, common_steps, set-same, turn-new, some-same, user-new)
+  shut-news {owned} {asks} {waiting} may others theirs unowned ask one_waits waits = grind
+      (arith, common_steps, set-other, none-one, set-same, turn-new, some-same, user-new, no-some)
 
   -- nothing of its client's was under way there
   pub shut-idle : {owned : ℕ → Option LinkId} → Drops → Calm service log e n

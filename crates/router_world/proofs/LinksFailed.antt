@@ -30,8 +30,8 @@ carried stands some = grind (arith, common_steps)
 pub begun-alone : {service : Service} {log : Log} {lends : Lends} {n : ℕ} {link : LinkId} {command : Handed} → LendsSound service log lends
     → HandedStands service log n link command → 0 < command.sent → lends.asks n ≡ None
 begun-alone {log = log} {lends} {n} sound stands some = none-if (lends.asks n) (λ ask is. (let other = sound.asks n ask is in
-    let same : ask.ordinal ≡ stands.ordinal = ap (λ (w : Work). w.ordinal) (some-same (record { ordinal = ask.ordinal; message = other.asked.message }) (record
-    { ordinal = stands.ordinal; message = stands.asked.message }) (sym other.asked.asks.work
+    let same : ask.ordinal ≡ stands.ordinal = ap (λ (w : Work). w.ordinal) (some-same (record { ordinal = ask.ordinal; message = other.asked.message })
+    (record { ordinal = stands.ordinal; message = stands.asked.message }) (sym other.asked.asks.work
     ∙ stands.asked.asks.work)) in no-some other.unsent (ap (λ i. carrier_of n i log) same ∙ carried stands some)))
 
 -- Why the link can't be used again, and what that makes of its command.
@@ -119,15 +119,15 @@ module _ {service : Service} {log : Log} {e : Entry} {lends : Lends} {link : Lin
 
     by : Held service log lends link lent at.row.turn → Came service new n lends (failed link lent refusal (without_link link lends))
     by (HoldsLogin enters own owns ask asks same) = (let stands = at.sound.asks n ask asks in simp (due-entering lent.backend _ _ enters.login.is, own, asks)
-        (shut-answered at may (λ k differs. set-other lends.asks n k None differs) (set-same lends.asks n None) (error-spelt ask.first connection_refused) (Logs
-        ask asks refl link lent owns at.there (outside-at enters)) stands.asked (refused-now ask same stands.unsent (why.fails enters))))
+        (shut-answered at may (λ k differs. set-other lends.asks n k None differs) (set-same lends.asks n None) (error-spelt ask.first connection_refused)
+        (Logs ask asks refl link lent owns at.there (outside-at enters)) stands.asked (refused-now ask same stands.unsent (why.fails enters))))
     by (HoldsInside inside (HoldsNone own owns none)) = simp (inside.stage, none, own)
         (shut-idle at may (calm inside) (λ k differs. set-other lends.owned n k None differs) (set-same lends.owned n None) (none-busy at inside.stage none))
     by (HoldsInside inside (HoldsUnsent own owns c has none)) = (let stands = at.row.command c has in simp (inside.stage, has, own, none, stands.tag)
         (waits-again c inside.stage has none owns stands may (calm inside)))
     by (HoldsInside inside (HoldsBegun own owns c has some)) = (let stands = at.row.command c has in simp (inside.stage, has, id-begun c.sent c.first some, own)
-        (shut-answered at may (λ k differs. refl) (begun-alone at.sound stands some) (error-spelt c.first (payload_of refusal)) (On (begun-alone at.sound stands
-        some) link lent c owns at.there inside.stage has stands.tag) stands.asked (why.told c stands.ordinal inside has some stands.tag (carried stands
-        some))))
+        (shut-answered at may (λ k differs. refl) (begun-alone at.sound stands some) (error-spelt c.first (payload_of refusal))
+        (On (begun-alone at.sound stands some) link lent c owns at.there inside.stage has stands.tag) stands.asked
+        (why.told c stands.ordinal inside has some stands.tag (carried stands some))))
     by (HoldsInside inside (HoldsLeft none gone c has some)) = simp (inside.stage, has, id-begun c.sent c.first some, none)
         (shut-idle at may (calm inside) (λ k differs. refl) (unowned-left at none) (left-busy at none))

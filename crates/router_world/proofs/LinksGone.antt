@@ -37,9 +37,6 @@ kind-coded : (payload : List ℕ) → kind_to (spelling 0 payload) ≡ cond (nat
 unfolding spelling
 kind-coded payload = grind (arith, common_steps, code-spelt)
 
-kind-parsed : (payload : List ℕ) → cond (nat_eq (slice_index_or payload 0 0) 4) Fields Results ≡ kind_asked (parsed payload)
-kind-parsed payload = grind (arith, common_steps, nat_eq-true)
-
 -- A client has gone: its command is dropped, and its link is to be closed, or left until the reply there is read.
 
 -- who else waits
@@ -221,8 +218,7 @@ module _ {service : Service} {log : Log} {n : ℕ} {ask : Ask} {lends : Lends} w
           no-bytes,
           (For client ask.ordinal),
           (inside-at row.at inside),
-          (stands.asked.form
-              ∙ sym (grind (arith, common_steps, kind-coded, kind-parsed, spelling-size)) ∙ ap form_at (sym stands.asked.packets)),
+          (stands.asked.form ∙ sym (grind (arith, common_steps, kind-coded, nat_eq-true, spelling-size)) ∙ ap form_at (sym stands.asked.packets)),
         ));
         command = λ command is. rw mine (subst (HandedStands service log n link) (some-same the command is) handed_stands);
         enters = λ outside. absurd (outside inside);

@@ -96,10 +96,10 @@ module _ {service : Service} {log : Log} {bytes : List ℕ} {lends : Lends} {lin
       → lent.owner ≡ Some client → lends.owned n ≡ Some link → (ask : Ask) → lends.asks n ≡ Some ask
       → Came service new n lends (record { lends = logged_in link (record lent { backend = left }) lent.owner (without_link link lends); answer = None })
   logs_in left enters is own owns ask asks = simp (own, asks, takes) (came-of at
-      (kept-news at (puts link carrying lends) (λ k differs. set-other lends.asks n k None differs) (sym own) (handed-row (later ask asks).0 inside.0.stage
-      inside.1 refl owns idle) (λ a is. absurd (no-some unasked is)))
-      (Quiet (λ i was. (busy i (busy-here at was)).0) (λ free. absurd (no-some free.unasked asks)) (λ gone. absurd (no-some gone.unasked asks)) (λ i was. (busy
-      i (busy-here at was)).1)))
+      (kept-news at (puts link carrying lends) (λ k differs. set-other lends.asks n k None differs) (sym own)
+      (handed-row (later ask asks).0 inside.0.stage inside.1 refl owns idle) (λ a is. absurd (no-some unasked is)))
+      (Quiet (λ i was. (busy i (busy-here at was)).0) (λ free. absurd (no-some free.unasked asks)) (λ gone. absurd (no-some gone.unasked asks))
+      (λ i was. (busy i (busy-here at was)).1)))
     where
       now : Lent
       now = record { owner = Some client; backend = left }
@@ -185,8 +185,8 @@ module _ {service : Service} {log : Log} {bytes : List ℕ} {lends : Lends} {lin
     finish own owns false unclean = shut-answered at (spoilt unclean) (λ k differs. refl) unasked rep.reply (on owns) stands.asked told
     finish own owns true is_clean = (let now : Lent = record { owner = Some client; backend = without_reply left } in
         let in_left = rep.inside is_clean in came-of at (kept-news at (puts link now lends) (λ k differs. refl) (sym own)
-        (row-later at refl in_left.account (got-at link log bytes at.row.unlost (Inside (reply-moved [] in_left rep.idle))) (λ d has. absurd (no-some rep.idle
-        has)) (λ out. absurd (out in_left.stage)) (Own refl owns))
+        (row-later at refl in_left.account (got-at link log bytes at.row.unlost (Inside (reply-moved [] in_left rep.idle)))
+        (λ d has. absurd (no-some rep.idle has)) (λ out. absurd (out in_left.stage)) (Own refl owns))
         (λ ask is. absurd (no-some unasked is))) (answers-one e rep.reply (on owns) stands.asked told (record {
           unasked = unasked;
           idle = grind (arith, common_steps, own-idle, puts, rep);

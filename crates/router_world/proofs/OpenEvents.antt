@@ -248,14 +248,14 @@ opened-step service log server address link tables sound on = (let opened-is : o
       mine : Mine service log e n None tables tables.seats other
       mine = record {
         others = λ k apart. refl;
-        seat = λ seat is. (let was = sound.seats n seat is in record {
-          stands = seat-stays service log e n seat on.happens.lawful was.stands (later-calm service log e n seat.session.client.arrived calm) (seats n seat is)
-              (λ user working. (busy-now seat.session.client.arrived (rw working at was.serves)).1);
-          serves = serves-quiet seat.session.phase lends other n seat.session.client.arrived (λ i busy. (busy-now i busy).0) (λ free. absurd
-              (no-some free.unasked on.for.waiting.asks)) (λ gone. absurd (no-some gone.unasked on.for.waiting.asks)) was.serves;
-          unfinished = was.unfinished;
-          numbered = was.numbered;
-        });
+        seat = λ seat is. (let was = sound.seats n seat is in assumption (
+          seat-stays service log e n seat on.happens.lawful was.stands (later-calm service log e n seat.session.client.arrived calm) (seats n seat is)
+              (λ user working. (busy-now seat.session.client.arrived (rw working at was.serves)).1),
+          serves-quiet seat.session.phase lends other n
+              seat.session.client.arrived
+              (λ i busy. (busy-now i busy).0) (λ free. absurd (no-some free.unasked on.for.waiting.asks))
+              (λ gone. absurd (no-some gone.unasked on.for.waiting.asks)) was.serves,
+        ));
         away = λ is. grind (arith, common_steps, away-gone);
         numbers = λ l seat is at. inr is;
         known = λ l there. link-or-other l link (λ k. IsOpen k new → IsOpen k log ⊎ Known tables.numbers other tables.parting k) (λ opened. inr

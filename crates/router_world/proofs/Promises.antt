@@ -104,8 +104,8 @@ offer-failed {service} {log} {link} {tables} happens farewell = (let p = (the ha
     let silent : (n i : ℕ) → carries n i (WriteFailed link) ≡ None = λ n i. refl in
     let opens : (was : Bool) → open_step was (WriteFailed link) ≡ was = λ was. refl in
     rw ((nobodys happens farewell).0, (nobodys happens farewell).1) (rw (the happens farewell).is
-    (offered-step service log (WriteFailed link) p p tables happens.sound (offer happens farewell refl refl silent refl (assumption) opens) refl refl (inr
-    (refl, refl)))))
+    (offered-step service log (WriteFailed link) p p tables happens.sound (offer happens farewell refl refl silent refl (assumption) opens) refl refl
+    (inr (refl, refl)))))
 
 -- Before the first entry nothing stands.
 starts : (service : Service) → Sound service [] None no_tables
@@ -161,15 +161,8 @@ module _ (setup : Setup) (all : Log) (short : setup.limit ≤ most_command) wher
       let keeps = keeps-more (service-of setup all) log e stands.told follows.fits stands.sound covers ours stands.keeps in record {
         told = lawful-more Fits log e stands.told follows.fits;
         sound = subst (Sound (service-of setup all) (log ++ e ∷ []) None) (sym (fold-append (step setup) no_tables log (e ∷ [])))
-            (entry-step (service-of setup all) log e short (record {
-              told = stands.told;
-              fits = follows.fits;
-              few = follows.bounded;
-              lawful = keeps.lawful;
-              served = moment-last (IsServed (service-of setup all)) (log ++ e ∷ []) keeps.served;
-              formed = formed (log ++ e ∷ []) more is;
-              sound = stands.sound;
-            }) covers ours);
+            (entry-step (service-of setup all) log e short
+            (assumption (moment-last (IsServed (service-of setup all)) (log ++ e ∷ []) keeps.served, formed (log ++ e ∷ []) more is)) covers ours);
         counts = counts;
         keeps = keeps;
       })

@@ -35,10 +35,6 @@ sound-some link (e ∷ log) all =
 pub pieces-some : (link : LinkId) (log : Log) → AllLawful Fits log → list_all has_bytes (pieces_of link log) ≡ true
 pieces-some link log told = sound-some link log (told-some log told)
 
--- One piece more has its bytes behind the others'.
-pub bytes-more : (pieces : List Command) (piece : Command) → bytes_in (pieces ++ piece ∷ []) ≡ bytes_in pieces ++ piece.bytes
-bytes-more pieces piece = grind (arith, common_steps, flat_map-append, append-nil)
-
 -- More bytes than the pieces have are theirs and some of the next.
 pub behind-past : (n : ℕ) (pieces more : List Command) → length (bytes_in pieces) < n → behind n (pieces ++ more) ≡ behind (n - length (bytes_in pieces)) more
 behind-past n [] more less = (let same : n ≡ n - 0 = omega arith in ap (λ k. behind k more) same)

@@ -1,8 +1,8 @@
 -- A link to a server as bytes are handed to it and written.
 use Rattle.router_world.proofs.Names.{common_steps, ◌≡◌, ◌≢◌, ◌⊎◌, ◌≤◌, ◌<◌, ℕ, zero, suc, ◌+◌, ◌-◌, Bool, true, false, ◌||◌, cond, List, [], ◌∷◌, ◌++◌, length}
-use Rattle.router_world.proofs.Names.{take, drop, Option, Some, None, refl, list_any, sym, ◌∙◌, ap, subst, append-nil, arith, length-append, length-drop}
-use Rattle.router_world.proofs.Names.{take-append-drop, length-take-le, inl, Tag, Own, AreBytes, first_message-empty, run, renumbered, started, to_command}
-use Rattle.router_world.proofs.Names.{Account, said_of, BackendState, new_backend, Handed, IsPrefix, Forms, Command, with_piece, is_command, behind}
+use Rattle.router_world.proofs.Names.{flat_map-append, take, drop, Option, Some, None, refl, list_any, sym, ◌∙◌, ap, subst, append-nil, arith, length-append}
+use Rattle.router_world.proofs.Names.{length-drop, take-append-drop, length-take-le, inl, Tag, Own, AreBytes, first_message-empty, run, renumbered, started}
+use Rattle.router_world.proofs.Names.{to_command, Account, said_of, BackendState, new_backend, Handed, IsPrefix, Forms, Command, with_piece, is_command, behind}
 use Rattle.router_world.proofs.Names.{commands_in, form_at, bytes_in, is_of, begun_by, begun, IsMessage, IsHanded, IsEntering, IsHearing, HearsPart, IsInside}
 use Rattle.router_world.proofs.Names.{LinkAt, Entering, Inside, nat_eq, State, Ending, Going, Ended, Failed, ReplyKind, kind_to, id_after, SameEnd, same-end}
 use Rattle.router_world.proofs.Names.{Answer, spelt, Never, Form, heard_by, command_reply, ◌&&◌, slice_get, list_all, option_and_then, LogsIn, is_empty}
@@ -17,7 +17,7 @@ use Rattle.server_side.specs.{Login.opening, Login.Opening, Laws.opening-new, La
 use Rattle.reply_track.{specs.declared.reply.ReplyEnd.ReplyEnd, specs.Replying.replied, specs.Replying.payloads_in, proofs.Finishing.AreBytes-append}
 use Rattle.reply_track.proofs.Replying.{run-more, renumbered-more, length-renumbered, ended-shorter, failed-shorter, IsHandedOn, handed-on}
 use Rattle.exchange.specs.Replies.{Wholly, heard_as, rest_of, error_by, or_else, Heard, Partly}
-use Rattle.router_world.proofs.RowsPieces.{bytes-more, behind-past, behind-short, behind-one, part-spelt, with-piece-on, of-commands, place-last, whole-spelt}
+use Rattle.router_world.proofs.RowsPieces.{behind-past, behind-short, behind-one, part-spelt, with-piece-on, of-commands, place-last, whole-spelt}
 
 -- nothing was heard or written yet
 pub first-at : {forms : Forms} {user : Account} → LinkAt forms user [] [] (new_backend user)
@@ -51,11 +51,8 @@ begun-more : {forms : Forms} {command : Handed} (n : ℕ) → IsMessage forms co
       bytes = take n (drop command.sent command.bytes);
     }) ≡ record { tag = command.tag; bytes = take (command.sent + n) command.bytes } ∷ []
 begun-more {command} n message some fits = by command.sent fits where
-  by : (sent : ℕ) → n ≤ length (drop sent command.bytes)
-      → with_piece (begun_by sent command) (record { tag = command.tag; bytes = take n (drop sent command.bytes) }) ≡ record {
-        tag = command.tag;
-        bytes = take (sent + n) command.bytes;
-      } ∷ []
+  by : (sent : ℕ) → n ≤ length (drop sent command.bytes) → with_piece (begun_by sent command)
+      (record { tag = command.tag; bytes = take n (drop sent command.bytes) }) ≡ (assumption (take (sent + n) command.bytes)) ∷ []
   by zero fits = (let same : n ≡ 0 + n = omega arith in ap (λ k. record { tag = command.tag; bytes = take k command.bytes } ∷ []) same)
   by (suc sent) fits = with-piece-on command.tag (take (suc sent) command.bytes) (take n (drop (suc sent) command.bytes)) (part-spelt message.payload
       (take (suc sent) command.bytes) (drop (suc sent) command.bytes) (take-append-drop (suc sent) command.bytes ∙ message.spelt) (omega arith) message.short)
@@ -69,7 +66,7 @@ IsFresh handed pieces = (n i : ℕ) (command : Handed) → handed ≡ Some comma
 -- The bytes of a login that are written and those that are left are the same.
 pub same-said : (pieces : List Command) (tag : Tag) (n : ℕ) (own : List ℕ)
     → bytes_in (pieces ++ record { tag = tag; bytes = take n own } ∷ []) ++ drop n own ≡ bytes_in pieces ++ own
-same-said pieces tag n own = grind (arith, common_steps, bytes-more, take-append-drop)
+same-said pieces tag n own = grind (arith, common_steps, flat_map-append, append-nil, take-append-drop)
 
 left-alone : {backend : BackendState} {read said : List ℕ} (own : List ℕ) → IsLoggingIn backend read said → IsLoggingIn (record backend { own = own }) read said
 left-alone own at = grind (arith, common_steps)
@@ -87,12 +84,11 @@ module _ {user : Account} {heard : List ℕ} {pieces : List Command} {backend : 
       → IsInside forms user heard (pieces ++ record { tag = Own; bytes = take n backend.own } ∷ []) (record backend { own = drop n backend.own })
   own-taken n at some fits = (let piece : Command = record { tag = Own; bytes = take n backend.own } in
       let longer : length at.said ≡ length (bytes_in pieces) + length backend.own = said-longer at (omega arith) in
-      let commands : commands_in (behind (length at.said) (pieces ++ piece ∷ [])) ≡ at.others ++ begun backend.command = (let sum = longer in
-      let size : length (take n backend.own) ≡ n = length-take-le n backend.own fits in
-      ap commands_in (behind-past (length at.said) pieces (piece ∷ []) (omega arith)
-      ∙ behind-one (length at.said - length (bytes_in pieces)) piece (omega arith) (omega arith)) ∙ (grind (arith, common_steps, behind-short, said-longer))) in
-      inside-after (drop n backend.own) backend.reply backend.command at (inl (same-said pieces Own n backend.own
-      ∙ own-left at (omega arith))) commands at.command at.new at.unasked at.partly)
+      let commands : commands_in (behind (length at.said) (pieces ++ piece ∷ [])) ≡ at.others ++ begun backend.command = (let sum = longer in let size : length
+      (take n backend.own) ≡ n = length-take-le n backend.own fits in ap commands_in (behind-past (length at.said) pieces (piece ∷ []) (omega arith)
+      ∙ behind-one (length at.said - length (bytes_in pieces)) piece (omega arith) (omega arith))
+      ∙ (grind (arith, common_steps, behind-short, said-longer))) in inside-after (drop n backend.own) backend.reply backend.command at (inl
+      (same-said pieces Own n backend.own ∙ own-left at (omega arith))) commands at.command at.new at.unasked at.partly)
 
 prefix-fits : {front whole : List ℕ} → IsPrefix front whole → length front ≤ length whole
 prefix-fits {front} {whole} at = grind (arith, common_steps, length-append)
@@ -105,30 +101,19 @@ pub command-taken : {forms : Forms} {user : Account} {heard : List ℕ} {pieces 
     → IsInside forms user heard pieces backend → backend.own ≡ [] → backend.command ≡ Some command → 0 < n → n ≤ length (drop command.sent command.bytes)
     → IsFresh backend.command pieces → IsInside forms user heard (pieces ++ record { tag = command.tag; bytes = take n (drop command.sent command.bytes) } ∷ [])
     (record backend { command = Some (record command { sent = command.sent + n }) })
-command-taken {forms} {user} {heard} {pieces} {backend} command n at none is some fits fresh = grind (
-  arith,
-  common_steps,
-  behind-append,
-  prefix-fits,
-  with-piece-behind,
-  begun-more,
-  now,
-  inside-after,
-  prefix-more,
-  bytes-more,
-  new,
-) where
-  now : begun (Some (record command { sent = command.sent + n })) ≡ record { tag = command.tag; bytes = take (command.sent + n) command.bytes } ∷ []
-  now = begun-some (record command { sent = command.sent + n }) (omega arith)
+command-taken {forms} {user} {heard} {pieces} {backend} command n at none is some fits fresh = grind
+    (arith, common_steps, behind-append, prefix-fits, with-piece-behind, begun-more, now, inside-after, prefix-more, flat_map-append, append-nil, new) where
+      now : begun (Some (record command { sent = command.sent + n })) ≡ record { tag = command.tag; bytes = take (command.sent + n) command.bytes } ∷ []
+      now = begun-some (record command { sent = command.sent + n }) (omega arith)
 
-  new : (m i : ℕ) → list_any (is_of m i) (begun (Some (record command { sent = command.sent + n }))) ≡ true → list_any (is_of m i) at.others ≡ false
-  new m i any = by command.sent refl where
-    here : (is_command m i command.tag || false) ≡ true
-    here = sym (ap (list_any (is_of m i)) now) ∙ any
+      new : (m i : ℕ) → list_any (is_of m i) (begun (Some (record command { sent = command.sent + n }))) ≡ true → list_any (is_of m i) at.others ≡ false
+      new m i any = by command.sent refl where
+        here : (is_command m i command.tag || false) ≡ true
+        here = sym (ap (list_any (is_of m i)) now) ∙ any
 
-    by : (sent : ℕ) → command.sent ≡ sent → list_any (is_of m i) at.others ≡ false
-    by zero unsent = grind (arith, common_steps, of-commands, here)
-    by (suc sent) was = grind (arith, common_steps, begun-some, here)
+        by : (sent : ℕ) → command.sent ≡ sent → list_any (is_of m i) at.others ≡ false
+        by zero unsent = grind (arith, common_steps, of-commands, here)
+        by (suc sent) was = grind (arith, common_steps, begun-some, here)
 
 -- What was written of a login, with any part of what is left, is the front of what the router says in it.
 part-said : {said : List ℕ} (pieces : List Command) (own : List ℕ) (k : ℕ) → bytes_in pieces ++ own ≡ said → IsPrefix (bytes_in pieces ++ take k own) said

@@ -112,10 +112,6 @@ module _ (setup : Setup) (reply other : ℕ → Option Answer) where
   now-done i k [] message answer is last stays now = cc
   now-done i k (m ∷ past) message answer is last stays now = by (answer_of setup (reply i) m.payload) refl is (λ there. now-done
       (suc i) k past message answer there (let more : suc k ≡ i + suc (length past) = last in omega arith) stays now) where
-        alone : (past : List Framed) → i ≡ k → m ≡ message → suc k ≡ i + suc (length past) → answer_of setup (reply i) m.payload ≡ None
-            → NowDone setup reply other i (m ∷ past) message answer
-        alone past at is last was = grind (arith, common_steps, append-nil)
-
         more : (a : Answer) → answer_of setup (reply i) m.payload ≡ Some a → answer_of setup (other i) m.payload ≡ Some a
             → NowDone setup reply other (suc i) past message answer → NowDone setup reply other i (m ∷ past) message answer
         more a was now rest = grind (arith, common_steps)
@@ -123,7 +119,7 @@ module _ (setup : Setup) (reply other : ℕ → Option Answer) where
         by : (o : Option Answer) → answer_of setup (reply i) m.payload ≡ o → cond (is_some o) (first_open setup reply (suc i) past) (Some (at_place i m)) ≡ Some
             (at_place k message) → (first_open setup reply (suc i) past ≡ Some (at_place k message) → NowDone setup reply other (suc i) past message answer)
             → NowDone setup reply other i (m ∷ past) message answer
-        by None at here others = grind (arith, common_steps, some-same, alone)
+        by None at here others = grind (arith, common_steps, some-same, append-nil)
         by (Some a) at here others = more a at (grind (arith, common_steps, by-stays, (reply i), (other i), (stays i a))) (others here)
 
   agree-at : (i : ℕ) (m : Framed) (messages : List Framed) (last : List ℕ) (o : Option Answer) → answer_of setup (reply i) m.payload ≡ o → answer_of setup

@@ -18,10 +18,6 @@ use Rattle.router_world.proofs.Calm.{Spares, carrier-same, unrefused-more, Leave
 use Rattle.router_world.proofs.LinksWritten.{LeftIn, OfLogin, OfCommand, left-in, wrote-came, front-left, wrote-others, WroteAt}
 use Rattle.client_talk.specs.declared.session.Phase.TheVariants as phase
 
--- An entry by which a link is lost writes nothing, and opens and closes none.
-loss-silent : (e : Entry) (n i : ℕ) → is_loss e ≡ true → carries n i e ≡ None
-loss-silent e n i is = grind (arith, common_steps)
-
 loss-piece : (e : Entry) → is_loss e ≡ true → piece e ≡ None
 loss-piece e is = grind (arith, common_steps)
 
@@ -32,7 +28,7 @@ lost-came : {service : Service} {log : Log} {e : Entry} {lends : Lends} {link : 
     → is_loss e ≡ true → Came service (log ++ e ∷ []) at.row.turn.client lends (lost link lends)
 lost-came {service} {log} {e} {lends} {link} {lent} at loss = rw at.there (failed-came at (record {
   spoilt = grind (arith, common_steps, was);
-  silent = λ i. loss-silent e n i loss;
+  silent = λ i. grind (arith, common_steps);
   fails = λ enters. grind (arith, common_steps, loss-breaks);
   told = λ c i inside has some tag carrier. replied-said service n i link user new (refused-or-sent service new at.lawful) (carrier-stays n i log
       (e ∷ []) link carrier) (user-later at) ∙ ap (λ h. reply_said service.forms n i user h (pieces_of link new) (was_lost link new)) (grind
@@ -59,12 +55,9 @@ module _ {service : Service} {log : Log} {e : Entry} {lends : Lends} {link : Lin
   -- a login that fails was for the command in work
   fails-early : login_fails lent.backend.account link log e ≡ true → at.row.turn.ordinal ≤ arrived
   fails-early fails = by (held at.row) where
-    out : InsideAt service link log lent → at.row.turn.ordinal ≤ arrived
-    out inside = grind (arith, common_steps)
-
     by : Held service log lends link lent at.row.turn → at.row.turn.ordinal ≤ arrived
     by (HoldsLogin enters own owns ask asks same) = rw same at (early ask.ordinal (Logs ask asks refl link lent owns at.there (outside-at enters)))
-    by (HoldsInside inside what) = out inside
+    by (HoldsInside inside what) = grind (arith, common_steps)
 
   row-spares : (i : ℕ) → arrived < i → Spares service log e at.row.turn.client i
   row-spares i later other is = false_from_ne_true (is_turn at.row.turn.client i other) (λ same. (let cause = refusal-cause service log e other is in
@@ -101,8 +94,8 @@ wrote-early {service} {log} {tag} {bytes} {lends} {link} {lent} arrived wrote ea
   by (OfLogin own stays) = ap (λ (t : Tag). cond (is_command n i t) (Some link) None) (wrote.same ∙ own)
   by (OfCommand c has of goes_on) = (let stands = wrote.at.row.command c has in ap (λ (t : Tag). cond (is_command n i t) (Some link) None) (wrote.same ∙ of)
       ∙ ap (λ b. cond b (Some link) None)
-      (false_from_ne_true (is_command n i c.tag) (λ is. first c has stands (nat_eq-true i stands.ordinal (and-true (nat_eq n n) (nat_eq i stands.ordinal) (ap
-      (is_command n i) (sym stands.tag)
+      (false_from_ne_true (is_command n i c.tag)
+      (λ is. first c has stands (nat_eq-true i stands.ordinal (and-true (nat_eq n n) (nat_eq i stands.ordinal) (ap (is_command n i) (sym stands.tag)
       ∙ is)).1) (held wrote.at.row))))
 
 -- What the entries on a link to a server make of what stands.

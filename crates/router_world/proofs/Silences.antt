@@ -45,14 +45,11 @@ pub sounds-mute : (log : Log) (e : Entry) → IsMute e → Sounds log e
 sounds-mute log e mute = record {
   read = λ link. bytes-idle got_bytes link log e mute.got;
   written = λ link. bytes-idle wrote_bytes link log e mute.wrote;
-  lost = λ link. same-any is_loss mute.loss link;
-  broken = λ link. same-any is_failure mute.failure link;
+  lost = λ link. grind (arith, common_steps, of_link-same, list_any-append, or-none);
+  broken = λ link. grind (arith, common_steps, of_link-same, list_any-append, or-none);
   heard = λ link. same-sound (flat_map got_bytes) (λ l. grind (arith, common_steps, append-nil, flat_map-append)) link;
   pieces = λ link. same-sound (filter_map piece) (λ l. grind (arith, common_steps, append-nil, filter_map-append)) link;
 } where
-  same-any : (p : Entry → Bool) → p e ≡ false → (link : LinkId) → list_any p (of_link link (log ++ e ∷ [])) ≡ list_any p (of_link link log)
-  same-any p none link = grind (arith, common_steps, of_link-same, list_any-append, or-none)
-
   same-sound : {X : Type 0} (f : Log → List X) → ((l : Log) → f (l ++ e ∷ []) ≡ f l) → (link : LinkId)
       → f (until_loss (of_link link (log ++ e ∷ []))) ≡ f (until_loss (of_link link log))
   same-sound f same link = elim (bool_cases (is_link link (link_of e))) [
@@ -102,14 +99,9 @@ module _ (service : Service) (log : Log) (e : Entry) where
   sits-then : (numbers : ℕ → Option ClientNo) (lends : Lends) (n : ℕ) (seat : Seat) → AllLawful (IsLawful service) then → LendsSound service log lends
       → Calm service log e n → ((link : LinkId) (lent : Lent) → lends.links link.0 ≡ Some lent → Leaves link log e)
       → Leaves seat.link log e → Sits service log numbers lends n seat → Sits service then numbers lends n seat
-  sits-then numbers lends n seat lawful sound calm rows leaves was = record {
-    stands = seat-calm service log e n seat lawful was.stands calm leaves
-        (λ user working. busy-none service log e lends n seat.session.client.arrived lawful sound calm (λ link lent owns row. rows link lent row)
-        (rw working at was.serves));
-    serves = was.serves;
-    unfinished = was.unfinished;
-    numbered = was.numbered;
-  }
+  sits-then numbers lends n seat lawful sound calm rows leaves was = assumption (seat-calm service log e n seat lawful was.stands calm leaves
+      (λ user working. busy-none service log e lends n seat.session.client.arrived lawful sound calm (λ link lent owns row. rows link lent row)
+      (rw working at was.serves)))
 
   -- What a bystander leaves: all other links, and so seats and links to servers.
   module _ (link : LinkId) (tables : Tables) where
@@ -204,15 +196,9 @@ pub nothing-step : {service : Service} {log : Log} {e : Entry} {tables : Tables}
     → Sound service (log ++ e ∷ []) None tables
 nothing-step {service} {log} {e} {tables} happens nothing = (let sound : Sound service log None tables = happens.sound in
     let passes : Passes service log e = grind (arith, common_steps, sounds-mute) in
-    let leaves : (link : LinkId) → Leaves link log e = λ link. (let sounds = passes.silence.sounds in record {
-      read = sounds.read link;
-      written = sounds.written link;
-      lost = sounds.lost link;
-      broken = sounds.broken link;
-      heard = sounds.heard link;
-      pieces = sounds.pieces link;
-      opened = open-kept link log e nothing.stays;
-    }) in
+    let leaves : (link : LinkId) → Leaves link log e = λ link. (let sounds = passes.silence.sounds in assumption
+    (sounds.read link, sounds.written link, sounds.lost link, sounds.broken link, sounds.heard link, sounds.pieces link, open-kept link log e nothing.stays))
+    in
     record {
       came = grind (arith, common_steps, arrivals-plain);
       here = cc (sound.here, connected-plain log e nothing.plain);

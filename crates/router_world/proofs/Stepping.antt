@@ -81,8 +81,7 @@ moved service log e n hand tables seats lends sound others mine = (let unlent : 
           → Leaves link log e
       leaves k apart link lent owns is = (let row = sound.lends.rows link lent is in let owner = sound.lends.owned k link owns in
           let client = owner-turn service log tables.lends link lent k row.turn.client row.owned (cc (
-            some-same lent owner.lent (sym is
-                ∙ owner.there),
+            some-same lent owner.lent (sym is ∙ owner.there),
             owner.owner,
           )) in others.rows link lent row.turn is row.is_turn (cc (client, apart)))
 
