@@ -6,7 +6,7 @@ use Rattle.{ready_loop.specs.Changes.ChangesOnly, router_world.specs.declared.se
 use Rattle.lend_core.specs.{declared.lent.Lent.Lent, Lends.Lends, Lends.set, Events.left_in}
 use Rattle.router_world.specs.Tables.{Tables, with_seat, with_number, with_lends, to_part}
 use Rattle.session_core.specs.{declared.known.Known.Known, declared.known.Leaver.Leaver, Known.tables_of, Known.is_among, Known.is_changed}
-use Rattle.session_core.specs.Says.{seat_reads, seat_sends, client_reads, client_sends, or_sent, reads_in, sends_in, farewell, known_reads, known_sends}
+use Rattle.session_core.specs.Says.{client_reads, client_sends, or_sent, reads_in, sends_in, farewell, known_reads, known_sends}
 use Rattle.session_core.proofs.{Alike.nat_eq-sym, Rows.set-other}
 
 abbrev pub Only : Known → Known → Type 0

@@ -1,20 +1,19 @@
 -- The core is carried over what it asks for.
-use Rattle.std.specs.Prelude.{◌≡◌, ℕ, Bool, true, false, is_some, nat_eq, ◌||◌, cond, List, [], ◌∷◌, ◌++◌, length, Option, Some, None, IsSome, refl}
-use Rattle.{std.specs.List.list_any, promises.specs.Closes.is_write, promises.specs.Closes.was_offered}
+use Rattle.std.specs.Prelude.{◌≡◌, ℕ, Bool, true, false, is_some, nat_eq, cond, List, [], ◌∷◌, ◌++◌, Option, Some, None, IsSome, refl}
+use Rattle.{promises.specs.Closes.is_write, promises.specs.Closes.was_offered}
 use Rattle.std.proofs.Common.{sym, ◌∙◌, ap, subst, inr, append_assoc, append-nil, arith}
-use Rattle.std.proofs.lemmas.{List.Elements.filter-append, List.Folds.list_any-append, Grind.common_steps}
-use Rattle.mx_base.specs.{declared.names.ClientNo.ClientNo, declared.names.LinkId.LinkId, Sent.Sent}
-use Rattle.mx_wire.specs.Log.{Log, link_of, is_link, of_link, AreMarks}
-use Rattle.mx_wire.specs.{Tells.Fits, Tells.MayFollow, Growth.of_link-same, Moments.AllLawful, Moments.lawful-more, declared.entry.Entry.Entry}
+use Rattle.std.proofs.lemmas.{Grind.common_steps}
+use Rattle.mx_base.specs.{declared.names.LinkId.LinkId, Sent.Sent}
+use Rattle.mx_wire.specs.Log.{Log, link_of, is_link, AreMarks}
+use Rattle.mx_wire.specs.{Tells.Fits, Tells.MayFollow, Moments.AllLawful, Moments.lawful-more, declared.entry.Entry.Entry}
 use Rattle.ready_loop.specs.{declared.machines.Act.Act, Machine.Keeps, Machine.Closes, Machine.Acts, Machine.OwesFarewell, Machine.IsFarewell}
-use Rattle.router_world.specs.{Owed.IsWhole, Owed.lends, declared.seat.Parting.Parting, Tables.Tables, Tables.with_lends}
-use Rattle.client_session.specs.{Setups.Setup, declared.setup.ServerAt.ServerAt}
-use Rattle.lend_core.specs.{declared.lent.Lent.Lent, Lends.Lends, Events.left_in, Events.is_waiting}
-use Rattle.router_world.specs.World.{step, tables_after, closed_by, offered_to, sent_on, wrote_on, lost_on, failed_on}
+use Rattle.router_world.specs.{Owed.IsWhole, Owed.lends, declared.seat.Parting.Parting, Tables.Tables}
+use Rattle.client_session.specs.{Setups.Setup}
+use Rattle.router_world.specs.World.{step, tables_after, closed_by}
 use Rattle.session_core.specs.declared.{known.Known.Known, known.Leaver.Leaver, router.Core.Core}
-use Rattle.session_core.specs.{Known.tables_of, Known.parted_by, Acting.next_leaver, Acting.opening_if, Acting.acting, Acting.Asked, Tidy.IsApart}
+use Rattle.session_core.specs.{Known.tables_of, Known.parted_by, Acting.next_leaver, Acting.acting, Acting.Asked, Tidy.IsApart}
 use Rattle.session_core.specs.{Stands.Stands, Stands.due_in, Carrying.tables-more, Carrying.one-more, Carrying.carried, Carrying.tidy-of}
-use Rattle.session_core.specs.Says.{client_sends, or_sent, farewell, sends_in, sends}
+use Rattle.session_core.specs.Says.{or_sent, farewell, sends_in, sends}
 use Rattle.mx_wire.specs.declared.entry.Entry.TheVariants as entry
 use Rattle.router_world.specs.Acts as acts
 

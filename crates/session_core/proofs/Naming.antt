@@ -1,8 +1,8 @@
 -- One of the links that may have something new is named.
-use Rattle.std.specs.Prelude.{◌≡◌, Bool, true, false, nat_eq, ◌||◌, List, [], ◌∷◌, ◌++◌, Option, Some, None, refl}
+use Rattle.std.specs.Prelude.{◌≡◌, Bool, false, nat_eq, ◌||◌, List, [], ◌∷◌, ◌++◌, Option, None}
 use Rattle.{std.specs.Option.option_to_list, mx_base.specs.declared.names.LinkId.LinkId, mx_wire.specs.Growth.bool_cases}
 use Rattle.{packet_frame.specs.PacketLaws.nat_eq-true, ready_loop.specs.Changes.TakesChange}
-use Rattle.std.proofs.{Common.◌∙◌, Common.ap, Common.inl, Common.inr, Common.arith, lemmas.Grind.common_steps}
+use Rattle.std.proofs.{Common.◌∙◌, Common.ap, Common.arith, lemmas.Grind.common_steps}
 use Rattle.session_core.specs.{declared.router.Core.Core, Known.is_among, Acting.changed}
 
 or-assoc : (a b c : Bool) → (a || (b || c)) ≡ ((a || b) || c)

@@ -1,17 +1,12 @@
 -- Which links to servers an event among them leaves.
-use Rattle.std.specs.Prelude.{◌≡◌, ℕ, Bool, true, false, nat_eq, ◌||◌, cond, List, [], ◌∷◌, length, Option, Some, None, refl}
-use Rattle.std.proofs.{Common.◌∙◌, Common.ap, Common.arith, lemmas.Grind.common_steps}
-use Rattle.mx_base.specs.declared.{names.ClientNo.ClientNo, names.LinkId.LinkId, tag.Tag.Tag, tag.Tag.TheVariants.For}
-use Rattle.server_side.specs.{Backend.BackendState, Backend.is_begun, Handing.unsent, declared.handing.Unsent.Unsent}
-use Rattle.server_side.specs.Hearing.{Got, Hears, Fails, got_of}
-use Rattle.server_side.specs.declared.hear.Heard.{Heard, TheVariants.Quiet, TheVariants.LoggedIn, TheVariants.Part, TheVariants.Whole}
-use Rattle.client_session.specs.declared.refusal.Refusal.{Refusal, TheVariants.ConnectionLost, TheVariants.BadServerBytes}
+use Rattle.std.specs.Prelude.{◌≡◌, ℕ, Bool, false, nat_eq, ◌||◌, cond, List, [], ◌∷◌, Option}
+use Rattle.std.proofs.{Common.ap, Common.arith, lemmas.Grind.common_steps}
+use Rattle.mx_base.specs.declared.{names.ClientNo.ClientNo, names.LinkId.LinkId}
 use Rattle.lend_core.specs.{declared.ask.Ask.Ask, Lends.Lends, Lends.set, Lends.oldest}
-use Rattle.lend_core.specs.declared.lent.{Lent.Lent, Due.Due, Due.TheVariants.Login, Due.TheVariants.Reply, Due.TheVariants.Nothing}
-use Rattle.lend_core.specs.Changes.{without_link, without_ask, without_first, waits_no_more, owns_none, with_link}
-use Rattle.lend_core.specs.Decisions.{takes_command, due_on, may_stay, place_of, closed, offered_at, again, again_for, refused_owner, failed_by, failed}
-use Rattle.lend_core.specs.Decisions.{logged_in_with, logged_in, kept_or_closed, heard_by, told_by}
-use Rattle.lend_core.specs.Events.{asked_on, asked_by, asked, opened_with, opened_for, opened, open_failed, heard_on, heard, lost_on, lost, left_at, left_on}
+use Rattle.lend_core.specs.declared.lent.{Lent.Lent}
+use Rattle.lend_core.specs.Changes.{without_link, without_ask, without_first, waits_no_more, owns_none}
+use Rattle.lend_core.specs.Decisions.{refused_owner}
+use Rattle.lend_core.specs.Events.{asked_by, asked, opened_for, opened, open_failed, heard_on, heard, lost_on, lost}
 use Rattle.lend_core.specs.Events.{left_by, gone}
 use Rattle.session_core.specs.Known.{is_among, listed}
 

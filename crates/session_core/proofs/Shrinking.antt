@@ -1,5 +1,5 @@
 -- What the core asks for leaves no more to be read or written.
-use Rattle.std.specs.Prelude.{◌≡◌, Bool, true, false, cond, List, [], ◌∷◌, Option, Some, None, IsSome, refl}
+use Rattle.std.specs.Prelude.{◌≡◌, false, List, Option, IsSome}
 use Rattle.std.proofs.{Common.sym, Common.◌∙◌, Common.ap, Common.subst, Common.Vec, Common.Global, Common.arith, lemmas.Grind.common_steps}
 use Rattle.{mx_base.specs.declared.names.LinkId.LinkId, ready_loop.specs.declared.machines.Act.Act, ready_loop.specs.Changes.ChangesOnly}
 use Rattle.{mx_base.specs.Sent.Sent, router_world.specs.declared.seat.Parting.Parting, router_world.specs.Tables.Tables, router_world.specs.World.closed_by}

@@ -1,7 +1,7 @@
 -- Equations of what is done one after another.
-use Rattle.std.specs.Prelude.{◌≡◌, Bool, [], ◌∷◌, List, Option, Some, None}
+use Rattle.std.specs.Prelude.{◌≡◌, Bool, List, Option, None}
 use Rattle.std.proofs.{Common.◌∙◌, Common.ap, Common.arith, lemmas.Grind.common_steps}
-use Rattle.mx_base.specs.declared.names.{ClientNo.ClientNo, LinkId.LinkId}
+use Rattle.mx_base.specs.declared.names.{ClientNo.ClientNo}
 use Rattle.{server_side.specs.Account.Account, client_session.specs.Setups.Setup, session_core.specs.Acting.first_parting, session_core.specs.Acting.parted}
 use Rattle.client_talk.specs.{Queries.Query, Sessions.account_in, Sessions.is_ending}
 use Rattle.lend_core.specs.{declared.ask.Answered.Answered, Lends.Lends, Lends.Told, Changes.without_close}

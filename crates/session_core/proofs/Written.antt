@@ -1,12 +1,12 @@
 -- What was written leaves less to be written.
-use Rattle.std.specs.Prelude.{◌≡◌, ℕ, Bool, true, false, is_some, nat_eq, ◌||◌, cond, List, [], ◌∷◌, drop, Option, Some, None, IsSome, refl}
+use Rattle.std.specs.Prelude.{◌≡◌, ℕ, Bool, true, false, is_some, nat_eq, ◌||◌, cond, Option, None, IsSome, refl}
 use Rattle.{std.specs.Option.option_map, packet_frame.specs.PacketLaws.nat_eq-true}
-use Rattle.std.proofs.{Common.sym, Common.◌∙◌, Common.ap, Common.subst, Common.rules, Common.arith, lemmas.Grind.common_steps}
+use Rattle.std.proofs.{Common.sym, Common.◌∙◌, Common.ap, Common.subst, Common.arith, lemmas.Grind.common_steps}
 use Rattle.mx_base.specs.{declared.names.ClientNo.ClientNo, declared.names.LinkId.LinkId, Sent.IsLent, Sent.MayTake, Sent.Sent, declared.piece.Piece.Piece}
 use Rattle.lend_core.specs.{declared.lent.Lent.Lent, Lends.set, Changes.taken_on, Changes.took, Events.left_in}
-use Rattle.router_world.specs.{declared.seat.Seat.Seat, Tables.Tables, Tables.with_lends, Acts.reply_sent}
+use Rattle.router_world.specs.{declared.seat.Seat.Seat, Tables.Tables, Tables.with_lends}
 use Rattle.session_core.specs.{declared.known.Known.Known, declared.known.Leaver.Leaver, Known.tables_of}
-use Rattle.session_core.specs.Says.{seat_reads, seat_sends, client_reads, client_sends, or_sent, reads_in, sends_in, farewell, seat_taken, taken_at}
+use Rattle.session_core.specs.Says.{client_reads, client_sends, or_sent, reads_in, sends_in, farewell, seat_taken, taken_at}
 use Rattle.session_core.proofs.Changing.{Only, Fewer, only-same}
 
 -- a link to a server

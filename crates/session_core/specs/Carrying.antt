@@ -3,7 +3,7 @@ use Rattle.std.specs.Prelude.{◌≡◌, ◌<◌, ℕ, ◌+◌, Bool, true, fals
 use Rattle.std.proofs.Common.{sym, ◌∙◌, ap, subst, arith, length-append}
 use Rattle.std.proofs.lemmas.{List.Sums.fold-append, Grind.common_steps}
 use Rattle.mx_base.specs.{declared.names.ClientNo.ClientNo, declared.names.LinkId.LinkId, Sent.Sent}
-use Rattle.mx_wire.specs.{Log.Log, Tells.Fits, Tells.MayFollow, Moments.lawful-more, declared.entry.Entry.Entry}
+use Rattle.mx_wire.specs.{Log.Log, Tells.MayFollow, Moments.lawful-more, declared.entry.Entry.Entry}
 use Rattle.ready_loop.specs.{Drained.MayWait, Machine.CarriesOver, Machine.Target}
 use Rattle.{client_session.specs.Setups.Setup, lend_core.specs.declared.lent.Lent.Lent, lend_core.specs.Events.left_in, client_talk.specs.Sessions.is_read}
 use Rattle.router_world.specs.{declared.seat.Seat.Seat, Tables.Tables, Tables.no_tables, World.step, World.tables_after}

@@ -11,7 +11,6 @@ use Rattle.lend_core.specs.Changes.{without_ask, waits_no_more, owns_none}
 use Rattle.router_world.specs.{declared.seat.Parting.Parting, declared.seat.Seat.Seat, Tables.Tables, World.tables_after}
 use Rattle.router_world.specs.Acts.{IsOurs, next_close, close_of, first_closing}
 use Rattle.router_world.proofs.{Promises.sound-after, Sound.Sound, Sound.LendsSound, Sound.Serves, Sound.Gone, Sound.AtMostOne}
-use Rattle.client_talk.specs.declared.session.Phase.TheVariants as phase
 
 same-link : (a b : LinkId) → ◌≡◌ {A = Option LinkId} (Some a) (Some b) → a ≡ b
 same-link a b is = grind (arith, common_steps)
