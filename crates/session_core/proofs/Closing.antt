@@ -1,19 +1,15 @@
 -- The core is carried over what it asks for.
 use Rattle.std.specs.Prelude.{◌≡◌, ℕ, Bool, true, false, is_some, nat_eq, cond, List, [], ◌∷◌, ◌++◌, Option, Some, None, IsSome, refl}
-use Rattle.{promises.specs.Closes.is_write, promises.specs.Closes.was_offered}
+use Rattle.{promises.specs.Closes.is_write, promises.specs.Closes.was_offered, std.proofs.lemmas.Grind.common_steps, client_session.specs.Setups.Setup}
 use Rattle.std.proofs.Common.{sym, ◌∙◌, ap, subst, inr, append_assoc, append-nil, arith}
-use Rattle.std.proofs.lemmas.{Grind.common_steps}
 use Rattle.mx_base.specs.{declared.names.LinkId.LinkId, Sent.Sent}
 use Rattle.mx_wire.specs.Log.{Log, link_of, is_link, AreMarks}
 use Rattle.mx_wire.specs.{Tells.Fits, Tells.MayFollow, Moments.AllLawful, Moments.lawful-more, declared.entry.Entry.Entry}
 use Rattle.ready_loop.specs.{declared.machines.Act.Act, Machine.Keeps, Machine.Closes, Machine.Acts, Machine.OwesFarewell, Machine.IsFarewell}
-use Rattle.router_world.specs.{Owed.IsWhole, Owed.lends, declared.seat.Parting.Parting, Tables.Tables}
-use Rattle.client_session.specs.{Setups.Setup}
-use Rattle.router_world.specs.World.{step, tables_after, closed_by}
-use Rattle.session_core.specs.declared.{known.Known.Known, known.Leaver.Leaver, router.Core.Core}
-use Rattle.session_core.specs.{Known.tables_of, Known.parted_by, Acting.next_leaver, Acting.acting, Acting.Asked, Tidy.IsApart}
-use Rattle.session_core.specs.{Stands.Stands, Stands.due_in, Carrying.tables-more, Carrying.one-more, Carrying.carried, Carrying.tidy-of}
-use Rattle.session_core.specs.Says.{or_sent, farewell, sends_in, sends}
+use Rattle.router_world.specs.{Owed.IsWhole, Owed.lends, declared.seat.Parting.Parting, Tables.Tables, World.step, World.tables_after, World.closed_by}
+use Rattle.session_core.specs.{declared.known.Known.Known, declared.known.Leaver.Leaver, declared.router.Core.Core, Known.tables_of, Known.parted_by}
+use Rattle.session_core.specs.{Acting.next_leaver, Acting.acting, Acting.Asked, Tidy.IsApart, Stands.Stands, Stands.due_in, Carrying.tables-more}
+use Rattle.session_core.specs.{Carrying.one-more, Carrying.carried, Carrying.tidy-of, Says.or_sent, Says.farewell, Says.sends_in, Says.sends}
 use Rattle.mx_wire.specs.declared.entry.Entry.TheVariants as entry
 use Rattle.router_world.specs.Acts as acts
 

@@ -1,16 +1,14 @@
 -- The core is carried over what was written.
 use Rattle.std.specs.Prelude.{◌≡◌, ◌≤◌, ℕ, true, false, take, length, Option, Some, None, refl}
-use Rattle.{mx_wire.specs.Log.Log}
-use Rattle.std.proofs.{Common.sym, Common.◌∙◌, Common.ap, Common.subst, Common.inl, Common.arith, lemmas.List.length-take-le, lemmas.Grind.common_steps}
+use Rattle.{mx_wire.specs.Log.Log, ready_loop.specs.Machine.CarriesOver}
+use Rattle.std.proofs.{Common.sym, Common.ap, Common.subst, Common.inl, Common.arith, Common.◌∙◌, lemmas.List.length-take-le, lemmas.Grind.common_steps}
 use Rattle.mx_base.specs.{declared.names.ClientNo.ClientNo, declared.names.LinkId.LinkId, Sent.MayTake, Sent.Sent}
-use Rattle.ready_loop.specs.Machine.{CarriesOver}
 use Rattle.client_talk.specs.{Sessions.is_ending, Going.still, Events.taken}
 use Rattle.lend_core.specs.{declared.lent.Lent.Lent, Events.left_in, Events.gone}
 use Rattle.router_world.specs.{declared.seat.Seat.Seat, Tables.Tables, Tables.without_seat}
 use Rattle.router_world.specs.World.{goes_on, on_seat, on_client, sent_on, wrote_on}
 use Rattle.session_core.specs.{declared.known.Known.Known, declared.router.Core.Core, Known.tables_of, Tidy.Tidy, Stands.Stands, Stands.due_in}
-use Rattle.session_core.specs.Says.{taken_at, settled, client_sends, client_took, took_by, took_in, or_sent, sends_in, sends}
-use Rattle.session_core.specs.Says.{asks}
+use Rattle.session_core.specs.Says.{taken_at, settled, client_sends, client_took, took_by, took_in, or_sent, sends_in, sends, asks}
 use Rattle.session_core.specs.Carrying.{carried, tidy-of, sends-same, calm-sends, acted-after}
 use Rattle.mx_wire.specs.declared.entry.Entry.TheVariants as entry
 use Rattle.router_world.specs.Acts as acts

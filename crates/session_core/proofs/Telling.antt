@@ -1,12 +1,11 @@
 -- Equations of what is done one after another.
-use Rattle.std.specs.Prelude.{◌≡◌, Bool, List, Option, None}
-use Rattle.std.proofs.{Common.◌∙◌, Common.ap, Common.arith, lemmas.Grind.common_steps}
-use Rattle.mx_base.specs.declared.names.{ClientNo.ClientNo}
+use Rattle.{std.specs.Prelude.◌≡◌, std.specs.Prelude.Bool, std.specs.Prelude.List, std.specs.Prelude.Option, std.specs.Prelude.None, std.proofs.Common.◌∙◌}
+use Rattle.{std.proofs.Common.ap, std.proofs.Common.arith, std.proofs.lemmas.Grind.common_steps, mx_base.specs.declared.names.ClientNo.ClientNo}
 use Rattle.{server_side.specs.Account.Account, client_session.specs.Setups.Setup, session_core.specs.Acting.first_parting, session_core.specs.Acting.parted}
-use Rattle.client_talk.specs.{Queries.Query, Sessions.account_in, Sessions.is_ending}
+use Rattle.{client_talk.specs.Queries.Query, client_talk.specs.Sessions.account_in, client_talk.specs.Sessions.is_ending, router_world.specs.World.asking}
+use Rattle.{router_world.specs.World.leaving, router_world.specs.World.answering, router_world.specs.World.told, router_world.specs.World.closed_by}
 use Rattle.lend_core.specs.{declared.ask.Answered.Answered, Lends.Lends, Lends.Told, Changes.without_close}
 use Rattle.router_world.specs.{declared.seat.Parting.Parting, declared.seat.Seat.Seat, Tables.Tables, Tables.with_lends}
-use Rattle.router_world.specs.World.{asking, leaving, answering, told, closed_by}
 
 -- a change among the links to servers
 pub lent : (mid old : Tables) (l : Lends) (f : Lends → Lends) → mid ≡ old → l ≡ f mid.lends → with_lends l mid ≡ with_lends (f old.lends) old
