@@ -1,22 +1,16 @@
 -- What comes of a client's command, and its session goes on.
-use Rattle.router_world.proofs.Names.{common_steps, lawful-more, ◌≡◌, ◌⊎◌, ◌<◌, ℕ, false, nat_eq, [], ◌∷◌, ◌++◌, Some, None, refl, sym, ◌∙◌}
-use Rattle.router_world.proofs.Names.{subst, inl, inr, LinkId, Log, IsOpen, Entry, Account, Phase, Lent, Lends, Told, Turn, Service, turn_of, some-same}
-use Rattle.router_world.proofs.Names.{Seat, replied, Tables, with_lends, ◌≢◌, List, Option, arith, written_of}
-use Rattle.router_world.proofs.Names.{Framed, split, next_id, arrival_of, Talk, account, Session, Query}
-use Rattle.router_world.proofs.Names.{Turned, rested, Answered, Answer, spelt, talk_with, message_of, in-work, refused-or-sent, arrival-stays}
-use Rattle.router_world.proofs.Names.{message-stays, SeatAt, IsWorking, Asks, without_seat, on_seat, told, ClientState}
+use Rattle.router_world.proofs.Names.{common_steps, lawful-more, ◌≡◌, ◌⊎◌, ◌<◌, ℕ, false, nat_eq, [], ◌∷◌, ◌++◌, Some, None, refl, sym, ◌∙◌, subst, inl, inr}
+use Rattle.router_world.proofs.Names.{LinkId, Log, IsOpen, Entry, Account, Phase, Lent, Lends, Told, Turn, Service, turn_of, some-same, Seat, replied, Tables}
+use Rattle.router_world.proofs.Names.{with_lends, ◌≢◌, List, Option, arith, written_of, Framed, split, next_id, arrival_of, Talk, account, Session, Query}
+use Rattle.router_world.proofs.Names.{Turned, rested, Answered, Answer, spelt, talk_with, message_of, in-work, refused-or-sent, arrival-stays, message-stays}
+use Rattle.router_world.proofs.Names.{SeatAt, IsWorking, Asks, without_seat, on_seat, told, ClientState}
 use Rattle.router_world.proofs.Stepping.{taken-out, IsPlain, Others, moved, IsQuiet}
-use Rattle.router_world.proofs.Apart.{Came, Comes, Quiet, Answers, set-same}
+use Rattle.router_world.proofs.{Apart.Came, Apart.Comes, Apart.Quiet, Apart.Answers, Apart.set-same, Connecting.counts-all, Calm.Leaves, Calm.unsent-still}
+use Rattle.router_world.proofs.{Calm.replied-stays, Frames.Calm, Frames.same-ordinal, Frames.seat-stays, SeatsAnswers.at_place, SeatsAnswers.taken-messages}
+use Rattle.router_world.proofs.{SeatsAnswers.SeatTurned, Seats.working-done, Seats.answered-seat, Hearing.turned-more, Hearing.read-short}
 use Rattle.router_world.proofs.Hands.{away-gone, none-some, goes-on, work-is, later-work, next-turned, finished-parted}
 use Rattle.router_world.proofs.Sound.{Happens, Sound, Serves, Unsent, Free, Gone, Busy, SeatStands, IsHeard, IsEnded}
-use Rattle.router_world.proofs.Connecting.{counts-all}
-use Rattle.client_talk.specs.Events.{answered}
-use Rattle.router_world.specs.World.{goes_on, answering}
-use Rattle.router_world.proofs.Calm.{Leaves, unsent-still, replied-stays}
-use Rattle.router_world.proofs.Frames.{Calm, same-ordinal, seat-stays}
-use Rattle.router_world.proofs.SeatsAnswers.{at_place, taken-messages, SeatTurned}
-use Rattle.router_world.proofs.Seats.{working-done, answered-seat}
-use Rattle.router_world.proofs.Hearing.{turned-more, read-short}
+use Rattle.{client_talk.specs.Events.answered, router_world.specs.World.goes_on, router_world.specs.World.answering}
 use Rattle.client_talk.specs.declared.session.Phase.TheVariants as phase
 
 -- A command in work is one alone.
@@ -63,17 +57,15 @@ module _ {service : Service} {log : Log} {e : Entry} {n : ℕ} {tables : Tables}
   others = grind (arith, common_steps, counts-all, lawful-more)
 
   quiet-step : ((i : ℕ) → Busy tables.lends n i → Busy news.lends n i) → (Free tables.lends n → Free news.lends n) → (Gone tables.lends n → Gone news.lends n)
-      → ((i : ℕ) → Busy tables.lends n i → replied service n i then ≡ None)
-      → Sound service then None (with_lends news.lends tables)
+      → ((i : ℕ) → Busy tables.lends n i → replied service n i then ≡ None) → Sound service then None (with_lends news.lends tables)
   quiet-step busy free gone none = moved service log e n None tables tables.seats news.lends sound others (record {
     others = λ k apart. refl;
-    seat = λ seat is. (let was = sound.seats n seat is in record {
-      stands = seat-stays service log e n seat from.happens.lawful was.stands (from.later seat is) (from.seats n seat is)
-          (λ user working. none seat.session.client.arrived (rw working at was.serves));
-      serves = serves-quiet seat.session.phase tables.lends news.lends n seat.session.client.arrived busy free gone was.serves;
-      unfinished = was.unfinished;
-      numbered = was.numbered;
-    });
+    seat = λ seat is. (let was = sound.seats n seat is in assumption (
+      seat-stays service log e n seat from.happens.lawful was.stands (from.later seat is) (from.seats n seat is)
+          (λ user working. none seat.session.client.arrived (rw working at was.serves)),
+      serves-quiet seat.session.phase tables.lends news.lends n
+          seat.session.client.arrived busy free gone was.serves,
+    ));
     away = λ is. inr (gone (away-gone tables.lends n (sound.away n is)));
     numbers = λ link seat is on. inr is;
     known = λ link opened. inl (from.opens link opened);
@@ -124,21 +116,17 @@ module _ {service : Service} {log : Log} {e : Entry} {n : ℕ} {tables : Tables}
 
     seated : (answer : Answer) (message : Framed) → message_of service n client.arrived then ≡ Some message
         → replied service n client.arrived then ≡ Some answer → Free news.lends n → news.lends.waiting ≡ []
-        → (news.lends.closing ≡ []) ⊎ (news.lends.owned n ≡ None)
-        → Sound service then None
-        (goes_on (record { 0 = n }) seat.link (answered service.setup (spelt (next_id message.last) answer) seat.session)
-        (without_seat (record { 0 = n }) (with_lends news.lends tables)))
-    seated answer message there now free idle closable =
-        subst (λ (p : Phase). Sound service then None
+        → (news.lends.closing ≡ []) ⊎ (news.lends.owned n ≡ None) → Sound service then None (goes_on (record { 0 = n }) seat.link
+        (answered service.setup (spelt (next_id message.last) answer) seat.session) (without_seat (record { 0 = n }) (with_lends news.lends tables)))
+    seated answer message there now free idle closable = subst (λ (p : Phase). Sound service then None
         (goes_on (record { 0 = n }) seat.link (answered service.setup packets (record { client = client; phase = p }))
-        (without_seat (record { 0 = n }) (with_lends news.lends tables)))) (sym works)
-        (goes-on service then (record { 0 = n }) seat.link turned (without_seat (record { 0 = n }) (with_lends news.lends tables))
+        (without_seat (record { 0 = n }) (with_lends news.lends tables))))
+        (sym works) (goes-on service then (record { 0 = n }) seat.link turned (without_seat (record { 0 = n }) (with_lends news.lends tables))
         (taken-out service log e (record { 0 = n }) seat tables news.lends sound others is from.came.sound from.came.apart from.came.traces from.opens)
         (set-same tables.seats n None) ((sound.seats n seat is).numbered) from.quiet.unparted stands
         (next-turned service then n was.came written old turned news.lends from.came.sound closable (λ has. idle) came was.served free
         (λ enters. absurd (never-enters (talk_with service n was.came log) (reply then) written turned.session user working.account at.seat enters))
-        (λ other same. cc)
-        (λ some. (unsent turned.session.client.arrived (behind turned.query some at.asks)).0) from.happens.formed at-then)
+        (λ other same. cc) (λ some. (unsent turned.session.client.arrived (behind turned.query some at.asks)).0) from.happens.formed at-then)
         (finished-parted service then n (record { link = seat.link; session = turned.session }) stands)) where
           packets : List ℕ
           packets = spelt (next_id message.last) answer
@@ -151,17 +139,15 @@ module _ {service : Service} {log : Log} {e : Entry} {n : ℕ} {tables : Tables}
 
           -- the message is the one in work
           same : message ≡ working.message
-          same = some-same message working.message
-              (cc (
-                there,
-                message-stays service n client.arrived log (e ∷ []) working.message
-                    (in-work service n log (at_place client.arrived working.message) (work-is service n was.came log was.is_came ∙ working.work)).0,
-              ))
+          same = some-same message working.message (cc (
+            there,
+            message-stays service n client.arrived log (e ∷ []) working.message
+                (in-work service n log (at_place client.arrived working.message) (work-is service n was.came log was.is_came ∙ working.work)).0,
+          ))
 
           at : SeatTurned (talk_with service n was.came log) (reply then) written old turned
-          at = answered-seat working (reply then) written answer packets now-seat now stays
-              (λ i less. unsent-still service n i then (unsent i less).0 (unsent i less).1)
-              (cc (same)) (read-short was.came.link log from.happens.told (let few = from.happens.few in omega arith))
+          at = answered-seat working (reply then) written answer packets now-seat now stays (λ i less. unsent-still service n i then (unsent i less).0
+              (unsent i less).1) (cc (same)) (read-short was.came.link log from.happens.told (let few = from.happens.few in omega arith))
 
           at-then : SeatTurned (talk_with service n was.came then) (reply then) written old turned
           at-then = subst (λ r. SeatTurned (record { setup = service.setup; number = n; salt = was.came.salt; read = r }) (reply then) written old turned)
@@ -172,9 +158,8 @@ module _ {service : Service} {log : Log} {e : Entry} {n : ℕ} {tables : Tables}
               → client.arrived < turned.session.client.arrived
           behind None some asks = absurd (some refl)
           behind (Some query) some asks = (let more = later-work (talk_with service n was.came log) (reply then) working.taken.past
-              (split service.setup.limit 0 client.framer.kept).messages
-              (record { ordinal = turned.session.client.arrived; message = asks.1.message }) (cc (taken-messages working.taken))
-              (working-done working (reply then) answer now stays).all asks.1.work in
+              (split service.setup.limit 0 client.framer.kept).messages (record { ordinal = turned.session.client.arrived; message = asks.1.message })
+              (cc (taken-messages working.taken)) (working-done working (reply then) answer now stays).all asks.1.work in
               let count = working.taken.arrived in omega arith)
 
           stands : SeatStands service then n (record { link = seat.link; session = turned.session })
@@ -193,15 +178,12 @@ module _ {service : Service} {log : Log} {e : Entry} {n : ℕ} {tables : Tables}
             });
           }
 
-  answered-step : (i : ℕ) (answer : Answer) (message : Framed) → Busy tables.lends n i → message_of service n i then ≡ Some message
-      → replied service n i then ≡ Some answer → Free news.lends n → news.lends.waiting ≡ [] → (news.lends.closing ≡ []) ⊎ (news.lends.owned n ≡ None)
-      → Sound service then None
+  answered-step : (i : ℕ) (answer : Answer) (message : Framed) → Busy tables.lends n i → message_of service n i then ≡ Some message → replied service n i
+      then ≡ Some answer → Free news.lends n → news.lends.waiting ≡ [] → (news.lends.closing ≡ []) ⊎ (news.lends.owned n ≡ None) → Sound service then None
       (answering service.setup (Some (record { client = record { 0 = n }; packets = spelt (next_id message.last) answer })) (with_lends news.lends tables))
   answered-step i answer message busy there now free idle closable = by (tables.seats n) refl where
-    by : (o : Option Seat) → tables.seats n ≡ o
-        → Sound service then None
-        (on_seat (answered service.setup (spelt (next_id message.last) answer)) (record { 0 = n }) o
-        (without_seat (record { 0 = n }) (with_lends news.lends tables)))
+    by : (o : Option Seat) → tables.seats n ≡ o → Sound service then None (on_seat (answered service.setup (spelt (next_id message.last) answer))
+        (record { 0 = n }) o (without_seat (record { 0 = n }) (with_lends news.lends tables)))
     by None none = grind (arith, common_steps, away-gone, none-some)
     by (Some seat) is = (let works = working-busy seat.session.phase tables.lends n seat.session.client.arrived i ((sound.seats n seat is).serves) busy in
         seated is works.1 answer message (cc (works.2, there)) (cc (works.2, now)) free idle closable)

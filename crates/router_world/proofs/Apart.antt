@@ -1,10 +1,9 @@
 -- Tables with one other row.
-use Rattle.router_world.proofs.Names.{common_steps, arith, ◌≡◌, ◌≢◌, ℕ, Bool, true, false, nat_eq, cond, Option, Some, refl, ap, same_number, nat_eq-true}
-use Rattle.router_world.proofs.Names.{set, ◌⊎◌, [], ◌∷◌, None, sym, ◌∙◌, ClientNo, LinkId, Log, In, Phase, Lent, Lends, Service, subst, some-same, Ask, Turn}
-use Rattle.router_world.proofs.Names.{turn_of, List, inl, inr, Account, BackendState, is_begun, Command, Forms, LinkAt, Framed, next_id, Answered, Told}
-use Rattle.router_world.proofs.Names.{is_query, Answer, spelt, is_here, Work, message_of, work_of, replied}
-use Rattle.router_world.proofs.Sound.{Enters, Owned, RowStands, Free, Gone, Busy, Waits, Logs, On, Serves, AskStands, CloseStands, AtMostOne, Waiting, Owns}
-use Rattle.router_world.proofs.Sound.{LendsBut, LendsSound, One}
+use Rattle.router_world.proofs.Names.{common_steps, arith, ◌≡◌, ◌≢◌, ℕ, Bool, true, false, nat_eq, cond, Option, Some, refl, ap, same_number, nat_eq-true, set}
+use Rattle.router_world.proofs.Names.{◌⊎◌, [], ◌∷◌, None, sym, ◌∙◌, ClientNo, LinkId, Log, Phase, Lent, Lends, Service, subst, some-same, Ask, Turn, turn_of}
+use Rattle.router_world.proofs.Names.{List, inl, inr, Framed, next_id, Answered, Told, is_query, Answer, spelt, is_here, Work, message_of, work_of, replied}
+use Rattle.router_world.proofs.Sound.{Owned, RowStands, Free, Gone, Busy, Waits, Logs, On, Serves, AskStands, CloseStands, AtMostOne, Waiting, Owns, LendsBut}
+use Rattle.router_world.proofs.Sound.{LendsSound, One}
 use Rattle.client_talk.specs.declared.session.Phase.TheVariants as phase
 
 pub no-some : {X : Type 0} {x : X} {o : Option X} → o ≡ None → o ≡ Some x → ⊥
@@ -59,29 +58,11 @@ busy-apart {k} apart differs (Logs ask is same link lent owns at stage) = Logs a
 busy-apart {k} apart differs (On unasked link lent command owns at stage has tag) = On (apart.asks k differs ∙ unasked) link lent command
     (apart.owned k differs ∙ owns) (apart.links k link differs owns ∙ at) stage has tag
 
-pub serves-apart : (at : Phase) (n k i : ℕ) (lends other : Lends) → Apart n lends other → nat_eq k n ≡ false → Serves at lends k i
-    → Serves at other k i
+pub serves-apart : (at : Phase) (n k i : ℕ) (lends other : Lends) → Apart n lends other → nat_eq k n ≡ false → Serves at lends k i → Serves at other k i
 serves-apart phase.LoggingIn n k i lends other apart differs serves = gone-apart n k lends other apart differs serves
 serves-apart (phase.Idle user) n k i lends other apart differs serves = free-apart apart differs serves
 serves-apart (phase.Working user) n k i lends other apart differs serves = busy-apart apart differs serves
 serves-apart phase.Ending n k i lends other apart differs serves = gone-apart n k lends other apart differs serves
-
--- what stands of a link stands of it among other links and with another owner, where the ask of its login and its owner are there
-pub row-among : {service : Service} {log : Log} {lends other : Lends} {link : LinkId} {lent : Lent} (owner : Option ClientNo)
-    (stands : RowStands service log lends link lent)
-    → (lent.backend.stage ≢ In → Enters other stands.turn) → Owned service log other link stands.turn.client (record lent { owner = owner })
-    → RowStands service log other link (record lent { owner = owner })
-row-among owner stands enters owned = grind (arith, common_steps)
-
--- a link of another client, or of one that has gone
-pub row-apart : {service : Service} {log : Log} {n : ℕ} {lends other : Lends} {link : LinkId} {lent : Lent} → Apart n lends other
-    → (stands : RowStands service log lends link lent) → nat_eq stands.turn.client n ≡ false → RowStands service log other link lent
-row-apart apart stands differs = grind (arith, common_steps, row-among)
-
--- a link of this client that isn't its own any more
-pub row-left : {service : Service} {log : Log} {lends other : Lends} {link : LinkId} {lent : Lent} → RowStands service log lends link lent
-    → lent.owner ≡ None → lent.backend.stage ≡ In → RowStands service log other link lent
-row-left stands unowned inside = grind (arith, common_steps, row-among)
 
 -- Which links there are: rows come from rows, and a row that goes is to be closed.
 pub record Traces (lends other : Lends) : Type 0 where
@@ -111,10 +92,9 @@ pub record Mended (service : Service) (log : Log) (n : ℕ) (lends other : Lends
 
 pub mended : {service : Service} {log : Log} {n : ℕ} {lends other : Lends} → LendsBut service log n lends → Mended service log n lends other
     → LendsSound service log other
-mended {service} {log} {n} {lends} {other} before now = (let owned : (k : ℕ) (link : LinkId) → nat_eq k n ≡ false → other.owned k ≡ Some link → Owns other k link =
-    λ k link at is. (let was : lends.owned k ≡ Some link = sym (now.apart.owned k at) ∙ is in
-    let owns = before.owned k link was in record { lent = owns.lent; there = now.apart.links k link at was ∙ owns.there; owner = owns.owner }) in
-    record {
+mended {service} {log} {n} {lends} {other} before now = (let owned : (k : ℕ) (link : LinkId) → nat_eq k n ≡ false → other.owned k ≡ Some link
+    → Owns other k link = λ k link at is. (let was : lends.owned k ≡ Some link = sym (now.apart.owned k at) ∙ is in let owns = before.owned k link was in
+    record { lent = owns.lent; there = now.apart.links k link at was ∙ owns.there; owner = owns.owner }) in record {
       rows = λ link lent is. row link lent (now.rows link lent is);
       asks = λ k ask is. one-or-other k n (λ m. other.asks m ≡ Some ask → AskStands service log m ask)
           (now.ask ask) (λ at was. before.asks k ask at (sym (now.apart.asks k at) ∙ was)) is;
@@ -127,7 +107,7 @@ mended {service} {log} {n} {lends} {other} before now = (let owned : (k : ℕ) (
       row : (link : LinkId) (lent : Lent) → RowNow service log n lends other link lent → RowStands service log other link lent
       row link lent (Now stands) = stands
       row link lent (Was is turn is_turn differs) = (let stands = before.rows link lent is turn is_turn differs in
-          row-apart now.apart stands (rw (some-same turn stands.turn (sym is_turn ∙ stands.is_turn)) at differs))
+          grind (arith, common_steps, (rw (some-same turn stands.turn (sym is_turn ∙ stands.is_turn)) at differs)))
 
 -- What is done for one client among the links to servers, of which it changes one at most.
 
@@ -149,11 +129,6 @@ but-one sound = record {
 pub put-other : {X : Type 0} (f : ℕ → Option X) (key k : ℕ) (value : Option X) → nat_eq k key ≡ false → set (set f key None) key value k ≡ f k
 put-other f key k value apart = set-other (set f key None) key k value apart ∙ set-other f key k None apart
 
--- a link on which a command is begun is logged in
-pub begun-inside : {forms : Forms} {user : Account} {heard : List ℕ} {pieces : List Command} {backend : BackendState}
-    → LinkAt forms user heard pieces backend → is_begun backend.command ≡ true → backend.stage ≡ In
-begun-inside h5 begun = grind (arith, common_steps)
-
 -- a row that is another client's, this client's own, or nobody's any more
 module _ {service : Service} {log : Log} {n : ℕ} {lends other : Lends} where
   pub kept-row : {link : LinkId} {lent : Lent} → LendsSound service log lends → lends.links link.0 ≡ Some lent
@@ -162,17 +137,17 @@ module _ {service : Service} {log : Log} {n : ℕ} {lends other : Lends} where
     by : RowStands service log lends link lent → RowNow service log n lends other link lent
     by stands = at (nat_eq stands.turn.client n) refl where
       own : Owned service log lends link stands.turn.client lent → stands.turn.client ≡ n → RowNow service log n lends other link lent
-      own h0 same = grind (arith, common_steps, row-left, begun-inside)
+      own h0 same = grind (arith, common_steps)
 
       at : (b : Bool) → nat_eq stands.turn.client n ≡ b → RowNow service log n lends other link lent
       at false differs = Was is stands.turn stands.is_turn differs
       at true same = own stands.owned (nat_eq-true stands.turn.client n same)
       -- the rows where one link alone changed
 
-pub rows-one : {service : Service} {log : Log} {n : ℕ} {lends other : Lends} (link : LinkId) → ((k : ℕ) → nat_eq k link.0 ≡ false → other.links k ≡ lends.links k)
-    → ((x : Lent) → other.links link.0 ≡ Some x → RowNow service log n lends other link x)
-    → ((l : LinkId) (x : Lent) → nat_eq l.0 link.0 ≡ false → lends.links l.0 ≡ Some x → RowNow service log n lends other l x)
-    → (l : LinkId) (x : Lent) → other.links l.0 ≡ Some x → RowNow service log n lends other l x
+pub rows-one : {service : Service} {log : Log} {n : ℕ} {lends other : Lends} (link : LinkId) → ((k : ℕ) → nat_eq k link.0 ≡ false
+    → other.links k ≡ lends.links k) → ((x : Lent) → other.links link.0 ≡ Some x → RowNow service log n lends other link x) → ((l : LinkId) (x : Lent)
+    → nat_eq l.0 link.0 ≡ false → lends.links l.0 ≡ Some x → RowNow service log n lends other l x) → (l : LinkId) (x : Lent) → other.links l.0 ≡ Some x
+    → RowNow service log n lends other l x
 rows-one {service} {log} {n} {lends} {other} link same here others l x is =
     link-or-other l link (λ k. other.links k.0 ≡ Some x → RowNow service log n lends other k x) (here x) (λ at now. others l x at (sym (same l.0 at) ∙ now)) is
 
@@ -187,11 +162,6 @@ pub record Stood (service : Service) (log : Log) (n : ℕ) (lends other : Lends)
   pub apart : Apart n lends other
   pub traces : Traces lends other
 
--- A link that is to be closed stands so where it has no row.
-close-kept : {service : Service} {log : Log} {lends other : Lends} {link : LinkId} → CloseStands service log lends link → other.links link.0 ≡ None
-    → CloseStands service log other link
-close-kept stands unlent = grind (arith, common_steps)
-
 -- No link changes, and the client has none.
 pub record NoRow (service : Service) (log : Log) (n : ℕ) (lends other : Lends) : Type 0 where
   pub links : (k : ℕ) → other.links k ≡ lends.links k
@@ -205,9 +175,8 @@ pub record NoRow (service : Service) (log : Log) (n : ℕ) (lends other : Lends)
   pub waits : (client : ClientNo) → other.waiting ≡ client ∷ [] → Waiting other client
 
 pub still-stood : {service : Service} {log : Log} {n : ℕ} {lends other : Lends} → LendsSound service log lends → lends.owned n ≡ None
-    → NoRow service log n lends other
-    → Stood service log n lends other
-still-stood {service} {log} {n} {lends} {other} sound unowned same = record {
+    → NoRow service log n lends other → Stood service log n lends other
+still-stood {service} {log} {n} {lends} {other} sound unowned same = (let apart : Apart n lends other = grind (arith, common_steps) in record {
   sound = mended (but-one sound) (record {
     apart = apart;
     rows = λ link lent is. kept-row sound (sym (same.links link.0) ∙ is) (λ owns. absurd (no-some unowned owns));
@@ -216,24 +185,18 @@ still-stood {service} {log} {n} {lends} {other} sound unowned same = record {
     one_waits = same.one_waits;
     waits = same.waits;
     one_closes = subst AtMostOne (sym same.closing) sound.one_closes;
-    closes = λ link is. (let stands = sound.closes link (sym same.closing ∙ is) in close-kept stands (same.links link.0 ∙ stands.unlent));
+    closes = λ link is. (let stands = sound.closes link (sym same.closing ∙ is) in grind (arith, common_steps, (same.links link.0 ∙ stands.unlent)));
   });
   apart = apart;
-  traces = record {
-    from = λ link lent is. (lent, sym (same.links link.0) ∙ is);
-    to = λ link lent is. inl (lent, same.links link.0 ∙ is);
-    closed = λ link is. inl (sym same.closing ∙ is);
-    closes = λ link is. same.closing ∙ is;
-  };
-} where
-  apart : Apart n lends other
-  apart = grind (arith, common_steps)
+  traces = grind (arith, common_steps);
+})
 
 -- One link changes, or is to be closed.
 pub data RowGoes (service : Service) (log : Log) (link : LinkId) (lends other : Lends) : Type 0 where
   Stays : (lent : Lent) → other.links link.0 ≡ Some lent → RowStands service log other link lent → other.closing ≡ lends.closing
       → RowGoes service log link lends other
-  Closes : lends.closing ≡ [] → other.links link.0 ≡ None → CloseStands service log other link → other.closing ≡ link ∷ [] → RowGoes service log link lends other
+  Closes : lends.closing ≡ [] → other.links link.0 ≡ None → CloseStands service log other link → other.closing ≡ link ∷ []
+      → RowGoes service log link lends other
 
 pub record OneRow (service : Service) (log : Log) (n : ℕ) (link : LinkId) (lends other : Lends) : Type 0 where
   pub links : (k : ℕ) → nat_eq k link.0 ≡ false → other.links k ≡ lends.links k
@@ -250,18 +213,20 @@ pub record OneRow (service : Service) (log : Log) (n : ℕ) (link : LinkId) (len
 abbrev pub Mine : (n : ℕ) → Lent → Type 0
 Mine n lent = (k : ℕ) → nat_eq k n ≡ false → lent.owner ≡ Some (record { 0 = k }) → ⊥
 
-pub owner-mine : (n : ℕ) (lent : Lent) → lent.owner ≡ Some (record { 0 = n }) → Mine n lent
-owner-mine n lent owner k differs is = grind (arith, common_steps, some-same)
-
 pub none-mine : (n : ℕ) (lent : Lent) → lent.owner ≡ None → Mine n lent
 none-mine n lent none k differs is = no-some none is
 
-pub one-stood : {service : Service} {log : Log} {n : ℕ} {link : LinkId} {lends other : Lends} (lent : Lent) → LendsBut service log n lends → AtMostOne lends.closing
-    → ((l : LinkId) → lends.closing ≡ l ∷ [] → CloseStands service log lends l) → lends.links link.0 ≡ Some lent → Mine n lent
+pub one-stood : {service : Service} {log : Log} {n : ℕ} {link : LinkId} {lends other : Lends} (lent : Lent) → LendsBut service log n lends
+    → AtMostOne lends.closing → ((l : LinkId) → lends.closing ≡ l ∷ [] → CloseStands service log lends l) → lends.links link.0 ≡ Some lent → Mine n lent
     → ((l : LinkId) (x : Lent) → nat_eq l.0 link.0 ≡ false → lends.links l.0 ≡ Some x → RowNow service log n lends other l x)
-    → OneRow service log n link lends other
-    → Stood service log n lends other
-one-stood {service} {log} {n} {link} {lends} {other} lent but one_closes closes there mine others one = record {
+    → OneRow service log n link lends other → Stood service log n lends other
+one-stood {service} {log} {n} {link} {lends} {other} lent but one_closes closes there mine others one = (let apart : Apart n lends other = record {
+  asks = one.asks;
+  owned = one.owned;
+  links = λ k l differs owns. (let it = but.owned k l owns in one.links l.0 (apart-links l link (λ at. mine k differs
+      (ap (λ (y : Lent). y.owner) (some-same lent it.lent (sym there ∙ ap (λ (x : LinkId). lends.links x.0) (sym at) ∙ it.there)) ∙ it.owner))));
+  waiting = one.waiting;
+} in record {
   sound = mended but (record {
     apart = apart;
     rows = rows-one link one.links (here one.goes) others;
@@ -273,23 +238,8 @@ one-stood {service} {log} {n} {link} {lends} {other} lent but one_closes closes 
     closes = closing one.goes;
   });
   apart = apart;
-  traces = record {
-    from = λ l now is. grind (arith, common_steps);
-    to = λ l was is. grind (arith, common_steps, to);
-    closed = closed one.goes;
-    closes = stays one.goes;
-  };
-} where
-  -- nobody else's link is this one
-  apart : Apart n lends other
-  apart = record {
-    asks = one.asks;
-    owned = one.owned;
-    links = λ k l differs owns. (let it = but.owned k l owns in one.links l.0 (apart-links l link (λ at. mine k differs
-        (ap (λ (y : Lent). y.owner) (some-same lent it.lent (sym there ∙ ap (λ (x : LinkId). lends.links x.0) (sym at) ∙ it.there)) ∙ it.owner))));
-    waiting = one.waiting;
-  }
-
+  traces = grind (arith, common_steps, to, closed, stays);
+}) where
   here : RowGoes service log link lends other → (x : Lent) → other.links link.0 ≡ Some x → RowNow service log n lends other link x
   here (Stays now is stands same) x at = row-now is stands x at
   here (Closes none out stands last) x at = absurd (no-some out at)
@@ -299,15 +249,19 @@ one-stood {service} {log} {n} {link} {lends} {other} lent but one_closes closes 
   at-most (Closes none out stands last) = subst AtMostOne (sym last) (One link)
 
   closing : RowGoes service log link lends other → (l : LinkId) → other.closing ≡ l ∷ [] → CloseStands service log other l
-  closing (Stays now is stands same) l at = (let was = closes l (sym same ∙ at) in
-      close-kept was (one.links l.0 (apart-links l link (λ on. no-some (ap (λ (x : LinkId). lends.links x.0) (sym on) ∙ was.unlent) there)) ∙ was.unlent))
+  closing (Stays now is stands same) l at = (let was = closes l (sym same ∙ at) in grind (
+    arith,
+    common_steps,
+    (one.links l.0 (apart-links l link (λ on. no-some (ap (λ (x : LinkId). lends.links x.0) (sym on) ∙ was.unlent) there)) ∙ was.unlent),
+  ))
   closing (Closes none out stands last) l at = subst (CloseStands service log other) (one-same link l (sym last ∙ at)) stands
 
   to : RowGoes service log link lends other → ((now : Lent) × (other.links link.0 ≡ Some now)) ⊎ (other.closing ≡ link ∷ [])
   to (Stays now is stands same) = inl (now, is)
   to (Closes none out stands last) = inr last
 
-  closed : RowGoes service log link lends other → (l : LinkId) → other.closing ≡ l ∷ [] → (lends.closing ≡ l ∷ []) ⊎ ((was : Lent) × (lends.links l.0 ≡ Some was))
+  closed : RowGoes service log link lends other → (l : LinkId) → other.closing ≡ l ∷ []
+      → (lends.closing ≡ l ∷ []) ⊎ ((was : Lent) × (lends.links l.0 ≡ Some was))
   closed (Stays now is stands same) l at = inl (sym same ∙ at)
   closed (Closes none out stands last) l at = inr (lent, ap (λ (x : LinkId). lends.links x.0) (one-same l link (sym at ∙ last)) ∙ there)
 
@@ -337,9 +291,8 @@ pub data Comes (service : Service) (log : Log) (n : ℕ) (lends other : Lends) :
   Quiet : ((i : ℕ) → Busy lends n i → Busy other n i) → (Free lends n → Free other n) → (Gone lends n → Gone other n) →
       ((i : ℕ) → Busy lends n i → replied service n i log ≡ None) → Comes service log n lends other None
   Answers : (i : ℕ) (answer : Answer) (message : Framed) → Busy lends n i → message_of service n i log ≡ Some message → replied service n i log ≡ Some answer
-      → Free other n
-      → other.waiting ≡ [] → (other.closing ≡ []) ⊎ (other.owned n ≡ None) → Comes service log n lends other
-      (Some (record { client = record { 0 = n }; packets = spelt (next_id message.last) answer }))
+      → Free other n → other.waiting ≡ [] → (other.closing ≡ []) ⊎ (other.owned n ≡ None)
+      → Comes service log n lends other (Some (record { client = record { 0 = n }; packets = spelt (next_id message.last) answer }))
 
 -- `before` is the log before the entry; the tables were sound for that, and what came is sound for the log with the entry
 pub record Came (service : Service) (log : Log) (n : ℕ) (lends : Lends) (told : Told) : Type 0 where

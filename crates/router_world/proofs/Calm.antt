@@ -1,19 +1,14 @@
 -- What an entry leaves of what is said of a link, and of a client's command.
 use Rattle.router_world.proofs.Names.{arith, common_steps, ◌≡◌, ℕ, Bool, true, false, ◌||◌, cond, List, [], ◌∷◌, ◌++◌, Option, Some, None, option_and_then}
-use Rattle.router_world.proofs.Names.{flat_map, filter_map, list_any, sym, ◌∙◌, ap, append-nil, filter_map-append, flat_map-append}
-use Rattle.router_world.proofs.Names.{list_any-append, LinkId, Log, link_of, is_link, got_bytes, read_of, written_of, is_open, reply_said, bytes-other}
-use Rattle.router_world.proofs.Names.{step-other, Entry, Account, is_loss, was_lost, was_broken, until_loss, heard_of, piece, pieces_of, carries, carrier_of}
-use Rattle.router_world.proofs.Names.{Answer, Turn, Service, user_on, refused_by, is_turn, is_refused, reply_on, reply_to, RefusedOrSent}
+use Rattle.router_world.proofs.Names.{list_any, sym, ◌∙◌, ap, list_any-append, LinkId, Log, link_of, is_link, read_of, written_of, is_open, reply_said}
+use Rattle.router_world.proofs.Names.{bytes-other, step-other, Entry, Account, is_loss, was_lost, was_broken, until_loss, heard_of, piece, pieces_of, carries}
+use Rattle.router_world.proofs.Names.{carrier_of, Answer, Turn, Service, user_on, refused_by, is_turn, is_refused, reply_on, reply_to, RefusedOrSent}
 use Rattle.router_world.proofs.Names.{refused-more, carrier-stays, carrier-more, replied, suc, is_some, option_map, AllLawful, Framed, parsed, Setup, Arrival}
 use Rattle.router_world.proofs.Names.{arrival_of, Talk, messages_of, no_server, talk_with, Work, answer, answer_by, first_without, work_in, work_of, IsLawful}
 use Rattle.router_world.proofs.Names.{in-work, arrival-stays, messages-grow, message-stays}
-use Rattle.mx_wire.specs.Growth.{of_link-other}
-use Rattle.promises.proofs.InWork.{refused-stays, query-answer, asks-open}
+use Rattle.{mx_wire.specs.Growth.of_link-other, promises.specs.Sends.Asks, promises.specs.Due.answer_when, promises.specs.Due.query_answer}
+use Rattle.promises.proofs.{InWork.refused-stays, InWork.query-answer, InWork.asks-open, Causes.then-of, Moments.due-stays}
 use Rattle.promises.proofs.Staying.{user-on-stays, reply-stays, talk-more, answer-stays}
-use Rattle.promises.proofs.Causes.{then-of}
-use Rattle.promises.specs.Sends.{Asks}
-use Rattle.promises.proofs.Moments.{due-stays}
-use Rattle.promises.specs.Due.{answer_when, query_answer}
 
 -- What was read and written on a link is as before.
 pub record Leaves (link : LinkId) (log : Log) (e : Entry) : Type 0 where
@@ -42,15 +37,6 @@ sound-still f log e calm same = grind (arith, common_steps, until-still)
 pub or-none : (b : Bool) → (b || false) ≡ b
 or-none b = grind (arith, common_steps)
 
-pub any-still : (p : Entry → Bool) (log : Log) (e : Entry) → p e ≡ false → list_any p (log ++ e ∷ []) ≡ list_any p log
-any-still p log e none = grind (arith, common_steps, list_any-append, or-none)
-
-pub map-still : (log : Log) (e : Entry) → got_bytes e ≡ [] → flat_map got_bytes (log ++ e ∷ []) ≡ flat_map got_bytes log
-map-still log e none = grind (arith, common_steps, append-nil, flat_map-append)
-
-pub pieces-still : (log : Log) (e : Entry) → piece e ≡ None → filter_map piece (log ++ e ∷ []) ≡ filter_map piece log
-pieces-still log e none = grind (arith, common_steps, append-nil, filter_map-append)
-
 -- A command of which the entry writes nothing is where it was.
 pub carrier-same : (n i : ℕ) (log : Log) (e : Entry) → carries n i e ≡ None → carrier_of n i (log ++ e ∷ []) ≡ carrier_of n i log
 carrier-same n i log e none = grind (arith, common_steps, carrier-more)
@@ -64,9 +50,8 @@ asks-served : (setup : Setup) (reply : Option Answer) → cond (is_some setup.ta
 asks-served setup reply none = grind (arith, common_steps)
 
 -- the first message without an answer stays the first, where the answers stay and it has none yet
-first-still : (old new : ℕ → Option Answer) → ((i : ℕ) (reply : Answer) → old i ≡ Some reply → new i ≡ Some reply)
-    → (i : ℕ) (messages later : List Framed) (work : Work) → first_without old i messages ≡ Some work → new work.ordinal ≡ None
-    → first_without new i (messages ++ later) ≡ Some work
+first-still : (old new : ℕ → Option Answer) → ((i : ℕ) (reply : Answer) → old i ≡ Some reply → new i ≡ Some reply) → (i : ℕ) (messages later : List Framed)
+    (work : Work) → first_without old i messages ≡ Some work → new work.ordinal ≡ None → first_without new i (messages ++ later) ≡ Some work
 first-still old new stay i [] later work is none = cc
 first-still old new stay i (message ∷ messages) later work is none = grind (arith, common_steps, (first-still old new stay (suc i) messages later work))
 
@@ -111,18 +96,15 @@ module _ (service : Service) (n i : ℕ) where
         → work_of service n (log ++ more) ≡ Some (record { ordinal = i; message = message })
     work-stays came more at lawful is none = (let grows = messages-grow (talk_with service n came log) (read_of came.link more) in
         ap (λ (o : Option Arrival). work_in service n (log ++ more) (option_map (λ (came : Arrival). talk_with service n came (log ++ more)) o))
-        (arrival-stays n log more came at)
-        ∙ ap (λ (t : Talk). first_without (λ k. answer service n k (log ++ more)) 1 (messages_of t).messages) (talk-more service n came log more)
-        ∙ ap (first_without (λ k. answer service n k (log ++ more)) 1) grows.messages
-        ∙ first-still (λ k. answer service n k log) (λ k. answer service n k (log ++ more))
-        (λ k reply at. answer-stays service n k log more reply lawful at) 1 (messages_of (talk_with service n came log)).messages grows.later
-        (record { ordinal = i; message = message })
-        (cc (at, is)) none)
+        (arrival-stays n log more came at) ∙ ap (λ (t : Talk). first_without (λ k. answer service n k (log ++ more)) 1 (messages_of t).messages)
+        (talk-more service n came log more) ∙ ap (first_without (λ k. answer service n k (log ++ more)) 1) grows.messages
+        ∙ first-still (λ k. answer service n k log) (λ k. answer service n k (log ++ more)) (λ k reply at. answer-stays service n k log more reply lawful at) 1
+        (messages_of (talk_with service n came log)).messages grows.later (record { ordinal = i; message = message }) (cc (at, is)) none)
 
     pub asks-stay : (more : Log) → AllLawful (IsLawful service) (log ++ more) → is_some service.setup.target ≡ true → Asks service n i message due log
         → replied service n i (log ++ more) ≡ None → Asks service n i message due (log ++ more)
-    asks-stay more lawful has asks
-        none = (let there = message-stays service n i log more message (in-work service n log (record { ordinal = i; message = message }) asks.work).0 in
+    asks-stay more lawful has asks none = (let there = message-stays service n i log more message
+        (in-work service n log (record { ordinal = i; message = message }) asks.work).0 in
         let unanswered : answer service n i (log ++ more) ≡ None = ap (λ d. answer_when service n i d (log ++ more))
         (due-stays service n i log more due asks.is_due)
         ∙ ap (option_and_then (λ (m : Framed). answer_by (query_answer service n i m due (log ++ more)) (parsed m.payload))) there

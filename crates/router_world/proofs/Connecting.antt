@@ -1,13 +1,11 @@
 -- Lists of links.
 use Rattle.router_world.proofs.Names.{common_steps, ◌≡◌, ℕ, ◌+◌, Bool, true, false, nat_eq, not, ◌&&◌, ◌||◌, List, [], ◌∷◌, ◌++◌, length, refl, ◌∙◌, ap, inl}
-use Rattle.router_world.proofs.Names.{inr, arith, LinkId, bool_cases, without, ◌-◌, slice_get, Some, None, list_any, list_any-append, fold-append, Traffic}
-use Rattle.router_world.proofs.Names.{Admin, Log, link_of, open_step, is_open, AllLawful, lawful-each, IsNew, IsOpen, Fits, step-same, step-other, Entry}
-use Rattle.router_world.proofs.Names.{Accepted, Opened, Closed, Arrival, arrivals_behind, arrival_of, is_traffic, connected_step, connected, some-same}
-use Rattle.router_world.proofs.Names.{came_as, came-names, named-none, same-link, or-inl, or-inr}
-use Rattle.router_world.proofs.Calm.{or-none, any-still}
+use Rattle.router_world.proofs.Names.{inr, arith, LinkId, bool_cases, without, slice_get, Some, None, list_any, list_any-append, fold-append, Traffic}
+use Rattle.router_world.proofs.Names.{Admin, Log, open_step, is_open, AllLawful, lawful-each, IsNew, Fits, step-same, step-other, Entry}
+use Rattle.router_world.proofs.Names.{Accepted, Opened, Closed, Arrival, arrivals_behind, connected_step, connected, some-same, came_as}
+use Rattle.router_world.proofs.Names.{came-names, named-none, same-link, or-inl, or-inr}
+use Rattle.{router_world.proofs.Calm.or-none, promises.proofs.Causes.or-cases, mx_wire.specs.Growth.nat_eq-sym}
 use Rattle.std.proofs.lemmas.Bool.{or_parts, or_from, eqb-true}
-use Rattle.promises.proofs.Causes.{or-cases}
-use Rattle.mx_wire.specs.Growth.{nat_eq-sym}
 
 abbrev pub is_among : LinkId → List LinkId → Bool
 is_among link [] = false
@@ -26,19 +24,16 @@ among-end link new (other ∷ links) = grind (arith, common_steps, (among-end li
 
 pub distinct-end : (links : List LinkId) (new : LinkId) → is_among new links ≡ false → AreDistinct links → AreDistinct (links ++ new ∷ [])
 distinct-end [] new apart distinct = (refl, tt)
-distinct-end (link ∷ links) new apart distinct =
-    let both = or_parts (nat_eq new.0 link.0) (is_among new links) apart in (
-      among-end link new links ∙ or_from (is_among link links) (nat_eq link.0 new.0) distinct.0
-          (nat_eq-sym new.0 link.0 both.0),
-      distinct-end links new both.1 distinct.1,
-    )
+distinct-end (link ∷ links) new apart distinct = let both = or_parts (nat_eq new.0 link.0) (is_among new links) apart in (
+  among-end link new links ∙ or_from (is_among link links) (nat_eq link.0 new.0) distinct.0 (nat_eq-sym new.0 link.0 both.0),
+  distinct-end links new both.1 distinct.1,
+)
 
 -- A link is taken out.
 
 pub without-apart : (link : LinkId) (links : List LinkId) → is_among link links ≡ false → without link links ≡ links
 without-apart link [] apart = refl
-without-apart link (other ∷ links) apart =
-    let both = or_parts (nat_eq link.0 other.0) (is_among link links) apart in
+without-apart link (other ∷ links) apart = let both = or_parts (nat_eq link.0 other.0) (is_among link links) apart in
     rw (nat_eq-sym link.0 other.0 both.0) (ap (λ (rest : List LinkId). other ∷ rest) (without-apart link links both.1))
 
 -- it was there once
@@ -53,16 +48,9 @@ length-without link (other ∷ links) distinct among = elim (bool_cases (nat_eq 
       rw apart (let rest : length (without link links) + 1 ≡ length links = length-without link links distinct.1 later in omega arith))
 ]
 
--- the others are left
-same-out : (b c : Bool) → (c && not b) ≡ ((b || c) && not b)
-same-out b c = grind (arith, common_steps)
-
-still-in : (a b c : Bool) → (a ≡ true → b ≡ false) → (a || (c && not b)) ≡ ((a || c) && not b)
-still-in a b c apart = grind (arith, common_steps)
-
 pub among-without : (link gone : LinkId) (links : List LinkId) → is_among link (without gone links) ≡ (is_among link links && not (nat_eq link.0 gone.0))
 among-without link gone [] = refl
-among-without link gone (other ∷ links) = grind (arith, common_steps, same-out, eqb-true, still-in, (among-without link gone links))
+among-without link gone (other ∷ links) = grind (arith, common_steps, eqb-true, (among-without link gone links))
 
 pub distinct-without : (gone : LinkId) (links : List LinkId) → AreDistinct links → AreDistinct (without gone links)
 distinct-without gone [] distinct = tt
@@ -90,12 +78,6 @@ any-last p log e = list_any-append p log (e ∷ []) ∙ ap (λ b. list_any p log
 new-shut : (link : LinkId) (log : Log) → IsNew link log → is_open link log ≡ false
 new-shut link log new = ap (Rattle.std.specs.Prelude.fold open_step false) new
 
--- an entry that touches no client's coming and going
-counts-plain : (log : Log) (e : Entry) → ((links : List LinkId) → connected_step links e ≡ links) → ((link : LinkId) → traffic_as link e ≡ false) →
-    ((link : LinkId) → (list_any (traffic_as link) log && is_open link (log ++ e ∷ [])) ≡ (list_any (traffic_as link) log && is_open link log)) → Counts log
-    → Counts (log ++ e ∷ [])
-counts-plain log e stays none opens counts = grind (arith, common_steps, connected-more, any-still)
-
 pub open-kept : (link : LinkId) (log : Log) (e : Entry) → ((was : Bool) → open_step was e ≡ was) → is_open link (log ++ e ∷ []) ≡ is_open link log
 open-kept link log e stays = grind (arith, common_steps, step-same, step-other)
 
@@ -106,41 +88,31 @@ traffic-came link (e ∷ log) is = grind (arith, common_steps, or-cases, or-inl,
 new-untrafficked : (link : LinkId) (log : Log) → IsNew link log → list_any (traffic_as link) log ≡ false
 new-untrafficked link log new = grind (arith, common_steps, named-none, came-names, traffic-came)
 
-counts-opened : (log : Log) (e : Entry) (new : LinkId) → link_of e ≡ Some new → IsNew new log → ((links : List LinkId) → connected_step links e ≡ links) →
-    ((link : LinkId) → traffic_as link e ≡ false) → Counts log → Counts (log ++ e ∷ [])
-counts-opened log e new names fresh stays none counts = grind (arith, common_steps, counts-plain, new-untrafficked, same-link, step-other)
-
 counts-came : (log : Log) (link : LinkId) (salt : List ℕ) → IsNew link log → Counts log → Counts (log ++ Accepted Traffic link salt ∷ [])
 counts-came log link salt fresh counts = grind
     (arith, common_steps, new-untrafficked, connected-more, distinct-end, among-end, any-last, step-same, or-none, step-other)
 
 counts-closed : (log : Log) (link : LinkId) → Counts log → Counts (log ++ Closed link ∷ [])
-counts-closed log link counts = grind (arith, common_steps, connected-more, distinct-without, among-without, any-still, step-same, and-true, step-other)
+counts-closed log link counts = grind
+    (arith, common_steps, connected-more, distinct-without, among-without, list_any-append, or-none, step-same, and-true, step-other)
 
 counts-step : (log : Log) (e : Entry) → Fits log e → Counts log → Counts (log ++ e ∷ [])
 counts-step log (Accepted Traffic link salt) fits counts = counts-came log link salt fits.fresh counts
-counts-step log (Accepted Admin link salt) fits counts = grind (arith, common_steps, counts-opened)
-counts-step log (Opened server address link) fits counts = grind (arith, common_steps, counts-opened)
+counts-step log (Accepted Admin link salt) fits counts = grind
+    (arith, common_steps, connected-more, list_any-append, or-none, new-untrafficked, same-link, step-other)
+counts-step log (Opened server address link) fits counts = grind
+    (arith, common_steps, connected-more, list_any-append, or-none, new-untrafficked, same-link, step-other)
 counts-step log (Closed link) fits counts = counts-closed log link counts
-counts-step log e fits counts = grind (arith, common_steps, counts-plain, open-kept)
+counts-step log e fits counts = grind (arith, common_steps, connected-more, list_any-append, or-none, open-kept)
 
 pub counts-all : (log : Log) → AllLawful Fits log → Counts log
 counts-all log told = lawful-each Fits Counts log counts-step (record { distinct = tt; among = λ link. refl }) told
-
--- The client of an open link that came to the port of clients is connected; one of another port isn't.
-pub closed-fewer : (log : Log) (link : LinkId) → AllLawful Fits log → is_among link (connected log) ≡ true → length
-    (connected (log ++ Closed link ∷ [])) ≡ length (connected log) - 1
-closed-fewer log link told is = grind (arith, common_steps, length-without, counts-all, connected-more)
 
 pub closed-same : (log : Log) (link : LinkId) → is_among link (connected log) ≡ false → length (connected (log ++ Closed link ∷ [])) ≡ length (connected log)
 closed-same log link none = ap length (connected-more log (Closed link) ∙ without-apart link (connected log) none)
 
 -- the link on which a client came to the port of clients
-came-traffic : (before log : Log) (k : ℕ) (came : Arrival) → slice_get (arrivals_behind before log) k ≡ Some came → came.port ≡ Traffic → list_any
+pub came-traffic : (before log : Log) (k : ℕ) (came : Arrival) → slice_get (arrivals_behind before log) k ≡ Some came → came.port ≡ Traffic → list_any
     (traffic_as came.link) log ≡ true
 came-traffic before [] k came is port = absurd (let none : None ≡ Some came = is in cc)
 came-traffic before (e ∷ log) k came is port = grind (arith, common_steps, some-same, or-inr, (came-traffic (before ++ e ∷ []) log))
-
-pub connected-came : (n : ℕ) (came : Arrival) (log : Log) → Counts log → arrival_of n log ≡ Some came → is_traffic came.port ≡ true → IsOpen came.link log
-    → is_among came.link (connected log) ≡ true
-connected-came n came log counts is traffic opened = grind (arith, common_steps, came-traffic)

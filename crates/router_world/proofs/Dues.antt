@@ -1,18 +1,14 @@
 -- What a client is due, by the replies to its queries.
-use Rattle.router_world.proofs.Names.{common_steps, and_from, ◌≡◌, ℕ, suc, ◌+◌, true, false, is_some, ◌&&◌, cond, List, [], ◌∷◌, ◌++◌, slice_get, Option}
-use Rattle.router_world.proofs.Names.{Some, refl, option_and_then, sym, ◌∙◌, ap, append-nil, arith, Log, Framed, parsed, Arrival, arrival_of}
-use Rattle.router_world.proofs.Names.{messages_of, Answer, Service, talk_with, answer, answer_by, message_of, due_at, first_without, answers, replied}
-use Rattle.router_world.proofs.Names.{answer_of, answers_by, first_open, ◌||◌, LinkId, Entry, is_served, was_lost, turned_away, due}
-use Rattle.router_world.proofs.Names.{arrival-stays, due_said, Setup}
-use Rattle.promises.proofs.Moments.{first-some}
-use Rattle.std.proofs.lemmas.Bool.{or_parts}
-use Rattle.promises.specs.Due.{query_answer, answer_when, is_answered}
-use Rattle.exchange.specs.Logins.{loses, before_loss}
+use Rattle.router_world.proofs.Names.{common_steps, and_from, ◌≡◌, ℕ, suc, ◌+◌, true, false, is_some, ◌&&◌, cond, List, [], ◌∷◌, ◌++◌, slice_get, Option, Some}
+use Rattle.router_world.proofs.Names.{refl, option_and_then, sym, ◌∙◌, ap, append-nil, arith, Log, Framed, parsed, Arrival, arrival_of, messages_of, Answer}
+use Rattle.router_world.proofs.Names.{Service, talk_with, answer, answer_by, message_of, due_at, first_without, answers, replied, answer_of, answers_by}
+use Rattle.router_world.proofs.Names.{first_open, LinkId, Entry, is_served, was_lost, turned_away, due, arrival-stays, due_said, Setup}
+use Rattle.promises.{proofs.Moments.first-some, specs.Due.query_answer, specs.Due.answer_when, specs.Due.is_answered}
+use Rattle.{std.proofs.lemmas.Bool.or_parts, exchange.specs.Logins.loses, exchange.specs.Logins.before_loss}
 
 -- A message that is whole, and before which all are answered, is answered by what comes of it.
-pub answer-here : (service : Service) (n i : ℕ) (log : Log) (message : Framed) → message_of service n (suc i) log ≡ Some message
-    → is_answered service n i (due_at service n i log) log ≡ true
-    → answer service n (suc i) log ≡ answer_of service.setup (replied service n (suc i) log) message.payload
+pub answer-here : (service : Service) (n i : ℕ) (log : Log) (message : Framed) → message_of service n (suc i) log ≡ Some message → is_answered service n i
+    (due_at service n i log) log ≡ true → answer service n (suc i) log ≡ answer_of service.setup (replied service n (suc i) log) message.payload
 answer-here service n i log message there done = (
     let first = first-some (λ moment. is_some (message_of service n (suc i) moment) && is_answered service n i (due_at service n i moment) moment) [] log
     (and_from _ _ (ap is_some there) done) in
@@ -24,9 +20,8 @@ record Same (setup : Setup) (told reply : ℕ → Option Answer) (i : ℕ) (mess
   joins : answers told i messages last ≡ answers_by setup reply i messages last
   goes : first_without told i messages ≡ first_open setup reply i messages
 
-same-more : (setup : Setup) (told reply : ℕ → Option Answer) (i : ℕ) (message : Framed) (messages : List Framed) (last : List ℕ)
-    → told i ≡ answer_of setup (reply i) message.payload
-    → (is_some (told i) ≡ true → Same setup told reply (suc i) messages last) → Same setup told reply i (message ∷ messages) last
+same-more : (setup : Setup) (told reply : ℕ → Option Answer) (i : ℕ) (message : Framed) (messages : List Framed) (last : List ℕ) → told i ≡ answer_of setup
+    (reply i) message.payload → (is_some (told i) ≡ true → Same setup told reply (suc i) messages last) → Same setup told reply i (message ∷ messages) last
 same-more setup told reply i message messages last now later = grind (arith, common_steps)
 
 module _ (service : Service) (n : ℕ) where
@@ -38,10 +33,9 @@ module _ (service : Service) (n : ℕ) where
   same-from : (i : ℕ) (log : Log) (messages : List Framed) (last : List ℕ) → From i log messages
       → Same service.setup (λ k. answer service n k log) (λ k. replied service n k log) (suc i) messages last
   same-from i log [] last from = record { joins = refl; goes = refl }
-  same-from i log (message ∷ messages) last from = same-more service.setup (λ k. answer service n k log) (λ k. replied service n k log)
-      (suc i) message messages last
-      (answer-here service n i log message (rw (let same : i + 0 ≡ i = omega arith in same) at (from.there 0 message refl)) from.done)
-      (λ some. same-from (suc i) log messages last (record {
+  same-from i log (message ∷ messages) last from = same-more service.setup (λ k. answer service n k log) (λ k. replied service n k log) (suc i) message messages
+      last (answer-here service n i log message (rw (let same : i + 0 ≡ i = omega arith in
+      same) at (from.there 0 message refl)) from.done) (λ some. same-from (suc i) log messages last (record {
         there = λ k m is. rw (let same : i + suc k ≡ suc i + k = omega arith in same) at (from.there (suc k) m is);
         done = some;
       }))
@@ -51,20 +45,15 @@ module _ (service : Service) (n : ℕ) (came : Arrival) (log : Log) where
   came-from is = grind (arith, common_steps)
 
   -- the message in work of a client that came
-  pub first-replied : arrival_of n log ≡ Some came
-      → first_without (λ k. answer service n k log) 1 (messages_of (talk_with service n came log)).messages ≡ first_open service.setup
-      (λ k. replied service n k log) 1 (messages_of (talk_with service n came log)).messages
+  pub first-replied : arrival_of n log ≡ Some came → first_without (λ k. answer service n k log) 1 (messages_of
+      (talk_with service n came log)).messages ≡ first_open service.setup (λ k. replied service n k log) 1 (messages_of (talk_with service n came log)).messages
   first-replied is = (same-from service n 0 log (messages_of (talk_with service n came log)).messages [] (came-from is)).goes
 
 -- What a client is due, before its link is lost and from then on.
 
--- the log before a loss, one entry at a time
-lost-first : (link : LinkId) (e : Entry) (log : Log) → was_lost link (e ∷ log) ≡ (loses link e || was_lost link log)
-lost-first link e log = grind (arith, common_steps)
-
 before-all : (link : LinkId) (log more : Log) → was_lost link log ≡ false → before_loss link (log ++ more) ≡ log ++ before_loss link more
 before-all link [] more unlost = refl
-before-all link (e ∷ log) more unlost = (let parts = or_parts (loses link e) (was_lost link log) (sym (lost-first link e log) ∙ unlost) in
+before-all link (e ∷ log) more unlost = (let parts = or_parts (loses link e) (was_lost link log) (sym (grind (arith, common_steps)) ∙ unlost) in
     ap (λ b. cond b [] (e ∷ before_loss link (log ++ more))) parts.0 ∙ ap (λ (l : Log). e ∷ l) (before-all link log more parts.1))
 
 before-none : (link : LinkId) (log : Log) → was_lost link log ≡ false → before_loss link log ≡ log
@@ -72,7 +61,7 @@ before-none link log unlost = cc (append-nil log, before-all link log [] unlost)
 
 before-once : (link : LinkId) (log more : Log) → was_lost link log ≡ true → before_loss link (log ++ more) ≡ before_loss link log
 before-once link [] more lost = cc
-before-once link (e ∷ log) more lost = grind (arith, common_steps, lost-first, (before-once link log more))
+before-once link (e ∷ log) more lost = grind (arith, common_steps, (before-once link log more))
 
 module _ (service : Service) (n : ℕ) (came : Arrival) (log : Log) where
   pub due-unlost : arrival_of n log ≡ Some came → is_served service.setup came ≡ true → was_lost came.link log ≡ false

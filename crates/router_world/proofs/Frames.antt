@@ -1,21 +1,17 @@
 -- What an entry leaves of what stands for the log.
 use Rattle.router_world.proofs.Names.{common_steps, ◌≡◌, ℕ, zero, suc, Bool, true, false, not, ◌&&◌, cond, List, [], ◌∷◌, ◌++◌, Option, Some, None, refl, sym}
-use Rattle.router_world.proofs.Names.{◌∙◌, ap, inl, inr, LinkId, Log, is_open, IsNew, Fits, option_map, option_and_then, AllLawful, Entry, Account}
-use Rattle.router_world.proofs.Names.{Handed, Arrival, arrival_of, connection_refused, account, Ask, Lent, Lends, was_lost, carries}
-use Rattle.router_world.proofs.Names.{carrier_of, Answer, Turn, Service, turn_of, talk_with, user_of, user_on, is_here, is_refused, reply_to}
-use Rattle.router_world.proofs.Names.{IsLawful, RefusedOrSent, asks-unrefused, refused-or-sent, came_as, named-none, came-names, same-link, arrival-stays}
-use Rattle.router_world.proofs.Names.{carrier-stays, turn-stays, user-stays, lost-stays, replied, ◌<◌, ◌≤◌, arith, Tag, For}
-use Rattle.router_world.proofs.Names.{nat_eq-true, nat_eq-false, Talk, is_query, Phase, Session, Work, some-same, Seat, work_said}
-use Rattle.router_world.proofs.Names.{over_said, Unanswered, unanswered_from}
-use Rattle.promises.proofs.Links.{open-was, came-new}
-use Rattle.promises.proofs.Causes.{arrival-came}
+use Rattle.router_world.proofs.Names.{◌∙◌, ap, inl, inr, LinkId, Log, is_open, IsNew, Fits, option_map, option_and_then, AllLawful, Entry, Account, Handed}
+use Rattle.router_world.proofs.Names.{Arrival, arrival_of, connection_refused, account, Ask, Lent, Lends, was_lost, carries, carrier_of, Answer, Turn, Service}
+use Rattle.router_world.proofs.Names.{turn_of, talk_with, user_of, user_on, is_here, is_refused, reply_to, IsLawful, RefusedOrSent, asks-unrefused}
+use Rattle.router_world.proofs.Names.{refused-or-sent, came_as, named-none, came-names, same-link, arrival-stays, carrier-stays, turn-stays, user-stays}
+use Rattle.router_world.proofs.Names.{lost-stays, replied, ◌<◌, ◌≤◌, arith, Tag, For, nat_eq-true, nat_eq-false, Talk, is_query, Phase, Session, Work}
+use Rattle.router_world.proofs.Names.{some-same, Seat, work_said, over_said, Unanswered, unanswered_from}
+use Rattle.promises.proofs.{Links.open-was, Links.came-new, Causes.arrival-came}
 use Rattle.router_world.proofs.Calm.{Leaves, Spares, carrier-same, unrefused-more, unsent-still, sent-unrefused, reply-left, asks-stay, asks-server}
 use Rattle.router_world.proofs.Calm.{asks-unreplied, replied-stays}
-use Rattle.router_world.proofs.Sound.{IsAsked, AskStands, HandedStands, carried_by, Owned, RowStands, LendsSound, Busy, Waits, Logs, On, Unsent, IsHeard}
-use Rattle.router_world.proofs.Sound.{SeatStands}
-use Rattle.router_world.proofs.SeatsAnswers.{query-no-quit, work-alone, over-in}
-use Rattle.router_world.proofs.Seats.{Agrees, agree-seat, WaitsFor, work-here}
-use Rattle.router_world.proofs.Dues.{due-lost}
+use Rattle.router_world.proofs.{Sound.IsAsked, Sound.AskStands, Sound.HandedStands, Sound.carried_by, Sound.Owned, Sound.RowStands, Sound.LendsSound}
+use Rattle.router_world.proofs.{Sound.Busy, Sound.Waits, Sound.Logs, Sound.On, Sound.Unsent, Sound.IsHeard, Sound.SeatStands, SeatsAnswers.query-no-quit}
+use Rattle.router_world.proofs.{SeatsAnswers.over-in, SeatsAnswers.no-messages, Seats.Agrees, Seats.WaitsFor, Seats.work-here, Seats.agree-both, Dues.due-lost}
 use Rattle.client_talk.specs.declared.session.Phase.TheVariants as phase
 
 -- The entry neither writes of a client's commands nor refuses one.
@@ -61,7 +57,7 @@ same-ordinal n i j tag one two = cc
 
 pub over-no-query : (reply : ℕ → Option Answer) (talk : Talk) (work : Work) → over_said reply talk ≡ true → work_said reply talk ≡ Some work
     → is_query work.message.payload ≡ true → ⊥
-over-no-query reply talk work over is query = grind (arith, common_steps, query-no-quit, over-in, work-alone)
+over-no-query reply talk work over is query = grind (arith, common_steps, query-no-quit, over-in, no-messages)
 
 none-at : (at : Phase) (talk : Talk) (reply other : ℕ → Option Answer) (arrived : ℕ) → WaitsFor at talk reply arrived
     → ((user : Account) → at ≡ phase.Working user → other arrived ≡ None)
@@ -87,21 +83,20 @@ module _ (service : Service) (log : Log) (e : Entry) where
       → Stays service log e n i → replied service n i then ≡ None
   still-none n i packets first never asked calm stays = (let unrefused = asks-unrefused service n i asked.message asked.due log asked.asks in elim stays [
     | Unbegun none ↦ unsent-still service n i then (carrier-same n i log e (calm.writes i) ∙ none) (unrefused-more service n i log e unrefused (calm.spares i))
-    | There link user at is leaves ↦ ap (λ b. cond b (Some (connection_refused ∷ [])) (reply_to service n i then))
-        (sent-unrefused service n i then link never (carrier-stays n i log (e ∷ []) link at))
-        ∙ reply-left service n i log e link user at is leaves
-        ∙ unreplied (is_refused service n i log) (Some (connection_refused ∷ [])) (reply_to service n i log) unrefused
-        (asks-unreplied service n i asked.message asked.due log asked.asks)
+    | There link user at is leaves ↦ ap (λ b. cond b (Some (connection_refused ∷ [])) (reply_to service n i then)) (sent-unrefused service n i then link never
+        (carrier-stays n i log (e ∷ []) link at)) ∙ reply-left service n i log e link user at is leaves ∙ unreplied (is_refused service n i log) (Some
+        (connection_refused ∷ [])) (reply_to service n i log) unrefused (asks-unreplied service n i asked.message asked.due log asked.asks)
   ])
-
-  pub asked-stays : (n i : ℕ) (packets : List ℕ) (first : ℕ) → AllLawful (IsLawful service) then → IsAsked service n i packets first log
-      → replied service n i then ≡ None → IsAsked service n i packets first then
-  asked-stays n i packets first lawful asked none = grind (arith, common_steps, asks-stay, asks-server)
 
   pub asked-calm : (n i : ℕ) (packets : List ℕ) (first : ℕ) → AllLawful (IsLawful service) then → IsAsked service n i packets first log → Calm service log e n
       → Stays service log e n i → IsAsked service n i packets first then
-  asked-calm n i packets first lawful asked calm stays = asked-stays n i packets first lawful asked
-      (still-none n i packets first (refused-or-sent service then lawful) asked calm stays)
+  asked-calm n i packets first lawful asked calm stays = grind (
+    arith,
+    common_steps,
+    asks-stay,
+    asks-server,
+    (still-none n i packets first (refused-or-sent service then lawful) asked calm stays),
+  )
 
   -- A command that waits.
   pub ask-calm : (n : ℕ) (ask : Ask) → AllLawful (IsLawful service) then → AskStands service log n ask → Calm service log e n → AskStands service then n ask
@@ -134,8 +129,7 @@ module _ (service : Service) (log : Log) (e : Entry) where
     hostgroup = stands.hostgroup;
     user = grind (arith, common_steps, user-stays);
     some = cc (leaves.pieces, stands.some);
-    at = rw leaves.heard
-        (rw leaves.pieces stands.at);
+    at = grind (arith, common_steps);
     command = λ command is. handed-calm stands.turn.client link lent.backend.account command lawful
         (user-there service link stands.turn lent.backend.account log stands.is_turn stands.user) (stands.command command is) calm leaves;
     enters = stands.enters;
@@ -146,24 +140,23 @@ module _ (service : Service) (log : Log) (e : Entry) where
 
   -- A seat whose link is left, and whose client's commands are.
 
-  pub busy-none : (lends : Lends) (n i : ℕ) → AllLawful (IsLawful service) then → LendsSound service log lends → Calm service log e n
-      → ((link : LinkId) (lent : Lent) → lends.owned n ≡ Some link → lends.links link.0 ≡ Some lent → Leaves link log e) → Busy lends n i
-      → replied service n i then ≡ None
-  busy-none lends n i lawful sound calm leaves busy = elim busy [
-    | Waits ask is same unowned waits ↦ unbegun ask is same
-    | Logs ask is same link lent owns at stage ↦ unbegun ask is same
-    | On unasked link lent command owns at stage has tag ↦ (let row = sound.rows link lent at in let owner = sound.owned n link owns in
-        let mine = owner-turn service log lends link lent n row.turn.client row.owned (cc (some-same lent owner.lent (sym at ∙ owner.there), owner.owner)) in
-        let stands : HandedStands service log n link command = rw mine at (row.command command has) in
-        ap (λ k. replied service n k then) (same-ordinal n i stands.ordinal command.tag tag stands.tag)
-        ∙ still-none n stands.ordinal command.bytes command.first (refused-or-sent service then lawful) stands.asked calm
-        (handed-stays n link lent.backend.account command.sent stands.ordinal stands.carrier
-        (user-there service link row.turn lent.backend.account log row.is_turn row.user) (leaves link lent owns at)))
-  ] where
-    unbegun : (ask : Ask) → lends.asks n ≡ Some ask → ask.ordinal ≡ i → replied service n i then ≡ None
-    unbegun ask is same = (let stands = sound.asks n ask is in
-        ap (λ k. replied service n k then) (sym same)
-        ∙ still-none n ask.ordinal ask.packets ask.first (refused-or-sent service then lawful) stands.asked calm (Unbegun stands.unsent))
+  pub busy-none : (lends : Lends) (n i : ℕ) → AllLawful (IsLawful service) then → LendsSound service log lends → Calm service log e n → ((link : LinkId)
+      (lent : Lent) → lends.owned n ≡ Some link → lends.links link.0 ≡ Some lent → Leaves link log e) → Busy lends n i → replied service n i then ≡ None
+  busy-none lends n i lawful sound calm leaves busy = (let unbegun : (ask : Ask) → lends.asks n ≡ Some ask → ask.ordinal ≡ i
+      → replied service n i then ≡ None = λ ask is same. (let stands = sound.asks n ask is in ap (λ k. replied service n k then) (sym same)
+      ∙ still-none n ask.ordinal ask.packets ask.first (refused-or-sent service then lawful) stands.asked calm (Unbegun stands.unsent)) in elim busy [
+        | Waits ask is same unowned waits ↦ unbegun ask is same
+        | Logs ask is same link lent owns at stage ↦ unbegun ask is same
+        | On unasked link lent command owns at stage has tag ↦ (let row = sound.rows link lent at in let owner = sound.owned n link owns in
+            let mine = owner-turn service log lends link lent n row.turn.client row.owned (cc (
+              some-same lent owner.lent (sym at ∙ owner.there),
+              owner.owner,
+            )) in let stands : HandedStands service log n link command = rw mine at (row.command command has) in ap
+            (λ k. replied service n k then) (same-ordinal n i stands.ordinal command.tag tag stands.tag)
+            ∙ still-none n stands.ordinal command.bytes command.first (refused-or-sent service then lawful) stands.asked calm
+            (handed-stays n link lent.backend.account command.sent stands.ordinal stands.carrier (user-there service link row.turn lent.backend.account log
+            row.is_turn row.user) (leaves link lent owns at)))
+      ])
 
   pub later-calm : (n arrived : ℕ) → Calm service log e n → Unsent service n arrived log → Unsent service n arrived then
   later-calm n arrived calm unsent i later = grind (arith, common_steps, carrier-same, unrefused-more)
@@ -177,17 +170,15 @@ module _ (service : Service) (log : Log) (e : Entry) where
         (work-here heard.at) none;
   }
 
-  pub unanswered-calm : (n : ℕ) (session : Session) → Calm service log e n → Unsent service n session.client.arrived log
-      → ((user : Account) → session.phase ≡ phase.Working user → replied service n session.client.arrived then ≡ None)
-      → Unanswered (λ i. replied service n i then) session
+  pub unanswered-calm : (n : ℕ) (session : Session) → Calm service log e n → Unsent service n session.client.arrived log → ((user : Account)
+      → session.phase ≡ phase.Working user → replied service n session.client.arrived then ≡ None) → Unanswered (λ i. replied service n i then) session
   unanswered-calm n session calm unsent none = unanswered-at session.phase (λ i. replied service n i then) session.client.arrived
       (λ i less. (let parts = later-calm n session.client.arrived calm unsent i less in unsent-still service n i then parts.0 parts.1)) none
 
-  pub seat-stays : (n : ℕ) (seat : Seat) → AllLawful (IsLawful service) then → SeatStands service log n seat
-      → (Unsent service n seat.session.client.arrived log → Unsent service n seat.session.client.arrived then) → Leaves seat.link log e
-      → ((user : Account) → seat.session.phase ≡ phase.Working user → replied service n seat.session.client.arrived then ≡ None)
-      → SeatStands service then n seat
-  seat-stays n seat lawful stands later leaves none = record {
+  pub seat-stays : (n : ℕ) (seat : Seat) → AllLawful (IsLawful service) then → SeatStands service log n seat → (Unsent service n seat.session.client.arrived log
+      → Unsent service n seat.session.client.arrived then) → Leaves seat.link log e → ((user : Account) → seat.session.phase ≡ phase.Working user
+      → replied service n seat.session.client.arrived then ≡ None) → SeatStands service then n seat
+  seat-stays n seat lawful stands later leaves none = (let here : Leaves stands.came.link log e = rw stands.link leaves in record {
     came = stands.came;
     is_came = arrival-stays n log (e ∷ []) stands.came stands.is_came;
     link = stands.link;
@@ -197,9 +188,7 @@ module _ (service : Service) (log : Log) (e : Entry) where
     state = elim stands.state [
       | inl heard ↦ inl (record {
         unlost = here.lost ∙ heard.unlost;
-        at = rw here.read
-            (rw here.written
-            (agree-seat (replies-agree n stands.came seat.session lawful heard none) heard.at));
+        at = rw here.read (rw here.written (grind (arith, common_steps, agree-both, (replies-agree n stands.came seat.session lawful heard none))));
         unsent = later heard.unsent;
       })
       | inr ended ↦ inr (record {
@@ -208,9 +197,7 @@ module _ (service : Service) (log : Log) (e : Entry) where
         told = grind (arith, common_steps, due-lost);
       })
     ];
-  } where
-    here : Leaves stands.came.link log e
-    here = rw stands.link leaves
+  })
 
   pub seat-calm : (n : ℕ) (seat : Seat) → AllLawful (IsLawful service) then → SeatStands service log n seat → Calm service log e n → Leaves seat.link log e
       → ((user : Account) → seat.session.phase ≡ phase.Working user → replied service n seat.session.client.arrived then ≡ None)

@@ -1,44 +1,22 @@
 -- A session that goes on never counts fewer messages, and what is read of a link is short.
-use Rattle.router_world.proofs.Names.{common_steps, ◌≡◌, ◌<◌, ◌≤◌, ◌*◌, ℕ, zero, suc, true, [], ◌∷◌, ◌++◌, length, Option, Some, None, ap, arith}
-use Rattle.router_world.proofs.Names.{length-append, inl, LinkId, Log, read_of, AllLawful, lawful-each, Fits, bytes-same, bytes-other, Entry, Framed}
-use Rattle.router_world.proofs.Names.{Response, Account, ClientStep, counted, Setup, Asked, Session, logs_in_as, arrives_as, step_by, step, turned}
-use Rattle.router_world.proofs.Names.{left_to_say, ◌≢◌, is_some, List, sym, ◌∙◌, append-nil, Split, split, Arrival, arrival_of, is_served, Talk, heard_more}
-use Rattle.router_world.proofs.Names.{account_in, account, messages_of, Phase, Turned, said_in, Lends, carrier_of, Answer, Service, talk_with, replied}
-use Rattle.router_world.proofs.Names.{first_open, SeatAt, IsIdle, Unanswered, work_said, subst}
-use Rattle.promises.proofs.Staying.{account-more}
-use Rattle.client_talk.specs.Going.{goes_on}
-use Rattle.client_talk.specs.Events.{kept_with}
+use Rattle.router_world.proofs.Names.{common_steps, ◌≡◌, ◌<◌, ◌≤◌, ◌*◌, ℕ, zero, suc, true, [], ◌++◌, length, Option, Some, None, ap, arith, length-append, inl}
+use Rattle.router_world.proofs.Names.{LinkId, Log, read_of, AllLawful, lawful-each, Fits, bytes-same, bytes-other, Framed, Account, Setup, Session, step}
+use Rattle.router_world.proofs.Names.{turned, left_to_say, ◌≢◌, is_some, List, sym, ◌∙◌, append-nil, Split, split, Arrival, arrival_of, is_served, Talk}
+use Rattle.router_world.proofs.Names.{heard_more, account_in, account, messages_of, Phase, Turned, said_in, Lends, carrier_of, Answer, Service, talk_with}
+use Rattle.router_world.proofs.Names.{replied, first_open, SeatAt, IsIdle, Unanswered, work_said, subst}
+use Rattle.{promises.proofs.Staying.account-more, client_talk.specs.Going.goes_on, client_talk.specs.Events.kept_with}
 use Rattle.router_world.proofs.SeatsAnswers.{open-from, commands-more, taken-nothing, SeatTurned}
-use Rattle.router_world.proofs.Seats.{said-seat}
-use Rattle.router_world.proofs.Sound.{AreFormed, LendsSound, Free, Gone, Serves}
+use Rattle.router_world.proofs.{Seats.said-seat, Sound.AreFormed, Sound.LendsSound, Sound.Free, Sound.Gone, Sound.Serves, Apart.no-some}
 use Rattle.router_world.proofs.Hands.{Next, Works, Ends, later-work, ending-more, free-gone, ends-so, next-turned}
-use Rattle.router_world.proofs.Apart.{no-some}
 use Rattle.client_talk.specs.declared.session.Phase.TheVariants as phase
-
-counted-more : (n : ℕ) → n ≤ counted n
-counted-more n = grind (arith, common_steps)
 
 abbrev count : Session → ℕ
 count session = session.client.arrived
 
-logs-more : (o : Option Account) (response : Response) (first : ℕ) (session : Session)
-    → count session ≤ count (logs_in_as o response first session).session
-logs-more o response first session = grind (arith, common_steps)
-
-arrives-more : (asked : Asked) (message : Framed) (ordinal first : ℕ) (session : Session)
-    → count session ≤ count (arrives_as asked message ordinal first session).session
-arrives-more asked message ordinal first session = grind (arith, common_steps, counted-more)
-
-says-more : (setup : Setup) (says : ClientStep) (session : Session) → count session ≤ count (step_by setup says session).session
-says-more setup says session = grind (arith, common_steps, logs-more, arrives-more)
-
-step-more : (setup : Setup) (session : Session) → count session ≤ count (step setup session).session
-step-more setup session = grind (arith, common_steps, says-more)
-
 pub goes-more : (n : ℕ) (setup : Setup) (session : Session) → count session ≤ count (goes_on n setup session).session
 unfolding goes_on
 goes-more zero setup session = omega arith
-goes-more (suc n) setup session = grind (arith, common_steps, step-more, (goes-more n setup (step setup session).session))
+goes-more (suc n) setup session = grind (arith, common_steps, (goes-more n setup (step setup session).session))
 
 pub turned-more : (setup : Setup) (session : Session) → session.client.arrived ≤ (turned setup session).session.client.arrived
 turned-more setup session = goes-more (suc (left_to_say session)) setup session
@@ -47,12 +25,10 @@ turned-more setup session = goes-more (suc (left_to_say session)) setup session
 record IsShort (link : LinkId) (log : Log) : Type 0 where
   short : length (read_of link log) ≤ 65536 * length log
 
-short-more : (link : LinkId) (log : Log) (e : Entry) → Fits log e → IsShort link log → IsShort link (log ++ e ∷ [])
-short-more link log e fits was = grind (arith, common_steps, length-append, bytes-same, bytes-other)
-
 pub read-short : (link : LinkId) (log : Log) → AllLawful Fits log → length log < 281474976710656 → length (read_of link log) < 18446744073709551616
-read-short link log told few = (let all : IsShort link log = lawful-each Fits (IsShort link) log (short-more link)
-    (record { short = omega arith }) told in let most : length (read_of link log) ≤ 65536 * length log = all.short in omega arith)
+read-short link log told few = (let all : IsShort link log = lawful-each Fits (IsShort link) log
+    (grind (arith, common_steps, length-append, bytes-same, bytes-other)) (record { short = omega arith }) told in
+    let most : length (read_of link log) ≤ 65536 * length log = all.short in omega arith)
 
 -- Bytes of a client come, and its session goes on.
 
@@ -73,10 +49,10 @@ pub record Coming (service : Service) (log : Log) (n : ℕ) (came : Arrival) (ta
   pub idle : is_some service.setup.target ≡ true → lends.waiting ≡ []
   pub formed : AreFormed service log
 
-says-turned : {service : Service} {log : Log} {n : ℕ} {came : Arrival} {talk : Talk} {bytes written : List ℕ} {session old : Session} {lends : Lends} {next : Turned}
-    → Coming service log n came talk bytes lends → Free lends n → (next.session.phase ≡ phase.LoggingIn → Gone lends n)
-    → ((user : Account) → old.phase ≢ phase.Working user) → session.client.arrived ≤ next.session.client.arrived
-    → (next.query ≢ None → session.client.arrived < next.session.client.arrived) → ((i : ℕ) → session.client.arrived < i → carrier_of n i log ≡ None)
+says-turned : {service : Service} {log : Log} {n : ℕ} {came : Arrival} {talk : Talk} {bytes written : List ℕ} {session old : Session} {lends : Lends}
+    {next : Turned} → Coming service log n came talk bytes lends → Free lends n → (next.session.phase ≡ phase.LoggingIn → Gone lends n) → ((user : Account)
+    → old.phase ≢ phase.Working user) → session.client.arrived ≤ next.session.client.arrived → (next.query ≢ None
+    → session.client.arrived < next.session.client.arrived) → ((i : ℕ) → session.client.arrived < i → carrier_of n i log ≡ None)
     → SeatTurned (heard_more talk bytes) (λ i. replied service n i log) written old next → Says service log n came written session lends next
 says-turned coming free entering unworking grows later unsent at = grind (arith, common_steps, next-turned)
 
@@ -91,24 +67,22 @@ module _ {reply : ℕ → Option Answer} {written : List ℕ} where
   work-of-query at some = grind (arith, common_steps)
 
   first-query : {talk : Talk} {session old : Session} {next : Turned} {now : Talk} {bytes : List ℕ} → session.phase ≡ phase.LoggingIn
-      → SeatAt talk reply bytes session → SeatTurned now reply written old next → next.query ≢ None
-      → session.client.arrived < next.session.client.arrived
+      → SeatAt talk reply bytes session → SeatTurned now reply written old next → next.query ≢ None → session.client.arrived < next.session.client.arrived
   first-query {talk} {session} {next} {now} {bytes} is seat at some = (let work = work-of-query at some in
       let none : session.client.arrived ≡ 0 = (rw is at seat.at).arrived in
       let from : 1 ≤ next.session.client.arrived = open-from now.setup reply 1 (messages_of now).messages
       (record { ordinal = next.session.client.arrived; message = work.message }) work.work in omega arith)
 
-  later-query : {talk : Talk} {old : Session} {user : Account} {next : Turned} (bytes : List ℕ) (session : Session)
-      → IsIdle talk reply user session.client → SeatTurned (heard_more talk bytes) reply written old next → next.query ≢ None
-      → session.client.arrived < next.session.client.arrived
+  later-query : {talk : Talk} {old : Session} {user : Account} {next : Turned} (bytes : List ℕ) (session : Session) → IsIdle talk reply user session.client
+      → SeatTurned (heard_more talk bytes) reply written old next → next.query ≢ None → session.client.arrived < next.session.client.arrived
   later-query {talk} {user} {next} bytes session idle at some = (let work = work-of-query at some in
-      let messages : (messages_of (heard_more talk bytes)).messages ≡ idle.taken.past ++ (split talk.setup.limit 0 (session.client.framer.kept ++ bytes)).messages =
-      ap (λ c. (split talk.setup.limit 0 c).messages) (commands-more talk bytes user idle.account) ∙ ap (λ (s : Split). s.messages) (idle.taken.whatever bytes) in
+      let messages : (messages_of (heard_more talk bytes)).messages ≡ idle.taken.past ++ (split talk.setup.limit 0
+      (session.client.framer.kept ++ bytes)).messages = ap (λ c. (split talk.setup.limit 0 c).messages) (commands-more talk bytes user idle.account)
+      ∙ ap (λ (s : Split). s.messages) (idle.taken.whatever bytes) in
       let all : first_open talk.setup reply 1 idle.taken.past ≡ None = ap (first_open talk.setup reply 1) (sym (append-nil idle.taken.past))
       ∙ sym (ap (λ (s : Split). first_open talk.setup reply 1 s.messages) (taken-nothing idle.taken idle.none)) ∙ idle.all in
-      let more : length idle.taken.past < next.session.client.arrived = later-work (heard_more talk bytes) reply idle.taken.past
-      (split talk.setup.limit 0 (session.client.framer.kept ++ bytes)).messages
-      (record { ordinal = next.session.client.arrived; message = work.message }) messages all work.work in
+      let more : length idle.taken.past < next.session.client.arrived = later-work (heard_more talk bytes) reply idle.taken.past (split talk.setup.limit 0
+      (session.client.framer.kept ++ bytes)).messages (record { ordinal = next.session.client.arrived; message = work.message }) messages all work.work in
       let count : session.client.arrived ≡ length idle.taken.past = idle.taken.arrived in omega arith)
 
   never-entering : {session : Session} (talk : Talk) (more : List ℕ) (user : Account) → account talk ≡ Some user
@@ -117,10 +91,9 @@ module _ {reply : ℕ → Option Answer} {written : List ℕ} where
       no-some (ap (account_in (heard_more talk more)) enters.waits) (account-more talk more user known))
 
 pub said-by : (service : Service) (log : Log) (n : ℕ) (came : Arrival) (talk : Talk) (bytes written : List ℕ) (session : Session) (lends : Lends)
-    → Coming service log n came talk bytes lends → SeatAt talk (λ i. replied service n i log) written session
-    → Unanswered (λ i. replied service n i log) session → ((i : ℕ) → session.client.arrived < i → carrier_of n i log ≡ None) → (at : Phase)
-    → session.phase ≡ at → Serves at lends n session.client.arrived → talk.setup ≡ service.setup
-    → Says service log n came written session lends (said_in at talk.setup bytes session)
+    → Coming service log n came talk bytes lends → SeatAt talk (λ i. replied service n i log) written session → Unanswered (λ i. replied service n i log)
+    session → ((i : ℕ) → session.client.arrived < i → carrier_of n i log ≡ None) → (at : Phase) → session.phase ≡ at → Serves at lends n session.client.arrived
+    → talk.setup ≡ service.setup → Says service log n came written session lends (said_in at talk.setup bytes session)
 said-by service log n came talk bytes written session lends coming seat unanswered unsent at is serves same = by at is serves where
   reply : ℕ → Option Answer
   reply i = replied service n i log
@@ -144,11 +117,10 @@ said-by service log n came talk bytes written session lends coming seat unanswer
       says-turned coming (free-gone lends n gone) (λ entering. gone) (λ user working. (let no' : phase.LoggingIn ≡ phase.Working user = sym is ∙ working in cc))
       (turned-more talk.setup (kept_with bytes session)) (first-query is seat at) unsent at)
   by (phase.Idle user) is free = (let idle : IsIdle talk reply user session.client = rw is at seat.at in
-      let at : SeatTurned (heard_more talk bytes) reply written session next = said
-      (phase.Idle user) is (λ ends. (let no' : phase.Idle user ≡ phase.Ending = sym is ∙ ends in cc)) in
-      says-turned coming free (λ entering. absurd (never-entering talk bytes user idle.account at.seat entering)) (λ other working.
-      (let no' : phase.Idle user ≡ phase.Working other = sym is ∙ working in cc))
-      (turned-more talk.setup (kept_with bytes session)) (later-query bytes session idle at) unsent at)
+      let at : SeatTurned (heard_more talk bytes) reply written session next = said (phase.Idle user) is (λ ends.
+      (let no' : phase.Idle user ≡ phase.Ending = sym is ∙ ends in cc)) in says-turned coming free (λ entering. absurd
+      (never-entering talk bytes user idle.account at.seat entering)) (λ other working. (let no' : phase.Idle user ≡ phase.Working other = sym is
+      ∙ working in cc)) (turned-more talk.setup (kept_with bytes session)) (later-query bytes session idle at) unsent at)
   by (phase.Working user) is busy = record {
     seat = rw coming.now (said (phase.Working user) is (λ ends. (let no' : phase.Working user ≡ phase.Ending = sym is ∙ ends in cc))).seat;
     grows = omega arith;
@@ -157,5 +129,6 @@ said-by service log n came talk bytes written session lends coming seat unanswer
   by phase.Ending is gone = record {
     seat = over is;
     grows = omega arith;
-    next = rw is (Ends None (ends-so service log n came written session lends coming.sound (inl coming.unclosed) coming.is (free-gone lends n gone) is (over is)));
+    next = rw is (Ends None
+        (ends-so service log n came written session lends coming.sound (inl coming.unclosed) coming.is (free-gone lends n gone) is (over is)));
   }

@@ -1,34 +1,23 @@
 -- The router waits at rest, and each entry of its own keeps the promises.
-use Rattle.router_world.proofs.Names.{common_steps, ◌≡◌, ◌⊎◌, ℕ, Bool, true, false, is_some, nat_eq, List, [], ◌∷◌, length, drop, Option, Some, None}
-use Rattle.router_world.proofs.Names.{refl, sym, ◌∙◌, ap, inl, inr, ClientNo, LinkId, Log, IsOpen, write_dry, BackendState, left_by, left, Handed}
-use Rattle.router_world.proofs.Names.{Phase, Lent, Service, none-if, Seat, Tables, sends, reads, ◌≢◌, ◌<◌, ◌++◌, take}
-use Rattle.router_world.proofs.Names.{append-nil, arith, Tag, For, spelling-some, In, Work, work_of, some-same, begun, asks}
-use Rattle.router_world.proofs.Names.{written_of, AllLawful, Fits, Entry, nat_eq-false, Account, is_begun, Arrival, arrival_of, Talk, is_query, Answer}
-use Rattle.router_world.proofs.Names.{talk_with, is_here, Owner, owner_of, user_on, has_ended, RestsAt, replied, work_said, tables_after}
+use Rattle.router_world.proofs.Names.{common_steps, ◌≡◌, ◌⊎◌, ℕ, Bool, true, false, is_some, nat_eq, List, [], ◌∷◌, length, drop, Option, Some, None, refl, sym}
+use Rattle.router_world.proofs.Names.{◌∙◌, ap, inl, inr, ClientNo, LinkId, Log, IsOpen, write_dry, BackendState, left_by, left, Handed, Phase, Lent, Service}
+use Rattle.router_world.proofs.Names.{none-if, Seat, Tables, sends, reads, ◌≢◌, ◌<◌, ◌++◌, take, append-nil, arith, Tag, For, spelling-some, In, Work, work_of}
+use Rattle.router_world.proofs.Names.{some-same, begun, asks, written_of, AllLawful, Fits, Entry, nat_eq-false, Account, is_begun, Arrival, arrival_of, Talk}
+use Rattle.router_world.proofs.Names.{is_query, Answer, talk_with, is_here, Owner, owner_of, user_on, has_ended, RestsAt, replied, work_said, tables_after}
 use Rattle.router_world.proofs.Names.{IsOurs, append_assoc, is_link, wrote_bytes, bool_cases, bytes-same, bytes-other, bytes-idle, IsNew, Wrote, arrival_in}
-use Rattle.router_world.proofs.Names.{IsPrefix, due, IsServed, IsLawful, same-link, lawful-more, Framed, Results, Setup, Form, Forms, message_of}
-use Rattle.router_world.proofs.Names.{form_of, Keeps, turns, Command}
-use Rattle.std.proofs.lemmas.Bool.{not-true}
-use Rattle.mx_base.specs.declared.tag.Tag.TheVariants.{Own as OwnTag}
-use Rattle.mx_base.specs.Sent.{Sent as ToSend}
-use Rattle.ready_loop.specs.Drained.{read_dry, MayWait}
-use Rattle.client_talk.specs.Sessions.{is_read}
+use Rattle.router_world.proofs.Names.{IsPrefix, due, IsServed, IsLawful, same-link, lawful-more, Framed, Results, Setup, Form, Forms, message_of, form_of}
+use Rattle.router_world.proofs.Names.{Keeps, turns, Command}
+use Rattle.{std.proofs.lemmas.Bool.not-true, std.proofs.lemmas.List.take_all, std.proofs.lemmas.List.take-append-drop, ready_loop.specs.Drained.read_dry}
+use Rattle.{ready_loop.specs.Drained.MayWait, client_talk.specs.Sessions.is_read, packet_frame.specs.Packets.spelling, mx_wire.specs.Moments.moment-more}
+use Rattle.{router_world.proofs.Hands.ended-seat, router_world.proofs.Hands.told-seat, router_world.proofs.Hands.lost-away, router_world.proofs.Hands.work-is}
+use Rattle.mx_base.specs.{declared.tag.Tag.TheVariants.Own as OwnTag, Sent.Sent as ToSend}
 use Rattle.promises.specs.Rest.{IsEnding, Stays, Sent, Full, Waits, IsAnswered, IsBusy, Replies, Blocked, IsKept, IsAtRest}
-use Rattle.std.proofs.lemmas.List.{take_all, take-append-drop}
-use Rattle.packet_frame.specs.Packets.{spelling}
-use Rattle.promises.specs.Closes.{WasToldAll}
-use Rattle.promises.proofs.Growing.{prefix-trans, due-grows}
-use Rattle.mx_wire.specs.Moments.{moment-more}
-use Rattle.router_world.proofs.Hands.{ended-seat, told-seat, lost-away, work-is}
-use Rattle.router_world.proofs.Sound.{Sound, IsAsked, HandedStands, RowStands, Busy, Waits as WaitsForLink, Logs, On, Own, Left, Serves, IsHeard}
-use Rattle.router_world.proofs.Sound.{IsEnded, SeatStands, PartAt, Refused, Covers}
-use Rattle.router_world.proofs.Stepping.{IsQuiet, nobody-waits, done}
-use Rattle.router_world.proofs.Calm.{asks-server}
-use Rattle.router_world.proofs.Frames.{owner-turn, over-no-query}
-use Rattle.router_world.proofs.RowsStanding.{entering-at}
-use Rattle.router_world.proofs.Seats.{WaitsFor, work-here}
-use Rattle.router_world.proofs.Dues.{due-refused}
-use Rattle.router_world.proofs.Lawful.{own-live, is-of, IsOf, OfClient, OfServer, owned-row, of-client, unowned, owner-is, row-user, row-written, row-sound}
+use Rattle.promises.{specs.Closes.WasToldAll, proofs.Growing.prefix-trans, proofs.Growing.due-grows}
+use Rattle.router_world.proofs.Sound.{Sound, IsAsked, HandedStands, RowStands, Busy, Waits as WaitsForLink, Logs, On, Own, Left, Serves, IsHeard, IsEnded}
+use Rattle.router_world.proofs.Sound.{SeatStands, PartAt, Refused, Covers}
+use Rattle.router_world.proofs.{Stepping.IsQuiet, Stepping.nobody-waits, Stepping.done, Calm.asks-server, Frames.owner-turn, Frames.over-no-query}
+use Rattle.router_world.proofs.{RowsStanding.entering-at, Seats.WaitsFor, Seats.work-here, Dues.due-refused}
+use Rattle.router_world.proofs.Lawful.{own-live, is-of, IsOf, OfClient, OfServer, owned-row, of-client, unowned, row-user, row-written, row-sound}
 use Rattle.router_world.proofs.Lawful.{row-enters, row-inside, row-message, row-sends, row-runs, row-commands, asked-spelt, Writes, ToClient, ToServer}
 use Rattle.router_world.proofs.Lawful.{Farewell, writes-so, lawful-entry, comes-of, Was, Now}
 use Rattle.client_talk.specs.declared.session.Phase.TheVariants as phase
@@ -79,10 +68,6 @@ module _ {service : Service} {log : Log} {tables : Tables} (told : AllLawful Fit
   unnumbered : {link : LinkId} (lent : Lent) → tables.lends.links link.0 ≡ Some lent → tables.numbers link.0 ≡ None
   unnumbered {link} lent is = grind (arith, common_steps, none-if)
 
-  row-full : {link : LinkId} (lent : Lent) (l : ToSend) → IsOpen link log → tables.lends.links link.0 ≡ Some lent → left lent.backend ≡ Some l
-      → write_dry link log ≡ true
-  row-full lent l opened is some = grind (arith, common_steps)
-
   -- Each open link is read dry, but that of a client at its end.
   all-read : (link : LinkId) → IsOpen link log → (read_dry link log ≡ true) ⊎ IsEnding service link log
   all-read link opened = by (is-of sound link quiet opened) where
@@ -109,7 +94,7 @@ module _ {service : Service} {log : Log} {tables : Tables} (told : AllLawful Fit
     -- a command there was written whole, or the link takes no more
     whole-or-full : {command : Handed} → lent.backend.command ≡ Some command
         → (command.sent ≡ length command.bytes) ⊎ ((command.sent < length command.bytes) × (write_dry link log ≡ true))
-    whole-or-full {command} has = grind (arith, common_steps, left-some, row-full, row-message)
+    whole-or-full {command} has = grind (arith, common_steps, left-some, row-message)
 
     row-busy : is_begun lent.backend.command ≡ true → IsBusy service.forms lent.backend.account link log
     row-busy begun = (let has = begun-there lent.backend.command begun in let some : has.0.sent ≢ 0 = nat_eq-false has.0.sent 0 has.2 in
@@ -121,7 +106,7 @@ module _ {service : Service} {log : Log} {tables : Tables} (told : AllLawful Fit
     -- a query in work stays there while the login goes on, or as its command
     logs-in : {n i : ℕ} {bytes : List ℕ} {id : ℕ} → lent.backend.stage ≢ In → (asked : IsAsked service n i bytes id log)
         → Stays service.forms n i asked.message lent.backend.account link log
-    logs-in outside asked = grind (arith, common_steps, entering-at, (row-enters row), append-nil, (row-written row), row-full)
+    logs-in outside asked = grind (arith, common_steps, entering-at, (row-enters row), append-nil, (row-written row))
 
     stays-on : {command : Handed} {n i : ℕ} → lent.backend.command ≡ Some command → command.tag ≡ For (record { 0 = n }) i
         → (asked : IsAsked service n i command.bytes command.first log) → Stays service.forms n i asked.message lent.backend.account link log
@@ -147,7 +132,7 @@ module _ {service : Service} {log : Log} {tables : Tables} (told : AllLawful Fit
         is_due = asked.asks.is_due;
         link = link;
         opened = row.opened;
-        owner = grind (arith, common_steps, owner-is);
+        owner = grind (arith, common_steps);
         user = lent.backend.account;
         is_user = row-user row;
         on = stays;
@@ -179,9 +164,8 @@ module _ {service : Service} {log : Log} {tables : Tables} (told : AllLawful Fit
 
     lasts-or-full : (has_ended service client.0 stands.came log ≡ false) ⊎ (write_dry link log ≡ true)
     lasts-or-full = by (ends-or-lasts seat.session.phase) stands.state where
-      by : (seat.session.phase ≡ phase.Ending) ⊎ (seat.session.phase ≢ phase.Ending)
-          → IsHeard service log client.0 stands.came seat.session ⊎ IsEnded service log client.0 stands.came seat.session
-          → (has_ended service client.0 stands.came log ≡ false) ⊎ (write_dry link log ≡ true)
+      by : (seat.session.phase ≡ phase.Ending) ⊎ (seat.session.phase ≢ phase.Ending) → IsHeard service log client.0 stands.came seat.session ⊎ IsEnded service
+          log client.0 stands.came seat.session → (has_ended service client.0 stands.came log ≡ false) ⊎ (write_dry link log ≡ true)
       by (inl ends) state = inr (ending-full client seat opened number is ends)
       by (inr lasts) (inl heard) = inl (lasts-heard service log client.0 seat stands lasts heard)
       by (inr lasts) (inr ended) = absurd (lasts ended.ends)
@@ -318,9 +302,8 @@ keeps-none service = grind (arith, common_steps)
 
 pub keeps-more : (service : Service) (log : Log) (e : Entry) → AllLawful Fits log → Fits log e → Sound service log None (tables_after service.setup log)
     → Covers service (log ++ e ∷ []) → IsOurs service.setup log e → Keeps service log → Keeps service (log ++ e ∷ [])
-keeps-more service log e told fits sound covers ours
-    keeps = (let lawful : AllLawful (IsLawful service) (log ++ e ∷ []) = lawful-more (IsLawful service) log e keeps.lawful
-    (lawful-entry told sound e covers ours) in record {
+keeps-more service log e told fits sound covers ours keeps = (let lawful : AllLawful (IsLawful service) (log ++ e ∷ []) = lawful-more
+    (IsLawful service) log e keeps.lawful (lawful-entry told sound e covers ours) in record {
       served = grind (arith, common_steps, moment-more, served-more);
       lawful = lawful;
       rests = grind (arith, common_steps, lawful-more, rests-entry);

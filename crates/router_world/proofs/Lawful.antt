@@ -1,35 +1,24 @@
 -- Whose an open link is, and that what the router does is lawful.
-use Rattle.router_world.proofs.Names.{common_steps, ◌≡◌, ℕ, zero, suc, List, [], ◌∷◌, ◌++◌, length, slice_get, Option, Some, None, refl, cons_option, sym}
-use Rattle.router_world.proofs.Names.{◌∙◌, ap, subst, LinkId, Log, AllLawful, lawful-each, Fits, IsNew, Entry, Arrival, arrival_in, arrivals, arrival_of}
-use Rattle.router_world.proofs.Names.{some-same, came-names, named-none, arrivals-more, ◌≢◌, true, false, not, cond, inl, inr}
-use Rattle.router_world.proofs.Names.{ClientNo, of_link, written_of, is_open, IsOpen, Framed, Lent, Lends, heard_of, pieces_of, Spoilt}
-use Rattle.router_world.proofs.Names.{standing_on, Turn, Service, turn_of, is_here, Owner, owner_of, owner_for, clients-unowned, Seat, bytes_in}
-use Rattle.router_world.proofs.Names.{standing_said, Tables, ◌+◌, Bool, append_assoc, append-nil, arith, length-append, Opened, OpenFailed, Target, Setup}
-use Rattle.router_world.proofs.Names.{oldest, is_waiting, open_try, open_tries, next_turn, tries-more, tables_after, turn_for, turn_at, turns_behind, turns}
-use Rattle.router_world.proofs.Names.{nat_lt, left_by, command_left}
-use Rattle.router_world.proofs.Names.{closes, awaits, IsOurs, take, Tag, Reply, Wrote, Sent, left, left_in, Parting, reply_sent, seat_sends}
-use Rattle.router_world.proofs.Names.{sends_by, sends, close_of, farewell_of, IsFront, IsFarewell, ◌<◌, nat_eq, drop, For, BackendState, is_begun}
-use Rattle.router_world.proofs.Names.{Handed, IsPrefix, commands_on, Enters, Clean, GoesOn, IsLawful, begun, IsInside, LinkAt, Entering, Inside}
-use Rattle.router_world.proofs.Names.{is_some, ServerId, Address, ServerAt, MayOpen, owner-turn, Traffic, spelling-some, is_served}
-use Rattle.router_world.proofs.Names.{too_many_connections, user_on, was_offered, first_closing, IsClosing, Closed, Standing, Sends, Runs}
-use Rattle.router_world.proofs.Names.{IsMessage, IsHanded, In}
-use Rattle.router_world.proofs.Hands.{away-gone, numbered-seat}
-use Rattle.router_world.proofs.Stepping.{IsQuiet, quiet-closes}
-use Rattle.promises.proofs.Causes.{arrival-as}
-use Rattle.promises.proofs.Clean.{before-loss, pieces-bytes}
-use Rattle.router_world.specs.World.{turn_of as turn_asked}
-use Rattle.mx_base.specs.declared.tag.Tag.TheVariants.{Own as OwnTag}
-use Rattle.std.proofs.lemmas.List.{take-append-drop}
-use Rattle.packet_frame.specs.Packets.{spelling}
-use Rattle.promises.specs.Sends.{Continues, Begins, MaySay}
-use Rattle.router_world.specs.Acts.{target_of}
-use Rattle.promises.specs.Closes.{MayPart, MayClose}
-use Rattle.router_world.proofs.Sound.{SeatStands, RowStands, Gone, Sound, Clients, Servers, Parts, Closes, AtMostOne, Nobody, One, Waiting}
-use Rattle.router_world.proofs.Sound.{Covers, HandedStands, carried_by, AskStands, Own, Left, PartAt, Done, Refused, Offered, Strange, PartStands}
-use Rattle.router_world.proofs.Sound.{CloseStands, IsAsked}
-use Rattle.router_world.proofs.Frames.{user-there}
+use Rattle.router_world.proofs.Names.{common_steps, ◌≡◌, ℕ, zero, suc, List, [], ◌∷◌, ◌++◌, length, slice_get, Option, Some, None, refl, cons_option, sym, ◌∙◌}
+use Rattle.router_world.proofs.Names.{ap, subst, LinkId, Log, AllLawful, lawful-each, Fits, IsNew, Entry, Arrival, arrival_in, arrivals, arrival_of, some-same}
+use Rattle.router_world.proofs.Names.{came-names, named-none, arrivals-more, ◌≢◌, true, false, not, cond, inl, inr, ClientNo, of_link, written_of, is_open}
+use Rattle.router_world.proofs.Names.{IsOpen, Framed, Lent, Lends, heard_of, pieces_of, Spoilt, standing_on, Turn, Service, turn_of, is_here, Owner, owner_of}
+use Rattle.router_world.proofs.Names.{owner_for, clients-unowned, Seat, bytes_in, standing_said, Tables, ◌+◌, Bool, append_assoc, append-nil, arith}
+use Rattle.router_world.proofs.Names.{length-append, Opened, OpenFailed, Target, Setup, oldest, is_waiting, open_try, open_tries, next_turn, tries-more}
+use Rattle.router_world.proofs.Names.{tables_after, turn_for, turn_at, turns_behind, turns, nat_lt, left_by, command_left, closes, awaits, IsOurs, take, Tag}
+use Rattle.router_world.proofs.Names.{Reply, Wrote, Sent, left, left_in, Parting, reply_sent, seat_sends, sends_by, sends, close_of, farewell_of, IsFront}
+use Rattle.router_world.proofs.Names.{IsFarewell, ◌<◌, nat_eq, drop, For, BackendState, is_begun, Handed, IsPrefix, commands_on, Enters, Clean, GoesOn}
+use Rattle.router_world.proofs.Names.{IsLawful, IsInside, Entering, Inside, is_some, ServerId, Address, MayOpen, owner-turn, Traffic, spelling-some, is_served}
+use Rattle.router_world.proofs.Names.{too_many_connections, user_on, was_offered, first_closing, IsClosing, Closed, Standing, Sends, Runs, IsMessage, IsHanded}
+use Rattle.router_world.proofs.Names.{In}
+use Rattle.router_world.proofs.{Hands.away-gone, Hands.numbered-seat, Stepping.IsQuiet, Stepping.quiet-closes, Frames.user-there}
+use Rattle.{promises.proofs.Causes.arrival-as, promises.proofs.Clean.before-loss, promises.proofs.Clean.pieces-bytes, router_world.specs.Acts.target_of}
+use Rattle.{mx_base.specs.declared.tag.Tag.TheVariants.Own as OwnTag, std.proofs.lemmas.List.take-append-drop, packet_frame.specs.Packets.spelling}
+use Rattle.promises.specs.{Sends.Continues, Sends.Begins, Sends.MaySay, Closes.MayPart, Closes.MayClose}
+use Rattle.router_world.proofs.Sound.{RowStands, Gone, Sound, Clients, Servers, Parts, Closes, AtMostOne, Nobody, One, Waiting, Covers, HandedStands, AskStands}
+use Rattle.router_world.proofs.Sound.{Own, Left, PartAt, Done, Refused, Offered, Strange, PartStands, CloseStands, IsAsked}
 use Rattle.router_world.proofs.RowsStanding.{standing-entering, commands-inside, standing-clean, standing-sends, standing_by, standing-inside, begun-some}
-use Rattle.router_world.proofs.RowsStanding.{said-written, said-at, entering-at, standing-runs}
+use Rattle.router_world.proofs.RowsStanding.{said-at, entering-at, standing-runs}
 use Rattle.client_talk.specs.declared.session.Phase.TheVariants as phase
 
 -- the k-th of a list with one more at its end
@@ -56,31 +45,31 @@ module _ (log : Log) (e : Entry) (fits : Fits log e) where
   arrived : (k : ℕ) (came : Arrival) → slice_get (arrivals (log ++ e ∷ [])) k ≡ Some came → Place (arrivals log) (arrival_in log e) k came
   arrived k came is = grind (arith, common_steps, arrivals-more, place-of)
 
-  new-link : (came : Arrival) → arrival_in log e ≡ Some came → IsNew came.link log
-  new-link came is = grind (arith, common_steps, some-same)
-
-  apart : (k : ℕ) (came other : Arrival) → slice_get (arrivals log) k ≡ Some came → arrival_in log e ≡ Some other → came.link ≡ other.link → ⊥
-  apart k came other is new same = grind (arith, common_steps, arrival-as, came-names, named-none, new-link)
-
   once-step : Once log → Once (log ++ e ∷ [])
-  once-step before k j came other one two same = grind (arith, common_steps, apart, (arrived k came one), (arrived j other two))
+  once-step before k j came other one two same = grind (
+    arith,
+    common_steps,
+    arrival-as,
+    came-names,
+    named-none,
+    some-same,
+    (arrived k came one),
+    (arrived j other two),
+  )
 
   pub comes-of : (n : ℕ) (came : Arrival) → arrival_of n (log ++ e ∷ []) ≡ Some came → Comes log e n came
   comes-of zero came is = cc
-  comes-of (suc n) came is = grind (arith, common_steps, new-link, Was, Now, (arrived n came is))
+  comes-of (suc n) came is = grind (arith, common_steps, some-same, Was, Now, (arrived n came is))
 
 -- A link says whose it is.
 module _ (log : Log) (told : AllLawful Fits log) where
-  once : Once log
+  pub once : Once log
   once = lawful-each Fits Once log once-step (λ k j came other one two same. cc) told
-
-  pub same-client : (n m : ℕ) (came other : Arrival) → arrival_of n log ≡ Some came → arrival_of m log ≡ Some other → came.link ≡ other.link → n ≡ m
-  same-client n m came other one two same = grind (arith, common_steps, once)
 
   -- so what is said of the one is said of the other
   pub of-client : (P : ℕ → Arrival → Type 0) {n m : ℕ} {came other : Arrival} → arrival_of n log ≡ Some came → arrival_of m log ≡ Some other
       → came.link ≡ other.link → P n came → P m other
-  of-client P {n} {m} {came} {other} one two same is = grind (arith, common_steps, same-client, some-same)
+  of-client P {n} {m} {came} {other} one two same is = grind (arith, common_steps, once, some-same)
 
   -- A client's link was opened for no command.
   pub unowned : (service : Service) {link : LinkId} (n : ℕ) (came : Arrival) → arrival_of n log ≡ Some came → came.link ≡ link → turn_of service link log ≡ None
@@ -95,9 +84,6 @@ pub record IsLive (log : Log) (tables : Tables) (n : ℕ) : Type 0 where
   pub lasts : seat.session.phase ≢ phase.Ending
   pub here : is_here n log ≡ true
 
-seat-here : (service : Service) (log : Log) (n : ℕ) (seat : Seat) → SeatStands service log n seat → seat.session.phase ≢ phase.Ending → is_here n log ≡ true
-seat-here service log n seat stands lasts = grind (arith, common_steps)
-
 pub data IsOf (tables : Tables) (link : LinkId) : Type 0 where
   OfClient : (client : ClientNo) (seat : Seat) → tables.numbers link.0 ≡ Some client → tables.seats client.0 ≡ Some seat → seat.link ≡ link → IsOf tables link
   OfServer : (lent : Lent) → tables.lends.links link.0 ≡ Some lent → IsOf tables link
@@ -106,9 +92,8 @@ module _ {service : Service} {log : Log} {tables : Tables} (sound : Sound servic
   pub live-here : (n : ℕ) → (Gone tables.lends n → ⊥) → IsLive log tables n
   live-here n live = elim (tables.seats n) as (λ o. tables.seats n ≡ o → IsLive log tables n) [
     | None ↦ λ at. absurd (live (away-gone tables.lends n (sound.away n at)))
-    | Some seat ↦ λ at. (let sits = sound.seats n seat at in
-        let lasts : seat.session.phase ≢ phase.Ending = λ ends. live (rw ends at sits.serves) in
-        record { seat = seat; is = at; lasts = lasts; here = seat-here service log n seat sits.stands lasts })
+    | Some seat ↦ λ at. (let sits = sound.seats n seat at in let lasts : seat.session.phase ≢ phase.Ending = λ ends. live (rw ends at sits.serves) in
+        record { seat = seat; is = at; lasts = lasts; here = grind (arith, common_steps) })
   ] refl
 
   -- the client of a link to a server that is its own
@@ -141,9 +126,6 @@ pub asked-spelt : {service : Service} {n i : ℕ} {bytes : List ℕ} {id : ℕ} 
 asked-spelt asked = grind (arith, common_steps)
 
 module _ {service : Service} {log : Log} {lends : Lends} {link : LinkId} {lent : Lent} (row : RowStands service log lends link lent) where
-  pub owner-is : (message : Framed) (due : Log) → owner_of service link log ≡ Some (owner_for service row.turn.client message due)
-  owner-is message due = grind (arith, common_steps)
-
   pub row-user : user_on service link log ≡ Some lent.backend.account
   row-user = grind (arith, common_steps, user-there)
 
@@ -158,13 +140,11 @@ module _ {service : Service} {log : Log} {lends : Lends} {link : LinkId} {lent :
 
   -- it can be used
   pub row-sound : row_standing ≢ Spoilt
-  row-sound is = elim row.at [
+  row-sound is = (let unspoilt : (command : Option Handed) → standing_by command ≢ Spoilt = λ command is. grind (arith, common_steps) in elim row.at [
     | Entering at ↦ cc (row-standing, is, standing-entering service.forms lent.backend.account (heard_of link log) (pieces_of link log) lent.backend at)
     | Inside at ↦ unspoilt lent.backend.command
         (sym (row-standing ∙ standing-inside service.forms lent.backend.account (heard_of link log) (pieces_of link log) lent.backend at) ∙ is)
-  ] where
-    unspoilt : (command : Option Handed) → standing_by command ≢ Spoilt
-    unspoilt command is = grind (arith, common_steps)
+  ])
 
   -- while the login goes on there
   pub row-enters : lent.backend.stage ≢ In → row_standing ≡ Enters
@@ -175,18 +155,13 @@ module _ {service : Service} {log : Log} {lends : Lends} {link : LinkId} {lent :
     user = lent.backend.account;
     is_user = row-user;
     sound = row-sound;
-    front = rw row-written
-        (said-at service.forms lent.backend.account (heard_of link log) (pieces_of link log) lent.backend k row.at some);
+    front = rw row-written (said-at service.forms lent.backend.account (heard_of link log) (pieces_of link log) lent.backend k row.at some);
   }
 
   -- a command on it
   module _ {command : Handed} (has : lent.backend.command ≡ Some command) where
-    inside-with : LinkAt service.forms lent.backend.account (heard_of link log) (pieces_of link log) lent.backend
-        → IsInside service.forms lent.backend.account (heard_of link log) (pieces_of link log) lent.backend
-    inside-with h0 = grind (arith, common_steps)
-
     pub row-inside : IsInside service.forms lent.backend.account (heard_of link log) (pieces_of link log) lent.backend
-    row-inside = inside-with row.at
+    row-inside = grind (arith, common_steps)
 
     pub row-message : IsMessage service.forms command
     row-message = subst (IsHanded service.forms) has row-inside.command
@@ -195,8 +170,7 @@ module _ {service : Service} {log : Log} {lends : Lends} {link : LinkId} {lent :
     row-clean unsent = grind (arith, common_steps, row-inside, row-standing, standing-clean)
 
     pub row-sends : 0 < command.sent → command.sent < length command.bytes → row_standing ≡ Sends
-    row-sends some less = row-standing
-        ∙ standing-sends service.forms lent.backend.account (heard_of link log) (pieces_of link log) lent.backend command
+    row-sends some less = row-standing ∙ standing-sends service.forms lent.backend.account (heard_of link log) (pieces_of link log) lent.backend command
         (record { inside = row-inside; is = has; some = some }) less
 
     pub row-runs : command.sent ≡ length command.bytes → row_standing ≡ Runs
@@ -243,16 +217,14 @@ module _ (service : Service) (log : Log) (e : Entry) where
 
   -- The command of an open is the next of the service.
   pub next-turn : (turn : Turn) → turn_at before e ≡ turn ∷ [] → Covers service (log ++ e ∷ []) → next_turn service log ≡ Some turn
-  next-turn turn at covers = (let counts : length (turns service.setup log) ≡ length (open_tries log) =
-      (let both = counts-both in let now = covers.counts in let one = ap length at in let try = tries-one before turn e at in omega arith) in
-      cc (
+  next-turn turn at covers = (let counts : length (turns service.setup log) ≡ length (open_tries log) = (let both = counts-both in let now = covers.counts in
+      let one = ap length at in let try = tries-one before turn e at in omega arith) in cc (
         counts,
         covers.is,
         turns-more,
         at,
         append_assoc (turns service.setup log) (turn ∷ []) covers.rest,
-        get-behind
-            (turns service.setup log) covers.rest turn,
+        get-behind (turns service.setup log) covers.rest turn,
       ))
 
 -- The open that the router asks for is for the one client that waits.
@@ -267,24 +239,17 @@ pub awaits-so : (setup : Setup) (tables : Tables) (target : Target) → awaits s
     → (closes tables ≡ false) × (is_waiting tables.lends.waiting ≡ true) × (target_of setup.target ≡ Some target)
 awaits-so setup tables target is = grind (arith, common_steps)
 
-at-target : (o : Option ServerAt) (server : ServerId) (address : Address) → target_of o ≡ Some (record { server = server; address = address })
-    → o ≡ Some (record { server = server; address = address })
-at-target o server address is = grind (arith, common_steps, some-same)
-
 one-waits : (waiting : List ClientNo) → AtMostOne waiting → is_waiting waiting ≡ true → (client : ClientNo) × (waiting ≡ client ∷ [])
 one-waits waiting h1 is = grind (arith, common_steps)
 
 pub opens-for : (service : Service) (log : Log) (tables : Tables) (target : Target) (e : Entry) → Sound service log None tables
     → awaits service.setup tables ≡ Some target → turn_at tables e ≡ turn_for (oldest tables.lends.waiting) tables.lends.asks → IsFor service log tables e
-opens-for service log tables target e sound awaits
-    at = (let one = one-waits tables.lends.waiting sound.lends.one_waits (awaits-so service.setup tables target awaits).1 in
-    let waiting = sound.lends.waits one.0 one.1 in
-    record {
+opens-for service log tables target e sound awaits at = (let one = one-waits tables.lends.waiting sound.lends.one_waits
+    (awaits-so service.setup tables target awaits).1 in let waiting = sound.lends.waits one.0 one.1 in record {
       client = one.0;
       waits = one.1;
       waiting = waiting;
-      turn = at ∙ ap (λ w. turn_for (oldest w) tables.lends.asks) one.1
-          ∙ ap (turn_asked one.0) waiting.asks;
+      turn = grind (arith, common_steps);
     })
 
 -- Whose link a write of the router is on, and what it writes.
@@ -373,9 +338,6 @@ left-at backend l is = by backend.own refl is where
 front-of : (bytes : List ℕ) (sent k : ℕ) → (take sent bytes ++ take k (drop sent bytes)) ++ drop k (drop sent bytes) ≡ bytes
 front-of bytes sent k = grind (arith, common_steps, take-append-drop)
 
-carried-there : (link : LinkId) (sent : ℕ) (other : LinkId) → carried_by link sent ≡ Some other → other ≡ link
-carried-there link sent other at = grind (arith, common_steps, some-same)
-
 module _ {service : Service} {log : Log} {tables : Tables} {link : LinkId} {lent : Lent} (sound : Sound service log None tables)
     (row : RowStands service log tables.lends link lent) where
   may-send : (command : Handed) (k : ℕ) → lent.backend.own ≡ [] → lent.backend.command ≡ Some command → command.sent < length command.bytes
@@ -385,17 +347,16 @@ module _ {service : Service} {log : Log} {tables : Tables} {link : LinkId} {lent
     due = stands.asked.due;
     asks = stands.asked.asks;
     form = stands.asked.form;
-    owner = owner-is row stands.asked.message stands.asked.due;
+    owner = grind (arith, common_steps);
     user = lent.backend.account;
     is_user = row.user;
     logged_in = record {
       said = inside.said;
       rest = inside.past ++ inside.part;
       is = inside.is;
-      written = subst (IsPrefix inside.said) (sym (row-written row))
-          (said-written service.forms lent.backend.account (heard_of link log) (pieces_of link log) lent.backend inside none);
+      written = subst (IsPrefix inside.said) (sym (row-written row)) (grind (arith, common_steps, append-nil, (heard_of link log), (pieces_of link log)));
     };
-    elsewhere = λ other at. carried-there link command.sent other (sym stands.carrier ∙ at);
+    elsewhere = λ other at. grind (arith, common_steps, some-same, (sym stands.carrier ∙ at));
     follows = follows command.sent refl;
   }) where
     bytes : List ℕ
@@ -416,12 +377,10 @@ module _ {service : Service} {log : Log} {tables : Tables} {link : LinkId} {lent
     follows : (sent : ℕ) → command.sent ≡ sent
         → Continues (For (record { 0 = row.turn.client }) stands.ordinal) bytes (spelling stands.asked.message.first stands.asked.message.payload)
         (is_here row.turn.client log) (commands_on lent.backend.account link log) (row_standing row)
-    follows zero unsent = Begins (here unsent) (row-clean row has unsent)
-        (record {
-          rest = drop k (drop command.sent command.bytes);
-          is = take-append-drop k (drop command.sent command.bytes)
-              ∙ ap (λ sent. drop sent command.bytes) unsent ∙ asked-spelt stands.asked;
-        })
+    follows zero unsent = Begins (here unsent) (row-clean row has unsent) (record {
+      rest = drop k (drop command.sent command.bytes);
+      is = grind (arith, common_steps, asked-spelt, stands);
+    })
     follows (suc sent) at = GoesOn inside.others (take command.sent command.bytes) (row-sends row has (omega arith) less)
         (row-commands row has (omega arith) ∙ ap (λ (t : Tag). inside.others ++ record { tag = t; bytes = take command.sent command.bytes } ∷ []) stands.tag)
         (record { rest = drop k (drop command.sent command.bytes); is = front-of command.bytes command.sent k ∙ asked-spelt stands.asked })
@@ -434,16 +393,12 @@ module _ {service : Service} {log : Log} {tables : Tables} {link : LinkId} {lent
 
 -- The link that the router closes may be closed.
 
-some-sent : (bytes : List ℕ) → 0 < length bytes → is_some (reply_sent bytes) ≡ true
-some-sent bytes some = grind (arith, common_steps)
-
 -- a client's link, where what it is told was offered
-may-part : (service : Service) (log : Log) (n : ℕ) (came : Arrival) (bytes : List ℕ) → PartAt service log n came bytes
-    → (is_some (reply_sent bytes) ≡ true → was_offered came.link log ≡ true) → came.port ≡ Traffic
-    → MayPart (is_served service.setup came) service n came log
+may-part : (service : Service) (log : Log) (n : ℕ) (came : Arrival) (bytes : List ℕ) → PartAt service log n came bytes → (is_some (reply_sent bytes) ≡ true
+    → was_offered came.link log ≡ true) → came.port ≡ Traffic → MayPart (is_served service.setup came) service n came log
 may-part service log n came bytes (Done served done) offered traffic = rw served done
 may-part service log n came bytes (Refused refused port none) offered traffic =
-    rw refused (offered (some-sent (spelling 0 too_many_connections) (spelling-some 0 too_many_connections)))
+    rw refused (offered (grind (arith, common_steps, (spelling 0 too_many_connections), (spelling-some 0 too_many_connections))))
 may-part service log n came bytes (Offered refused port was) offered traffic = rw refused was
 may-part service log n came bytes (Strange admin) offered traffic = cc (traffic, admin)
 
@@ -454,8 +409,7 @@ module _ {service : Service} {log : Log} {tables : Tables} (told : AllLawful Fit
     client = λ n came is same port. may-part service log n came parting.bytes
         (of-client log told (λ m (c : Arrival). PartAt service log m c parting.bytes) stands.is_came is (stands.link ∙ on ∙ sym same) stands.at)
         (λ some. ap (λ (l : LinkId). was_offered l log) same ∙ offered some) port;
-    server = λ owner user owned known. cc
-        ((owner-turn (turn_of service link log) owner owned).1, unowned log told service stands.n stands.came stands.is_came (stands.link ∙ on));
+    server = λ owner user owned known. grind (arith, common_steps, owner-turn, unowned);
   }
 
   -- a link to a server
@@ -490,7 +444,7 @@ module _ {service : Service} {log : Log} (told : AllLawful Fits log) (sound : So
     here = live.here;
     unsent = cc (stands.unsent);
     goes = refl;
-    target = at-target service.setup.target server address so.2;
+    target = grind (arith, common_steps, some-same);
     none = λ link owned. none link owned (is_open link log) refl;
   } where
     for : IsFor service log now e
@@ -509,18 +463,14 @@ module _ {service : Service} {log : Log} (told : AllLawful Fits log) (sound : So
     none : (link : LinkId) → owner_of service link log ≡ Some (owner_for service for.client.0 stands.asked.message stands.asked.due) → (b : Bool)
         → is_open link log ≡ b → b ≡ false
     none link owned false opened = refl
-    none link owned true opened = (let row = owned-row sound link _ told (quiet-closes now so.0) opened owned in elim row.2.owned [
-      | Own owner owns ↦ cc (row.3, owns, for.waiting.unowned)
-      | Left owner gone begun ↦ cc (row.3, gone, live.here)
-    ])
+    none link owned true opened = grind (arith, common_steps, owned-row, quiet-closes, so, for, live)
 
   written : (link : LinkId) (tag : Tag) (bytes : List ℕ) → Writes now link tag bytes → IsLawful service log (Wrote link tag bytes)
   written link tag bytes (ToClient client seat is on reply n front) = (let stands = (sound.seats client.0 seat is).stands in
       rw reply (client.0, stands.came, stands.is_came, stands.link ∙ on))
   written link tag bytes (Farewell parting is on reply n front) = (let stands = sound.parts parting is in
       rw reply (stands.n, stands.came, stands.is_came, stands.link ∙ on))
-  written link tag bytes (ToServer lent l is left same n front) = rw same
-      (rw front (may-write sound (sound.lends.rows link lent is) l n left))
+  written link tag bytes (ToServer lent l is left same n front) = rw same (rw front (may-write sound (sound.lends.rows link lent is) l n left))
 
   pub lawful-entry : (e : Entry) → Covers service (log ++ e ∷ []) → IsOurs service.setup log e → IsLawful service log e
   lawful-entry (Opened server address link) covers ours = may-open (Opened server address link) server address covers ours refl
@@ -531,8 +481,7 @@ module _ {service : Service} {log : Log} (told : AllLawful Fits log) (sound : So
 
 -- as many commands as opens were tried
 pub counts-more : (service : Service) (log : Log) (e : Entry) → Sound service log None (tables_after service.setup log) → IsOurs service.setup log e
-    → length (turns service.setup log) ≡ length (open_tries log)
-    → length (turns service.setup (log ++ e ∷ [])) ≡ length (open_tries (log ++ e ∷ []))
+    → length (turns service.setup log) ≡ length (open_tries log) → length (turns service.setup (log ++ e ∷ [])) ≡ length (open_tries (log ++ e ∷ []))
 counts-more service log e sound ours was = (let both = counts-both service log e in let one = by e ours in omega arith) where
   by : (e : Entry) → IsOurs service.setup log e → length (turn_at (tables_after service.setup log) e) ≡ tries_at e
   by (Opened server address link) ours = ap length (opens-for service log (tables_after service.setup log) _ (Opened server address link) sound ours refl).turn

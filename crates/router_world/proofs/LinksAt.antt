@@ -1,28 +1,22 @@
 -- What an entry of one client's link to a server, or an open for a client, leaves of the links and the commands of others.
 use Rattle.router_world.proofs.Names.{common_steps, ◌≡◌, ℕ, Bool, true, false, ◌&&◌, nat_eq, [], ◌∷◌, ◌++◌, Some, None, refl, sym, ◌∙◌, ap, subst, ServerId}
 use Rattle.router_world.proofs.Names.{Address, ClientNo, LinkId, Log, link_of, is_link, open_step, IsOpen, Fits, AllLawful, lawful-last, same_number, Entry}
-use Rattle.router_world.proofs.Names.{Opened, OpenFailed, Ask, Lent, Lends, was_lost, login_on, carries, Turn, Service, next_turn, turn_of, owner_of, is_turn}
+use Rattle.router_world.proofs.Names.{Opened, OpenFailed, Ask, Lent, Lends, was_lost, carries, Turn, Service, next_turn, turn_of}
 use Rattle.router_world.proofs.Names.{IsLawful, Cause, NotOpened, NotLoggedIn, some-same, refusal-cause, turn-stays, ◌≢◌, zero, suc, cond, List, append-nil}
-use Rattle.router_world.proofs.Names.{arith, list_any-append, Tag, For, got_bytes, of_link-same, step-same, Wrote, Account, BackendState, Handed, In, is_loss}
+use Rattle.router_world.proofs.Names.{arith, list_any-append, Tag, For, of_link-same, step-same, Account, BackendState, Handed, In, is_loss}
 use Rattle.router_world.proofs.Names.{heard_of, piece, pieces_of, is_command, carrier_of, user_on, is_refused, RefusedOrSent, replied, reply_said, LinkAt}
-use Rattle.router_world.proofs.Names.{Entering, Inside, Option, Answered, breaks_off, login_fails, user_of, MayDrop, asks-unrefused, refused-or-sent}
+use Rattle.router_world.proofs.Names.{Entering, Inside, Option, Answered, login_fails, user_of, MayDrop, asks-unrefused, refused-or-sent}
 use Rattle.router_world.proofs.Names.{user-stays, Got, set, Command, Forms, Standing, standing_on, standing_said, Answer, IsEntering, IsInside, is_begun}
 use Rattle.router_world.proofs.Names.{none-if, inr, is_here, spelt, message-stays, in-work, ◌<◌, ◌⊎◌}
-use Rattle.router_world.proofs.Calm.{or-none, Leaves, leaves-other, sent-unrefused, unsent-still, unrefused-more}
-use Rattle.router_world.proofs.Apart.{apart-links, apart-numbers, RowNow, Was, OneRow, Mine, owner-mine, none-mine, none-one, Comes, Came, set-same}
-use Rattle.router_world.proofs.Apart.{put-other, Stays, no-some, set-other, Quiet, Closes, Answers, one-stood}
-use Rattle.exchange.specs.Logins.{goes_on}
-use Rattle.promises.proofs.Links.{one-each, lost-none}
-use Rattle.promises.proofs.Clean.{heard-more, pieces-more}
-use Rattle.router_world.proofs.Frames.{Calm, row-calm, ask-calm, owner-turn, Unbegun, still-none, user-there, gone-stays, asked-stays, same-ordinal}
+use Rattle.router_world.proofs.Calm.{or-none, Leaves, leaves-other, sent-unrefused, unsent-still, unrefused-more, asks-server, asks-stay}
+use Rattle.router_world.proofs.Apart.{apart-links, apart-numbers, RowNow, Was, OneRow, none-mine, none-one, Comes, Came, set-same, put-other, Stays}
+use Rattle.router_world.proofs.Apart.{no-some, set-other, Quiet, Answers, one-stood}
+use Rattle.{exchange.specs.Logins.goes_on, packet_frame.specs.Packets.spelling, reply_track.specs.declared.tracker.Tracker.Tracker}
+use Rattle.promises.proofs.{Links.one-each, Links.lost-none, Clean.heard-more, Clean.pieces-more}
+use Rattle.router_world.proofs.Frames.{Calm, row-calm, ask-calm, owner-turn, Unbegun, still-none, user-there, gone-stays, same-ordinal}
 use Rattle.router_world.proofs.Sound.{AskStands, Owned, RowStands, CloseStands, AtMostOne, Waiting, Owns, LendsBut, LendsSound, carried_by, Busy, Waits, Logs}
 use Rattle.router_world.proofs.Sound.{On, IsAsked, HandedStands, Enters, Free, Own, Left}
-use Rattle.router_world.proofs.RowsStanding.{unanswered-at}
-use Rattle.router_world.proofs.RowsPieces.{pieces-some}
-use Rattle.router_world.proofs.LinksGone.{standing-unlost}
-use Rattle.packet_frame.specs.Packets.{spelling}
-use Rattle.reply_track.specs.declared.tracker.Tracker.{Tracker}
-use Rattle.server_side.specs.declared.stage.Stage.TheVariants as stage
+use Rattle.router_world.proofs.{RowsStanding.unanswered-at, RowsPieces.pieces-some, LinksGone.standing-unlost}
 
 -- The entry is of a link that was opened for client n, and writes no other client's command; or it is an open, which was for that client where it fails.
 pub data Concerns (service : Service) (log : Log) (n : ℕ) : Entry → Type 0 where
@@ -31,10 +25,6 @@ pub data Concerns (service : Service) (log : Log) (n : ℕ) : Entry → Type 0 w
   Opens : (server : ServerId) (address : Address) (link : LinkId) → Concerns service log n (Opened server address link)
   OpensNone : (server : ServerId) (address : Address) (turn : Turn) → next_turn service log ≡ Some turn → turn.client ≡ n → Concerns service log n
       (OpenFailed server address)
-
--- a command of another client isn't the one that is refused
-other-turn : (n k i : ℕ) (turn : Turn) → turn.client ≡ n → nat_eq k n ≡ false → is_turn k i turn ≡ false
-other-turn n k i turn same differs = grind (arith, common_steps)
 
 -- what the entry refuses is the command that its link was opened for
 module _ {service : Service} {log : Log} where
@@ -46,20 +36,9 @@ module _ {service : Service} {log : Log} where
   open-cause server address link (NotLoggedIn _ breaks) = grind (arith, common_steps, lost-none, goes_on)
 
   pub calm-other : {e : Entry} {n k : ℕ} → Concerns service log n e → nat_eq k n ≡ false → Calm service log e k
-  calm-other {n} {k} (OnLink e link turn names opened mine writes) differs = record {
-    writes = λ i. writes k i differs;
-    spares = λ i other is. grind (arith, common_steps, other-turn, link-cause, names, refusal-cause);
-  }
-  calm-other (Opens server address link) differs = record {
-    writes = λ i. refl;
-    spares = λ i other is. absurd
-        (open-cause server address link (refusal-cause service log (Opened server address link) other is));
-  }
-  calm-other {n} {k} (OpensNone server address turn next mine) differs = record {
-    writes = λ i. refl;
-    spares = λ i other is. other-turn n k i other
-        (ap (λ (t : Turn). t.client) (some-same other turn (sym is ∙ next)) ∙ mine) differs;
-  }
+  calm-other {n} {k} (OnLink e link turn names opened mine writes) differs = grind (arith, common_steps, link-cause, refusal-cause)
+  calm-other (Opens server address link) differs = grind (arith, common_steps, open-cause, refusal-cause)
+  calm-other {n} {k} (OpensNone server address turn next mine) differs = grind (arith, common_steps, some-same)
 
   -- Links of others are left.
   pub leaves-others : {e : Entry} {n : ℕ} {link : LinkId} (turn : Turn) → Concerns service log n e → Fits log e → IsOpen link log
@@ -71,12 +50,11 @@ module _ {service : Service} {log : Log} where
   pub but-client : {e : Entry} {n : ℕ} {lends : Lends} → AllLawful (IsLawful service) (log ++ e ∷ []) → AllLawful Fits (log ++ e ∷ [])
       → LendsSound service log lends → Concerns service log n e → LendsBut service (log ++ e ∷ []) n lends
   but-client {e} {n} {lends} lawful fits sound concerns = (let last : Fits log e = (lawful-last Fits log e fits).1 in
-      let row : (link : LinkId) (lent : Lent) → lends.links link.0 ≡ Some lent → (turn : Turn) → turn_of service link (log ++ e ∷ []) ≡ Some turn
-      → nat_eq turn.client n ≡ false → RowStands service log lends link lent → RowStands service (log ++ e ∷ []) lends link lent =
-      λ link lent is turn is_turn differs stands. (let same : turn ≡ stands.turn = some-same turn stands.turn (sym is_turn
-      ∙ turn-stays service link log (e ∷ []) stands.turn stands.is_turn) in
-      let other : nat_eq stands.turn.client n ≡ false = ap (λ (t : Turn). nat_eq t.client n) (sym same) ∙ differs in
-      row-calm service log e lends link lent lawful last stands (calm-other concerns other)
+      let row : (link : LinkId) (lent : Lent) → lends.links link.0 ≡ Some lent → (turn : Turn) → turn_of service link (log ++ e ∷ []) ≡ Some turn → nat_eq
+      turn.client n ≡ false → RowStands service log lends link lent → RowStands service (log ++ e ∷ []) lends link lent = λ link lent is turn is_turn
+      differs stands. (let same : turn ≡ stands.turn = some-same turn stands.turn (sym is_turn
+      ∙ turn-stays service link log (e ∷ []) stands.turn stands.is_turn) in let other : nat_eq stands.turn.client n ≡ false = ap
+      (λ (t : Turn). nat_eq t.client n) (sym same) ∙ differs in row-calm service log e lends link lent lawful last stands (calm-other concerns other)
       (leaves-others stands.turn concerns last stands.opened stands.is_turn other)) in
       record {
         rows = λ link lent is turn is_turn differs. row link lent is turn is_turn differs (sound.rows link lent is);
@@ -85,21 +63,11 @@ module _ {service : Service} {log : Log} where
         owned = sound.owned;
       })
 
-  -- No two rows are of one client.
-  row-owner : {lends : Lends} {link : LinkId} {lent : Lent} (n : ℕ) (row : RowStands service log lends link lent) → row.turn.client ≡ n
-      → owner_of service link log ≡ Some (record { client = n; hostgroup = 0 })
-  row-owner n row mine = grind (arith, common_steps)
-
 pub same-row : {service : Service} {log : Log} {lends : Lends} {one other : LinkId} {lent another : Lent} (n : ℕ) → AllLawful Fits log
     → AllLawful (IsLawful service) log → (row : RowStands service log lends one lent) → row.turn.client ≡ n
     → (second : RowStands service log lends other another) → second.turn.client ≡ n → one ≡ other
-same-row {service} {log} {one} {other} n fits lawful row mine second theirs =
-    one-each service log fits lawful one other (record { client = n; hostgroup = 0 }) row.opened second.opened (row-owner n row mine) (row-owner n second theirs)
-
--- the owner of a row is its turn's client
-pub row-mine : {service : Service} {log : Log} {lends : Lends} {link : LinkId} {lent : Lent} {n : ℕ} → Owned service log lends link n lent
-    → Mine n lent
-row-mine h6 = grind (arith, common_steps, owner-mine, none-mine)
+same-row {service} {log} {one} {other} n fits lawful row mine second theirs = one-each service log fits lawful one other (record { client = n; hostgroup = 0 })
+    row.opened second.opened (grind (arith, common_steps)) (grind (arith, common_steps))
 
 -- An entry of a link to a server: what is read and written there grows, and what comes of the command there.
 
@@ -116,22 +84,6 @@ lost-on link log e names unlost = grind (arith, common_steps, of_link-same, is-h
 
 alone : {X : Type 0} (f : Log → X) (link : LinkId) (e : Entry) → link_of e ≡ Some link → f (cond (is_link link (link_of e)) (e ∷ []) []) ≡ f (e ∷ [])
 alone f link e names = ap (λ b. f (cond b (e ∷ []) [])) (is-here link e names)
-
-pub heard-on : (link : LinkId) (log : Log) (e : Entry) → link_of e ≡ Some link → was_lost link log ≡ false → is_loss e ≡ false
-    → heard_of link (log ++ e ∷ []) ≡ heard_of link log ++ got_bytes e
-heard-on link log e names unlost stays = grind (arith, common_steps, heard-more, append-nil)
-
-pub heard-end : (link : LinkId) (log : Log) (e : Entry) → link_of e ≡ Some link → was_lost link log ≡ false → is_loss e ≡ true
-    → heard_of link (log ++ e ∷ []) ≡ heard_of link log
-heard-end link log e names unlost lost = grind (arith, common_steps, heard-more, append-nil)
-
-pub pieces-on : (link : LinkId) (log : Log) (e : Entry) → link_of e ≡ Some link → was_lost link log ≡ false → piece e ≡ None
-    → pieces_of link (log ++ e ∷ []) ≡ pieces_of link log
-pieces-on link log e names unlost none = grind (arith, common_steps, pieces-more, piece, append-nil)
-
-pub piece-on : (link : LinkId) (log : Log) (tag : Tag) (bytes : List ℕ) → was_lost link log ≡ false
-    → pieces_of link (log ++ Wrote link tag bytes ∷ []) ≡ pieces_of link log ++ record { tag = tag; bytes = bytes } ∷ []
-piece-on link log tag bytes unlost = grind (arith, common_steps, pieces-more, piece)
 
 -- What comes of a command on the link is what the link says.
 pub replied-said : (service : Service) (n i : ℕ) (link : LinkId) (user : Account) (log : Log) → RefusedOrSent service log
@@ -196,14 +148,11 @@ outside-at {heard} {pieces} {backend} at inside = rw inside at at.login.is
 pub held : {service : Service} {log : Log} {lends : Lends} {link : LinkId} {lent : Lent} (row : RowStands service log lends link lent)
     → Held service log lends link lent row.turn
 held {service} {log} {lends} {link} {lent} row = by row.at row.owned where
-  begins : (c : Handed) → lent.backend.command ≡ Some c → is_begun lent.backend.command ≡ true → 0 < c.sent
-  begins c has begun = grind (arith, common_steps)
-
   sent : (c : Handed) → lent.backend.command ≡ Some c → (k : ℕ) → c.sent ≡ k → Owned service log lends link row.turn.client lent
       → HoldsIn log lends link lent row.turn.client
   sent c has zero none (Own own owns) = HoldsUnsent own owns c has none
   sent c has (suc k) some (Own own owns) = HoldsBegun own owns c has (omega arith)
-  sent c has k some (Left none gone begun) = HoldsLeft none gone c has (begins c has begun)
+  sent c has k some (Left none gone begun) = HoldsLeft none gone c has (grind (arith, common_steps))
 
   inside : (o : Option Handed) → lent.backend.command ≡ o → Owned service log lends link row.turn.client lent → HoldsIn log lends link lent row.turn.client
   inside (Some c) has owned = sent c has c.sent refl owned
@@ -269,7 +218,8 @@ pub record IsLike (service : Service) (log : Log) (e : Entry) (lends : Lends) (l
 
 -- the links to servers where this one is to be closed
 abbrev pub shut : LinkId → Lends → (owned : ℕ → Option LinkId) → (asks : ℕ → Option Ask) → (waiting : List ClientNo) → Lends
-shut link lends owned asks waiting = record { links = set lends.links link.0 None; owned = owned; asks = asks; waiting = waiting; closing = lends.closing ++ link ∷ [] }
+shut link lends owned asks waiting = record
+    { links = set lends.links link.0 None; owned = owned; asks = asks; waiting = waiting; closing = lends.closing ++ link ∷ [] }
 
 module _ {service : Service} {log : Log} {e : Entry} {lends : Lends} {link : LinkId} {lent : Lent} (at : AtRow service log e lends link lent) where
   abbrev n : ℕ
@@ -286,9 +236,8 @@ module _ {service : Service} {log : Log} {e : Entry} {lends : Lends} {link : Lin
 
   -- the client's own link is this one, if it has one
   own-link : {l : LinkId} → lends.owned n ≡ Some l → l ≡ link
-  own-link {l} owns = (let it = at.sound.owned n l owns in let second = at.sound.rows l it.lent it.there in
-      same-row n (lawful-last Fits log e at.fits).0 (lawful-last (IsLawful service) log e at.lawful).0 second
-      (owner-turn service log lends l it.lent n second.turn.client second.owned it.owner) at.row refl)
+  own-link {l} owns = (let it = at.sound.owned n l owns in let second = at.sound.rows l it.lent it.there in same-row n (lawful-last Fits log e at.fits).0
+      (lawful-last (IsLawful service) log e at.lawful).0 second (owner-turn service log lends l it.lent n second.turn.client second.owned it.owner) at.row refl)
 
   own-lent : {l : LinkId} {x : Lent} → lends.owned n ≡ Some l → lends.links l.0 ≡ Some x → x ≡ lent
   own-lent {x = x} owns there = some-same x lent (sym there ∙ ap (λ (k : LinkId). lends.links k.0) (own-link owns) ∙ at.there)
@@ -308,12 +257,12 @@ module _ {service : Service} {log : Log} {e : Entry} {lends : Lends} {link : Lin
       → Came service new n lends (record { lends = other; answer = answer })
   came-of {other} one comes = (let stood = one-stood lent (but-client at.lawful at.fits at.sound
       (OnLink e link at.row.turn at.names at.row.is_turn refl at.writes)) at.sound.one_closes
-      (λ l is. absurd (none-one lends.closing at.unclosed is)) at.there (row-mine at.row.owned) rows one in
+      (λ l is. absurd (none-one lends.closing at.unclosed is)) at.there (grind (arith, common_steps, some-same, none-mine)) rows one in
       record { sound = stood.sound; apart = stood.apart; traces = stood.traces; comes = comes }) where
         rows : (l : LinkId) (x : Lent) → nat_eq l.0 link.0 ≡ false → lends.links l.0 ≡ Some x → RowNow service new n lends other l x
         rows l x apart was = (let second = at.sound.rows l x was in Was was second.turn (turn-stays service l log (e ∷ []) second.turn second.is_turn)
-            (apart-numbers second.turn.client n (λ mine.
-            (let same = same-row n (lawful-last Fits log e at.fits).0 (lawful-last (IsLawful service) log e at.lawful).0 second mine at.row refl in
+            (apart-numbers second.turn.client n
+            (λ mine. (let same = same-row n (lawful-last Fits log e at.fits).0 (lawful-last (IsLawful service) log e at.lawful).0 second mine at.row refl in
             let no' : true ≡ false = sym (same_number link.0) ∙ ap (λ (k : LinkId). nat_eq k.0 link.0) (sym same) ∙ apart in cc))))
 
   -- what is said of the link then
@@ -330,10 +279,9 @@ module _ {service : Service} {log : Log} {e : Entry} {lends : Lends} {link : Lin
   user-later = user-there service link at.row.turn user new turn-new user-new
 
   -- the row then
-  pub row-later : {other : Lends} {now : Lent} → is_loss e ≡ false → now.backend.account ≡ user
-      → LinkAt service.forms user (heard_of link new) (pieces_of link new) now.backend
-      → ((c : Handed) → now.backend.command ≡ Some c → HandedStands service new n link c) → (now.backend.stage ≢ In → Enters other at.row.turn)
-      → Owned service new other link n now → RowStands service new other link now
+  pub row-later : {other : Lends} {now : Lent} → is_loss e ≡ false → now.backend.account ≡ user → LinkAt service.forms user (heard_of link new)
+      (pieces_of link new) now.backend → ((c : Handed) → now.backend.command ≡ Some c → HandedStands service new n link c) → (now.backend.stage ≢ In
+      → Enters other at.row.turn) → Owned service new other link n now → RowStands service new other link now
   row-later {now = now} goes_on same stands command enters owned = record {
     opened = opened-new;
     unlost = lost-on link log e at.names at.row.unlost ∙ goes_on;
@@ -353,10 +301,7 @@ module _ {service : Service} {log : Log} {e : Entry} {lends : Lends} {link : Lin
   cause-fails {other} cause = by e at.names cause where
     by : (e : Entry) → link_of e ≡ Some link → Cause service log other e → login_fails user link log e ≡ true
     by _ names (NotOpened server address next) = absurd (let no' : None ≡ Some link = names in cc)
-    by _ names (NotLoggedIn e breaks) = (let on : link ≡ breaks.link = some-same link breaks.link (sym names ∙ breaks.names) in
-        let turn : at.row.turn ≡ other = grind (arith, common_steps, some-same) in
-        let user_is : user ≡ breaks.user = grind (arith, common_steps, some-same) in
-        ap (λ (u : Account). login_fails u link log e) user_is ∙ ap (λ (l : LinkId). login_fails breaks.user l log e) on ∙ breaks.fails)
+    by _ names (NotLoggedIn e breaks) = grind (arith, common_steps, some-same)
 
   pub calm-own : login_fails user link log e ≡ false → ((i : ℕ) → carries n i e ≡ None) → Calm service log e n
   calm-own stays writes = grind (arith, common_steps, cause-fails, refusal-cause)
@@ -370,28 +315,19 @@ module _ {service : Service} {log : Log} {e : Entry} {lends : Lends} {link : Lin
       → now.command ≡ Some (record c { sent = sent; tracker = tracker }) → (nat_eq c.sent 0 ≡ false → nat_eq sent 0 ≡ false) → is_loss e ≡ false
       → LinkAt service.forms user (heard_of link new) (pieces_of link new) now → carrier_of n (at.row.command c has).ordinal new ≡ carried_by link sent
       → (sent ≡ 0 → Calm service log e n) → Commands service new n link lent.backend.command now.command
-  handed-later {now} c has sent tracker is begun goes_on stands carrier calm = OneCommand c d has is refl later
-      (record { ordinal = was.ordinal; tag = was.tag; asked = asked-stays service log e n was.ordinal c.bytes c.first at.lawful was.asked unreplied; carrier = carrier }) unreplied where
-        d : Handed
-        d = record c { sent = sent; tracker = tracker }
-
-        was : HandedStands service log n link c
-        was = at.row.command c has
-
-        later : is_begun lent.backend.command ≡ true → is_begun now.command ≡ true
-        later begins = grind (arith, common_steps)
-
-        unreplied : replied service n was.ordinal new ≡ None
-        unreplied = command-unreplied service n was.ordinal link new d (refused-or-sent service new at.lawful) stands is was.tag carrier user-later
-            (lost-on link log e at.names at.row.unlost ∙ goes_on)
-            (λ none. unrefused-more service n was.ordinal log e (asks-unrefused service n was.ordinal was.asked.message was.asked.due log was.asked.asks)
-            ((calm none).spares was.ordinal))
+  handed-later {now} c has sent tracker is begun goes_on stands carrier calm = (let d : Handed = record c { sent = sent; tracker = tracker } in
+      let was : HandedStands service log n link c = at.row.command c has in
+      let later : is_begun lent.backend.command ≡ true → is_begun now.command ≡ true = λ begins. grind (arith, common_steps) in
+      let unreplied : replied service n was.ordinal new ≡ None = command-unreplied service n was.ordinal link new d (refused-or-sent service new at.lawful)
+      stands is was.tag carrier user-later (lost-on link log e at.names at.row.unlost ∙ goes_on) (λ none. unrefused-more service n was.ordinal log e
+      (asks-unrefused service n was.ordinal was.asked.message was.asked.due log was.asked.asks) ((calm none).spares was.ordinal)) in
+      OneCommand c d has is refl later
+      (record { ordinal = was.ordinal; tag = was.tag; asked = grind (arith, common_steps, asks-stay, asks-server); carrier = carrier }) unreplied)
 
   -- The link stays with this row, and maybe the client asks for less.
-  pub kept-news : {links : ℕ → Option Lent} {asks : ℕ → Option Ask} {now : Lent} → Puts link now lends links
-      → ((k : ℕ) → nat_eq k n ≡ false → asks k ≡ lends.asks k) → now.owner ≡ lent.owner → RowStands service new
-      (record lends { links = links; asks = asks }) link now
-      → ((ask : Ask) → asks n ≡ Some ask → AskStands service new n ask) → OneRow service new n link lends (record lends { links = links; asks = asks })
+  pub kept-news : {links : ℕ → Option Lent} {asks : ℕ → Option Ask} {now : Lent} → Puts link now lends links → ((k : ℕ) → nat_eq k n ≡ false
+      → asks k ≡ lends.asks k) → now.owner ≡ lent.owner → RowStands service new (record lends { links = links; asks = asks }) link now → ((ask : Ask)
+      → asks n ≡ Some ask → AskStands service new n ask) → OneRow service new n link lends (record lends { links = links; asks = asks })
   kept-news {links} {asks} {now} puts others owner row ask = record {
     links = puts.others;
     asks = others;
@@ -415,9 +351,15 @@ module _ {service : Service} {log : Log} {e : Entry} {lends : Lends} {link : Lin
 
   pub alike-came : {links : ℕ → Option Lent} {now : Lent} → Puts link now lends links → IsLike service log e lends link lent now n
       → Came service new n lends (record { lends = record lends { links = links }; answer = None })
-  alike-came {links} {now} puts like = came-of (kept-news puts (λ k differs. refl) like.owner row (λ ask is. (like.asked ask is).0))
-      (Quiet (λ i was. (busy like.commands (busy-here was)).0) free (λ gone. record { unasked = gone.unasked; unowned = gone.unowned }) (λ i was.
-      (busy like.commands (busy-here was)).1)) where
+  alike-came {links} {now} puts like = (let row : RowStands service new other link now = row-later like.goes_on like.account like.at (command like.commands)
+      (λ out. (let it = at.row.enters (λ inside. out (like.inside inside)) in record { ask = it.ask; is = it.is; same = it.same })) (owned at.row.owned) in
+      let free : Free lends n → Free other n = λ was. record {
+        unasked = was.unasked;
+        idle = λ l x owns. (let still = was.idle link lent (owns ∙ ap Some (own-link owns)) at.there in
+            own-idle puts (like.inside still.0) (idle like.commands still.1) l x owns);
+      } in
+      came-of (kept-news puts (λ k differs. refl) like.owner row (λ ask is. (like.asked ask is).0)) (Quiet (λ i was. (busy like.commands (busy-here was)).0)
+      free (λ gone. record { unasked = gone.unasked; unowned = gone.unowned }) (λ i was. (busy like.commands (busy-here was)).1))) where
         other : Lends
         other = record lends { links = links }
 
@@ -437,10 +379,6 @@ module _ {service : Service} {log : Log} {e : Entry} {lends : Lends} {link : Lin
         owned (Own own owns) = Own (like.owner ∙ own) owns
         owned (Left none gone begun) = grind (arith, common_steps, gone-stays, lawful-last, begins)
 
-        row : RowStands service new other link now
-        row = row-later like.goes_on like.account like.at (command like.commands)
-            (λ out. (let it = at.row.enters (λ inside. out (like.inside inside)) in record { ask = it.ask; is = it.is; same = it.same })) (owned at.row.owned)
-
         busy : {i : ℕ} → Alike now → BusyHere lends n i link lent → Busy other n i × (replied service n i new ≡ None)
         busy {i} commands (LogsHere owns ask is same out) = (Logs ask is same link now owns puts.here (like.outside out), rw same at (like.asked ask is).1)
         busy {i} (NoCommand was none) (OnHere owns unasked c inside has tag) = absurd (no-some was has)
@@ -451,57 +389,32 @@ module _ {service : Service} {log : Log} {e : Entry} {lends : Lends} {link : Lin
           tagged : d.tag ≡ For (record { 0 = n }) i
           tagged = same ∙ ap (λ (h : Handed). h.tag) (some-same x c (sym was ∙ has)) ∙ tag
 
-        free : Free lends n → Free other n
-        free was = record {
-          unasked = was.unasked;
-          idle = λ l x owns. (let still = was.idle link lent (owns ∙ ap Some (own-link owns)) at.there in
-              own-idle puts (like.inside still.0) (idle like.commands still.1) l x owns);
-        }
-
   -- The link is to be closed, with these tables.
-  pub shut-news : {owned : ℕ → Option LinkId} {asks : ℕ → Option Ask} {waiting : List ClientNo}
-      → Drops
-      → ((k : ℕ) → nat_eq k n ≡ false → asks k ≡ lends.asks k) → ((k : ℕ) → nat_eq k n ≡ false → owned k ≡ lends.owned k) → owned n ≡ None
-      → ((ask : Ask) → asks n ≡ Some ask → AskStands service new n ask) → AtMostOne waiting
-      → ((client : ClientNo) → waiting ≡ client ∷ [] → Waiting (shut link lends owned asks waiting) client)
+  pub shut-news : {owned : ℕ → Option LinkId} {asks : ℕ → Option Ask} {waiting : List ClientNo} → Drops → ((k : ℕ) → nat_eq k n ≡ false → asks k ≡ lends.asks k)
+      → ((k : ℕ) → nat_eq k n ≡ false → owned k ≡ lends.owned k) → owned n ≡ None → ((ask : Ask) → asks n ≡ Some ask → AskStands service new n ask)
+      → AtMostOne waiting → ((client : ClientNo) → waiting ≡ client ∷ [] → Waiting (shut link lends owned asks waiting) client)
       → OneRow service new n link lends (shut link lends owned asks waiting)
-  shut-news {owned} {asks} {waiting} may others theirs unowned ask one_waits waits = record {
-    links = λ k differs. set-other lends.links link.0 k None differs;
-    asks = others;
-    owned = theirs;
-    waiting = λ k differs is. absurd (none-one lends.waiting at.idle is);
-    goes = Closes at.unclosed (set-same lends.links link.0 None) stands (ap (λ l. l ++ link ∷ []) at.unclosed);
-    ask = ask;
-    owns = λ l is. absurd (no-some unowned is);
-    one_waits = one_waits;
-    waits = waits;
-  } where
-    stands : CloseStands service new (shut link lends owned asks waiting) link
-    stands = grind (arith, common_steps, set-same, turn-new, some-same, user-new)
+  shut-news {owned} {asks} {waiting} may others theirs unowned ask one_waits waits = grind
+      (arith, common_steps, set-other, none-one, set-same, turn-new, some-same, user-new, no-some)
 
   -- nothing of its client's was under way there
   pub shut-idle : {owned : ℕ → Option LinkId} → Drops → Calm service log e n
       → ((k : ℕ) → nat_eq k n ≡ false → owned k ≡ lends.owned k) → owned n ≡ None → ((i : ℕ) → BusyHere lends n i link lent → ⊥)
       → Came service new n lends (record { lends = shut link lends owned lends.asks lends.waiting; answer = None })
-  shut-idle may calm theirs unowned idle = came-of
-      (shut-news may (λ k differs. refl) theirs unowned (λ ask is. (ask-later calm ask is).0) at.sound.one_waits (λ someone is. absurd
-      (none-one lends.waiting at.idle is)))
-      (Quiet (λ i busy. absurd (idle i (busy-here busy))) (λ free. record { unasked = free.unasked; idle = λ l x owns is. absurd (no-some unowned owns) })
+  shut-idle may calm theirs unowned idle = came-of (shut-news may (λ k differs. refl) theirs unowned (λ ask is. (ask-later calm ask is).0) at.sound.one_waits
+      (λ someone is. absurd (none-one lends.waiting at.idle is))) (Quiet (λ i busy. absurd (idle i (busy-here busy)))
+      (λ free. record { unasked = free.unasked; idle = λ l x owns is. absurd (no-some unowned owns) })
       (λ gone. record { unasked = gone.unasked; unowned = unowned }) (λ i busy. absurd (idle i (busy-here busy))))
 
   -- its client's command there is answered
-  pub shut-answered : {asks : ℕ → Option Ask} {i id : ℕ} {bytes packets : List ℕ} {answer : Answer}
-      → Drops → ((k : ℕ) → nat_eq k n ≡ false → asks k ≡ lends.asks k) → asks n ≡ None
-      → packets ≡ spelt id answer → Busy lends n i → IsAsked service n i bytes id log → replied service n i new ≡ Some answer
-      → Came service new n lends (record {
+  pub shut-answered : {asks : ℕ → Option Ask} {i id : ℕ} {bytes packets : List ℕ} {answer : Answer} → Drops → ((k : ℕ) → nat_eq k n ≡ false
+      → asks k ≡ lends.asks k) → asks n ≡ None → packets ≡ spelt id answer → Busy lends n i → IsAsked service n i bytes id log
+      → replied service n i new ≡ Some answer → Came service new n lends (record {
         lends = shut link lends (set lends.owned n None) asks lends.waiting;
-        answer = Some
-            (record { client = record { 0 = n }; packets = packets });
+        answer = Some (record { client = record { 0 = n }; packets = packets });
       })
-  shut-answered may others unasked is busy asked told = came-of
-      (shut-news may others (λ k differs. set-other lends.owned n k None differs)
-      (set-same lends.owned n None) (λ ask is. absurd (no-some unasked is)) at.sound.one_waits
-      (λ someone is. absurd (none-one lends.waiting at.idle is)))
+  shut-answered may others unasked is busy asked told = came-of (shut-news may others (λ k differs. set-other lends.owned n k None differs)
+      (set-same lends.owned n None) (λ ask is. absurd (no-some unasked is)) at.sound.one_waits (λ someone is. absurd (none-one lends.waiting at.idle is)))
       (answers-one e is busy asked told (record { unasked = unasked; idle = λ l x owns is. absurd (no-some (set-same lends.owned n None) owns) }) at.idle
       (inr (set-same lends.owned n None)))
 
@@ -518,23 +431,15 @@ module _ {service : Service} {log : Log} {e : Entry} {lends : Lends} {link : Lin
   left-busy none i (LogsHere owns ask is same out) = no-some (unowned-left none) owns
   left-busy none i (OnHere owns unasked c staged has tag) = no-some (unowned-left none) owns
 
--- inside no login fails
-pub inside-stays : (user : Account) (link : LinkId) (log : Log) (e : Entry) → goes_on (login_on user link log) ≡ false
-    → login_fails user link log e ≡ false
-inside-stays user link log e inside = grind (arith, common_steps)
-
-pub login-stays : (user : Account) (link : LinkId) (log : Log) (e : Entry) → breaks_off user link log e ≡ false → login_fails user link log e ≡ false
-login-stays user link log e stays = grind (arith, common_steps)
-
 -- What a link says grows by the piece.
 pub said-got : {X : Type 0} (f : List ℕ → List Command → X) (link : LinkId) (log : Log) (bytes : List ℕ) → was_lost link log ≡ false
     → f (heard_of link (log ++ Got link bytes ∷ [])) (pieces_of link (log ++ Got link bytes ∷ [])) ≡ f (heard_of link log ++ bytes) (pieces_of link log)
-said-got f link log bytes unlost = grind (arith, common_steps, heard-on, pieces-on)
+said-got f link log bytes unlost = grind (arith, common_steps, heard-more, append-nil, pieces-more, piece)
 
 pub got-at : {forms : Forms} {user : Account} {backend : BackendState} (link : LinkId) (log : Log) (bytes : List ℕ) → was_lost link log ≡ false
     → LinkAt forms user (heard_of link log ++ bytes) (pieces_of link log) backend
     → LinkAt forms user (heard_of link (log ++ Got link bytes ∷ [])) (pieces_of link (log ++ Got link bytes ∷ [])) backend
-got-at link log bytes unlost at = grind (arith, common_steps, heard-on, pieces-on)
+got-at link log bytes unlost at = grind (arith, common_steps, heard-more, append-nil, pieces-more, piece)
 
 pub got-standing : (forms : Forms) (user : Account) (link : LinkId) (log : Log) (bytes : List ℕ) (standing : Standing) → was_lost link log ≡ false
     → standing_said forms user (heard_of link log ++ bytes) (pieces_of link log) ≡ standing

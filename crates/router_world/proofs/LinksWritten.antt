@@ -1,21 +1,15 @@
 -- Bytes are written on a link to a server.
 use Rattle.router_world.proofs.Names.{common_steps, ◌≡◌, ◌⊎◌, ◌≤◌, ◌<◌, ℕ, zero, suc, ◌+◌, Bool, true, false, nat_lt, ◌&&◌, cond, nat_eq, List, [], ◌∷◌, ◌++◌}
-use Rattle.router_world.proofs.Names.{length, take, drop, Option, Some, None, refl, list_any, sym, ◌∙◌, ap, append-nil, arith, length-take-le, LinkId, Tag}
-use Rattle.router_world.proofs.Names.{Own, Log, Entry, Wrote, nat_eq-true, Sent, BackendState, command_left, left_by, left, command_taken, taken_by, Handed}
-use Rattle.router_world.proofs.Names.{Ask, Lent, Lends, taken_on, heard_of, pieces_of, is_command, carries, carrier_of, first_some, Service, some-same}
+use Rattle.router_world.proofs.Names.{piece, length, take, drop, Option, Some, None, refl, list_any, sym, ◌∙◌, ap, append-nil, arith, length-take-le, LinkId}
+use Rattle.router_world.proofs.Names.{Tag, Own, Log, Entry, Wrote, nat_eq-true, Sent, BackendState, command_left, left_by, left, command_taken, taken_by}
+use Rattle.router_world.proofs.Names.{Handed, Ask, Lent, Lends, taken_on, heard_of, pieces_of, is_command, carries, carrier_of, first_some, Service, some-same}
 use Rattle.router_world.proofs.Names.{and-true, carrier-more, IsFront, replied, is_of, LinkAt}
-use Rattle.std.proofs.lemmas.Bool.{false_from_ne_true}
-use Rattle.server_side.specs.Backend.{taken}
-use Rattle.lend_core.specs.Changes.{took}
-use Rattle.promises.proofs.Beginning.{uncarried}
-use Rattle.router_world.proofs.RowsStanding.{taken-at}
+use Rattle.{std.proofs.lemmas.Bool.false_from_ne_true, server_side.specs.Backend.taken, lend_core.specs.Changes.took}
+use Rattle.promises.proofs.{Beginning.uncarried, Clean.heard-more, Clean.pieces-more}
+use Rattle.router_world.proofs.{RowsStanding.command-taken, RowsStanding.own-taken, RowsStanding.same-said, Calm.carrier-same, Frames.Calm}
 use Rattle.router_world.proofs.Apart.{set-same, set-other, Came, no-some, apart-numbers}
-use Rattle.router_world.proofs.Calm.{carrier-same}
-use Rattle.router_world.proofs.Frames.{Calm}
 use Rattle.router_world.proofs.Sound.{AskStands, HandedStands, carried_by, RowStands}
-use Rattle.router_world.proofs.LinksAt.{heard-on, piece-on, AtRow, calm-own, login-stays, alike-came, NoCommand, Commands, IsLike, handed-later, ask-later}
-use Rattle.router_world.proofs.LinksAt.{command-is}
-use Rattle.server_side.specs.declared.stage.Stage.TheVariants as stage
+use Rattle.router_world.proofs.LinksAt.{AtRow, calm-own, alike-came, NoCommand, Commands, IsLike, handed-later, ask-later, command-is}
 
 -- Of what a link has to write its bytes are, and what is left then.
 pub data LeftIn (backend : BackendState) (l : Sent) : Type 0 where
@@ -40,9 +34,6 @@ left-in {backend} {l} is = by backend.own refl is where
   by [] same is = commanded same backend.command refl is
   by (byte ∷ bytes) same is = grind (arith, common_steps, some-same, is, same)
 
-taken-account : (n : ℕ) (backend : BackendState) → (taken n backend).account ≡ backend.account
-taken-account n backend = grind (arith, common_steps)
-
 taken-stage : (n : ℕ) (backend : BackendState) → (taken n backend).stage ≡ backend.stage
 taken-stage n backend = grind (arith, common_steps)
 
@@ -64,7 +55,8 @@ pub record WroteAt (service : Service) (log : Log) (tag : Tag) (bytes : List ℕ
   pub front : take (length bytes) l.bytes ≡ bytes
   pub unasked : (command : Handed) → lent.backend.command ≡ Some command → lends.asks at.row.turn.client ≡ None
 
-module _ {service : Service} {log : Log} {tag : Tag} {bytes : List ℕ} {lends : Lends} {link : LinkId} {lent : Lent} (wrote : WroteAt service log tag bytes lends link lent) where
+module _ {service : Service} {log : Log} {tag : Tag} {bytes : List ℕ} {lends : Lends} {link : LinkId} {lent : Lent}
+    (wrote : WroteAt service log tag bytes lends link lent) where
   abbrev at : AtRow service log (Wrote link tag bytes) lends link lent
   at = wrote.at
 
@@ -89,14 +81,14 @@ module _ {service : Service} {log : Log} {tag : Tag} {bytes : List ℕ} {lends :
       ∙ ap (λ k. carrier_of n k log) (nat_eq-true i stands.ordinal both.1) ∙ stands.carrier ∙ ap (carried_by link) none)))
 
   now-at : LinkAt service.forms lent.backend.account (heard_of link new) (pieces_of link new) now.backend
-  now-at = grind (arith, common_steps, heard-on, append-nil, piece-on, taken-at, fresh)
+  now-at = grind (arith, common_steps, heard-more, append-nil, pieces-more, piece, some-same, same-said, command-taken, own-taken, fresh)
 
   like : ((ask : Ask) → lends.asks n ≡ Some ask → AskStands service new n ask × (replied service n ask.ordinal new ≡ None))
       → Commands service new n link lent.backend.command now.backend.command → IsLike service log e lends link lent now n
   like asked commands = record {
     goes_on = refl;
     owner = refl;
-    account = taken-account (length bytes) lent.backend;
+    account = grind (arith, common_steps, (length bytes));
     at = now-at;
     inside = λ inside. taken-stage (length bytes) lent.backend ∙ inside;
     outside = λ out inside. out (sym (taken-stage (length bytes) lent.backend) ∙ inside);
@@ -111,7 +103,7 @@ module _ {service : Service} {log : Log} {tag : Tag} {bytes : List ℕ} {lends :
     silent i = ap (λ (t : Tag). cond (is_command n i t) (Some link) None) (wrote.same ∙ own)
 
     calm : Calm service log e n
-    calm = calm-own at (login-stays lent.backend.account link log e refl) silent
+    calm = calm-own at (grind (arith, common_steps)) silent
 
     commands : (o : Option Handed) → lent.backend.command ≡ o → Commands service new n link lent.backend.command now.backend.command
     commands None has = NoCommand has (stays ∙ has)
@@ -121,18 +113,13 @@ module _ {service : Service} {log : Log} {tag : Tag} {bytes : List ℕ} {lends :
   -- more of the command is written
   command-like : (c : Handed) → lent.backend.command ≡ Some c → wrote.l.tag ≡ c.tag → now.backend.command ≡ Some (record c { sent = c.sent + length bytes })
       → IsLike service log e lends link lent now n
-  command-like c has of goes_on = like (λ ask is. absurd (no-some (wrote.unasked c has) is))
-      (handed-later at c has (c.sent + length bytes) c.tracker goes_on (λ begun. apart-numbers
-      (c.sent + length bytes) 0 (λ none. more none)) refl now-at carrier (λ none. absurd (more none))) where
-        stands : HandedStands service log n link c
-        stands = at.row.command c has
-
-        more : c.sent + length bytes ≡ 0 → ⊥
-        more none = (let some : 0 < length bytes = wrote.some in omega arith)
-
-        here : carries n stands.ordinal e ≡ Some link
-        here = ap (λ b. cond b (Some link) None) (command-is n stands.ordinal tag (wrote.same ∙ of ∙ stands.tag))
-
+  command-like c has of goes_on = (let stands : HandedStands service log n link c = at.row.command c has in
+      let more : c.sent + length bytes ≡ 0 → ⊥ = λ none. (let some : 0 < length bytes = wrote.some in omega arith) in
+      let here : carries n stands.ordinal e ≡ Some link = ap (λ b. cond b (Some link) None) (command-is n stands.ordinal tag (wrote.same ∙ of ∙ stands.tag)) in
+      let carrier : carrier_of n stands.ordinal new ≡ carried_by link (c.sent + length bytes) = carrier-more n stands.ordinal log e ∙ ap (first_some (carrier_of
+      n stands.ordinal log)) here ∙ ap (λ o. first_some o (Some link)) stands.carrier ∙ was c.sent ∙ sym (some-carried (c.sent + length bytes) more) in
+      like (λ ask is. absurd (no-some (wrote.unasked c has) is)) (handed-later at c has (c.sent + length bytes) c.tracker goes_on (λ begun. apart-numbers
+      (c.sent + length bytes) 0 (λ none. more none)) refl now-at carrier (λ none. absurd (more none)))) where
         some-carried : (sent : ℕ) → (sent ≡ 0 → ⊥) → carried_by link sent ≡ Some link
         some-carried zero some = absurd (some refl)
         some-carried (suc sent) some = refl
@@ -140,11 +127,6 @@ module _ {service : Service} {log : Log} {tag : Tag} {bytes : List ℕ} {lends :
         was : (sent : ℕ) → first_some (carried_by link sent) (Some link) ≡ Some link
         was zero = refl
         was (suc sent) = refl
-
-        carrier : carrier_of n stands.ordinal new ≡ carried_by link (c.sent + length bytes)
-        carrier = carrier-more n stands.ordinal log e ∙ ap (first_some (carrier_of n stands.ordinal log)) here ∙ ap (λ o. first_some o (Some link)) stands.carrier
-            ∙ was c.sent
-            ∙ sym (some-carried (c.sent + length bytes) more)
 
   pub wrote-came : Came service new n lends (record { lends = taken_on link (length bytes) lends; answer = None })
   wrote-came = alike-came at (record {
@@ -167,5 +149,5 @@ pub wrote-others : {service : Service} {log : Log} {lends : Lends} {link : LinkI
 wrote-others {link = link} {lent} {l} {tag} bytes row is same k i differs = by (left-in is) where
   by : LeftIn lent.backend l → carries k i (Wrote link tag bytes) ≡ None
   by (OfLogin own stays) = ap (λ (t : Tag). cond (is_command k i t) (Some link) None) (same ∙ own)
-  by (OfCommand c has of goes_on) = (let stands = row.command c has in
-      ap (λ (t : Tag). cond (is_command k i t) (Some link) None) (same ∙ of ∙ stands.tag) ∙ ap (λ b. cond (b && nat_eq i stands.ordinal) (Some link) None) differs)
+  by (OfCommand c has of goes_on) = (let stands = row.command c has in ap (λ (t : Tag). cond (is_command k i t) (Some link) None) (same ∙ of ∙ stands.tag)
+      ∙ ap (λ b. cond (b && nat_eq i stands.ordinal) (Some link) None) differs)

@@ -1,26 +1,20 @@
 -- What the router does keeps the promises.
-use Rattle.router_world.proofs.Names.{common_steps, ◌≡◌, ◌≢◌, ℕ, true, nat_eq, cond, List, [], ◌∷◌, ◌++◌, length, Some, None, refl, sym, ◌∙◌, ap, subst}
-use Rattle.router_world.proofs.Names.{arith, length-append, inl, inr, AreBytes, LinkId, Tag, Log, link_of, open_step, same_number, Entry, Got, Wrote, is_loss}
+use Rattle.router_world.proofs.Names.{common_steps, ◌≡◌, ◌≢◌, ℕ, true, nat_eq, cond, List, [], ◌∷◌, ◌++◌, length, Some, None, refl, sym, ◌∙◌, ap, subst, arith}
+use Rattle.router_world.proofs.Names.{length-append, inl, inr, AreBytes, LinkId, Tag, Log, link_of, open_step, same_number, Entry, Got, Wrote, is_loss}
 use Rattle.router_world.proofs.Names.{is_failure, carries, is_command, Lent, Service, none-if, Parting, Tables, sends, farewell_of, IsFront, IsFarewell, Bool}
-use Rattle.router_world.proofs.Names.{option_and_then, refused_by, refused_on, is_write, ◌≤◌, fold-append, AllLawful, MayFollow, Setup, most_command}
-use Rattle.router_world.proofs.Names.{IsServed, Serves, Fits, no_tables, tables_after, awaits, IsOurs, LawfulAfter, append_assoc, append-nil, turns}
-use Rattle.router_world.proofs.Names.{open_tries, message-stays, lawful-more, Keeps, Target, turn_at, turn_for, oldest}
-use Rattle.router_world.proofs.Sound.{Happens, Sound, Nobody, Covers, AreFormed}
-use Rattle.router_world.proofs.Stepping.{OnLink, IsPlain, done, nobody-waits, quiet-closes}
-use Rattle.mx_wire.specs.declared.entry.Entry.TheVariants.{Ended, WriteFailed}
+use Rattle.router_world.proofs.Names.{option_and_then, refused_by, refused_on, is_write, ◌≤◌, fold-append, AllLawful, MayFollow, Setup, most_command, IsServed}
+use Rattle.router_world.proofs.Names.{Serves, Fits, no_tables, tables_after, awaits, IsOurs, LawfulAfter, append_assoc, append-nil, turns, open_tries}
+use Rattle.router_world.proofs.Names.{message-stays, lawful-more, Keeps, Target, turn_at, turn_for, oldest}
+use Rattle.router_world.proofs.{Sound.Happens, Sound.Sound, Sound.Nobody, Sound.Covers, Sound.AreFormed, Stepping.OnLink, Stepping.IsPlain, Stepping.done}
+use Rattle.router_world.proofs.{Stepping.nobody-waits, Stepping.quiet-closes, LinksWritten.front-size, ServerEvents.heard-step, ServerEvents.lost-step}
+use Rattle.router_world.proofs.{ServerEvents.wrote-step, Connecting.counts-all, OpenEvents.OnOpen, OpenEvents.open-failed-step, OpenEvents.opened-step}
+use Rattle.router_world.proofs.{Arriving.coming-step, Silences.nothing-step, Keeping.service-of, Keeping.form_by, Keeping.keeps-none, Keeping.keeps-more}
+use Rattle.mx_wire.specs.{declared.entry.Entry.TheVariants.Ended, declared.entry.Entry.TheVariants.WriteFailed, Moments.moment-last}
 use Rattle.router_world.specs.World.{got_on, ended_on, failed_on, wrote_on, step}
-use Rattle.router_world.proofs.Lawful.{IsOf, OfClient, OfServer, is-of, reply-front, ClosesClient, ClosesServer, closes-next, awaits-so, opens-for}
-use Rattle.router_world.proofs.Lawful.{counts-more, covers-front}
-use Rattle.router_world.proofs.LinksWritten.{front-size}
-use Rattle.router_world.proofs.ServerEvents.{heard-step, lost-step, wrote-step}
+use Rattle.router_world.proofs.Lawful.{IsOf, OfClient, OfServer, is-of, reply-front, ClosesClient, ClosesServer, closes-next, awaits-so, opens-for, counts-more}
+use Rattle.router_world.proofs.Lawful.{covers-front}
 use Rattle.router_world.proofs.ClientEvents.{got-client, ended-client, wrote-client, broken-client}
 use Rattle.router_world.proofs.Closing.{IsOffer, offered-step, closed-client, closed-server}
-use Rattle.mx_wire.specs.Moments.{moment-last}
-use Rattle.router_world.proofs.Connecting.{counts-all}
-use Rattle.router_world.proofs.OpenEvents.{OnOpen, open-failed-step, opened-step}
-use Rattle.router_world.proofs.Arriving.{coming-step}
-use Rattle.router_world.proofs.Silences.{nothing-step}
-use Rattle.router_world.proofs.Keeping.{service-of, form_by, keeps-none, keeps-more}
 use Rattle.mx_wire.specs.declared.entry.Entry.TheVariants as entry
 
 -- What the entries on an open link make of what stands, by whose it is.
@@ -42,13 +36,11 @@ module _ {service : Service} {log : Log} {e : Entry} {link : LinkId} {tables : T
   ]
 
 -- Bytes come.
-pub got-step : {service : Service} {log : Log} {link : LinkId} {bytes : List ℕ} {tables : Tables} → AreBytes bytes
-    → OnLink service log (Got link bytes) link tables
-    → Sound service (log ++ Got link bytes ∷ []) None (got_on service.setup link bytes (tables.numbers link.0) tables)
+pub got-step : {service : Service} {log : Log} {link : LinkId} {bytes : List ℕ} {tables : Tables} → AreBytes bytes → OnLink service log (Got link bytes) link
+    tables → Sound service (log ++ Got link bytes ∷ []) None (got_on service.setup link bytes (tables.numbers link.0) tables)
 got-step {service} {log} {link} {bytes} {tables} are on = elim (whose on) [
-  | OfClient client seat number is at ↦ rw (number, is)
-      (got-client (record { on = on; writes = λ n i. refl; number = number; is = is; same = at }) (nobody-waits service.setup tables on.acted)
-      (let few = on.happens.few in let size = length-append log (Got link bytes ∷ []) in omega arith))
+  | OfClient client seat number is at ↦ rw (number, is) (got-client (record { on = on; writes = λ n i. refl; number = number; is = is; same = at })
+      (nobody-waits service.setup tables on.acted) (let few = on.happens.few in let size = length-append log (Got link bytes ∷ []) in omega arith))
   | OfServer lent is ↦ rw (unnumbered on lent is, is) (heard-step service log link bytes lent tables are on.happens.sound (record { on = on; there = is }))
 ]
 
@@ -91,9 +83,8 @@ module _ {service : Service} {log : Log} {e : Entry} {link : LinkId} {tables : T
   nobodys = (let stands = happens.sound.parts the.parting the.is in
       (ap (λ (l : LinkId). tables.numbers l.0) (sym the.on) ∙ stands.unnumbered, ap (λ (l : LinkId). tables.lends.links l.0) (sym the.on) ∙ stands.unlent))
 
-  offer : link_of e ≡ Some link → is_write e ≡ true → ((n i : ℕ) → carries n i e ≡ None)
-      → refused_by service log e ≡ option_and_then (refused_on service log e) (link_of e) → IsPlain e → ((was : Bool) → open_step was e ≡ was)
-      → IsOffer service log e the.parting tables
+  offer : link_of e ≡ Some link → is_write e ≡ true → ((n i : ℕ) → carries n i e ≡ None) → refused_by service log e ≡ option_and_then (refused_on service log e)
+      (link_of e) → IsPlain e → ((was : Bool) → open_step was e ≡ was) → IsOffer service log e the.parting tables
   offer names writes silent refuses plain stays = (let on = the.on in let is = the.is in let some = the.some in grind (arith, common_steps))
 
 pub offer-written : {service : Service} {log : Log} {link : LinkId} {tag : Tag} {bytes : List ℕ} {tables : Tables}
@@ -104,9 +95,8 @@ offer-written {service} {log} {link} {tag} {bytes} {tables} happens farewell fro
     let reply = reply-front tag bytes p.bytes (rw (the happens farewell).is at front) in
     let silent : (n i : ℕ) → carries n i (Wrote link tag bytes) ≡ None = λ n i. ap (λ (t : Tag). cond (is_command n i t) (Some link) None) reply.0 in
     let opens : (was : Bool) → open_step was (Wrote link tag bytes) ≡ was = λ was. refl in
-    rw ((nobodys happens farewell).0, (nobodys happens farewell).1, (the happens farewell).is, here)
-    (offered-step service log (Wrote link tag bytes) p (record p { bytes = [] }) tables happens.sound
-    (offer happens farewell refl refl silent refl (assumption) opens) refl refl (inl refl)))
+    rw ((nobodys happens farewell).0, (nobodys happens farewell).1, (the happens farewell).is, here) (offered-step service log (Wrote link tag bytes) p
+    (record p { bytes = [] }) tables happens.sound (offer happens farewell refl refl silent refl (assumption) opens) refl refl (inl refl)))
 
 pub offer-failed : {service : Service} {log : Log} {link : LinkId} {tables : Tables} → Happens service log (WriteFailed link) tables → IsFarewell tables link
     → Sound service (log ++ WriteFailed link ∷ []) None (failed_on service.setup link (tables.numbers link.0) tables)
@@ -168,19 +158,11 @@ module _ (setup : Setup) (all : Log) (short : setup.limit ≤ most_command) wher
       → StandsFor (service-of setup all) (log ++ e ∷ [])
   one-more log more e is stands follows ours = (let counts = counts-more (service-of setup all) log e stands.sound ours stands.counts in
       let covers = covers-front (service-of setup all) (log ++ e ∷ []) more (ap (turns setup) (sym is)) counts in
-      let keeps = keeps-more (service-of setup all) log e stands.told follows.fits stands.sound covers ours stands.keeps in
-      record {
+      let keeps = keeps-more (service-of setup all) log e stands.told follows.fits stands.sound covers ours stands.keeps in record {
         told = lawful-more Fits log e stands.told follows.fits;
         sound = subst (Sound (service-of setup all) (log ++ e ∷ []) None) (sym (fold-append (step setup) no_tables log (e ∷ [])))
-            (entry-step (service-of setup all) log e short (record {
-              told = stands.told;
-              fits = follows.fits;
-              few = follows.bounded;
-              lawful = keeps.lawful;
-              served = moment-last (IsServed (service-of setup all)) (log ++ e ∷ []) keeps.served;
-              formed = formed (log ++ e ∷ []) more is;
-              sound = stands.sound;
-            }) covers ours);
+            (entry-step (service-of setup all) log e short
+            (assumption (moment-last (IsServed (service-of setup all)) (log ++ e ∷ []) keeps.served, formed (log ++ e ∷ []) more is)) covers ours);
         counts = counts;
         keeps = keeps;
       })

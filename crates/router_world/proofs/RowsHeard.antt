@@ -1,20 +1,15 @@
 -- A link to a server as a piece is heard there.
-use Rattle.router_world.proofs.Names.{◌≡◌, ◌⊎◌, ◌≤◌, ◌<◌, ℕ, zero, suc, ◌+◌, ◌-◌, Bool, true, false, not, nat_eq, ◌&&◌, cond, List, [], ◌∷◌, ◌++◌, length}
-use Rattle.router_world.proofs.Names.{take, Option, Some, None, refl, list_all, sym, ◌∙◌, ap, subst, append-nil, arith, length-append, inl, inr, and_parts}
-use Rattle.router_world.proofs.Names.{and_right, nil_from_length, list_all-append, AreBytes, nat_eq-true, nat_eq-false, State, Ending, Going, Ended, Failed}
-use Rattle.router_world.proofs.Names.{run, renumbered, Account, Goes, LogsIn, Fails, said_of, opening-got, BackendState, Hears, GotFault, got_of, TellsOf}
-use Rattle.router_world.proofs.Names.{Handed, BackendFault, LoggedIn, Part, bad_server_bytes, is_empty, has_failed, Command, is_whole, is_command}
-use Rattle.router_world.proofs.Names.{commands_in, Forms, Answer, spelt, Replies, Never, command_reply, cut, replies_by, Clean, Spoilt, stands, reply_at}
-use Rattle.router_world.proofs.Names.{behind_replies, some-same, bytes_in, standing_said, reply_said, begun_by, begun, IsHanded, IsEntering, IsInside}
-use Rattle.router_world.proofs.Names.{IsPrefix, common_steps}
-use Rattle.std.proofs.lemmas.Bool.{and_left, and_cases}
-use Rattle.std.proofs.lemmas.List.{length_push}
-use Rattle.server_side.specs.Login.{Opening, opening}
-use Rattle.server_side.specs.Laws.{opening-said}
+use Rattle.router_world.proofs.Names.{◌≡◌, ◌⊎◌, ◌≤◌, ◌<◌, ℕ, zero, suc, ◌+◌, ◌-◌, Bool, true, false, not, nat_eq, ◌&&◌, cond, List, [], ◌∷◌, ◌++◌, length, take}
+use Rattle.router_world.proofs.Names.{Option, Some, None, refl, list_all, sym, ◌∙◌, ap, subst, append-nil, arith, length-append, inl, inr, and_parts, and_right}
+use Rattle.router_world.proofs.Names.{nil_from_length, list_all-append, AreBytes, nat_eq-true, nat_eq-false, State, Ending, Going, Ended, Failed, run}
+use Rattle.router_world.proofs.Names.{renumbered, Account, Goes, LogsIn, Fails, said_of, opening-got, BackendState, Hears, GotFault, got_of, TellsOf, Handed}
+use Rattle.router_world.proofs.Names.{BackendFault, LoggedIn, Part, bad_server_bytes, is_empty, has_failed, Command, is_whole, is_command, commands_in, Forms}
+use Rattle.router_world.proofs.Names.{Answer, spelt, Replies, Never, command_reply, cut, replies_by, Clean, Spoilt, stands, reply_at, behind_replies, some-same}
+use Rattle.router_world.proofs.Names.{bytes_in, standing_said, reply_said, begun_by, begun, IsHanded, IsEntering, IsInside, IsPrefix, common_steps}
+use Rattle.std.proofs.lemmas.{Bool.and_left, Bool.and_cases, List.length_push}
+use Rattle.server_side.specs.{Login.Opening, Login.opening, Laws.opening-said, Reading.HasFailed}
 use Rattle.server_side.specs.Hearing.{Got, reply_by, reply_begun, reply_due, hears}
-use Rattle.server_side.specs.Reading.{HasFailed}
-use Rattle.server_side.specs.declared.fault.BackendFault.TheVariants.{BadBytes}
-use Rattle.server_side.specs.declared.hear.Heard.TheVariants.{Quiet, Whole as WholeReply}
+use Rattle.server_side.specs.declared.{fault.BackendFault.TheVariants.BadBytes, hear.Heard.TheVariants.Quiet, hear.Heard.TheVariants.Whole as WholeReply}
 use Rattle.router_world.proofs.RowsPieces.{has_bytes, empty-not, behind-all}
 use Rattle.router_world.proofs.RowsStanding.{IsPiece, IsWholeReply, hearing-more, whole-reply, never-reply, Stands, stands-at, stands-more, replies-both}
 use Rattle.router_world.proofs.RowsStanding.{standing-of, reply-of, reply-open, reply-there, stands-answered, begun-some, IsBegun, written, message, hearing}
@@ -33,9 +28,9 @@ TellsEntering forms user heard pieces (GotFault fault) = (has_failed (opening us
 spoilt-by : {forms : Forms} {user : Account} {read : List ℕ} {pieces : List Command} {kept : List ℕ} → Stands forms user read pieces [] kept
     → 0 < length kept → standing_said forms user read pieces ≡ Spoilt
 spoilt-by {kept} at some = standing-of at
-    ∙ stands-answered (at.others ++ []) (at.whole ++ []) kept (let one : length
-    (at.others ++ []) ≡ length at.others + 0 = length-append at.others [] in let two : length
-    (at.whole ++ []) ≡ length at.whole + 0 = length-append at.whole [] in let same : length at.whole ≡ length at.others = at.all in omega arith)
+    ∙ stands-answered (at.others ++ []) (at.whole ++ []) kept (let one : length (at.others ++ []) ≡ length at.others + 0 = length-append at.others [] in
+    let two : length (at.whole ++ []) ≡ length at.whole + 0 = length-append at.whole [] in
+    let same : length at.whole ≡ length at.others = at.all in omega arith)
     ∙ ap (λ b. cond b Clean Spoilt) (and_left (is_empty kept) (list_all is_whole (at.others ++ [])) (empty-not kept some))
 
 none-new : {b : Bool} → false ≡ true → b ≡ false
@@ -43,8 +38,7 @@ none-new not = cc
 
 -- a login that is there, before any command
 abbrev first-inside : {forms : Forms} {user : Account} {read : List ℕ} {pieces : List Command} {rest : List ℕ} (said : List ℕ)
-    → opening user read ≡ LogsIn said rest → list_all has_bytes pieces ≡ true → length (bytes_in pieces) ≤ length said
-    → Stands forms user read pieces [] rest
+    → opening user read ≡ LogsIn said rest → list_all has_bytes pieces ≡ true → length (bytes_in pieces) ≤ length said → Stands forms user read pieces [] rest
 first-inside {pieces} said is some fits = record {
   said = said;
   past = [];
@@ -63,46 +57,43 @@ failed-by : (forms : Forms) (user : Account) (read : List ℕ) (pieces : List Co
     → (has_failed (opening user read) ≡ true) × (standing_said forms user read pieces ≡ Spoilt)
 failed-by forms user read pieces fault (Goes said) is failed some fits = absurd failed
 failed-by forms user read pieces fault (LogsIn said rest) is failed some fits = (
-  ap has_failed is
-      ∙ ap not (empty-not rest failed.0),
+  ap has_failed is ∙ ap not (empty-not rest failed.0),
   spoilt-by (first-inside said is some fits) failed.0,
 )
 failed-by forms user read pieces fault (Fails said why) is failed some fits = grind (arith, common_steps, is)
 
-quiet-at : {user : Account} {heard : List ℕ} {pieces : List Command} {backend left : BackendState} (piece : List ℕ)
-    → IsEntering user heard pieces backend → TellsOf (Hears Quiet left) backend (bytes_in pieces) (heard ++ piece)
-    → IsEntering user (heard ++ piece) pieces left
+quiet-at : {user : Account} {heard : List ℕ} {pieces : List Command} {backend left : BackendState} (piece : List ℕ) → IsEntering user heard pieces backend
+    → TellsOf (Hears Quiet left) backend (bytes_in pieces) (heard ++ piece) → IsEntering user (heard ++ piece) pieces left
 quiet-at {heard} piece at tells = grind (arith, common_steps)
 
 pub heard-entering : {user : Account} {heard : List ℕ} {pieces : List Command} {backend : BackendState} (forms : Forms) (piece : List ℕ)
-    → IsEntering user heard pieces backend → list_all has_bytes pieces ≡ true
-    → TellsEntering forms user (heard ++ piece) pieces (got_of piece backend)
-heard-entering {user} {heard} {pieces} {backend} forms piece at some = by (got_of piece backend) (opening-got backend piece heard (bytes_in pieces) at.login) where
-  -- all that was written is of what the router says
-  fits : length (bytes_in pieces) ≤ length (said_of (opening user (heard ++ piece)))
-  fits = (let more = opening-said user heard piece in
-      let is : (bytes_in pieces ++ backend.own) ++ more.0 ≡ said_of (opening user (heard ++ piece)) = ap (λ (o : Opening). said_of o ++ more.0) (sym at.goes)
-      ∙ more.1 in
-      let one : length ((bytes_in pieces ++ backend.own) ++ more.0) ≡ length (bytes_in pieces ++ backend.own) + length more.0 = length-append
-      (bytes_in pieces ++ backend.own) more.0 in
-      let two : length (bytes_in pieces ++ backend.own) ≡ length (bytes_in pieces) + length backend.own = length-append (bytes_in pieces) backend.own in
-      let same : length ((bytes_in pieces ++ backend.own) ++ more.0) ≡ length (said_of (opening user (heard ++ piece))) = ap length is in
-      omega arith)
+    → IsEntering user heard pieces backend → list_all has_bytes pieces ≡ true → TellsEntering forms user (heard ++ piece) pieces (got_of piece backend)
+heard-entering {user} {heard} {pieces} {backend} forms piece at some = by (got_of piece backend) (opening-got backend piece heard (bytes_in pieces) at.login)
+  where
+    -- all that was written is of what the router says
+    fits : length (bytes_in pieces) ≤ length (said_of (opening user (heard ++ piece)))
+    fits = (let more = opening-said user heard piece in
+        let is : (bytes_in pieces ++ backend.own) ++ more.0 ≡ said_of (opening user (heard ++ piece)) = ap (λ (o : Opening). said_of o ++ more.0) (sym at.goes)
+        ∙ more.1 in
+        let one : length ((bytes_in pieces ++ backend.own) ++ more.0) ≡ length (bytes_in pieces ++ backend.own) + length more.0 = length-append
+        (bytes_in pieces ++ backend.own) more.0 in
+        let two : length (bytes_in pieces ++ backend.own) ≡ length (bytes_in pieces) + length backend.own = length-append (bytes_in pieces) backend.own in
+        let same : length ((bytes_in pieces ++ backend.own) ++ more.0) ≡ length (said_of (opening user (heard ++ piece))) = ap length is in omega arith)
 
-  by : (got : Got) → TellsOf got backend (bytes_in pieces) (heard ++ piece) → TellsEntering forms user (heard ++ piece) pieces got
-  by (Hears Quiet left) tells = quiet-at piece at tells
-  by (Hears LoggedIn left) tells = (
-    inside-from (first-inside (bytes_in pieces ++ left.own) is some
-        (let sum = length-append (bytes_in pieces) left.own in omega arith)) (ap begun tells.0.idle) (tells.1 ∙ at.account) tells.0.stage (inl refl)
-        (subst (IsHanded forms) (sym tells.0.idle) tt) (λ none. refl) (rw tells.0.idle refl),
-    tells.0.idle,
-  ) where
-    is : opening user (heard ++ piece) ≡ LogsIn (bytes_in pieces ++ left.own) []
-    is = ap (λ (u : Account). opening u (heard ++ piece)) (sym (tells.1 ∙ at.account)) ∙ ap (opening left.account) (sym (append-nil (heard ++ piece)))
-        ∙ tells.0.is []
-  by (Hears (Part used) left) tells = tells
-  by (Hears (WholeReply used) left) tells = tells
-  by (GotFault fault) tells = failed-by forms user (heard ++ piece) pieces fault (opening user (heard ++ piece)) refl (rw at.account at tells) some fits
+    by : (got : Got) → TellsOf got backend (bytes_in pieces) (heard ++ piece) → TellsEntering forms user (heard ++ piece) pieces got
+    by (Hears Quiet left) tells = quiet-at piece at tells
+    by (Hears LoggedIn left) tells = (
+      inside-from (first-inside (bytes_in pieces ++ left.own) is some (let sum = length-append (bytes_in pieces) left.own in
+          omega arith)) (ap begun tells.0.idle)
+          (tells.1 ∙ at.account) tells.0.stage (inl refl) (subst (IsHanded forms) (sym tells.0.idle) tt) (λ none. refl) (rw tells.0.idle refl),
+      tells.0.idle,
+    ) where
+      is : opening user (heard ++ piece) ≡ LogsIn (bytes_in pieces ++ left.own) []
+      is = ap (λ (u : Account). opening u (heard ++ piece)) (sym (tells.1 ∙ at.account)) ∙ ap (opening left.account) (sym (append-nil (heard ++ piece)))
+          ∙ tells.0.is []
+    by (Hears (Part used) left) tells = tells
+    by (Hears (WholeReply used) left) tells = tells
+    by (GotFault fault) tells = failed-by forms user (heard ++ piece) pieces fault (opening user (heard ++ piece)) refl (rw at.account at tells) some fits
 
 -- The reply to the command that is begun is whole: this is what it says, and the link is clean where all of the command was written and the piece
 -- ended with the reply.
@@ -146,16 +137,14 @@ got-inside : {forms : Forms} {user : Account} {heard : List ℕ} {pieces : List 
 got-inside {backend} piece at = ap (λ s. hears s piece backend) at.stage
 
 -- nothing was asked for
-unasked-at : {forms : Forms} {user : Account} {heard : List ℕ} {pieces : List Command} {backend : BackendState} (piece : List ℕ)
-    → IsInside forms user heard pieces backend → 0 < length piece → begun backend.command ≡ []
-    → IsBroken forms user (heard ++ piece) pieces backend (BadBytes 0)
+unasked-at : {forms : Forms} {user : Account} {heard : List ℕ} {pieces : List Command} {backend : BackendState} (piece : List ℕ) → IsInside forms user heard
+    pieces backend → 0 < length piece → begun backend.command ≡ [] → IsBroken forms user (heard ++ piece) pieces backend (BadBytes 0)
 unasked-at {forms} {user} {heard} {pieces} piece at some none = record {
   place = 0;
   bad_bytes = refl;
   told = λ command n i lost is sent here. grind (arith, common_steps, begun-some, is);
-  spoilt = spoilt-by
-      (rw none at (stands-more piece (stands-at at)))
-      (let sum : length (at.part ++ piece) ≡ length at.part + length piece = length-append at.part piece in omega arith);
+  spoilt = spoilt-by (rw none at (stands-more piece (stands-at at))) (let sum : length
+      (at.part ++ piece) ≡ length at.part + length piece = length-append at.part piece in omega arith);
 }
 
 -- A piece comes for a command that is begun, of whose reply a part was read.
@@ -171,24 +160,23 @@ module _ {forms : Forms} {user : Account} {heard : List ℕ} {pieces : List Comm
   now = stands-more piece (begun-at at)
 
   written-now : (bytes_in pieces ++ backend.own ≡ now.said) ⊎ ((backend.own ≡ []) × IsPrefix now.said (bytes_in pieces))
-  written-now = rw (let both : LogsIn now.said (now.past ++ bytes) ≡ LogsIn at.inside.said (at.inside.past ++ bytes) =
-      sym now.is ∙ opening-more user heard piece at.inside.said at.inside.past at.inside.part at.inside.is in let same : now.said ≡ at.inside.said = cc in same) at.inside.written
+  written-now = rw (let both : LogsIn now.said (now.past ++ bytes) ≡ LogsIn at.inside.said (at.inside.past ++ bytes) = sym now.is
+      ∙ opening-more user heard piece at.inside.said at.inside.past at.inside.part at.inside.is in
+      let same : now.said ≡ at.inside.said = cc in same) at.inside.written
 
   -- the reply goes on
   part-at : (state : State) → run command.tracker.state piece ≡ Going state → IsGoing forms user (heard ++ piece) pieces backend
-      (record backend { command = Some (record command { tracker = record { state = state } }); reply = backend.reply ++ renumbered command.tracker.state piece })
-  part-at state goes = record { command = command; was = at.is; sent = at.some; state = state; is = refl; inside = inside } where
-    same : begun (Some (record command { tracker = record { state = state } })) ≡ c ∷ []
-    same = begun-some (record command { tracker = record { state = state } }) at.some
-
-    inside : IsInside forms user (heard ++ piece) pieces (record backend {
-      command = Some
-          (record command { tracker = record { state = state } });
-      reply = backend.reply ++ renumbered command.tracker.state piece;
-    })
-    inside = (let m = message at in inside-from now same at.inside.account at.inside.stage written-now
-        (record { payload = m.payload; spelt = m.spelt; short = m.short; sent = m.sent; form = m.form }) (λ none. absurd (let no : c ∷ [] ≡ [] = none in cc))
-        (hearing-more piece state (hearing at) are goes))
+      (record backend
+      { command = Some (record command { tracker = record { state = state } }); reply = backend.reply ++ renumbered command.tracker.state piece })
+  part-at state goes = (let same : begun (Some (record command { tracker = record { state = state } })) ≡ c ∷ [] = begun-some
+      (record command { tracker = record { state = state } }) at.some in
+      let inside : IsInside forms user (heard ++ piece) pieces
+      (record backend
+      { command = Some (record command { tracker = record { state = state } }); reply = backend.reply ++ renumbered command.tracker.state piece }) =
+      (let m = message at in inside-from now same at.inside.account at.inside.stage written-now
+      (record { payload = m.payload; spelt = m.spelt; short = m.short; sent = m.sent; form = m.form }) (λ none. absurd (let no : c ∷ [] ≡ [] = none in
+      cc)) (hearing-more piece state (hearing at) are goes)) in
+      record { command = command; was = at.is; sent = at.some; state = state; is = refl; inside = inside })
 
   -- what is said of it and of the link, by what the definition makes of these bytes
   replies-now : (heard_is : Heard) → command_reply forms c bytes ≡ heard_is → replies_by (command_reply forms) (c ∷ []) bytes ≡ cut heard_is bytes
@@ -209,8 +197,8 @@ module _ {forms : Forms} {user : Account} {heard : List ℕ} {pieces : List Comm
       (Never place) never in record {
         place = place;
         bad_bytes = refl;
-        told = λ other n i lost same sent here. said-now _ last n i lost (ap (λ (h : Handed). is_command n i h.tag) (some-same command other (sym at.is ∙ same)) ∙ here)
-            ∙ reply-open now.whole bytes (Some place) (length now.others) lost now.all;
+        told = λ other n i lost same sent here. said-now _ last n i lost (ap (λ (h : Handed). is_command n i h.tag) (some-same command other (sym at.is ∙ same))
+            ∙ here) ∙ reply-open now.whole bytes (Some place) (length now.others) lost now.all;
         spoilt = standing-now _ last;
       })
 
@@ -219,82 +207,75 @@ module _ {forms : Forms} {user : Account} {heard : List ℕ} {pieces : List Comm
       (heard ++ piece) pieces backend
       (record backend { command = None; reply = backend.reply ++ take (length piece - length rest) (renumbered command.tracker.state piece) })
       (nat_eq (length piece - length rest) (length piece))
-  replied-at {reply} {rest} whole = record {
-    command = command;
-    is = at.is;
-    sent = at.some;
-    answer = reply;
-    reply = whole.handed;
-    idle = refl;
-    told = λ n i lost here. said-now _ one n i lost here ∙ reply-there now.whole reply rest (length now.others) lost now.all;
-    inside = inside;
-    spoilt = spoilt;
-  } where
-    used : ℕ
-    used = length piece - length rest
+  replied-at {reply} {rest} whole = (let inside : (nat_eq command.sent (length command.bytes) && nat_eq used (length piece)) ≡ true → IsInside forms user
+      (heard ++ piece) pieces (record backend { command = None; reply = backend.reply ++ take used (renumbered command.tracker.state piece) }) = λ both.
+      (let parts = and_parts (nat_eq command.sent (length command.bytes)) (nat_eq used (length piece)) both in let shorter = whole.shorter in
+      let ended : used ≡ length piece = nat_eq-true used (length piece) parts.1 in
+      inside-from (answered (written-whole at (nat_eq-true command.sent (length command.bytes) parts.0)) (nil_from_length rest (omega arith))) refl
+      at.inside.account at.inside.stage written-now tt (λ none. refl) refl) in
+      record {
+        command = command;
+        is = at.is;
+        sent = at.some;
+        answer = reply;
+        reply = whole.handed;
+        idle = refl;
+        told = λ n i lost here. said-now _ one n i lost here ∙ reply-there now.whole reply rest (length now.others) lost now.all;
+        inside = inside;
+        spoilt = spoilt;
+      }) where
+        used : ℕ
+        used = length piece - length rest
 
-    one : replies_by (command_reply forms) (c ∷ []) bytes ≡ record { whole = reply ∷ []; rest = rest; bad = None }
-    one = replies-now (Wholly reply rest) (whole.said c refl)
+        one : replies_by (command_reply forms) (c ∷ []) bytes ≡ record { whole = reply ∷ []; rest = rest; bad = None }
+        one = replies-now (Wholly reply rest) (whole.said c refl)
 
-    -- the command is among those that are answered
-    answered : is_whole c ≡ true → rest ≡ [] → Stands forms user (heard ++ piece) pieces [] []
-    answered wholly empty = record {
-      said = now.said;
-      past = now.past ++ bytes;
-      is = now.is ∙ ap (LogsIn now.said) (sym (append-nil (now.past ++ bytes)));
-      others = now.others ++ c ∷ [];
-      wholes = grind (arith, common_steps, list_all-append);
-      commands = now.commands ∙ sym (append-nil (now.others ++ c ∷ []));
-      new = λ n i any. none-new any;
-      whole = now.whole ++ reply ∷ [];
-      replies = replies-both forms now.others (c ∷ []) now.past bytes now.whole now.replies now.all ∙ ap (behind_replies now.whole) one
-          ∙ ap (λ r. record { whole = now.whole ++ reply ∷ []; rest = r; bad = None }) empty;
-      all = grind (arith, common_steps, reply);
-    }
+        -- the command is among those that are answered
+        answered : is_whole c ≡ true → rest ≡ [] → Stands forms user (heard ++ piece) pieces [] []
+        answered wholly empty = record {
+          said = now.said;
+          past = now.past ++ bytes;
+          is = now.is ∙ ap (LogsIn now.said) (sym (append-nil (now.past ++ bytes)));
+          others = now.others ++ c ∷ [];
+          wholes = grind (arith, common_steps, list_all-append);
+          commands = now.commands ∙ sym (append-nil (now.others ++ c ∷ []));
+          new = λ n i any. none-new any;
+          whole = now.whole ++ reply ∷ [];
+          replies = replies-both forms now.others (c ∷ []) now.past bytes now.whole now.replies now.all ∙ ap (behind_replies now.whole) one
+              ∙ ap (λ r. record { whole = now.whole ++ reply ∷ []; rest = r; bad = None }) empty;
+          all = grind (arith, common_steps, reply);
+        }
 
-    inside : (nat_eq command.sent (length command.bytes) && nat_eq used (length piece)) ≡ true
-        → IsInside forms user (heard ++ piece) pieces (record backend {
-          command = None;
-          reply = backend.reply ++ take used
-              (renumbered command.tracker.state piece);
-        })
-    inside both = (let parts = and_parts (nat_eq command.sent (length command.bytes)) (nat_eq used (length piece)) both in let shorter = whole.shorter in
-        let ended : used ≡ length piece = nat_eq-true used (length piece) parts.1 in
-        inside-from (answered (written-whole at (nat_eq-true command.sent (length command.bytes) parts.0))
-        (nil_from_length rest (omega arith))) refl at.inside.account at.inside.stage written-now tt (λ none. refl) refl)
-
-    spoilt : (nat_eq command.sent (length command.bytes) && nat_eq used (length piece)) ≡ false → standing_said forms user (heard ++ piece) pieces ≡ Spoilt
-    spoilt either = standing-now _ one
-        ∙ stands-answered (now.others ++ c ∷ []) (now.whole ++ reply ∷ []) rest
-        (let a = length_push now.others c in let b = length_push now.whole reply in let same = now.all in omega arith)
-        ∙ ap (λ b. cond b Clean Spoilt) (unclean (and_cases (nat_eq command.sent (length command.bytes)) (nat_eq used (length piece)) either)) where
-          unclean : (nat_eq command.sent (length command.bytes) ≡ false) ⊎ (nat_eq used (length piece) ≡ false) →
-              (is_empty rest && list_all is_whole (now.others ++ c ∷ [])) ≡ false
-          unclean (inr more) = grind (arith, common_steps, empty-not, nat_eq-false)
-          unclean (inl unsent) = and_right (is_empty rest) (list_all is_whole (now.others ++ c ∷ [])) (list_all-append is_whole now.others (c ∷ [])
-              ∙ and_right (list_all is_whole now.others) (is_whole c && true)
-              (and_left (is_whole c) true (written-part at (nat_eq-false command.sent (length command.bytes) unsent))))
+        spoilt : (nat_eq command.sent (length command.bytes) && nat_eq used (length piece)) ≡ false → standing_said forms user (heard ++ piece) pieces ≡ Spoilt
+        spoilt either = standing-now _ one ∙ stands-answered (now.others ++ c ∷ []) (now.whole ++ reply ∷ []) rest (let a = length_push now.others c in
+            let b = length_push now.whole reply in
+            let same = now.all in omega arith)
+            ∙ ap (λ b. cond b Clean Spoilt) (unclean (and_cases (nat_eq command.sent (length command.bytes)) (nat_eq used (length piece)) either)) where
+              unclean : (nat_eq command.sent (length command.bytes) ≡ false) ⊎ (nat_eq used (length piece) ≡ false) →
+                  (is_empty rest && list_all is_whole (now.others ++ c ∷ [])) ≡ false
+              unclean (inr more) = grind (arith, common_steps, empty-not, nat_eq-false)
+              unclean (inl unsent) = and_right (is_empty rest) (list_all is_whole (now.others ++ c ∷ [])) (list_all-append is_whole now.others (c ∷ [])
+                  ∙ and_right (list_all is_whole now.others) (is_whole c && true)
+                  (and_left (is_whole c) true (written-part at (nat_eq-false command.sent (length command.bytes) unsent))))
 
 module _ {forms : Forms} {user : Account} {heard piece : List ℕ} {pieces : List Command} {backend : BackendState} where
   -- A piece comes, which isn't empty.
   pub heard-inside : IsInside forms user heard pieces backend → IsPiece piece
       → TellsInside forms user (heard ++ piece) pieces backend (length piece) (got_of piece backend)
-  heard-inside at some = subst (TellsInside forms user (heard ++ piece) pieces backend (length piece)) (sym (got-inside piece at))
-      (asked backend.command refl) where
-        read : (command : Handed) → IsBegun forms user heard pieces backend command → (ending : Ending) → run command.tracker.state piece ≡ ending
-            → TellsInside forms user (heard ++ piece) pieces backend (length piece)
-            (reply_by (length piece) (renumbered command.tracker.state piece) command backend ending)
-        read command begins (Going state) is = part-at piece begins some.are state is
-        read command begins (Ended end rest) is = replied-at piece begins some.are
-            (whole-reply forms piece end rest (message begins).form (hearing begins) some.are is).1
-        read command begins (Failed behind) is = broken-at piece begins some.are (length backend.reply + (length piece - length behind))
-            (never-reply forms piece behind (message begins).form (hearing begins) is (written command) refl)
+  heard-inside at some = grind (arith, common_steps, got-inside, asked) where
+    read : (command : Handed) → IsBegun forms user heard pieces backend command → (ending : Ending) → run command.tracker.state piece ≡ ending → TellsInside
+        forms user (heard ++ piece) pieces backend (length piece) (reply_by (length piece) (renumbered command.tracker.state piece) command backend ending)
+    read command begins (Going state) is = part-at piece begins some.are state is
+    read command begins (Ended end rest) is = replied-at piece begins some.are
+        (whole-reply forms piece end rest (message begins).form (hearing begins) some.are is).1
+    read command begins (Failed behind) is = broken-at piece begins some.are (length backend.reply + (length piece - length behind))
+        (never-reply forms piece behind (message begins).form (hearing begins) is (written command) refl)
 
-        by-sent : (command : Handed) → backend.command ≡ Some command → (sent : ℕ) → command.sent ≡ sent → TellsInside forms user (heard ++ piece) pieces backend
-            (length piece) (reply_begun sent piece command backend)
-        by-sent command is zero none = unasked-at piece at some.some (ap begun is ∙ ap (λ sent. begun_by sent command) none)
-        by-sent command is (suc sent) more = read command (record { inside = at; is = is; some = omega arith }) (run command.tracker.state piece) refl
+    by-sent : (command : Handed) → backend.command ≡ Some command → (sent : ℕ) → command.sent ≡ sent → TellsInside forms user (heard ++ piece) pieces backend
+        (length piece) (reply_begun sent piece command backend)
+    by-sent command is zero none = unasked-at piece at some.some (ap begun is ∙ ap (λ sent. begun_by sent command) none)
+    by-sent command is (suc sent) more = read command (record { inside = at; is = is; some = omega arith }) (run command.tracker.state piece) refl
 
-        asked : (o : Option Handed) → backend.command ≡ o → TellsInside forms user (heard ++ piece) pieces backend (length piece) (reply_due o piece backend)
-        asked None is = unasked-at piece at some.some (ap begun is)
-        asked (Some command) is = by-sent command is command.sent refl
+    asked : (o : Option Handed) → backend.command ≡ o → TellsInside forms user (heard ++ piece) pieces backend (length piece) (reply_due o piece backend)
+    asked None is = unasked-at piece at some.some (ap begun is)
+    asked (Some command) is = by-sent command is command.sent refl

@@ -1,38 +1,24 @@
 -- The pieces that were written on a link, and the commands in them.
-use Rattle.router_world.proofs.Names.{common_steps, ◌≡◌, ◌≤◌, ◌<◌, ℕ, zero, suc, ◌+◌, ◌-◌, ◌/◌, ◌%◌, Bool, true, false, not, cond, List, [], ◌∷◌, ◌++◌}
-use Rattle.router_world.proofs.Names.{length, drop, fold, Option, Some, None, refl, list_all, list_any, filter_map, cons_option, sym, ◌∙◌, ap, append-nil}
-use Rattle.router_world.proofs.Names.{arith, length-append, and_parts, and_from, or_parts, list_all-append, filter_map-append, flat_map-append, LinkId, Tag}
-use Rattle.router_world.proofs.Names.{Log, Fits, AllLawful, lawful-each, Entry, Framed, Found, longest, first_message-whole-more, is_empty, Command, piece}
-use Rattle.router_world.proofs.Names.{pieces_of, most_command, whole_by, with_piece, commands_in, behind, place_in, bytes_in, is_of}
-use Rattle.std.specs.Prelude.{nat_le}
-use Rattle.std.proofs.lemmas.Bool.{leb-false, or_from}
-use Rattle.packet_frame.specs.Packets.{Nothing, Whole, Faulty, first_message, spelling}
-use Rattle.packet_frame.specs.RoundTrip.{first_message-again}
-use Rattle.exchange.specs.Commands.{same_tag}
+use Rattle.router_world.proofs.Names.{common_steps, ◌≡◌, ◌≤◌, ◌<◌, ℕ, zero, suc, ◌+◌, ◌-◌, ◌/◌, ◌%◌, Bool, true, false, not, cond, List, [], ◌∷◌, ◌++◌, length}
+use Rattle.router_world.proofs.Names.{drop, fold, Option, Some, None, refl, list_all, list_any, filter_map, cons_option, sym, ◌∙◌, ap, append-nil, arith}
+use Rattle.router_world.proofs.Names.{length-append, and_parts, and_from, or_parts, list_all-append, filter_map-append, flat_map-append, LinkId, Tag, Log, Fits}
+use Rattle.router_world.proofs.Names.{AllLawful, lawful-each, Entry, Framed, Found, longest, first_message-whole-more, is_empty, Command, piece, pieces_of}
+use Rattle.router_world.proofs.Names.{most_command, whole_by, with_piece, commands_in, behind, place_in, bytes_in, is_of}
+use Rattle.{std.specs.Prelude.nat_le, std.proofs.lemmas.Bool.leb-false, std.proofs.lemmas.Bool.or_from}
+use Rattle.packet_frame.specs.{Packets.Nothing, Packets.Whole, Packets.Faulty, Packets.first_message, Packets.spelling, RoundTrip.first_message-again}
 
 -- a piece has a byte
 abbrev pub has_bytes : Command → Bool
 has_bytes piece = not (is_empty piece.bytes)
 
-some-bytes : (bytes : List ℕ) → not (is_empty bytes) ≡ true → 0 < length bytes
-some-bytes bytes is = grind (arith, common_steps)
-
-bytes-some : (bytes : List ℕ) → 0 < length bytes → not (is_empty bytes) ≡ true
-bytes-some bytes some = grind (arith, common_steps)
-
 pub empty-not : (bytes : List ℕ) → 0 < length bytes → is_empty bytes ≡ false
 empty-not bytes some = grind (arith, common_steps)
 
--- No piece is empty, since no write of none is told.
-piece-some : (log : Log) (e : Entry) → Fits log e → list_all has_bytes (filter_map piece (e ∷ [])) ≡ true
-piece-some log e fits = grind (arith, common_steps, bytes-some)
-
 told-some : (log : Log) → AllLawful Fits log → list_all has_bytes (filter_map piece log) ≡ true
 told-some log told = (let more : (l : Log) (e : Entry) → Fits l e → list_all has_bytes (filter_map piece l) ≡ true → list_all has_bytes
-    (filter_map piece (l ++ e ∷ [])) ≡ true =
-    λ l e fits was. ap (list_all has_bytes) (filter_map-append piece l (e ∷ [])) ∙ list_all-append has_bytes (filter_map piece l) (filter_map piece (e ∷ []))
-    ∙ and_from (list_all has_bytes (filter_map piece l)) (list_all has_bytes (filter_map piece (e ∷ []))) was (piece-some l e fits) in
-    lawful-each Fits (λ l. list_all has_bytes (filter_map piece l) ≡ true) log more refl told)
+    (filter_map piece (l ++ e ∷ [])) ≡ true = λ l e fits was. ap (list_all has_bytes) (filter_map-append piece l (e ∷ [])) ∙ list_all-append has_bytes
+    (filter_map piece l) (filter_map piece (e ∷ [])) ∙ and_from (list_all has_bytes (filter_map piece l)) (list_all has_bytes (filter_map piece (e ∷ []))) was
+    (grind (arith, common_steps)) in lawful-each Fits (λ l. list_all has_bytes (filter_map piece l) ≡ true) log more refl told)
 
 others-some : (o : Option Command) (pieces : List Command) → list_all has_bytes (cons_option o pieces) ≡ true → list_all has_bytes pieces ≡ true
 others-some o pieces all = grind (arith, common_steps)
@@ -43,21 +29,11 @@ fewer-some o pieces fewer all some = grind (arith, common_steps)
 
 sound-some : (link : LinkId) (log : Log) → list_all has_bytes (filter_map piece log) ≡ true → list_all has_bytes (pieces_of link log) ≡ true
 sound-some link [] all = refl
-sound-some link (e ∷ log) all = grind (
-  arith,
-  common_steps,
-  others-some,
-  piece,
-  fewer-some,
-  (sound-some link log (others-some (piece e) (filter_map piece log) all)),
-)
+sound-some link (e ∷ log) all =
+    grind (arith, common_steps, others-some, piece, fewer-some, (sound-some link log (others-some (piece e) (filter_map piece log) all)))
 
 pub pieces-some : (link : LinkId) (log : Log) → AllLawful Fits log → list_all has_bytes (pieces_of link log) ≡ true
 pieces-some link log told = sound-some link log (told-some log told)
-
--- One piece more has its bytes behind the others'.
-pub bytes-more : (pieces : List Command) (piece : Command) → bytes_in (pieces ++ piece ∷ []) ≡ bytes_in pieces ++ piece.bytes
-bytes-more pieces piece = grind (arith, common_steps, flat_map-append, append-nil)
 
 -- More bytes than the pieces have are theirs and some of the next.
 pub behind-past : (n : ℕ) (pieces more : List Command) → length (bytes_in pieces) < n → behind n (pieces ++ more) ≡ behind (n - length (bytes_in pieces)) more
@@ -65,11 +41,10 @@ behind-past n [] more less = (let same : n ≡ n - 0 = omega arith in ap (λ k. 
 behind-past zero (p ∷ pieces) more less = absurd (omega arith)
 behind-past (suc n) (p ∷ pieces) more less = (let total : length (p.bytes ++ bytes_in pieces) ≡ length p.bytes + length
     (bytes_in pieces) = length-append p.bytes (bytes_in pieces) in
-    let by : (b : Bool) → nat_le (length p.bytes) (suc n) ≡ b → behind (suc n - length p.bytes) (pieces ++ more) ≡ behind
-    (suc n - length p.bytes - length (bytes_in pieces)) more
-    → cond b (behind (suc n - length p.bytes) (pieces ++ more)) (record p { bytes = drop (suc n) p.bytes } ∷ pieces ++ more) ≡ behind
-    (suc n - length (p.bytes ++ bytes_in pieces)) more =
-    λ b at later. grind (arith, common_steps, leb-false) in
+    let by : (b : Bool) → nat_le (length p.bytes) (suc n) ≡ b
+    → behind (suc n - length p.bytes) (pieces ++ more) ≡ behind (suc n - length p.bytes - length (bytes_in pieces)) more
+    → cond b (behind (suc n - length p.bytes) (pieces ++ more)) (record p { bytes = drop (suc n) p.bytes } ∷ pieces ++ more) ≡ behind (suc n - length
+    (p.bytes ++ bytes_in pieces)) more = λ b at later. grind (arith, common_steps, leb-false) in
     by (nat_le (length p.bytes) (suc n)) refl (behind-past (suc n - length p.bytes) pieces more (let sum = total in omega arith)))
 
 pub behind-short : (n : ℕ) (pieces : List Command) → length (bytes_in pieces) < n → behind n pieces ≡ []
@@ -78,12 +53,11 @@ behind-short n pieces less = ap (behind n) (sym (append-nil pieces)) ∙ behind-
 -- So many bytes as they have are all of them, where no piece is empty.
 pub behind-all : (n : ℕ) (pieces : List Command) → list_all has_bytes pieces ≡ true → length (bytes_in pieces) ≤ n → behind n pieces ≡ []
 behind-all n [] some fits = refl
-behind-all zero (p ∷ pieces) some fits = grind (arith, common_steps, length-append, some-bytes)
-behind-all (suc n) (p ∷ pieces) some fits = (let total : length (p.bytes ++ bytes_in pieces) ≡ length p.bytes + length
-    (bytes_in pieces) = length-append p.bytes (bytes_in pieces) in
+behind-all zero (p ∷ pieces) some fits = grind (arith, common_steps, length-append)
+behind-all (suc n) (p ∷ pieces) some fits = (let total : length (p.bytes ++ bytes_in pieces) ≡ length p.bytes + length (bytes_in pieces) = length-append p.bytes
+    (bytes_in pieces) in
     let by : (b : Bool) → nat_le (length p.bytes) (suc n) ≡ b → behind (suc n - length p.bytes) pieces ≡ [] → cond b (behind (suc n - length p.bytes) pieces)
-    (record p { bytes = drop (suc n) p.bytes } ∷ pieces) ≡ [] =
-    λ b at later. grind (arith, common_steps, leb-false) in
+    (record p { bytes = drop (suc n) p.bytes } ∷ pieces) ≡ [] = λ b at later. grind (arith, common_steps, leb-false) in
     by (nat_le (length p.bytes) (suc n)) refl (behind-all (suc n - length p.bytes) pieces (and_parts (has_bytes p) (list_all has_bytes pieces) some).1
     (let sum = total in omega arith)))
 
@@ -112,13 +86,9 @@ part-spelt payload front back is some short = by (first_message most_command 0 f
       let none : length (rest ++ back) ≡ 0 = ap length empty in
       omega arith)
 
--- A piece for the same goes on with a command that isn't whole.
-same-tag : (tag : Tag) → same_tag tag tag ≡ true
-same-tag tag = grind (arith, common_steps)
-
 pub with-piece-on : (tag : Tag) (front more : List ℕ) → whole_by (first_message most_command 0 front) ≡ false
     → with_piece (record { tag = tag; bytes = front } ∷ []) (record { tag = tag; bytes = more }) ≡ record { tag = tag; bytes = front ++ more } ∷ []
-with-piece-on tag front more part = grind (arith, common_steps, same-tag)
+with-piece-on tag front more part = grind (arith, common_steps)
 
 -- What isn't among the pieces isn't among the commands.
 of-piece : (n i : ℕ) (commands : List Command) (next : Command) → list_any (is_of n i) commands ≡ false → is_of n i next ≡ false → list_any (is_of n i)
@@ -140,8 +110,7 @@ of-behind n i zero (p ∷ pieces) none = none
 of-behind n i (suc k) (p ∷ pieces) none = grind (
   arith,
   common_steps,
-  (of-behind n i (suc k - length p.bytes) pieces
-      (or_parts (is_of n i p) (list_any (is_of n i) pieces) none).1),
+  (of-behind n i (suc k - length p.bytes) pieces (or_parts (is_of n i p) (list_any (is_of n i) pieces) none).1),
 )
 
 pub of-commands : (n i k : ℕ) (pieces : List Command) → list_any (is_of n i) pieces ≡ false → list_any (is_of n i) (commands_in (behind k pieces)) ≡ false

@@ -1,60 +1,39 @@
 -- A link to a server as bytes are handed to it and written.
-use Rattle.router_world.proofs.Names.{common_steps, ◌≡◌, ◌≢◌, ◌⊎◌, ◌≤◌, ◌<◌, ℕ, zero, suc, ◌+◌, ◌-◌, Bool, true, false, ◌||◌, cond, List, [], ◌∷◌, ◌++◌}
-use Rattle.router_world.proofs.Names.{length, take, drop, Option, Some, None, refl, list_any, sym, ◌∙◌, ap, subst, append-nil, append_assoc, arith}
-use Rattle.router_world.proofs.Names.{length-append, length-drop, take-append-drop, length-take-le, inl, inr, or_parts, list_any-append, fold-append, Sent}
-use Rattle.router_world.proofs.Names.{Tag, Own, AreBytes, first_message-empty, run, renumbered, started, to_command, Account, said_of, BackendState}
-use Rattle.router_world.proofs.Names.{new_backend, left, Handed, IsPrefix, Forms, Command, most_command, with_piece, is_command, behind, commands_in}
-use Rattle.router_world.proofs.Names.{some-same, form_at, bytes_in, is_of, begun_by, begun, IsMessage, IsHanded, IsEntering, IsHearing, HearsPart, IsInside}
+use Rattle.router_world.proofs.Names.{common_steps, ◌≡◌, ◌≢◌, ◌⊎◌, ◌≤◌, ◌<◌, ℕ, zero, suc, ◌+◌, ◌-◌, Bool, true, false, ◌||◌, cond, List, [], ◌∷◌, ◌++◌, length}
+use Rattle.router_world.proofs.Names.{flat_map-append, take, drop, Option, Some, None, refl, list_any, sym, ◌∙◌, ap, subst, append-nil, arith, length-append}
+use Rattle.router_world.proofs.Names.{length-drop, take-append-drop, length-take-le, inl, Tag, Own, AreBytes, first_message-empty, run, renumbered, started}
+use Rattle.router_world.proofs.Names.{to_command, Account, said_of, BackendState, new_backend, Handed, IsPrefix, Forms, Command, with_piece, is_command, behind}
+use Rattle.router_world.proofs.Names.{commands_in, form_at, bytes_in, is_of, begun_by, begun, IsMessage, IsHanded, IsEntering, IsHearing, HearsPart, IsInside}
 use Rattle.router_world.proofs.Names.{LinkAt, Entering, Inside, nat_eq, State, Ending, Going, Ended, Failed, ReplyKind, kind_to, id_after, SameEnd, same-end}
 use Rattle.router_world.proofs.Names.{Answer, spelt, Never, Form, heard_by, command_reply, ◌&&◌, slice_get, list_all, option_and_then, LogsIn, is_empty}
 use Rattle.router_world.proofs.Names.{is_whole, place_in, commands_behind, Replies, replies_by, Clean, Sends, Runs, Spoilt, stands, standing_in, reply_at}
-use Rattle.router_world.proofs.Names.{behind_replies, commands_said, replies_said, standing_said, reply_said, nat_eq-true, nat_eq-false, spelling-some, In}
-use Rattle.router_world.proofs.Names.{cut, Standing, Enters}
+use Rattle.router_world.proofs.Names.{behind_replies, commands_said, replies_said, standing_said, reply_said, nat_eq-true, nat_eq-false, spelling-some, In, cut}
+use Rattle.router_world.proofs.Names.{Standing, Enters}
 use Rattle.promises.proofs.Clean.{with-piece-behind, behind-append, command-reply-grammar, replies-behind}
-use Rattle.std.proofs.Common.{take-add, lit<}
-use Rattle.packet_frame.specs.Packets.{spelling, spellings}
-use Rattle.server_side.specs.Login.{opening, Opening}
-use Rattle.server_side.specs.Laws.{opening-new, opening-logged_in}
-use Rattle.server_side.specs.Backend.{taken}
-use Rattle.server_side.specs.Handing.{handed}
-use Rattle.server_side.specs.Reading.{IsLoggingIn}
-use Rattle.std.proofs.Math.Seq.{take-append_seam, take-append-add}
-use Rattle.reply_track.specs.declared.reply.ReplyEnd.{ReplyEnd}
-use Rattle.reply_track.specs.Grammar.{renamed}
-use Rattle.reply_track.specs.Replying.{replied, payloads_in}
-use Rattle.reply_track.proofs.Finishing.{AreBytes-append}
+use Rattle.std.{proofs.Common.take-add, proofs.Common.lit<, proofs.Math.Seq.take-append_seam, proofs.Math.Seq.take-append-add, proofs.lemmas.Bool.or_left}
+use Rattle.std.{proofs.lemmas.Option.slice_get_past, proofs.lemmas.Option.slice_get_read, proofs.lemmas.List.get_or_push, specs.Prelude.if◌then◌else◌}
+use Rattle.{packet_frame.specs.Packets.spellings, client_session.specs.Errors.connection_lost}
+use Rattle.server_side.specs.{Login.opening, Login.Opening, Laws.opening-new, Laws.opening-logged_in, Handing.handed, Reading.IsLoggingIn}
+use Rattle.reply_track.{specs.declared.reply.ReplyEnd.ReplyEnd, specs.Replying.replied, specs.Replying.payloads_in, proofs.Finishing.AreBytes-append}
 use Rattle.reply_track.proofs.Replying.{run-more, renumbered-more, length-renumbered, ended-shorter, failed-shorter, IsHandedOn, handed-on}
 use Rattle.exchange.specs.Replies.{Wholly, heard_as, rest_of, error_by, or_else, Heard, Partly}
-use Rattle.std.proofs.lemmas.Bool.{or_left}
-use Rattle.std.proofs.lemmas.Option.{slice_get_past, slice_get_read}
-use Rattle.std.proofs.lemmas.List.{get_or_push}
-use Rattle.std.specs.Prelude.{if◌then◌else◌}
-use Rattle.client_session.specs.Errors.{connection_lost}
-use Rattle.router_world.proofs.RowsPieces.{bytes-more, behind-past, behind-short, behind-one, part-spelt, with-piece-on, of-commands, place-last, whole-spelt}
+use Rattle.router_world.proofs.RowsPieces.{behind-past, behind-short, behind-one, part-spelt, with-piece-on, of-commands, place-last, whole-spelt}
 
 -- nothing was heard or written yet
 pub first-at : {forms : Forms} {user : Account} → LinkAt forms user [] [] (new_backend user)
 unfolding opening
 first-at {user} = grind (arith, common_steps, opening-new, first_message-empty)
 
-no-bytes : AreBytes []
+pub no-bytes : AreBytes []
 no-bytes i = lit< tt
 
 -- A link on which a session runs, after what was handed to it, written of it or moved out.
-inside-after : {forms : Forms} {user : Account} {heard : List ℕ} {pieces now : List Command} {backend : BackendState} (own reply : List ℕ)
-    (command_now : Option Handed) (at : IsInside forms user heard pieces backend)
-    → (bytes_in now ++ own ≡ at.said) ⊎ ((own ≡ []) × IsPrefix at.said (bytes_in now))
-    → commands_in (behind (length at.said) now) ≡ at.others ++ begun command_now → IsHanded forms command_now
-    → ((n i : ℕ) → list_any (is_of n i) (begun command_now) ≡ true → list_any (is_of n i) at.others ≡ false) → (begun command_now ≡ [] → at.part ≡ [])
+pub inside-after : {forms : Forms} {user : Account} {heard : List ℕ} {pieces now : List Command} {backend : BackendState} (own reply : List ℕ)
+    (command_now : Option Handed) (at : IsInside forms user heard pieces backend) → (bytes_in now ++ own ≡ at.said) ⊎ ((own ≡ []) × IsPrefix at.said
+    (bytes_in now)) → commands_in (behind (length at.said) now) ≡ at.others ++ begun command_now → IsHanded forms command_now → ((n i : ℕ)
+    → list_any (is_of n i) (begun command_now) ≡ true → list_any (is_of n i) at.others ≡ false) → (begun command_now ≡ [] → at.part ≡ [])
     → HearsPart command_now at.part reply → IsInside forms user heard now (record backend { own = own; command = command_now; reply = reply })
 inside-after own reply command_now at written commands is_message new unasked partly = grind (arith, common_steps)
-
--- The packets of a message are handed to a link that has no command.
-pub packets-handed : {forms : Forms} {user : Account} {heard : List ℕ} {pieces : List Command} {backend : BackendState} (tag : Tag) (packets payload : List ℕ)
-    (first : ℕ)
-    → IsInside forms user heard pieces backend → backend.command ≡ None → packets ≡ spelling 0 payload → length payload ≤ most_command
-    → forms tag ≡ form_at packets → IsInside forms user heard pieces (handed tag packets first backend)
-packets-handed tag packets payload first at none spelt short form = grind (arith, common_steps, inside-after, no-bytes)
 
 -- The last reply is moved out.
 pub reply-moved : {forms : Forms} {user : Account} {heard : List ℕ} {pieces : List Command} {backend : BackendState} (reply : List ℕ)
@@ -62,28 +41,21 @@ pub reply-moved : {forms : Forms} {user : Account} {heard : List ℕ} {pieces : 
 reply-moved reply at none = grind (arith, common_steps, inside-after)
 
 -- What was written of the command, once a byte of it was.
-pub begun-some : (command : Handed) → 0 < command.sent
-    → begun (Some command) ≡ record { tag = command.tag; bytes = take command.sent command.bytes } ∷ []
+pub begun-some : (command : Handed) → 0 < command.sent → begun (Some command) ≡ record { tag = command.tag; bytes = take command.sent command.bytes } ∷ []
 begun-some command = grind (arith, common_steps)
 
 -- More of it is written.
 begun-more : {forms : Forms} {command : Handed} (n : ℕ) → IsMessage forms command → 0 < n → n ≤ length (drop command.sent command.bytes)
     → with_piece (begun (Some command)) (record {
       tag = command.tag;
-      bytes = take n
-          (drop command.sent command.bytes);
+      bytes = take n (drop command.sent command.bytes);
     }) ≡ record { tag = command.tag; bytes = take (command.sent + n) command.bytes } ∷ []
 begun-more {command} n message some fits = by command.sent fits where
-  by : (sent : ℕ) → n ≤ length (drop sent command.bytes)
-      → with_piece (begun_by sent command) (record { tag = command.tag; bytes = take n (drop sent command.bytes) }) ≡ record {
-        tag = command.tag;
-        bytes = take
-            (sent + n) command.bytes;
-      } ∷ []
+  by : (sent : ℕ) → n ≤ length (drop sent command.bytes) → with_piece (begun_by sent command)
+      (record { tag = command.tag; bytes = take n (drop sent command.bytes) }) ≡ (assumption (take (sent + n) command.bytes)) ∷ []
   by zero fits = (let same : n ≡ 0 + n = omega arith in ap (λ k. record { tag = command.tag; bytes = take k command.bytes } ∷ []) same)
-  by (suc sent) fits = with-piece-on command.tag (take (suc sent) command.bytes) (take n (drop (suc sent) command.bytes))
-      (part-spelt message.payload (take (suc sent) command.bytes) (drop (suc sent) command.bytes) (take-append-drop (suc sent) command.bytes ∙ message.spelt)
-      (omega arith) message.short)
+  by (suc sent) fits = with-piece-on command.tag (take (suc sent) command.bytes) (take n (drop (suc sent) command.bytes)) (part-spelt message.payload
+      (take (suc sent) command.bytes) (drop (suc sent) command.bytes) (take-append-drop (suc sent) command.bytes ∙ message.spelt) (omega arith) message.short)
       ∙ ap (λ bytes. record { tag = command.tag; bytes = bytes } ∷ []) (sym (take-add (suc sent) n command.bytes))
 
 -- No command of which no byte was written is among the pieces.
@@ -92,19 +64,14 @@ IsFresh handed pieces = (n i : ℕ) (command : Handed) → handed ≡ Some comma
     (is_of n i) pieces ≡ false
 
 -- The bytes of a login that are written and those that are left are the same.
-same-said : (pieces : List Command) (tag : Tag) (n : ℕ) (own : List ℕ)
+pub same-said : (pieces : List Command) (tag : Tag) (n : ℕ) (own : List ℕ)
     → bytes_in (pieces ++ record { tag = tag; bytes = take n own } ∷ []) ++ drop n own ≡ bytes_in pieces ++ own
-same-said pieces tag n own = grind (arith, common_steps, bytes-more, take-append-drop)
+same-said pieces tag n own = grind (arith, common_steps, flat_map-append, append-nil, take-append-drop)
 
-left-alone : {backend : BackendState} {read said : List ℕ} (own : List ℕ) → IsLoggingIn backend read said
-    → IsLoggingIn (record backend { own = own }) read said
+left-alone : {backend : BackendState} {read said : List ℕ} (own : List ℕ) → IsLoggingIn backend read said → IsLoggingIn (record backend { own = own }) read said
 left-alone own at = grind (arith, common_steps)
 
 module _ {user : Account} {heard : List ℕ} {pieces : List Command} {backend : BackendState} where
-  entering-taken : (n : ℕ) → IsEntering user heard pieces backend
-      → IsEntering user heard (pieces ++ record { tag = Own; bytes = take n backend.own } ∷ []) (record backend { own = drop n backend.own })
-  entering-taken n at = grind (arith, common_steps, same-said, left-alone)
-
   -- While bytes of a login are left, all that was written is of it, and no command is begun.
   pub own-left : {forms : Forms} (at : IsInside forms user heard pieces backend) → 0 < length backend.own → bytes_in pieces ++ backend.own ≡ at.said
   own-left at some = grind (arith, common_steps)
@@ -113,26 +80,15 @@ module _ {user : Account} {heard : List ℕ} {pieces : List Command} {backend : 
       → length at.said ≡ length (bytes_in pieces) + length backend.own
   said-longer at some = ap length (sym (own-left at some)) ∙ length-append (bytes_in pieces) backend.own
 
-  none-behind : {forms : Forms} (at : IsInside forms user heard pieces backend) → 0 < length backend.own → [] ≡ at.others ++ begun backend.command
-  none-behind at some = grind (arith, common_steps, behind-short, said-longer)
-
-  own-taken : {forms : Forms} (n : ℕ) → IsInside forms user heard pieces backend → 0 < n → n ≤ length backend.own
+  pub own-taken : {forms : Forms} (n : ℕ) → IsInside forms user heard pieces backend → 0 < n → n ≤ length backend.own
       → IsInside forms user heard (pieces ++ record { tag = Own; bytes = take n backend.own } ∷ []) (record backend { own = drop n backend.own })
   own-taken n at some fits = (let piece : Command = record { tag = Own; bytes = take n backend.own } in
       let longer : length at.said ≡ length (bytes_in pieces) + length backend.own = said-longer at (omega arith) in
-      let commands : commands_in (behind (length at.said) (pieces ++ piece ∷ [])) ≡ at.others ++ begun backend.command =
-      (let sum = longer in let size : length (take n backend.own) ≡ n = length-take-le n backend.own fits in
-      ap commands_in (behind-past (length at.said) pieces (piece ∷ []) (omega arith)
+      let commands : commands_in (behind (length at.said) (pieces ++ piece ∷ [])) ≡ at.others ++ begun backend.command = (let sum = longer in let size : length
+      (take n backend.own) ≡ n = length-take-le n backend.own fits in ap commands_in (behind-past (length at.said) pieces (piece ∷ []) (omega arith)
       ∙ behind-one (length at.said - length (bytes_in pieces)) piece (omega arith) (omega arith))
-      ∙ none-behind at (omega arith)) in
-      inside-after (drop n backend.own) backend.reply backend.command at
-      (inl (same-said pieces Own n backend.own ∙ own-left at (omega arith))) commands at.command at.new at.unasked at.partly)
-
--- all that the router says in a login was written
-pub said-written : (forms : Forms) (user : Account) (heard : List ℕ) (pieces : List Command) (backend : BackendState)
-    (at : IsInside forms user heard pieces backend)
-    → backend.own ≡ [] → IsPrefix at.said (bytes_in pieces)
-said-written forms user heard pieces backend at none = grind (arith, common_steps, append-nil)
+      ∙ (grind (arith, common_steps, behind-short, said-longer))) in inside-after (drop n backend.own) backend.reply backend.command at (inl
+      (same-said pieces Own n backend.own ∙ own-left at (omega arith))) commands at.command at.new at.unasked at.partly)
 
 prefix-fits : {front whole : List ℕ} → IsPrefix front whole → length front ≤ length whole
 prefix-fits {front} {whole} at = grind (arith, common_steps, length-append)
@@ -141,40 +97,14 @@ prefix-more : {front whole longer : List ℕ} (more : List ℕ) → IsPrefix fro
 prefix-more {front} more at same = grind (arith, common_steps)
 
 -- Bytes of the command are written.
-command-taken : {forms : Forms} {user : Account} {heard : List ℕ} {pieces : List Command} {backend : BackendState} (command : Handed) (n : ℕ)
-    → IsInside forms user heard pieces backend → backend.own ≡ [] → backend.command ≡ Some command → 0 < n
-    → n ≤ length (drop command.sent command.bytes) → IsFresh backend.command pieces
-    → IsInside forms user heard (pieces ++ record { tag = command.tag; bytes = take n (drop command.sent command.bytes) } ∷ [])
+pub command-taken : {forms : Forms} {user : Account} {heard : List ℕ} {pieces : List Command} {backend : BackendState} (command : Handed) (n : ℕ)
+    → IsInside forms user heard pieces backend → backend.own ≡ [] → backend.command ≡ Some command → 0 < n → n ≤ length (drop command.sent command.bytes)
+    → IsFresh backend.command pieces → IsInside forms user heard (pieces ++ record { tag = command.tag; bytes = take n (drop command.sent command.bytes) } ∷ [])
     (record backend { command = Some (record command { sent = command.sent + n }) })
-command-taken {forms} {user} {heard} {pieces} {backend} command n at none is some fits fresh = inside-after backend.own backend.reply
-    (Some (record command { sent = command.sent + n })) at
-    (inr (none, prefix-more piece.bytes (said-written forms user heard pieces backend at none) (bytes-more pieces piece))) commands
-    (record {
-      payload = message.payload;
-      spelt = message.spelt;
-      short = message.short;
-      sent =
-          (let left : length (drop command.sent command.bytes) ≡ length command.bytes - command.sent = length-drop command.sent command.bytes in omega arith);
-      form = message.form;
-    }) new
-    (λ no. absurd (let some_is : record { tag = command.tag; bytes = take (command.sent + n) command.bytes } ∷ [] ≡ [] = sym now ∙ no in cc))
-    (let hears : IsHearing command at.part backend.reply = rw is at at.partly in record { goes = hears.goes; made = hears.made; are = hears.are }) where
-      piece : Command
-      piece = record { tag = command.tag; bytes = take n (drop command.sent command.bytes) }
-
-      message : IsMessage forms command
-      message = subst (IsHanded forms) is at.command
-
+command-taken {forms} {user} {heard} {pieces} {backend} command n at none is some fits fresh = grind
+    (arith, common_steps, behind-append, prefix-fits, with-piece-behind, begun-more, now, inside-after, prefix-more, flat_map-append, append-nil, new) where
       now : begun (Some (record command { sent = command.sent + n })) ≡ record { tag = command.tag; bytes = take (command.sent + n) command.bytes } ∷ []
       now = begun-some (record command { sent = command.sent + n }) (omega arith)
-
-      commands : commands_in (behind (length at.said) (pieces ++ piece ∷ [])) ≡ at.others ++ begun (Some (record command { sent = command.sent + n }))
-      commands = ap commands_in (behind-append (length at.said) pieces (piece ∷ []) (prefix-fits (said-written forms user heard pieces backend at none)))
-          ∙ fold-append with_piece [] (behind (length at.said) pieces) (piece ∷ [])
-          ∙ ap (λ cs. with_piece cs piece) at.commands
-          ∙ with-piece-behind at.others (begun backend.command) piece at.wholes
-          ∙ ap (λ (o : Option Handed). at.others ++ with_piece (begun o) piece) is
-          ∙ ap (λ cs. at.others ++ cs) (begun-more n message some fits ∙ sym now)
 
       new : (m i : ℕ) → list_any (is_of m i) (begun (Some (record command { sent = command.sent + n }))) ≡ true → list_any (is_of m i) at.others ≡ false
       new m i any = by command.sent refl where
@@ -182,26 +112,14 @@ command-taken {forms} {user} {heard} {pieces} {backend} command n at none is som
         here = sym (ap (list_any (is_of m i)) now) ∙ any
 
         by : (sent : ℕ) → command.sent ≡ sent → list_any (is_of m i) at.others ≡ false
-        by zero unsent = (let or-nothing : (b : Bool) → (b || false) ≡ b = λ b. grind (arith, common_steps) in
-            (let out = of-commands m i (length at.said) pieces (fresh m i command is unsent (sym (or-nothing (is_command m i command.tag)) ∙ here)) in
-            (or_parts (list_any (is_of m i) at.others) (list_any (is_of m i) (begun backend.command))
-            (sym (list_any-append (is_of m i) at.others (begun backend.command)) ∙ sym (ap (list_any (is_of m i)) at.commands) ∙ out)).0))
-        by (suc sent) was = at.new m i (ap (λ (o : Option Handed). list_any (is_of m i) (begun o)) is
-            ∙ ap (list_any (is_of m i)) (begun-some command (omega arith)) ∙ here)
-
--- So many bytes of what is left are written, with its tag.
-pub taken-at : {forms : Forms} {user : Account} {heard : List ℕ} {pieces : List Command} {backend : BackendState} (l : Sent) (n : ℕ)
-    → LinkAt forms user heard pieces backend → left backend ≡ Some l → 0 < n → n ≤ length l.bytes → IsFresh backend.command pieces
-    → LinkAt forms user heard (pieces ++ record { tag = l.tag; bytes = take n l.bytes } ∷ []) (taken n backend)
-taken-at l n h7 is some fits fresh = grind (arith, common_steps, some-same, entering-taken, command-taken, own-taken)
+        by zero unsent = grind (arith, common_steps, of-commands, here)
+        by (suc sent) was = grind (arith, common_steps, begun-some, here)
 
 -- What was written of a login, with any part of what is left, is the front of what the router says in it.
-part-said : {said : List ℕ} (pieces : List Command) (own : List ℕ) (k : ℕ) → bytes_in pieces ++ own ≡ said
-    → IsPrefix (bytes_in pieces ++ take k own) said
+part-said : {said : List ℕ} (pieces : List Command) (own : List ℕ) (k : ℕ) → bytes_in pieces ++ own ≡ said → IsPrefix (bytes_in pieces ++ take k own) said
 part-said pieces own k is = record {
   rest = drop k own;
-  is = append_assoc (bytes_in pieces) (take k own) (drop k own)
-      ∙ ap (λ xs. bytes_in pieces ++ xs) (take-append-drop k own) ∙ is;
+  is = grind (arith, common_steps);
 }
 
 pub said-entering : {user : Account} {heard : List ℕ} {pieces : List Command} {backend : BackendState} (k : ℕ) → IsEntering user heard pieces backend
@@ -209,13 +127,11 @@ pub said-entering : {user : Account} {heard : List ℕ} {pieces : List Command} 
 said-entering {pieces} {backend} k at = part-said pieces backend.own k (sym (ap said_of at.goes))
 
 pub said-inside : {forms : Forms} {user : Account} {heard : List ℕ} {pieces : List Command} {backend : BackendState} (k : ℕ)
-    → IsInside forms user heard pieces backend → 0 < length backend.own
-    → IsPrefix (bytes_in pieces ++ take k backend.own) (said_of (opening user heard))
+    → IsInside forms user heard pieces backend → 0 < length backend.own → IsPrefix (bytes_in pieces ++ take k backend.own) (said_of (opening user heard))
 said-inside {pieces} {backend} k at some = part-said pieces backend.own k (own-left at some ∙ sym (ap said_of at.is))
 
 pub said-at : (forms : Forms) (user : Account) (heard : List ℕ) (pieces : List Command) (backend : BackendState) (k : ℕ)
-    → LinkAt forms user heard pieces backend → 0 < length backend.own
-    → IsPrefix (bytes_in pieces ++ take k backend.own) (said_of (opening user heard))
+    → LinkAt forms user heard pieces backend → 0 < length backend.own → IsPrefix (bytes_in pieces ++ take k backend.own) (said_of (opening user heard))
 said-at forms user heard pieces backend k (Entering at) some = said-entering k at
 said-at forms user heard pieces backend k (Inside at) some = said-inside k at some
 
@@ -237,9 +153,6 @@ same-ended one two end rest same is = grind (arith, common_steps)
 same-failed : (one two : Ending) (behind : List ℕ) → SameEnd one two → one ≡ Failed behind → two ≡ Failed behind
 same-failed one two behind same is = grind (arith, common_steps)
 
-length-kept : {command : Handed} {part kept : List ℕ} → IsHearing command part kept → length kept ≡ length part
-length-kept {command} {part} hears = grind (arith, common_steps, length-renumbered)
-
 -- the reply goes on
 pub hearing-more : {command : Handed} {part kept : List ℕ} (piece : List ℕ) (state : State) → IsHearing command part kept → AreBytes piece
     → run command.tracker.state piece ≡ Going state
@@ -254,10 +167,6 @@ hearing-more {command} {part} piece state hears are is = record {
 pub heard-formed : (forms : Forms) (command : Handed) (c : Command) (bytes : List ℕ) → forms command.tag ≡ form_at command.bytes → c.tag ≡ command.tag
     → command_reply forms c bytes ≡ heard_as (form_at command.bytes) bytes
 heard-formed forms command c bytes form same = ap (λ (t : Tag). heard_as (forms t) bytes) same ∙ ap (λ (f : Form). heard_as f bytes) form
-
--- no number is in the reply to a command
-renamed-none : (command : List ℕ) (payloads : List (List ℕ)) → renamed (kind_to command) 0 payloads ≡ payloads
-renamed-none command payloads = grind (arith, common_steps)
 
 -- The reply is whole with the piece: this is its answer, these bytes are behind it, and what is kept with the piece is the answer from the client's id on.
 pub record IsWholeReply (forms : Forms) (command : Handed) (part kept piece : List ℕ) (reply : Answer) (rest : List ℕ) : Type 0 where
@@ -276,18 +185,17 @@ whole-reply {command} {part} {kept} forms piece end rest form hears are is = (le
     let used : ℕ = length piece - length rest in
     let short : length rest < length piece = ended-shorter command.tracker.state piece rest end is in
     let ends : run start bytes ≡ Ended end rest = ends-as piece hears ∙ is in
-    let on : IsHandedOn (to_command command.bytes command.first) bytes end rest =
-    handed-on (to_command command.bytes command.first) bytes end rest (omega arith) (AreBytes-append part piece hears.are are) ends in
+    let on : IsHandedOn (to_command command.bytes command.first) bytes end rest = handed-on (to_command command.bytes command.first) bytes end rest
+    (omega arith) (AreBytes-append part piece hears.are are) ends in
     let reply : Answer = payloads_in id (take (length bytes - length rest) bytes) in
-    let both : kept ++ made ≡ spelt command.first reply ++ rest =
-    ap (λ l. l ++ made) hears.made ∙ sym (renumbered-more start command.tracker.state part piece hears.goes) ∙ on.handed
-    ∙ ap (λ (payloads : List (List ℕ)). spellings command.first payloads ++ rest) (renamed-none command.bytes (payloads_in id on.front))
+    let both : kept ++ made ≡ spelt command.first reply ++ rest = ap (λ l. l ++ made) hears.made
+    ∙ sym (renumbered-more start command.tracker.state part piece hears.goes) ∙ on.handed
+    ∙ ap (λ (payloads : List (List ℕ)). spellings command.first payloads ++ rest) (grind (arith, common_steps, (payloads_in id on.front)))
     ∙ ap (λ front. spelt command.first (payloads_in id front) ++ rest) on.cut in
     let size : length kept + used ≡ length (spelt command.first reply) = (let a : length (kept ++ made) ≡ length kept + length made = length-append kept made in
-    let b : length made ≡ length piece = length-renumbered piece command.tracker.state in
-    let c : length (spelt command.first reply ++ rest) ≡ length (spelt command.first reply) + length rest = length-append (spelt command.first reply) rest in
-    let same : length (kept ++ made) ≡ length (spelt command.first reply ++ rest) = ap length both in
-    omega (arith, short)) in (
+    let b : length made ≡ length piece = length-renumbered piece command.tracker.state in let c : length (spelt command.first reply ++ rest) ≡ length
+    (spelt command.first reply) + length rest = length-append (spelt command.first reply) rest in let same : length (kept ++ made) ≡ length
+    (spelt command.first reply ++ rest) = ap length both in omega (arith, short)) in (
       reply,
       record {
         said = λ c same. heard-formed forms command c bytes form same ∙ ap (heard_by id bytes)
@@ -304,15 +212,12 @@ pub never-reply : {command : Handed} {part kept : List ℕ} (forms : Forms) (pie
     → command_reply forms c (part ++ piece) ≡ Never (length kept + (length piece - length behind))
 never-reply {command} {part} {kept} forms piece behind form hears is c same = (let bytes : List ℕ = part ++ piece in
     let start : State = started (to_command command.bytes command.first) in
-    let place : length bytes - length behind ≡ length kept + (length piece - length behind) =
-    (let a : length (part ++ piece) ≡ length part + length piece = length-append part piece in
-    let b : length kept ≡ length part = length-kept hears in
-    let c : length behind ≤ length piece = (failed-shorter command.tracker.state piece behind is).1 in
-    omega arith) in
-    heard-formed forms command c bytes form same
-    ∙ ap (heard_by (id_after command.bytes) bytes) (same-failed (run start bytes) (replied (kind_to command.bytes) (id_after command.bytes) bytes) behind
-    (same-end (kind_to command.bytes) (id_after command.bytes) command.first (id_after command.bytes) bytes) (ends-as piece hears ∙ is))
-    ∙ ap Never place)
+    let place : length bytes - length behind ≡ length kept + (length piece - length behind) = (let a : length
+    (part ++ piece) ≡ length part + length piece = length-append part piece in let b : length kept ≡ length part = grind
+    (arith, common_steps, length-renumbered) in let c : length behind ≤ length piece = (failed-shorter command.tracker.state piece behind is).1 in
+    omega arith) in heard-formed forms command c bytes form same ∙ ap (heard_by (id_after command.bytes) bytes) (same-failed (run start bytes)
+    (replied (kind_to command.bytes) (id_after command.bytes) bytes) behind
+    (same-end (kind_to command.bytes) (id_after command.bytes) command.first (id_after command.bytes) bytes) (ends-as piece hears ∙ is)) ∙ ap Never place)
 
 -- What is said of a link on which commands are whole and answered, and maybe one more is begun.
 
@@ -329,8 +234,8 @@ pub record Stands (forms : Forms) (user : Account) (read : List ℕ) (pieces las
   pub replies : replies_by (command_reply forms) others past ≡ record { whole = whole; rest = []; bad = None }
   pub all : length whole ≡ length others
 
-pub stands-at : {forms : Forms} {user : Account} {heard : List ℕ} {pieces : List Command} {backend : BackendState} (at : IsInside forms user heard pieces backend)
-    → Stands forms user heard pieces (begun backend.command) at.part
+pub stands-at : {forms : Forms} {user : Account} {heard : List ℕ} {pieces : List Command} {backend : BackendState}
+    (at : IsInside forms user heard pieces backend) → Stands forms user heard pieces (begun backend.command) at.part
 stands-at at = grind (arith, common_steps)
 
 pub inside-from : {forms : Forms} {user : Account} {heard : List ℕ} {pieces : List Command} {backend : BackendState} {last : List Command} {part : List ℕ}
@@ -374,13 +279,12 @@ module _ {forms : Forms} {user : Account} {read : List ℕ} {pieces : List Comma
   reply-of c at n i lost is = (let zero-plus : 0 + length at.others ≡ length at.others = omega arith in
       ap (λ cs. option_and_then (λ place. reply_at place (replies_said forms user read pieces) lost) (place_in n i 0 cs)) (commands-of at)
       ∙ ap (option_and_then (λ place. reply_at place (replies_said forms user read pieces) lost))
-      (place-last n i 0 at.others c (at.new n i (or_left (is_command n i c.tag) false is)) is)
-      ∙ ap (λ place. reply_at place (replies_said forms user read pieces) lost) zero-plus
-      ∙ ap (λ (r : Replies). reply_at (length at.others) r lost) (replies-of at))
+      (place-last n i 0 at.others c (at.new n i (or_left (is_command n i c.tag) false is)) is) ∙ ap
+      (λ place. reply_at place (replies_said forms user read pieces) lost) zero-plus ∙ ap (λ (r : Replies). reply_at (length at.others) r lost) (replies-of at))
 
 pub at-last : (whole : List Answer) (reply : Answer) (place : ℕ) → length whole ≡ place → slice_get (whole ++ reply ∷ []) place ≡ Some reply
-at-last whole reply place same = slice_get_read (whole ++ reply ∷ []) (length (whole ++ reply ∷ [])) place reply refl
-    (let sum : length (whole ++ reply ∷ []) ≡ length whole + 1 = length-append whole (reply ∷ []) in omega arith) (sym (get_or_push whole reply reply place same))
+at-last whole reply place same = slice_get_read (whole ++ reply ∷ []) (length (whole ++ reply ∷ [])) place reply refl (let sum : length
+    (whole ++ reply ∷ []) ≡ length whole + 1 = length-append whole (reply ∷ []) in omega arith) (sym (get_or_push whole reply reply place same))
 
 not-there : (whole : List Answer) (place : ℕ) → length whole ≡ place → slice_get (whole ++ []) place ≡ None
 not-there whole place same = slice_get_past (whole ++ []) place (let sum : length (whole ++ []) ≡ length whole + 0 = length-append whole [] in omega arith)
@@ -422,8 +326,7 @@ standing-entering forms user heard pieces backend at = grind (arith, common_step
 
 -- Inside the commands are the others and the one that is begun.
 pub commands-inside : (forms : Forms) (user : Account) (heard : List ℕ) (pieces : List Command) (backend : BackendState)
-    (at : IsInside forms user heard pieces backend)
-    → commands_said user heard pieces ≡ at.others ++ begun backend.command
+    (at : IsInside forms user heard pieces backend) → commands_said user heard pieces ≡ at.others ++ begun backend.command
 commands-inside forms user heard pieces backend at = ap (λ (o : Opening). commands_behind o pieces) at.is ∙ at.commands
 
 -- what was read behind the others is a part of its reply
@@ -456,7 +359,8 @@ pub record IsBegun (forms : Forms) (user : Account) (heard : List ℕ) (pieces :
 abbrev pub written : Handed → Command
 written command = record { tag = command.tag; bytes = take command.sent command.bytes }
 
-module _ {forms : Forms} {user : Account} {heard : List ℕ} {pieces : List Command} {backend : BackendState} {command : Handed} (at : IsBegun forms user heard pieces backend command) where
+module _ {forms : Forms} {user : Account} {heard : List ℕ} {pieces : List Command} {backend : BackendState} {command : Handed}
+    (at : IsBegun forms user heard pieces backend command) where
   pub message : IsMessage forms command
   message = subst (IsHanded forms) at.is at.inside.command
 
@@ -479,9 +383,8 @@ module _ {forms : Forms} {user : Account} {heard : List ℕ} {pieces : List Comm
   -- it has no reply, or the error in its place
   pub unanswered-at : (n i : ℕ) (lost : Bool) → is_command n i command.tag ≡ true → reply_said forms n i user heard pieces lost ≡ cond lost
       (Some (connection_lost ∷ [])) None
-  unanswered-at n i lost here = reply-of (written command) begun-at n i lost here
-      ∙ ap (λ (r : Replies). reply_at (length begun-at.others) (behind_replies begun-at.whole r) lost) partly-by
-      ∙ reply-open begun-at.whole at.inside.part None (length begun-at.others) lost begun-at.all
+  unanswered-at n i lost here = reply-of (written command) begun-at n i lost here ∙ ap (λ (r : Replies). reply_at (length begun-at.others)
+      (behind_replies begun-at.whole r) lost) partly-by ∙ reply-open begun-at.whole at.inside.part None (length begun-at.others) lost begun-at.all
 
   -- it is whole, or a part of one, as far as it was written
   pub written-whole : command.sent ≡ length command.bytes → is_whole (written command) ≡ true
@@ -489,8 +392,9 @@ module _ {forms : Forms} {user : Account} {heard : List ℕ} {pieces : List Comm
 
   pub written-part : command.sent ≢ length command.bytes → is_whole (written command) ≡ false
   written-part less = part-spelt message.payload (take command.sent command.bytes) (drop command.sent command.bytes)
-      (take-append-drop command.sent command.bytes ∙ message.spelt)
-      (let size : length (drop command.sent command.bytes) ≡ length command.bytes - command.sent = length-drop command.sent command.bytes in let most = message.sent in omega arith) message.short
+      (take-append-drop command.sent command.bytes
+      ∙ message.spelt) (let size : length (drop command.sent command.bytes) ≡ length command.bytes - command.sent = length-drop command.sent command.bytes in
+      let most = message.sent in omega arith) message.short
 
 -- no command, or nothing of it was written
 pub standing-clean : (forms : Forms) (user : Account) (heard : List ℕ) (pieces : List Command) (backend : BackendState)
@@ -503,18 +407,13 @@ pub standing-sends : (forms : Forms) (user : Account) (heard : List ℕ) (pieces
 standing-sends forms user heard pieces backend command at less = standing-begun at ∙ ap (λ b. cond b Runs Sends) (written-part at (omega arith))
 
 -- all of it
-pub standing-runs : (forms : Forms) (user : Account) (heard : List ℕ) (pieces : List Command) (backend : BackendState) (command : Handed)
-    → IsInside forms user heard pieces backend → backend.command ≡ Some command → command.sent ≡ length command.bytes
-    → standing_said forms user heard pieces ≡ Runs
-standing-runs forms user heard pieces backend command at is all = standing-begun begins ∙ ap (λ b. cond b Runs Sends) (written-whole begins all) where
-  begins : IsBegun forms user heard pieces backend command
-  begins = record {
-    inside = at;
-    is = is;
-    some = (let message : IsMessage forms command = subst (IsHanded forms) is at.command in let some : 0 < length
-        (spelling 0 message.payload) = spelling-some 0 message.payload in
-        let size : length command.bytes ≡ length (spelling 0 message.payload) = ap length message.spelt in omega arith);
-  }
+pub standing-runs : (forms : Forms) (user : Account) (heard : List ℕ) (pieces : List Command) (backend : BackendState) (command : Handed) → IsInside forms user
+    heard pieces backend → backend.command ≡ Some command → command.sent ≡ length command.bytes → standing_said forms user heard pieces ≡ Runs
+standing-runs forms user heard pieces backend command at is all = (let begins : IsBegun forms user heard pieces backend command = record {
+  inside = at;
+  is = is;
+  some = grind (arith, common_steps, spelling-some);
+} in standing-begun begins ∙ ap (λ b. cond b Runs Sends) (written-whole begins all))
 
 -- So it stands as the command does.
 abbrev pub standing_by : Option Handed → Standing
@@ -526,11 +425,10 @@ pub standing-inside : (forms : Forms) (user : Account) (heard : List ℕ) (piece
 standing-inside forms user heard pieces backend at = by backend.command refl where
   sent : (command : Handed) → backend.command ≡ Some command → (none all : Bool) → nat_eq command.sent 0 ≡ none → nat_eq command.sent
       (length command.bytes) ≡ all → standing_said forms user heard pieces ≡ (if none then Clean else if all then Runs else Sends)
-  sent command is true all unsent is_all = standing-clean forms user heard pieces backend at (ap begun is
-      ∙ ap (λ sent. begun_by sent command) (nat_eq-true command.sent 0 unsent))
+  sent command is true all unsent is_all = grind (arith, common_steps, standing-clean, nat_eq-true)
   sent command is false true some is_all = standing-runs forms user heard pieces backend command at is (nat_eq-true command.sent (length command.bytes) is_all)
-  sent command is false false some part = (let message : IsMessage forms command = subst
-      (IsHanded forms) is at.command in let most : command.sent ≤ length command.bytes = message.sent in
+  sent command is false false some part = (let message : IsMessage forms command = subst (IsHanded forms) is at.command in
+      let most : command.sent ≤ length command.bytes = message.sent in
       let one : command.sent ≢ 0 = nat_eq-false command.sent 0 some in
       let two : command.sent ≢ length command.bytes = nat_eq-false command.sent (length command.bytes) part in
       standing-sends forms user heard pieces backend command (record { inside = at; is = is; some = omega arith }) (omega arith))

@@ -1,17 +1,14 @@
 -- What each event leaves of how a client's session stands.
-use Rattle.router_world.proofs.Names.{common_steps, ◌≡◌, ◌≢◌, ◌≤◌, ◌<◌, ℕ, suc, true, false, List, [], ◌++◌, length, take, Option, Some, None, refl}
-use Rattle.router_world.proofs.Names.{sym, ◌∙◌, ap, append-nil, append_assoc, take-append-drop, arith, ClientNo, Framed, Split, split, with_front, next_id}
-use Rattle.router_world.proofs.Names.{first_message-empty, ClientState, fed, Waits, Account, Setup, Talk, heard_more, messages_of, front}
-use Rattle.router_world.proofs.Names.{fault_answer, is_query, Phase, Session, new_session, said_in, said, turned, rested, taken, most_command, Answer, spelt, Work}
-use Rattle.router_world.proofs.Names.{messages-grow, answers_by, first_open, due_said, work_said, over_said, IsTaken, IsIdle, IsWorking, SeatAt}
-use Rattle.router_world.proofs.Names.{Unanswered}
-use Rattle.promises.proofs.Staying.{account-more}
-use Rattle.client_side.specs.Login.{greeting_said, opening}
-use Rattle.client_side.specs.Laws.{logging-new, logging-fed}
-use Rattle.client_talk.specs.Events.{answered}
-use Rattle.router_world.proofs.SeatsTaking.{turned-seat}
-use Rattle.router_world.proofs.SeatsAnswers.{query-no-quit, IsOpen, at_place, query-open, query-served, open-none, open-more, open-due, open-within, done-all}
-use Rattle.router_world.proofs.SeatsAnswers.{NowDone, Agree, now-done, agree, IsGoing, MayGo, SeatTurned, due_behind, due-alone, work-alone, front-more}
+use Rattle.router_world.proofs.Names.{common_steps, ◌≡◌, ◌≢◌, ◌≤◌, ◌<◌, ℕ, suc, true, false, List, [], ◌++◌, length, take, Option, Some, None, refl, sym, ◌∙◌}
+use Rattle.router_world.proofs.Names.{ap, append-nil, append_assoc, take-append-drop, arith, ClientNo, Framed, Split, split, with_front, next_id}
+use Rattle.router_world.proofs.Names.{first_message-empty, ClientState, fed, Waits, Account, Setup, Talk, heard_more, messages_of, front, fault_answer}
+use Rattle.router_world.proofs.Names.{is_query, Phase, Session, new_session, said_in, said, turned, rested, taken, most_command, Answer, spelt, Work}
+use Rattle.router_world.proofs.Names.{messages-grow, answers_by, first_open, due_said, work_said, over_said, IsTaken, IsIdle, IsWorking, SeatAt, Unanswered}
+use Rattle.promises.proofs.{Staying.account-more, InWork.query-answer}
+use Rattle.client_side.specs.{Login.greeting_said, Login.opening, Laws.logging-new, Laws.logging-fed}
+use Rattle.{client_talk.specs.Events.answered, router_world.proofs.SeatsTaking.turned-seat}
+use Rattle.router_world.proofs.SeatsAnswers.{query-no-quit, IsOpen, at_place, query-served, open-none, open-more, open-due, open-within, goes-all, joins-all}
+use Rattle.router_world.proofs.SeatsAnswers.{no-messages, NowDone, Agree, now-done, agree, IsGoing, MayGo, SeatTurned, due_behind, due-alone, front-more}
 use Rattle.router_world.proofs.SeatsAnswers.{taken-messages, taken-nothing, taken-fed, over-in}
 use Rattle.client_talk.specs.declared.session.Phase.TheVariants as phase
 
@@ -53,11 +50,8 @@ pub record Agrees (talk : Talk) (reply other : ℕ → Option Answer) : Type 0 w
   pub none : (work : Work) → work_said reply talk ≡ Some work → is_query work.message.payload ≡ true → other work.ordinal ≡ None
 
 module _ {talk : Talk} {reply other : ℕ → Option Answer} (agrees : Agrees talk reply other) where
-  agree-both : Agree talk.setup reply other 1 (messages_of talk).messages (fault_answer talk.setup.limit (messages_of talk).fault)
+  pub agree-both : Agree talk.setup reply other 1 (messages_of talk).messages (fault_answer talk.setup.limit (messages_of talk).fault)
   agree-both = agree talk.setup reply other 1 (messages_of talk).messages (fault_answer talk.setup.limit (messages_of talk).fault) agrees.stays agrees.none
-
-  pub agree-seat : {written : List ℕ} {session : Session} → SeatAt talk reply written session → SeatAt talk other written session
-  agree-seat seat = grind (arith, common_steps, agree-both)
 
 -- Bytes of it come.
 
@@ -82,7 +76,7 @@ module _ (talk : Talk) (reply : ℕ → Option Answer) (written bytes : List ℕ
     taken = taken-fed seat.at.taken bytes user seat.at.account;
     account = account-more talk bytes user seat.at.account;
     said = answers_by talk.setup reply 1 seat.at.taken.past [];
-    done = done-all talk.setup reply seat.at.taken.past answered.all;
+    done = grind (arith, common_steps, joins-all, goes-all);
     put = grind (arith, common_steps, front-more);
   })
 
@@ -97,13 +91,11 @@ module _ (talk : Talk) (reply : ℕ → Option Answer) (written bytes : List ℕ
       })
 
   -- the session that has kept them may go on
-  fed-turned : (at : Phase) (client : ClientState) → SeatAt talk reply written (record { client = client; phase = at })
-      → ((i : ℕ) → suc client.arrived ≤ i → reply i ≡ None) → length (talk.read ++ bytes) < 18446744073709551616
-      → MayGo at now reply (written ++ client.outgoing) (fed client bytes)
+  fed-turned : (at : Phase) (client : ClientState) → SeatAt talk reply written (record { client = client; phase = at }) → ((i : ℕ) → suc client.arrived ≤ i
+      → reply i ≡ None) → length (talk.read ++ bytes) < 18446744073709551616 → MayGo at now reply (written ++ client.outgoing) (fed client bytes)
       → SeatTurned now reply written (record { client = client; phase = at }) (turned talk.setup (record { client = fed client bytes; phase = at }))
-  fed-turned at client seat later few may =
-      turned-seat now reply written (record { client = fed client bytes; phase = at }) (record { mine = seat.mine; few = few; later = later; at = may })
-      (record { client = client; phase = at })
+  fed-turned at client seat later few may = turned-seat now reply written (record { client = fed client bytes; phase = at })
+      (record { mine = seat.mine; few = few; later = later; at = may }) (record { client = client; phase = at })
 
   said-at : (at : Phase) (client : ClientState) → SeatAt talk reply written (record { client = client; phase = at })
       → Unanswered reply (record { client = client; phase = at }) → at ≢ phase.Ending → length (talk.read ++ bytes) < 18446744073709551616
@@ -133,13 +125,11 @@ module _ {talk : Talk} {reply : ℕ → Option Answer} {user : Account} {client 
   messages = taken-messages working.taken
 
   within : first_open talk.setup reply 1 past ≡ Some work
-  within = (let count = working.taken.arrived in
-      open-within talk.setup reply 1 past behind.messages work (cc (messages, working.work)) (omega arith))
+  within = (let count = working.taken.arrived in open-within talk.setup reply 1 past behind.messages work (cc (messages, working.work)) (omega arith))
 
   -- no reply is there
   working-open : IsOpen talk.setup (reply client.arrived)
-  working-open = query-open talk.setup (reply client.arrived) working.message.payload working.query
-      (open-none talk.setup reply 1 (messages_of talk).messages work working.work)
+  working-open = grind (arith, common_steps, query-answer, (reply client.arrived), (open-none talk.setup reply 1 (messages_of talk).messages work working.work))
 
   -- all messages that were taken are answered then
   pub working-done : (other : ℕ → Option Answer) (answer : Answer) → other client.arrived ≡ Some answer
@@ -149,10 +139,9 @@ module _ {talk : Talk} {reply : ℕ → Option Answer} {user : Account} {client 
       (query-served talk.setup (other client.arrived) working.message.payload working.query working-open.server ∙ now))
 
   pub answered-seat : (other : ℕ → Option Answer) (written : List ℕ) (answer : Answer) (packets : List ℕ)
-      → SeatAt talk reply written (record { client = client; phase = phase.Working user }) → other client.arrived ≡ Some answer
-      → ((i : ℕ) (answer : Answer) → reply i ≡ Some answer → other i ≡ Some answer) → ((i : ℕ) → client.arrived < i → other i ≡ None)
-      → packets ≡ spelt (next_id working.message.last) answer → length talk.read < 18446744073709551616
-      → SeatTurned talk other written (record { client = client; phase = phase.Idle user })
+      → SeatAt talk reply written (record { client = client; phase = phase.Working user }) → other client.arrived ≡ Some answer → ((i : ℕ) (answer : Answer)
+      → reply i ≡ Some answer → other i ≡ Some answer) → ((i : ℕ) → client.arrived < i → other i ≡ None) → packets ≡ spelt (next_id working.message.last) answer
+      → length talk.read < 18446744073709551616 → SeatTurned talk other written (record { client = client; phase = phase.Idle user })
       (answered talk.setup packets (record { client = client; phase = phase.Working user }))
   answered-seat other written answer packets seat now stays later spelled few = (let done = working-done other answer now stays in
       let due : written ++ client.outgoing ≡ front talk ++ answers_by talk.setup reply 1 past [] = seat.due
@@ -166,7 +155,7 @@ module _ {talk : Talk} {reply : ℕ → Option Answer} {user : Account} {client 
           taken = taken-outgoing talk client (client.outgoing ++ packets) working.taken;
           account = working.account;
           said = answers_by talk.setup other 1 past [];
-          done = done-all talk.setup other past done.all;
+          done = grind (arith, common_steps, joins-all, goes-all);
           put = grind (arith, common_steps, append_assoc);
         };
       }) (record { client = client; phase = phase.Idle user }))
@@ -192,4 +181,4 @@ WaitsFor _ talk reply arrived = IsFree talk reply
 
 pub work-here : {talk : Talk} {reply : ℕ → Option Answer} {written : List ℕ} {session : Session} → SeatAt talk reply written session
     → WaitsFor session.phase talk reply session.client.arrived
-work-here seat = grind (arith, common_steps, work-alone, over-in, query-no-quit)
+work-here seat = grind (arith, common_steps, no-messages, over-in, query-no-quit)

@@ -1,23 +1,16 @@
 -- The answers of a client, up to the first that isn't there.
-use Rattle.router_world.proofs.Names.{common_steps, ◌≡◌, ◌≤◌, ◌<◌, ℕ, suc, ◌+◌, Bool, true, false, is_some, cond, List, [], ◌∷◌, ◌++◌, length, Option}
-use Rattle.router_world.proofs.Names.{Some, None, Result, refl, sym, ◌∙◌, ap, append-nil, append_assoc, arith, length-append, Framed, next_id, Meaning}
-use Rattle.router_world.proofs.Names.{parsed, CommandFault, Setup, query_by, is_query, is_quit, no_server, own_ok, payload_of, Asked, Answer, spelt}
-use Rattle.router_world.proofs.Names.{answer_by, Work, answer_of, answers_by, first_open, ClientState, IsLoggingIn, Account, Talk, account, front, Phase}
-use Rattle.router_world.proofs.Names.{Session, Turned, still, left_to_say, due_said, over_said, IsTaken, SeatAt, Unanswered, Asks, drop, FrameFault, Split}
-use Rattle.router_world.proofs.Names.{split, with_front, message_size, Nothing, Whole, Faulty, first_message-empty, first_message-whole-more, Found}
-use Rattle.router_world.proofs.Names.{first_message-goes, Response, fed, counted, Opening, Says, opening-says-more, account_of, heard_more, opening_of}
-use Rattle.router_world.proofs.Names.{if_known, commands, messages_of, front_in, fault_answer, ends_by, work_said}
-use Rattle.promises.proofs.Staying.{by-stays}
-use Rattle.promises.proofs.InWork.{query-answer, some-same}
-use Rattle.router_world.specs.Seats.{IsOf}
-use Rattle.client_session.specs.Answers.{quit_by, commands_in, client_messages}
-use Rattle.client_talk.specs.Asked.{asked_by}
-use Rattle.client_talk.specs.declared.step.Turn.{Turn}
-use Rattle.client_talk.specs.Steps.{Step}
-use Rattle.packet_frame.specs.Packets.{first_message}
-use Rattle.packet_frame.specs.Laws.{split-nothing, split-whole, split-faulty, split-count}
-use Rattle.client_side.specs.Client.{past_message}
-use Rattle.client_session.specs.Openings.{opening-shorter}
+use Rattle.router_world.proofs.Names.{common_steps, ◌≡◌, ◌≤◌, ◌<◌, ℕ, suc, ◌+◌, Bool, true, false, is_some, cond, List, [], ◌∷◌, ◌++◌, length, Option, Some}
+use Rattle.router_world.proofs.Names.{None, Result, refl, sym, ◌∙◌, ap, append-nil, append_assoc, arith, length-append, Framed, next_id, Meaning, parsed}
+use Rattle.router_world.proofs.Names.{CommandFault, Setup, query_by, is_query, is_quit, no_server, own_ok, payload_of, Asked, Answer, spelt, answer_by, Work}
+use Rattle.router_world.proofs.Names.{answer_of, answers_by, first_open, ClientState, IsLoggingIn, Account, Talk, account, front, Phase, Session, Turned, still}
+use Rattle.router_world.proofs.Names.{left_to_say, due_said, over_said, IsTaken, SeatAt, Unanswered, Asks, drop, FrameFault, Split, split, with_front}
+use Rattle.router_world.proofs.Names.{message_size, Nothing, Whole, Faulty, first_message-empty, first_message-whole-more, Found, first_message-goes, Response}
+use Rattle.router_world.proofs.Names.{fed, counted, Opening, Says, opening-says-more, account_of, heard_more, opening_of, if_known, commands, messages_of}
+use Rattle.router_world.proofs.Names.{front_in, fault_answer, ends_by, work_said}
+use Rattle.{promises.proofs.Staying.by-stays, promises.proofs.InWork.query-answer, promises.proofs.InWork.some-same, router_world.specs.Seats.IsOf}
+use Rattle.{client_talk.specs.declared.step.Turn.Turn, client_talk.specs.Steps.Step, client_side.specs.Client.past_message}
+use Rattle.client_session.specs.{Answers.quit_by, Answers.commands_in, Answers.client_messages, Openings.opening-shorter}
+use Rattle.packet_frame.specs.{Packets.first_message, Laws.split-nothing, Laws.split-whole, Laws.split-faulty, Laws.split-count}
 use Rattle.client_talk.specs.declared.asked.Asked.TheVariants as asked
 use Rattle.client_talk.specs.declared.session.Phase.TheVariants as phase
 use Rattle.client_talk.specs.declared.step.Turn.TheVariants as turn
@@ -35,15 +28,8 @@ Means asked.Ping has_server reply meaning = answer_by (served has_server reply) 
 Means asked.Quit has_server reply meaning = (quit_by meaning ≡ true) × (answer_by (served has_server reply) meaning ≡ None)
 Means (asked.Refused refusal) has_server reply meaning = answer_by (served has_server reply) meaning ≡ Some (payload_of refusal ∷ [])
 
-pub means-asked : (has_server : Bool) (reply : Option Answer) (meaning : Result Meaning CommandFault)
-    → Means (asked_by has_server meaning) has_server reply meaning
-means-asked has_server reply meaning = grind (arith, common_steps)
-
-no-quit : (meaning : Result Meaning CommandFault) → query_by meaning ≡ true → quit_by meaning ≡ false
-no-quit meaning is = grind (arith, common_steps)
-
 pub query-no-quit : (payload : List ℕ) → is_query payload ≡ true → is_quit payload ≡ false
-query-no-quit payload is = no-quit (parsed payload) is
+query-no-quit payload is = grind (arith, common_steps, (parsed payload))
 
 -- a query without an answer is one for which there is a server, and to which no reply is there
 pub record IsOpen (setup : Setup) (reply : Option Answer) : Type 0 where
@@ -54,20 +40,8 @@ abbrev pub at_place : (ordinal : ℕ) → Framed → Work
 at_place ordinal message = record { ordinal = ordinal; message = message }
 
 module _ (setup : Setup) where
-  pub query-open : (reply : Option Answer) (payload : List ℕ) → is_query payload ≡ true → answer_of setup reply payload ≡ None → IsOpen setup reply
-  query-open reply payload query none = grind (arith, common_steps, query-answer)
-
   pub query-served : (reply : Option Answer) (payload : List ℕ) → is_query payload ≡ true → is_some setup.target ≡ true → answer_of setup reply payload ≡ reply
   query-served reply payload query server = grind (arith, common_steps, query-answer)
-
-  -- an answer that is there stays, and one that isn't comes only of a reply to a query
-  answer-stays : (old new : Option Answer) (payload : List ℕ) (answer : Answer) → (old ≡ Some answer → new ≡ Some answer)
-      → answer_of setup old payload ≡ Some answer → answer_of setup new payload ≡ Some answer
-  answer-stays old new payload answer stays is = grind (arith, common_steps, by-stays)
-
-  answer-none : (old new : Option Answer) (payload : List ℕ) → (is_query payload ≡ true → new ≡ None) → answer_of setup old payload ≡ None
-      → answer_of setup new payload ≡ None
-  answer-none old new payload stays is = grind (arith, common_steps, query-answer)
 
 -- Messages that are all answered, and their answers joined: what comes behind them is what comes from there on.
 pub record AreDone (setup : Setup) (reply : ℕ → Option Answer) (past : List Framed) (said : List ℕ) : Type 0 where
@@ -85,12 +59,10 @@ module _ (setup : Setup) (reply : ℕ → Option Answer) where
   pub open-none : (i : ℕ) (messages : List Framed) (work : Work) → first_open setup reply i messages ≡ Some work
       → answer_of setup (reply work.ordinal) work.message.payload ≡ None
   open-none i [] work is = cc
-  open-none i (m ∷ messages) work
-      is = (let by : (o : Option Answer) → answer_of setup (reply i) m.payload ≡ o
-      → cond (is_some o) (first_open setup reply (suc i) messages) (Some (at_place i m)) ≡ Some work
-      → (first_open setup reply (suc i) messages ≡ Some work → answer_of setup (reply work.ordinal) work.message.payload ≡ None)
-      → answer_of setup (reply work.ordinal) work.message.payload ≡ None =
-      λ o at here later. grind (arith, common_steps, some-same) in
+  open-none i (m ∷ messages) work is = (let by : (o : Option Answer) → answer_of setup (reply i) m.payload ≡ o
+      → cond (is_some o) (first_open setup reply (suc i) messages) (Some (at_place i m)) ≡ Some work → (first_open setup reply (suc i) messages ≡ Some work
+      → answer_of setup (reply work.ordinal) work.message.payload ≡ None)
+      → answer_of setup (reply work.ordinal) work.message.payload ≡ None = λ o at here later. grind (arith, common_steps, some-same) in
       by (answer_of setup (reply i) m.payload) refl is (open-none (suc i) messages work))
 
   -- messages behind it change nothing of it, nor of what is due
@@ -105,7 +77,7 @@ module _ (setup : Setup) (reply : ℕ → Option Answer) where
   open-due i (m ∷ messages) later last now work is = grind (arith, common_steps, (open-due (suc i) messages later last now work))
 
   -- where none is without an answer, the walk goes on behind
-  joins-all : (i : ℕ) (past later : List Framed) (last : List ℕ) → first_open setup reply i past ≡ None
+  pub joins-all : (i : ℕ) (past later : List Framed) (last : List ℕ) → first_open setup reply i past ≡ None
       → answers_by setup reply i (past ++ later) last ≡ answers_by setup reply i past [] ++ answers_by setup reply (i + length past) later last
   joins-all i [] later last all = grind (arith, common_steps)
   joins-all i (m ∷ past) later last all = grind (arith, common_steps, (joins-all (suc i) past later last))
@@ -123,14 +95,6 @@ module _ (setup : Setup) (reply : ℕ → Option Answer) where
   pub done-none : AreDone setup reply [] []
   done-none = record { joins = λ later last. refl; goes = λ later. refl }
 
-  pub done-one : (past : List Framed) (said : List ℕ) (message : Framed) (answer : Answer) → AreDone setup reply past said
-      → answer_of setup (reply (suc (length past))) message.payload ≡ Some answer
-      → AreDone setup reply (past ++ message ∷ []) (said ++ spelt (next_id message.last) answer)
-  done-one past said message answer done is = grind (arith, common_steps, length-append)
-
-  pub done-all : (past : List Framed) → first_open setup reply 1 past ≡ None → AreDone setup reply past (answers_by setup reply 1 past [])
-  done-all past all = grind (arith, common_steps, joins-all, goes-all)
-
 -- The last one, which had no answer, has one now.
 pub record NowDone (setup : Setup) (reply other : ℕ → Option Answer) (i : ℕ) (past : List Framed) (message : Framed) (answer : Answer) : Type 0 where
   pub all : first_open setup other i past ≡ None
@@ -143,32 +107,23 @@ pub record Agree (setup : Setup) (reply other : ℕ → Option Answer) (i : ℕ)
 
 module _ (setup : Setup) (reply other : ℕ → Option Answer) where
   pub now-done : (i k : ℕ) (past : List Framed) (message : Framed) (answer : Answer) → first_open setup reply i past ≡ Some (at_place k message)
-      → suc k ≡ i + length past
-      → ((j : ℕ) (answer : Answer) → reply j ≡ Some answer → other j ≡ Some answer) → answer_of setup (other k) message.payload ≡ Some answer
-      → NowDone setup reply other i past message answer
+      → suc k ≡ i + length past → ((j : ℕ) (answer : Answer) → reply j ≡ Some answer → other j ≡ Some answer)
+      → answer_of setup (other k) message.payload ≡ Some answer → NowDone setup reply other i past message answer
   now-done i k [] message answer is last stays now = cc
-  now-done i k (m ∷ past) message answer is last stays now =
-      by (answer_of setup (reply i) m.payload) refl is
-      (λ there. now-done (suc i) k past message answer there (let more : suc k ≡ i + suc (length past) = last in omega arith) stays now) where
-        alone : (past : List Framed) → i ≡ k → m ≡ message → suc k ≡ i + suc (length past) → answer_of setup (reply i) m.payload ≡ None
-            → NowDone setup reply other i (m ∷ past) message answer
-        alone past at is last was = grind (arith, common_steps, append-nil)
-
+  now-done i k (m ∷ past) message answer is last stays now = by (answer_of setup (reply i) m.payload) refl is (λ there. now-done
+      (suc i) k past message answer there (let more : suc k ≡ i + suc (length past) = last in omega arith) stays now) where
         more : (a : Answer) → answer_of setup (reply i) m.payload ≡ Some a → answer_of setup (other i) m.payload ≡ Some a
             → NowDone setup reply other (suc i) past message answer → NowDone setup reply other i (m ∷ past) message answer
         more a was now rest = grind (arith, common_steps)
 
-        by : (o : Option Answer) → answer_of setup (reply i) m.payload ≡ o
-            → cond (is_some o) (first_open setup reply (suc i) past) (Some (at_place i m)) ≡ Some (at_place k message)
-            → (first_open setup reply (suc i) past ≡ Some (at_place k message) → NowDone setup reply other (suc i) past message answer)
+        by : (o : Option Answer) → answer_of setup (reply i) m.payload ≡ o → cond (is_some o) (first_open setup reply (suc i) past) (Some (at_place i m)) ≡ Some
+            (at_place k message) → (first_open setup reply (suc i) past ≡ Some (at_place k message) → NowDone setup reply other (suc i) past message answer)
             → NowDone setup reply other i (m ∷ past) message answer
-        by None at here others = (let one = some-same (at_place i m) (at_place k message) here in
-            alone past (ap (λ (w : Work). w.ordinal) one) (ap (λ (w : Work). w.message) one) last at)
-        by (Some a) at here others = more a at (answer-stays setup (reply i) (other i) m.payload a (stays i a) at) (others here)
+        by None at here others = grind (arith, common_steps, some-same, append-nil)
+        by (Some a) at here others = more a at (grind (arith, common_steps, by-stays, (reply i), (other i), (stays i a))) (others here)
 
-  agree-at : (i : ℕ) (m : Framed) (messages : List Framed) (last : List ℕ) (o : Option Answer) → answer_of setup (reply i) m.payload ≡ o
-      → answer_of setup (other i) m.payload ≡ o
-      → (is_some o ≡ true → Agree setup reply other (suc i) messages last) → Agree setup reply other i (m ∷ messages) last
+  agree-at : (i : ℕ) (m : Framed) (messages : List Framed) (last : List ℕ) (o : Option Answer) → answer_of setup (reply i) m.payload ≡ o → answer_of setup
+      (other i) m.payload ≡ o → (is_some o ≡ true → Agree setup reply other (suc i) messages last) → Agree setup reply other i (m ∷ messages) last
   agree-at i m messages last o was now later = grind (arith, common_steps)
 
   pub agree : (i : ℕ) (messages : List Framed) (last : List ℕ) → ((j : ℕ) (answer : Answer) → reply j ≡ Some answer → other j ≡ Some answer)
@@ -176,14 +131,13 @@ module _ (setup : Setup) (reply other : ℕ → Option Answer) where
       → Agree setup reply other i messages last
   agree i [] last stays none = record { joins = refl; goes = refl }
   agree i (m ∷ messages) last stays none = by (answer_of setup (reply i) m.payload) refl none (agree (suc i) messages last stays) where
-    by : (o : Option Answer) → answer_of setup (reply i) m.payload ≡ o
-        → ((work : Work) → cond (is_some o) (first_open setup reply (suc i) messages) (Some (at_place i m)) ≡ Some work → is_query work.message.payload ≡ true
-        → other work.ordinal ≡ None)
-        → (((work : Work) → first_open setup reply (suc i) messages ≡ Some work → is_query work.message.payload ≡ true → other work.ordinal ≡ None)
-        → Agree setup reply other (suc i) messages last)
-        → Agree setup reply other i (m ∷ messages) last
-    by None at none later = agree-at i m messages last None at (answer-none setup (reply i) (other i) m.payload (none (at_place i m) refl) at) (λ some. cc)
-    by (Some answer) at none later = grind (arith, common_steps, agree-at, answer-stays)
+    by : (o : Option Answer) → answer_of setup (reply i) m.payload ≡ o → ((work : Work)
+        → cond (is_some o) (first_open setup reply (suc i) messages) (Some (at_place i m)) ≡ Some work → is_query work.message.payload ≡ true
+        → other work.ordinal ≡ None) → (((work : Work) → first_open setup reply (suc i) messages ≡ Some work → is_query work.message.payload ≡ true
+        → other work.ordinal ≡ None) → Agree setup reply other (suc i) messages last) → Agree setup reply other i (m ∷ messages) last
+    by None at none later = agree-at i m messages last None at (grind (arith, common_steps, query-answer, (reply i), (other i), (none (at_place i m) refl)))
+        (λ some. cc)
+    by (Some answer) at none later = grind (arith, common_steps, agree-at, by-stays)
 
 -- How a client's session stands between the steps that it takes.
 
@@ -229,10 +183,9 @@ abbrev pub Leads : (left : ℕ) → Talk → (ℕ → Option Answer) → (writte
 Leads left talk reply written next = LeadsTo next.turn left talk reply written next.session
 
 -- A session that ends is asked for nothing.
-pub ends-so : (talk : Talk) (reply : ℕ → Option Answer) (written : List ℕ) (client : ClientState)
-    → IsOf client.number.0 talk.number client.salt talk.salt client.framer.limit talk.setup.limit
-    → ((i : ℕ) → suc client.arrived ≤ i → reply i ≡ None) → over_said reply talk ≡ true → written ++ client.outgoing ≡ due_said reply talk
-    → Turns talk reply written (still (record { client = client; phase = phase.Ending }))
+pub ends-so : (talk : Talk) (reply : ℕ → Option Answer) (written : List ℕ) (client : ClientState) → IsOf client.number.0 talk.number client.salt talk.salt
+    client.framer.limit talk.setup.limit → ((i : ℕ) → suc client.arrived ≤ i → reply i ≡ None) → over_said reply talk ≡ true
+    → written ++ client.outgoing ≡ due_said reply talk → Turns talk reply written (still (record { client = client; phase = phase.Ending }))
 ends-so talk reply written client mine later over due old = grind (arith, common_steps)
 
 -- What a client said, and what it is due by that.
@@ -245,7 +198,7 @@ pub record IsIn (talk : Talk) (user : Account) : Type 0 where
   pub says : opening_of talk ≡ Says switched response id rest
   pub known : account_of talk.setup.users talk.salt response ≡ Some user
 
-no-messages : (limit : ℕ) → client_messages limit [] ≡ record { messages = []; rest = []; fault = None }
+pub no-messages : (limit : ℕ) → client_messages limit [] ≡ record { messages = []; rest = []; fault = None }
 no-messages limit = split-nothing limit 0 [] (first_message-empty limit 0)
 
 module _ (reply : ℕ → Option Answer) (talk : Talk) where
@@ -255,9 +208,6 @@ module _ (reply : ℕ → Option Answer) (talk : Talk) where
   -- of a client that isn't logged in, or can't be, nothing is due behind the answer to its login
   pub due-alone : (begun : Opening) → opening_of talk ≡ begun → commands_in talk begun ≡ [] → due_said reply talk ≡ front_in talk begun
   due-alone begun at none = grind (arith, common_steps, no-messages, append-nil)
-
-  pub work-alone : (begun : Opening) → opening_of talk ≡ begun → commands_in talk begun ≡ [] → work_said reply talk ≡ None
-  work-alone begun at none = grind (arith, common_steps, no-messages)
 
 -- A client that is logged in.
 module _ (talk : Talk) where
@@ -286,11 +236,8 @@ pub over-in : (reply : ℕ → Option Answer) (talk : Talk) (user : Account) →
     → over_said reply talk ≡ ends_by (work_said reply talk) (is_some (messages_of talk).fault)
 over-in reply talk user is = grind (arith, common_steps, is-in)
 
-counted-one : (n : ℕ) → n < 18446744073709551615 → counted n ≡ n + 1
-counted-one n small = grind arith
-
 pub counted-suc : (n k : ℕ) → n ≡ k → suc k < 18446744073709551616 → counted n ≡ suc k
-counted-suc n k same few = grind (arith, common_steps, counted-one)
+counted-suc n k same few = grind (arith, common_steps)
 
 -- one message more is taken
 abbrev pub client_past : Framed → (outgoing : List ℕ) → ClientState → ClientState
@@ -340,10 +287,12 @@ module _ {talk : Talk} {client : ClientState} (taken : IsTaken talk client) wher
 
     pub past-whatever : (more : List ℕ) → split talk.setup.limit 0 (commands talk ++ more)
         ≡ with_front (taken.past ++ message ∷ []) (split talk.setup.limit 0 (drop (message_size client.framer.kept) client.framer.kept ++ more))
-    past-whatever more = (let limit = talk.setup.limit in let kept = client.framer.kept in let others = split limit 0 (rest ++ more) in taken.whatever more
-        ∙ ap (with_front taken.past) (split-whole limit 0 (kept ++ more) message (rest ++ more) (first_message-whole-more limit 0 kept more message rest at))
-        ∙ ap (λ (messages : List Framed). record { messages = messages; rest = others.rest; fault = others.fault })
-        (sym (append_assoc taken.past (message ∷ []) others.messages))
+    past-whatever more = (let limit = talk.setup.limit in
+        let kept = client.framer.kept in
+        let others = split limit 0 (rest ++ more) in taken.whatever more ∙ ap (with_front taken.past) (split-whole limit 0 (kept ++ more) message (rest ++ more)
+        (first_message-whole-more limit 0 kept more message rest at))
+        ∙ ap (λ (messages : List Framed). record { messages = messages; rest = others.rest; fault = others.fault }) (sym
+        (append_assoc taken.past (message ∷ []) others.messages))
         ∙ ap (λ bytes. with_front (taken.past ++ message ∷ []) (split limit 0 (bytes ++ more))) (first_message-goes limit 0 kept message rest at))
 
     -- and it is taken
@@ -368,9 +317,8 @@ pub record IsDueTo (reply : ℕ → Option Answer) (talk : Talk) (bytes : List �
   pub first : work_said reply talk ≡ Some work
 
 module _ (reply : ℕ → Option Answer) (talk : Talk) (past : List Framed) (said : List ℕ) where
-  pub due-all : (rest : List ℕ) (fault : Option FrameFault) → AreDone talk.setup reply past said
-      → messages_of talk ≡ record { messages = past ++ []; rest = rest; fault = fault }
-      → IsAllDue reply talk (front talk ++ (said ++ fault_answer talk.setup.limit fault))
+  pub due-all : (rest : List ℕ) (fault : Option FrameFault) → AreDone talk.setup reply past said → messages_of talk ≡ record
+      { messages = past ++ []; rest = rest; fault = fault } → IsAllDue reply talk (front talk ++ (said ++ fault_answer talk.setup.limit fault))
   due-all rest fault done at = grind (arith, common_steps)
 
   pub due-open : (message : Framed) (others : Split) → AreDone talk.setup reply past said

@@ -1,31 +1,21 @@
 -- What is whole of what a client said is taken, step by step.
 use Rattle.router_world.proofs.Names.{common_steps, ◌∙◌, sym, ap, arith, Framed, Found, longest, next_id, Nothing, Whole, Faulty, nat_eq-true, ◌≡◌, ◌≤◌, ℕ}
-use Rattle.router_world.proofs.Names.{zero, suc, ◌+◌, Bool, true, List, ◌++◌, length, refl, ◌<◌, is_some, [], drop, Option, Some, None}
-use Rattle.router_world.proofs.Names.{subst, append-nil, append_assoc, length-drop, split, message_size, Response, Stage, ClientStep, ClientState}
-use Rattle.router_world.proofs.Names.{Says, IsLoggingIn, command_found, next_of, next_same, Account, account_of, Talk, opening_of}
-use Rattle.router_world.proofs.Names.{if_known, commands, messages_of, front_in, front, own_ok, Session, logs_in, logs_in_as, step_by, step, still}
-use Rattle.router_world.proofs.Names.{left_to_say, Answer, ◌∷◌, FrameFault, with_front, first_message-goes, parsed}
-use Rattle.router_world.proofs.Names.{counted, has_server, fault_answer, is_query, is_quit, payload_of, Asked, Phase, asked_of, arrives_as, ended, turned_by}
-use Rattle.router_world.proofs.Names.{turned, spelt, answer_of, IsWorking}
+use Rattle.router_world.proofs.Names.{zero, suc, ◌+◌, Bool, true, List, ◌++◌, length, refl, ◌<◌, is_some, [], drop, Option, Some, None, subst, append-nil}
+use Rattle.router_world.proofs.Names.{append_assoc, length-drop, split, message_size, Response, Stage, ClientStep, ClientState, Says, IsLoggingIn}
+use Rattle.router_world.proofs.Names.{command_found, next_of, next_same, Account, account_of, Talk, opening_of, if_known, commands, messages_of, front_in}
+use Rattle.router_world.proofs.Names.{front, own_ok, Session, logs_in, logs_in_as, step_by, step, still, left_to_say, Answer, ◌∷◌, FrameFault, with_front}
+use Rattle.router_world.proofs.Names.{first_message-goes, parsed, counted, has_server, fault_answer, is_query, is_quit, payload_of, Asked, asked_of}
+use Rattle.router_world.proofs.Names.{arrives_as, ended, turned_by, turned, spelt, answer_of, IsWorking, inl, inr, length-append}
 use Rattle.router_world.specs.Seats.{IsOf}
 use Rattle.packet_frame.specs.Packets.{message_within, first_message, spelling}
-use Rattle.packet_frame.specs.PacketLaws.{packet_size}
-use Rattle.packet_frame.specs.MessageLaws.{led}
-use Rattle.router_world.proofs.Names.{inl, inr, length-append}
-use Rattle.client_side.specs.declared.step.ClientFault.{ClientFault}
-use Rattle.client_side.specs.Login.{Fails, opening, fault_id}
-use Rattle.client_side.specs.Reading.{IsReading, HasStepped, said, said_to}
-use Rattle.client_side.specs.Steps.{looked}
-use Rattle.client_side.specs.Laws.{logging-next}
+use Rattle.packet_frame.specs.{PacketLaws.packet_size, MessageLaws.led, Laws.first_message-shorter}
+use Rattle.client_side.specs.{declared.step.ClientFault.ClientFault, Login.Fails, Login.opening, Login.fault_id, Reading.IsReading, Reading.HasStepped}
+use Rattle.client_side.specs.{Reading.said, Reading.said_to, Steps.looked, Laws.logging-next, declared.step.ClientFault.TheVariants.Frame}
 use Rattle.client_session.specs.Answers.{commands_in, greeted, login_answer, fault_error}
 use Rattle.client_talk.specs.Steps.{admitted, denied, refused, answers, started, stepped}
-use Rattle.client_talk.specs.Going.{unsaid, goes_on}
-use Rattle.packet_frame.specs.Laws.{first_message-shorter}
-use Rattle.client_side.specs.declared.step.ClientFault.TheVariants.{Frame}
-use Rattle.client_talk.specs.declared.step.Turn.{Turn}
-use Rattle.router_world.proofs.SeatsAnswers.{Means, means-asked, done-none, done-one, GoesAt, Turns, LeadsTo, Leads, ends-so, due-alone}
-use Rattle.router_world.proofs.SeatsAnswers.{taken-nothing, taken-whole, taken-faulty, taken-few, over-in, counted-suc, client_past, taken-one, due-all}
-use Rattle.router_world.proofs.SeatsAnswers.{due-open}
+use Rattle.client_talk.specs.{Going.unsaid, Going.goes_on, declared.step.Turn.Turn}
+use Rattle.router_world.proofs.SeatsAnswers.{Means, done-none, GoesAt, Turns, LeadsTo, Leads, ends-so, due-alone, taken-nothing, taken-whole, taken-faulty}
+use Rattle.router_world.proofs.SeatsAnswers.{taken-few, over-in, counted-suc, client_past, taken-one, due-all, due-open}
 use Rattle.client_side.specs.declared.stage.Stage.TheVariants as stage
 use Rattle.client_side.specs.declared.step.ClientStep.TheVariants as says
 use Rattle.client_talk.specs.declared.session.Phase.TheVariants as phase
@@ -41,14 +31,10 @@ within-framed : (packets limit announced id : ℕ) (bytes : List ℕ) (message :
     → message_within packets limit announced id bytes ≡ Whole message rest → IsFramed limit announced id message
 within-framed zero limit announced id bytes message rest is = cc
 within-framed (suc packets) limit announced id bytes message rest is = (let by = led packets limit announced id bytes message rest is in
-    let size = packet_size limit announced id bytes by.packet by.behind by.at in
-    let allowed = by.at.allowed in
-    elim by.goes [
+    let size = packet_size limit announced id bytes by.packet by.behind by.at in let allowed = by.at.allowed in elim by.goes [
       | inl last ↦ record { begins = cc (by.at.is, last.1); fits = omega (arith, ap (λ (m : Framed). length m.payload) last.1) }
       | inr long ↦ (let others = within-framed packets limit (announced + longest) (next_id id) by.behind long.1 rest long.2 in
-          let all = nat_eq-true (length by.packet.payload) longest long.0 in
-          let fits = others.fits in
-          record {
+          let all = nat_eq-true (length by.packet.payload) longest long.0 in let fits = others.fits in record {
             begins = cc (by.at.is, long.3);
             fits = omega (arith, ap (λ (m : Framed). length m.payload) long.3, length-append by.packet.payload long.1.payload);
           })
@@ -104,13 +90,11 @@ module _ (talk : Talk) (reply : ℕ → Option Answer) (written : List ℕ) wher
     coming-waits h6 old = grind (arith, common_steps, told-greeted, due-alone)
 
     -- what can't be is refused
-    coming-refused : (first : ℕ) (fault : ClientFault)
-        → HasStepped (says.Refused first fault) client talk.setup.limit talk.setup.version talk.read (written ++ client.outgoing)
-        → Turns talk reply written (still (refused talk.setup.limit fault first (entering client)))
+    coming-refused : (first : ℕ) (fault : ClientFault) → HasStepped (says.Refused first fault) client talk.setup.limit talk.setup.version talk.read
+        (written ++ client.outgoing) → Turns talk reply written (still (refused talk.setup.limit fault first (entering client)))
     coming-refused first fault (switched, fails, bytes) old = (let error = spelling first (fault_error talk.setup.limit fault) in
         let at : opening_of talk ≡ Fails switched fault first = ap (opening talk.setup.limit) (sym (append-nil talk.read)) ∙ fails [] in
-        ends-so talk reply written (record client { outgoing = client.outgoing ++ error }) next.mine next.later
-        (cc (at))
+        ends-so talk reply written (record client { outgoing = client.outgoing ++ error }) next.mine next.later (cc (at))
         (cc (append_assoc written client.outgoing error, bytes, told-greeted switched, due-alone reply talk (Fails switched fault first) at refl)) old)
 
     said-now : (response : Response) (first : ℕ) → IsLoggingIn (stage.Login response first) client talk.setup.version talk.read (written ++ client.outgoing)
@@ -128,8 +112,8 @@ module _ (talk : Talk) (reply : ℕ → Option Answer) (written : List ℕ) wher
     coming-admitted : (switched : Bool) (response : Response) (first : ℕ) (user : Account) → IsSaid client switched response first
         → account_of talk.setup.users talk.salt response ≡ Some user
         → GoesAt talk reply written (admitted user first (entering client)) × (left_to_say (admitted user first (entering client)) < left)
-    coming-admitted switched response first user said
-        known = (let behind : commands talk ≡ client.framer.kept = ap (commands_in talk) said.opened ∙ ap (λ o. if_known o client.framer.kept) known in
+    coming-admitted switched response first user said known = (let behind : commands talk ≡ client.framer.kept = ap (commands_in talk) said.opened
+        ∙ ap (λ o. if_known o client.framer.kept) known in
         let told : front talk ≡ greeted talk switched ++ spelling first own_ok = ap (front_in talk) said.opened
         ∙ ap (λ o. greeted talk switched ++ spelling first (login_answer response o)) known in (
           record {
@@ -198,8 +182,7 @@ module _ (talk : Talk) (reply : ℕ → Option Answer) (written : List ℕ) wher
     -- nothing whole is left
     idle-rests : first_message talk.setup.limit 0 client.framer.kept ≡ Nothing → Turns talk reply written (still (idle user (looked client Nothing)))
     idle-rests at old = (let messages = taken-nothing goes.at.taken at in
-        let all = due-all reply talk past goes.at.said client.framer.kept None goes.at.done messages in
-        record {
+        let all = due-all reply talk past goes.at.said client.framer.kept None goes.at.done messages in record {
           seat = grind (arith, common_steps, append-nil);
           unanswered = λ i from. goes.later i from;
           asks = λ other working. cc;
@@ -211,9 +194,9 @@ module _ (talk : Talk) (reply : ℕ → Option Answer) (written : List ℕ) wher
     idle-refused fault at old = (let error = fault_answer talk.setup.limit (Some fault) in
         let messages = taken-faulty goes.at.taken at in
         let all = due-all reply talk past goes.at.said client.framer.kept (Some fault) goes.at.done messages in
-        ends-so talk reply written (record (looked client (Faulty fault)) { outgoing = client.outgoing ++ error }) goes.mine goes.later
-        (cc (over-in reply talk user goes.at.account, all.none, messages))
-        (cc (append_assoc written client.outgoing error, goes.at.put, append_assoc (front talk) goes.at.said error, all.due)) old)
+        ends-so talk reply written (record (looked client (Faulty fault)) { outgoing = client.outgoing ++ error }) goes.mine goes.later (cc
+        (over-in reply talk user goes.at.account, all.none, messages)) (cc
+        (append_assoc written client.outgoing error, goes.at.put, append_assoc (front talk) goes.at.said error, all.due)) old)
 
     -- A message comes.
 
@@ -256,10 +239,8 @@ module _ (talk : Talk) (reply : ℕ → Option Answer) (written : List ℕ) wher
       taken = idle user (looked client (Whole message rest))
 
       -- the router answers it
-      idle-answers : (payload : List ℕ) → answer ≡ Some (payload ∷ [])
-          → GoesAt talk reply written
-          (answers message (next_id message.last) payload taken) × (left_to_say (answers message (next_id message.last) payload taken) < left_to_say
-          (idle user client))
+      idle-answers : (payload : List ℕ) → answer ≡ Some (payload ∷ []) → GoesAt talk reply written (answers message (next_id message.last) payload taken) ×
+          (left_to_say (answers message (next_id message.last) payload taken) < left_to_say (idle user client))
       idle-answers payload is = (let told = spelling (next_id message.last) payload in (
         record {
           mine = goes.mine;
@@ -269,7 +250,7 @@ module _ (talk : Talk) (reply : ℕ → Option Answer) (written : List ℕ) wher
             taken = taken-one goes.at.taken whole.at (client.outgoing ++ told) whole.few;
             account = goes.at.account;
             said = goes.at.said ++ spelt (next_id message.last) (payload ∷ []);
-            done = grind (arith, common_steps, done-one);
+            done = grind (arith, common_steps, length-append);
             put = grind (arith, common_steps, append-nil, append_assoc);
           };
         },
@@ -277,12 +258,10 @@ module _ (talk : Talk) (reply : ℕ → Option Answer) (written : List ℕ) wher
       ))
 
       -- it is a query
-      idle-works : is_query message.payload ≡ true → answer ≡ reply (suc (length past))
-          → Turns talk reply written
-          (record {
-            session = started message taken;
-            query = Some (record { ordinal = counted client.arrived; first = next_id message.last; packets = spelling 0 message.payload });
-          })
+      idle-works : is_query message.payload ≡ true → answer ≡ reply (suc (length past)) → Turns talk reply written (record {
+        session = started message taken;
+        query = Some (record { ordinal = counted client.arrived; first = next_id message.last; packets = spelling 0 message.payload });
+      })
       idle-works query is old = (let to = due-open reply talk past goes.at.said message (split talk.setup.limit 0 rest) goes.at.done whole.messages
           (is ∙ later-from (suc (length past)) (suc (length past)) refl (omega arith)) in
           let working : IsWorking talk reply user (client_past message client.outgoing client) = record {
@@ -316,14 +295,10 @@ module _ (talk : Talk) (reply : ℕ → Option Answer) (written : List ℕ) wher
         → Leads (left_to_say (idle user client)) talk reply written (stepped talk.setup (command_found client found) (phase.Idle user))
     idle-leads Nothing at = idle-rests at
     idle-leads (Whole message rest) at = idle-arrives (whole-at message rest at) (asked_of (has_server talk.setup) message.payload)
-        (means-asked (is_some talk.setup.target) (reply (suc (length past))) (parsed message.payload))
+        (grind (arith, common_steps, (is_some talk.setup.target), (reply (suc (length past))), (parsed message.payload)))
     idle-leads (Faulty fault) at = idle-refused fault at
 
   -- Of both, step by step.
-
-  phase-steps : (at : Phase) (client : ClientState) → GoesAt talk reply written (record { client = client; phase = at })
-      → Leads (left_to_say (record { client = client; phase = at })) talk reply written (step talk.setup (record { client = client; phase = at }))
-  phase-steps at client goes = grind (arith, common_steps, coming-steps, idle-leads)
 
   turned-to : (n left : ℕ) (t : Turn) (next : Session) → left ≤ n → LeadsTo t left talk reply written next
       → ((session : Session) → left_to_say session < n → GoesAt talk reply written session → Turns talk reply written (goes_on n talk.setup session))
@@ -336,9 +311,8 @@ module _ (talk : Talk) (reply : ℕ → Option Answer) (written : List ℕ) wher
       → Turns talk reply written (goes_on n talk.setup session)
   unfolding goes_on
   goes-turned zero session enough goes old = absurd (omega arith)
-  goes-turned (suc n) session enough goes old =
-      turned-to n (left_to_say session) (step talk.setup session).turn (step talk.setup session).session (omega arith)
-      (phase-steps session.phase session.client goes) (goes-turned n) old
+  goes-turned (suc n) session enough goes old = turned-to n (left_to_say session) (step talk.setup session).turn (step talk.setup session).session (omega arith)
+      (grind (arith, common_steps, coming-steps, idle-leads)) (goes-turned n) old
 
   -- What is whole is taken: the session stands then by all that was said.
   pub turned-seat : (session : Session) → GoesAt talk reply written session → Turns talk reply written (turned talk.setup session)

@@ -1,32 +1,22 @@
 -- What comes of bytes on a link to a server, and of its loss.
 use Rattle.router_world.proofs.Names.{common_steps, ◌≡◌, ℕ, true, false, cond, List, [], ◌∷◌, ◌++◌, Option, Some, None, refl, sym, ◌∙◌, ap, AreBytes, LinkId}
-use Rattle.router_world.proofs.Names.{Log, Fits, Entry, Got, Wrote, Account, Lent, Lends, heard, lost, is_loss, was_lost, heard_of, login_on, breaks_off}
-use Rattle.router_world.proofs.Names.{piece, pieces_of, carries, Service, some-same, refused-or-sent, carrier-stays, reply_said, ◌≤◌, ◌<◌, nat_eq, arith, Tag}
-use Rattle.router_world.proofs.Names.{nat_eq-true, login_fails, is_command, is_turn, and-true, refusal-cause, is_some, ◌&&◌, length, ClientNo, is_link}
-use Rattle.router_world.proofs.Names.{lawful-more, has_server, Phase, Told, taken_on, is_waiting, left_in, Seat, Tables, with_lends, told, IsFront, closes}
-use Rattle.router_world.proofs.Names.{opens, asks, Handed}
-use Rattle.router_world.proofs.Stepping.{OnLink as IsOnLink, done}
-use Rattle.router_world.proofs.Hands.{away-gone}
+use Rattle.router_world.proofs.Names.{append-nil, Log, Fits, Entry, Got, Wrote, Account, Lent, Lends, heard, lost, is_loss, was_lost, heard_of}
+use Rattle.router_world.proofs.Names.{breaks_off, piece, pieces_of, carries, Service, some-same, refused-or-sent, carrier-stays, reply_said, ◌≤◌, ◌<◌, nat_eq}
+use Rattle.router_world.proofs.Names.{arith, Tag, nat_eq-true, login_fails, is_command, is_turn, and-true, refusal-cause, is_some, ◌&&◌, length, ClientNo}
+use Rattle.router_world.proofs.Names.{is_link, lawful-more, has_server, Phase, Told, taken_on, is_waiting, left_in, Seat, Tables, with_lends, told, IsFront}
+use Rattle.router_world.proofs.Names.{closes, opens, asks, Handed}
+use Rattle.router_world.proofs.{Stepping.OnLink as IsOnLink, Stepping.done, Hands.away-gone, Connecting.open-kept, RowsStanding.unanswered-at}
+use Rattle.router_world.proofs.{RowsStanding.entering-at, Apart.Came, Apart.apart-numbers, Apart.no-some, LinksFailed.failed-came, LinksFailed.carried}
+use Rattle.router_world.proofs.{LinksHeard.heard-came, Answered.working-busy, Answered.server-step}
 use Rattle.std.proofs.lemmas.Bool.{or_parts, false_from_ne_true}
-use Rattle.router_world.proofs.Connecting.{open-kept}
-use Rattle.exchange.specs.Logins.{goes_on}
-use Rattle.router_world.proofs.RowsStanding.{unanswered-at, entering-at}
+use Rattle.{exchange.specs.Logins.goes_on, promises.proofs.Clean.heard-more, promises.proofs.Clean.pieces-more}
 use Rattle.router_world.proofs.Sound.{HandedStands, Unsent, Busy, Logs, On, Sound, Serves, AtMostOne, Nobody, One}
-use Rattle.router_world.proofs.Apart.{Came, apart-numbers, no-some}
-use Rattle.router_world.proofs.LinksAt.{lost-on, heard-end, pieces-on, replied-said, command-is, AtRow, user-later, link-cause, inside-stays, Concerns}
-use Rattle.router_world.proofs.LinksAt.{OnLink, calm-other, leaves-others, Held, held, HoldsLogin, HoldsNone, HoldsUnsent, HoldsBegun, HoldsLeft, outside-at}
-use Rattle.router_world.proofs.LinksAt.{cause-fails, InsideAt, HoldsInside, BusyHere, LogsHere, OnHere, busy-here}
-use Rattle.router_world.proofs.LinksFailed.{failed-came, carried}
-use Rattle.router_world.proofs.LinksHeard.{heard-came}
+use Rattle.router_world.proofs.LinksAt.{lost-on, replied-said, command-is, AtRow, user-later, link-cause, Concerns, OnLink, calm-other, leaves-others, Held}
+use Rattle.router_world.proofs.LinksAt.{held, HoldsLogin, HoldsNone, HoldsUnsent, HoldsBegun, HoldsLeft, outside-at, cause-fails, InsideAt, HoldsInside}
+use Rattle.router_world.proofs.LinksAt.{BusyHere, LogsHere, OnHere, busy-here}
 use Rattle.router_world.proofs.Calm.{Spares, carrier-same, unrefused-more, Leaves, leaves-other, asks-server}
 use Rattle.router_world.proofs.LinksWritten.{LeftIn, OfLogin, OfCommand, left-in, wrote-came, front-left, wrote-others, WroteAt}
-use Rattle.router_world.proofs.Answered.{working-busy, server-step}
-use Rattle.server_side.specs.declared.stage.Stage.TheVariants as stage
 use Rattle.client_talk.specs.declared.session.Phase.TheVariants as phase
-
--- An entry by which a link is lost writes nothing, and opens and closes none.
-loss-silent : (e : Entry) (n i : ℕ) → is_loss e ≡ true → carries n i e ≡ None
-loss-silent e n i is = grind (arith, common_steps)
 
 loss-piece : (e : Entry) → is_loss e ≡ true → piece e ≡ None
 loss-piece e is = grind (arith, common_steps)
@@ -34,19 +24,17 @@ loss-piece e is = grind (arith, common_steps)
 loss-breaks : (e : Entry) (user : Account) (link : LinkId) (log : Log) → is_loss e ≡ true → breaks_off user link log e ≡ true
 loss-breaks e user link log is = grind (arith, common_steps)
 
-lost-came : {service : Service} {log : Log} {e : Entry} {lends : Lends} {link : LinkId} {lent : Lent} (at : AtRow service log e lends link lent) → is_loss e ≡ true
-    → Came service (log ++ e ∷ []) at.row.turn.client lends (lost link lends)
+lost-came : {service : Service} {log : Log} {e : Entry} {lends : Lends} {link : LinkId} {lent : Lent} (at : AtRow service log e lends link lent)
+    → is_loss e ≡ true → Came service (log ++ e ∷ []) at.row.turn.client lends (lost link lends)
 lost-came {service} {log} {e} {lends} {link} {lent} at loss = rw at.there (failed-came at (record {
   spoilt = grind (arith, common_steps, was);
-  silent = λ i. loss-silent e n i loss;
-  fails = λ enters. ap (λ b. cond b false (cond (goes_on (login_on user link log)) (breaks_off user link log e) false)) at.row.unlost
-      ∙ ap (λ b. cond b (breaks_off user link log e) false) (ap goes_on enters.goes) ∙ loss-breaks e user link log loss;
-  told = λ c i inside has some tag carrier.
-      replied-said service n i link user new (refused-or-sent service new at.lawful) (carrier-stays n i log (e ∷ []) link carrier) (user-later at)
-      ∙ ap (λ h. reply_said service.forms n i user h (pieces_of link new) (was_lost link new)) (heard-end link log e at.names at.row.unlost loss)
-      ∙ ap (λ p. reply_said service.forms n i user (heard_of link log) p (was_lost link new)) (pieces-on link log e at.names at.row.unlost (loss-piece e loss))
-      ∙ ap (reply_said service.forms n i user (heard_of link log) (pieces_of link log)) was
-      ∙ unanswered-at (record { inside = inside; is = has; some = some }) n i true (command-is n i c.tag tag);
+  silent = λ i. grind (arith, common_steps);
+  fails = λ enters. grind (arith, common_steps, loss-breaks);
+  told = λ c i inside has some tag carrier. replied-said service n i link user new (refused-or-sent service new at.lawful) (carrier-stays n i log
+      (e ∷ []) link carrier) (user-later at) ∙ ap (λ h. reply_said service.forms n i user h (pieces_of link new) (was_lost link new)) (grind
+      (arith, common_steps, heard-more, append-nil)) ∙ ap (λ p. reply_said service.forms n i user (heard_of link log) p (was_lost link new)) (grind
+      (arith, common_steps, pieces-more, piece, append-nil, (loss-piece e loss))) ∙ ap (reply_said service.forms n i user (heard_of link log)
+      (pieces_of link log)) was ∙ unanswered-at (record { inside = inside; is = has; some = some }) n i true (command-is n i c.tag tag);
 })) where
   n : ℕ
   n = at.row.turn.client
@@ -67,12 +55,9 @@ module _ {service : Service} {log : Log} {e : Entry} {lends : Lends} {link : Lin
   -- a login that fails was for the command in work
   fails-early : login_fails lent.backend.account link log e ≡ true → at.row.turn.ordinal ≤ arrived
   fails-early fails = by (held at.row) where
-    out : InsideAt service link log lent → at.row.turn.ordinal ≤ arrived
-    out inside = grind (arith, common_steps, inside-stays)
-
     by : Held service log lends link lent at.row.turn → at.row.turn.ordinal ≤ arrived
     by (HoldsLogin enters own owns ask asks same) = rw same at (early ask.ordinal (Logs ask asks refl link lent owns at.there (outside-at enters)))
-    by (HoldsInside inside what) = out inside
+    by (HoldsInside inside what) = grind (arith, common_steps)
 
   row-spares : (i : ℕ) → arrived < i → Spares service log e at.row.turn.client i
   row-spares i later other is = false_from_ne_true (is_turn at.row.turn.client i other) (λ same. (let cause = refusal-cause service log e other is in
@@ -107,19 +92,22 @@ wrote-early {service} {log} {tag} {bytes} {lends} {link} {lent} arrived wrote ea
 
   by : LeftIn lent.backend wrote.l → carries n i (Wrote link tag bytes) ≡ None
   by (OfLogin own stays) = ap (λ (t : Tag). cond (is_command n i t) (Some link) None) (wrote.same ∙ own)
-  by (OfCommand c has of goes_on) = (let stands = wrote.at.row.command c has in
-      ap (λ (t : Tag). cond (is_command n i t) (Some link) None) (wrote.same ∙ of) ∙ ap (λ b. cond b (Some link) None) (false_from_ne_true (is_command n i c.tag)
-      (λ is. first c has stands (nat_eq-true i stands.ordinal (and-true (nat_eq n n) (nat_eq i stands.ordinal) (ap (is_command n i) (sym stands.tag) ∙ is)).1)
-      (held wrote.at.row))))
+  by (OfCommand c has of goes_on) = (let stands = wrote.at.row.command c has in ap (λ (t : Tag). cond (is_command n i t) (Some link) None) (wrote.same ∙ of)
+      ∙ ap (λ b. cond b (Some link) None)
+      (false_from_ne_true (is_command n i c.tag)
+      (λ is. first c has stands (nat_eq-true i stands.ordinal (and-true (nat_eq n n) (nat_eq i stands.ordinal) (ap (is_command n i) (sym stands.tag)
+      ∙ is)).1) (held wrote.at.row))))
 
 -- What the entries on a link to a server make of what stands.
 
 -- Once all is done that the router asked for, nobody waits for a link.
-pub nobody-left : (service : Service) (log : Log) (tables : Tables) → Sound service log None tables → asks service.setup tables ≡ false → tables.lends.waiting ≡ []
+pub nobody-left : (service : Service) (log : Log) (tables : Tables) → Sound service log None tables → asks service.setup tables ≡ false
+    → tables.lends.waiting ≡ []
 nobody-left service log tables sound is = by tables.lends.waiting refl sound.lends.one_waits where
   by : (waiting : List ClientNo) → tables.lends.waiting ≡ waiting → AtMostOne waiting → waiting ≡ []
   by _ at Nobody = refl
-  by _ at (One client) = (let waits = sound.lends.waits client at in let asked = (sound.lends.asks client.0 waits.ask waits.asks).asked in
+  by _ at (One client) = (let waits = sound.lends.waits client at in
+      let asked = (sound.lends.asks client.0 waits.ask waits.asks).asked in
       let has : is_some service.setup.target ≡ true = asks-server service client.0 waits.ask.ordinal asked.message asked.due log asked.asks in
       absurd (let no' : true ≡ false = sym (ap (λ w. has_server service.setup && is_waiting w) at ∙ ap (λ b. b && true) has)
       ∙ (or_parts (closes tables) (opens service.setup tables) is).1 in cc))
@@ -146,23 +134,19 @@ at-row {service} {log} {e} {link} {lent} {tables} sound on writes = record {
 }
 
 seats-apart : {service : Service} {log : Log} {e : Entry} {link : LinkId} {lent : Lent} {tables : Tables} → Sound service log None tables
-    → OnRow service log e link lent tables
-    → (k : ℕ) (seat : Seat) → tables.seats k ≡ Some seat → Leaves seat.link log e
+    → OnRow service log e link lent tables → (k : ℕ) (seat : Seat) → tables.seats k ≡ Some seat → Leaves seat.link log e
 seats-apart {log = log} {e} {link} {tables = tables} sound on k seat is = leaves-other seat.link log e (ap (is_link seat.link) on.on.names
     ∙ apart-numbers seat.link.0 link.0 (λ same.
     no-some (sound.unlent link (record { 0 = k }) (ap (λ m. tables.numbers m) (sym same) ∙ (sound.seats k seat is).numbered)) on.there))
 
 early-seat : {service : Service} {log : Log} {tables : Tables} {n : ℕ} {seat : Seat} → Sound service log None tables → tables.seats n ≡ Some seat → (i : ℕ)
-    → Busy tables.lends n i
-    → i ≤ seat.session.client.arrived
+    → Busy tables.lends n i → i ≤ seat.session.client.arrived
 early-seat {tables = tables} {n} {seat} sound is i busy = (let same : seat.session.client.arrived ≡ i =
     (working-busy seat.session.phase tables.lends n seat.session.client.arrived i ((sound.seats n seat is).serves) busy).2 in omega arith)
 
 row-step : {service : Service} {log : Log} {e : Entry} {link : LinkId} {lent : Lent} {tables : Tables} {news : Told} (sound : Sound service log None tables)
-    → OnRow service log e link lent tables
-    → (at : AtRow service log e tables.lends link lent)
-    → ((seat : Seat) → tables.seats at.row.turn.client ≡ Some seat → Unsent service at.row.turn.client seat.session.client.arrived log → (i : ℕ)
-    → seat.session.client.arrived < i → carries at.row.turn.client i e ≡ None)
+    → OnRow service log e link lent tables → (at : AtRow service log e tables.lends link lent) → ((seat : Seat) → tables.seats at.row.turn.client ≡ Some seat
+    → Unsent service at.row.turn.client seat.session.client.arrived log → (i : ℕ) → seat.session.client.arrived < i → carries at.row.turn.client i e ≡ None)
     → Came service (log ++ e ∷ []) at.row.turn.client tables.lends news → Sound service (log ++ e ∷ []) None (told service.setup news tables)
 row-step {service} {log} {e} {link} {lent} {tables} {news} sound on at later came = server-step service log e at.row.turn.client tables news sound (record {
   happens = on.on.happens;
@@ -179,9 +163,9 @@ row-step {service} {log} {e} {link} {lent} {tables} {news} sound on at later cam
   concerns = OnLink e link at.row.turn at.names at.row.is_turn refl at.writes
 
 -- Bytes of a server come.
-pub heard-step : (service : Service) (log : Log) (link : LinkId) (bytes : List ℕ) (lent : Lent) (tables : Tables) → AreBytes bytes → Sound service log None tables
-    → OnRow service log (Got link bytes) link lent tables → Sound service (log ++ Got link bytes ∷ []) None
-    (told service.setup (heard link bytes tables.lends) tables)
+pub heard-step : (service : Service) (log : Log) (link : LinkId) (bytes : List ℕ) (lent : Lent) (tables : Tables) → AreBytes bytes
+    → Sound service log None tables → OnRow service log (Got link bytes) link lent tables
+    → Sound service (log ++ Got link bytes ∷ []) None (told service.setup (heard link bytes tables.lends) tables)
 heard-step service log link bytes lent tables are sound on = (let at = at-row sound on (λ k i apart. refl) in
     row-step sound on at (λ seat is unsent i later. refl) (rw at.there (heard-came at (record { some = on.on.happens.fits.some; are = are }))))
 
@@ -214,9 +198,8 @@ unasked-beside {link = link} {lent} {tables} sound at c has = by (tables.seats a
 pub wrote-step : (service : Service) (log : Log) (link : LinkId) (tag : Tag) (bytes : List ℕ) (lent : Lent) (tables : Tables) → Sound service log None tables
     → OnRow service log (Wrote link tag bytes) link lent tables → IsFront (left_in (Some lent)) tag bytes
     → Sound service (log ++ Wrote link tag bytes ∷ []) None (with_lends (taken_on link (length bytes) tables.lends) tables)
-wrote-step service log link tag bytes lent tables sound on front = (let parts = front-left front in
-    let at = at-row sound on (wrote-others bytes (sound.lends.rows link lent on.there) parts.1 parts.2) in
-    let wrote : WroteAt service log tag bytes tables.lends link lent = record {
+wrote-step service log link tag bytes lent tables sound on front = (let parts = front-left front in let at = at-row sound on
+    (wrote-others bytes (sound.lends.rows link lent on.there) parts.1 parts.2) in let wrote : WroteAt service log tag bytes tables.lends link lent = record {
       at = at;
       l = parts.0;
       is = parts.1;

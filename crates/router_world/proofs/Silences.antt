@@ -1,24 +1,18 @@
 -- Entries that say nothing leave all that came of commands, and why links may close.
 use Rattle.router_world.proofs.Names.{arith, common_steps, open_try, Bool, ClientNo, ◌≡◌, ℕ, cond, List, [], ◌∷◌, ◌++◌, Option, Some, None, option_and_then}
-use Rattle.router_world.proofs.Names.{list_any, sym, ◌∙◌, ap, append-nil, filter_map-append, LinkId, Log, got_bytes, wrote_bytes, read_of}
+use Rattle.router_world.proofs.Names.{flat_map-append, list_any, sym, ◌∙◌, ap, append-nil, filter_map-append, LinkId, Log, got_bytes, wrote_bytes, read_of}
 use Rattle.router_world.proofs.Names.{written_of, Entry, Account, connection_refused, was_lost, was_broken, heard_of, pieces_of, carries, Turn, Service}
-use Rattle.router_world.proofs.Names.{user_on, refused_by, refused, is_turn, is_refused, reply_on, reply_to, refused-more}
-use Rattle.router_world.proofs.Names.{replied, ◌≢◌, true, false, flat_map, filter_map, inl, inr, link_of, is_link, of_link, bool_cases}
-use Rattle.router_world.proofs.Names.{of_link-same, bytes-idle, AllLawful, Fits, Lent, is_loss, is_failure, until_loss, breaks_off, piece, user_of}
-use Rattle.router_world.proofs.Names.{refused_on, IsLawful, Seat, Tables, is_some, ◌||◌, option_map, Arrival, arrival_in, arrival_of, is_served, Talk}
-use Rattle.router_world.proofs.Names.{opening_of, account, messages_of, standing_on, talk_with, Owner, work_of, due, ends_in, ends_by, has_ended}
-use Rattle.router_world.proofs.Names.{MayDrop, IsSpoilt, HasGone, Unneeded, arrival-stays, due_said, list_any-append, Lends}
-use Rattle.router_world.proofs.Names.{was_offered, or-inl, turn-stays, lawful-more, open_step}
-use Rattle.router_world.proofs.Connecting.{open-kept, counts-all}
+use Rattle.router_world.proofs.Names.{user_on, refused_by, refused, is_turn, is_refused, reply_on, reply_to, refused-more, replied, ◌≢◌, true, false, flat_map}
+use Rattle.router_world.proofs.Names.{filter_map, inl, inr, link_of, is_link, of_link, bool_cases, of_link-same, bytes-idle, AllLawful, Fits, Lent, is_loss}
+use Rattle.router_world.proofs.Names.{is_failure, until_loss, breaks_off, piece, user_of, refused_on, IsLawful, Seat, Tables, is_some, ◌||◌, option_map}
+use Rattle.router_world.proofs.Names.{Arrival, arrival_in, arrival_of, is_served, Talk, opening_of, account, messages_of, standing_on, talk_with, Owner}
+use Rattle.router_world.proofs.Names.{work_of, due, ends_in, ends_by, has_ended, MayDrop, IsSpoilt, HasGone, Unneeded, arrival-stays, due_said, list_any-append}
+use Rattle.router_world.proofs.Names.{Lends, or-inl, turn-stays, lawful-more, open_step}
+use Rattle.router_world.proofs.{Connecting.open-kept, Connecting.counts-all, Apart.apart-numbers, Hands.work-is, Dues.due-unlost, Dues.due-lost}
 use Rattle.router_world.proofs.Sound.{Sits, LendsSound, Sound, CloseStands, PartAt, Done, Refused, Offered, Strange, Happens}
-use Rattle.promises.specs.Owners.{talk_of}
-use Rattle.promises.specs.Closes.{is_over}
-use Rattle.promises.proofs.Clean.{of-link-more}
-use Rattle.router_world.proofs.Calm.{carrier-same, Leaves, leaves-other, any-still, sound-still, map-still, pieces-still}
+use Rattle.promises.{specs.Owners.talk_of, specs.Closes.is_over, proofs.Clean.of-link-more}
+use Rattle.router_world.proofs.Calm.{carrier-same, Leaves, leaves-other, sound-still, or-none}
 use Rattle.router_world.proofs.Frames.{Calm, busy-none, seat-calm, gone-stays}
-use Rattle.router_world.proofs.Apart.{apart-numbers}
-use Rattle.router_world.proofs.Hands.{work-is}
-use Rattle.router_world.proofs.Dues.{due-unlost, due-lost}
 use Rattle.router_world.proofs.Stepping.{IsPlain, arrivals-plain, connected-plain, done, lends-framed, lends-still}
 use Rattle.mx_wire.specs.Growth.{of_link-other}
 
@@ -51,14 +45,11 @@ pub sounds-mute : (log : Log) (e : Entry) → IsMute e → Sounds log e
 sounds-mute log e mute = record {
   read = λ link. bytes-idle got_bytes link log e mute.got;
   written = λ link. bytes-idle wrote_bytes link log e mute.wrote;
-  lost = λ link. same-any is_loss mute.loss link;
-  broken = λ link. same-any is_failure mute.failure link;
-  heard = λ link. same-sound (flat_map got_bytes) (λ l. map-still l e mute.got) link;
-  pieces = λ link. same-sound (filter_map piece) (λ l. pieces-still l e mute.piece) link;
+  lost = λ link. grind (arith, common_steps, of_link-same, list_any-append, or-none);
+  broken = λ link. grind (arith, common_steps, of_link-same, list_any-append, or-none);
+  heard = λ link. same-sound (flat_map got_bytes) (λ l. grind (arith, common_steps, append-nil, flat_map-append)) link;
+  pieces = λ link. same-sound (filter_map piece) (λ l. grind (arith, common_steps, append-nil, filter_map-append)) link;
 } where
-  same-any : (p : Entry → Bool) → p e ≡ false → (link : LinkId) → list_any p (of_link link (log ++ e ∷ [])) ≡ list_any p (of_link link log)
-  same-any p none link = grind (arith, common_steps, of_link-same, any-still)
-
   same-sound : {X : Type 0} (f : Log → List X) → ((l : Log) → f (l ++ e ∷ []) ≡ f l) → (link : LinkId)
       → f (until_loss (of_link link (log ++ e ∷ []))) ≡ f (until_loss (of_link link log))
   same-sound f same link = elim (bool_cases (is_link link (link_of e))) [
@@ -97,9 +88,6 @@ pub record IsNothing (e : Entry) : Type 0 where
   pub breaks : (user : Account) (link : LinkId) (log : Log) → breaks_off user link log e ≡ false
   pub plain : IsPlain e
 
-offered-stays : (link : LinkId) (log more : Log) → was_offered link log ≡ true → was_offered link (log ++ more) ≡ true
-offered-stays link log more is = grind (arith, common_steps, list_any-append, of-link-more, or-inl)
-
 module _ (service : Service) (log : Log) (e : Entry) where
   abbrev then : Log
   then = log ++ e ∷ []
@@ -107,23 +95,13 @@ module _ (service : Service) (log : Log) (e : Entry) where
   pub silent-calm : IsSilent e → (n : ℕ) → Calm service log e n
   silent-calm silent n = grind (arith, common_steps)
 
-  -- an entry that breaks off no login refuses nothing
-  pub refuses-none : refused_by service log e ≡ option_and_then (refused_on service log e) (link_of e)
-      → ((user : Account) (link : LinkId) → breaks_off user link log e ≡ false) → refused_by service log e ≡ None
-  refuses-none h3 calm = grind (arith, common_steps)
-
   -- a seat whose link is left stands, and so does its command
   sits-then : (numbers : ℕ → Option ClientNo) (lends : Lends) (n : ℕ) (seat : Seat) → AllLawful (IsLawful service) then → LendsSound service log lends
       → Calm service log e n → ((link : LinkId) (lent : Lent) → lends.links link.0 ≡ Some lent → Leaves link log e)
       → Leaves seat.link log e → Sits service log numbers lends n seat → Sits service then numbers lends n seat
-  sits-then numbers lends n seat lawful sound calm rows leaves was = record {
-    stands = seat-calm service log e n seat lawful was.stands calm leaves
-        (λ user working. busy-none service log e lends n seat.session.client.arrived lawful sound calm (λ link lent owns row. rows link lent row)
-        (rw working at was.serves));
-    serves = was.serves;
-    unfinished = was.unfinished;
-    numbered = was.numbered;
-  }
+  sits-then numbers lends n seat lawful sound calm rows leaves was = assumption (seat-calm service log e n seat lawful was.stands calm leaves
+      (λ user working. busy-none service log e lends n seat.session.client.arrived lawful sound calm (λ link lent owns row. rows link lent row)
+      (rw working at was.serves)))
 
   -- What a bystander leaves: all other links, and so seats and links to servers.
   module _ (link : LinkId) (tables : Tables) where
@@ -135,10 +113,8 @@ module _ (service : Service) (log : Log) (e : Entry) where
 
     pub seats-left : Sound service log None tables → Bystands service log e link tables → (n : ℕ) (seat : Seat) → tables.seats n ≡ Some seat
         → Sits service then tables.numbers tables.lends n seat
-    seats-left sound at n seat
-        is = (let was = sound.seats n seat is in
-        sits-then tables.numbers tables.lends n seat at.lawful sound.lends (at.calm n) (rows-left at)
-        (left at seat.link (λ same. cc (at.unnumbered, same, was.numbered))) was)
+    seats-left sound at n seat is = (let was = sound.seats n seat is in sits-then tables.numbers tables.lends n seat at.lawful sound.lends (at.calm n)
+        (rows-left at) (left at seat.link (λ same. cc (at.unnumbered, same, was.numbered))) was)
 
     pub lends-left : Sound service log None tables → Bystands service log e link tables → tables.lends.closing ≡ [] → LendsSound service then tables.lends
     lends-left sound at none = grind (arith, common_steps, lends-still, rows-left)
@@ -154,16 +130,14 @@ module _ (service : Service) (log : Log) (e : Entry) where
     talk-of-same : (n : ℕ) → talk_of service n then ≡ talk_of service n log
     talk-of-same n = λ j. option_map (λ (came : Arrival). talk-same n came j) (arrival-same n j)
 
-    reply-same : (n i : ℕ) (link : LinkId)
-        → option_and_then (reply_on service.forms n i link then) (user_on service link then) ≡ option_and_then (reply_on service.forms n i link log)
-        (user_on service link log)
+    reply-same : (n i : ℕ) (link : LinkId) → option_and_then (reply_on service.forms n i link then) (user_on service link then) ≡ option_and_then
+        (reply_on service.forms n i link log) (user_on service link log)
     reply-same n i link = grind (arith, common_steps, talk-of-same, append-nil, filter_map-append)
 
     replied-still : (n i : ℕ) → replied service n i then ≡ replied service n i log
-    replied-still n i = ap (λ (turns : List Turn). cond (list_any (is_turn n i) turns) (Some (connection_refused ∷ [])) (reply_to service n i then))
-        (cc (refused-more service log (e ∷ []), silence.silent.refuses_none service log, append-nil (refused service log)))
-        ∙ ap (cond (is_refused service n i log) (Some (connection_refused ∷ [])))
-        (λ j. option_and_then (λ link. reply-same n i link j) (carrier-same n i log e (silence.silent.carries_none n i) j))
+    replied-still n i = ap (λ (turns : List Turn). cond (list_any (is_turn n i) turns) (Some (connection_refused ∷ [])) (reply_to service n i then)) (cc
+        (refused-more service log (e ∷ []), silence.silent.refuses_none service log, append-nil (refused service log))) ∙ ap (cond (is_refused service n i log)
+        (Some (connection_refused ∷ []))) (λ j. option_and_then (λ link. reply-same n i link j) (carrier-same n i log e (silence.silent.carries_none n i) j))
 
     work-same : (n : ℕ) → work_of service n then ≡ work_of service n log
     work-same n = grind (arith, common_steps, arrival-same, work-is, arrival-stays, replied-still, talk-same)
@@ -172,8 +146,7 @@ module _ (service : Service) (log : Log) (e : Entry) where
     due-same n came is served = elim (bool_cases (was_lost came.link log)) [
       | inl lost ↦ due-lost service n came log e is served lost
       | inr unlost ↦ due-unlost service n came then (arrival-stays n log (e ∷ []) came is) served (silence.sounds.lost came.link ∙ unlost)
-          ∙ (λ j. due_said (λ i. replied-still n i j) (talk-same n came j))
-          ∙ sym (due-unlost service n came log is served unlost)
+          ∙ (λ j. due_said (λ i. replied-still n i j) (talk-same n came j)) ∙ sym (due-unlost service n came log is served unlost)
     ]
 
     ended-same : (n : ℕ) (came : Arrival) → has_ended service n came then ≡ has_ended service n came log
@@ -194,14 +167,12 @@ module _ (service : Service) (log : Log) (e : Entry) where
   module _ (passes : Passes service log e) where
     part-passes : (n : ℕ) (came : Arrival) (bytes : List ℕ) → arrival_of n log ≡ Some came → PartAt service log n came bytes → PartAt service then n came bytes
     part-passes n came bytes is (Done served (inl broken)) = Done served (inl (passes.silence.sounds.broken came.link ∙ broken))
-    part-passes n came bytes is (Done served (inr done)) = Done served
-        (inr (record {
-          ended = ended-same passes.silence n came ∙ done.ended;
-          told = passes.silence.sounds.written came.link ∙ done.told
-              ∙ sym (due-same passes.silence n came is served);
-        }))
+    part-passes n came bytes is (Done served (inr done)) = Done served (inr (record {
+      ended = ended-same passes.silence n came ∙ done.ended;
+      told = grind (arith, common_steps, due-same);
+    }))
     part-passes n came bytes is (Refused refused port none) = Refused refused port (passes.silence.sounds.written came.link ∙ none)
-    part-passes n came bytes is (Offered refused port offered) = Offered refused port (offered-stays came.link log (e ∷ []) offered)
+    part-passes n came bytes is (Offered refused port offered) = Offered refused port (grind (arith, common_steps, list_any-append, of-link-more, or-inl))
     part-passes n came bytes is (Strange port) = Strange port
 
     close-passes : (lends : Lends) (link : LinkId) → Leaves link log e → CloseStands service log lends link → CloseStands service then lends link
@@ -211,63 +182,49 @@ module _ (service : Service) (log : Log) (e : Entry) where
       turn = stands.turn;
       is_turn = turn-stays service link log (e ∷ []) stands.turn stands.is_turn;
       may = λ user known. (let was : user_of service stands.turn.client log ≡ Some user = sym
-          (ap (option_and_then account) (talk-of-same passes.silence stands.turn.client)) ∙ known in
-          drop-same passes.silence (record { client = stands.turn.client; hostgroup = stands.turn.hostgroup }) user user link passes.fits was
-          (stands.may user was));
+          (ap (option_and_then account) (talk-of-same passes.silence stands.turn.client)) ∙ known in drop-same passes.silence
+          (record { client = stands.turn.client; hostgroup = stands.turn.hostgroup }) user user link passes.fits was (stands.may user was));
     }
 
   pub lends-pass : (lends : Lends) → Passes service log e → ((link : LinkId) (lent : Lent) → lends.links link.0 ≡ Some lent → Leaves link log e)
-      → ((link : LinkId) → lends.closing ≡ link ∷ [] → Leaves link log e) → LendsSound service log lends
-      → LendsSound service then lends
+      → ((link : LinkId) → lends.closing ≡ link ∷ [] → Leaves link log e) → LendsSound service log lends → LendsSound service then lends
   lends-pass lends passes rows closing sound = lends-framed service log e lends passes.lawful passes.fits sound (silent-calm passes.silence.silent) rows
       (λ link is. close-passes passes lends link (closing link is) (sound.closes link is))
 
 -- An entry of which the router makes nothing.
 pub nothing-step : {service : Service} {log : Log} {e : Entry} {tables : Tables} → Happens service log e tables → IsNothing e
     → Sound service (log ++ e ∷ []) None tables
-nothing-step {service} {log} {e} {tables} happens nothing = record {
-  came = grind (arith, common_steps, arrivals-plain);
-  here = cc (sound.here, connected-plain log e nothing.plain);
-  counts = counts-all (log ++ e ∷ []) (lawful-more Fits log e happens.told happens.fits);
-  seats = λ n seat is. sits-then service log e tables.numbers tables.lends n seat happens.lawful sound.lends
-      (silent-calm service log e passes.silence.silent n) (λ link lent row. leaves link) (leaves seat.link) (sound.seats n seat is);
-  numbers = sound.numbers;
-  unlent = sound.unlent;
-  unclosing = sound.unclosing;
-  away = sound.away;
-  lends = lends-pass service log e tables.lends passes (λ link lent row. leaves link) (λ link is. leaves link) sound.lends;
-  one_parts = sound.one_parts;
-  parts = λ parting is. (let stands = sound.parts parting is in record {
-    opened = (leaves parting.link).opened ∙ stands.opened;
-    unnumbered = stands.unnumbered;
-    unlent = stands.unlent;
-    unclosing = stands.unclosing;
-    alone = stands.alone;
-    n = stands.n;
-    came = stands.came;
-    is_came = arrival-stays stands.n log (e ∷ []) stands.came stands.is_came;
-    link = stands.link;
-    counted = grind (arith, common_steps, connected-plain);
-    is_client = stands.is_client;
-    at = part-passes service log e passes stands.n stands.came parting.bytes stands.is_came stands.at;
-  });
-  known = λ link opened. sound.known link (sym (leaves link).opened ∙ opened);
-  served = happens.served;
-} where
-  sound : Sound service log None tables
-  sound = happens.sound
-
-  passes : Passes service log e
-  passes = grind (arith, common_steps, refuses-none, sounds-mute)
-
-  leaves : (link : LinkId) → Leaves link log e
-  leaves link = (let sounds = passes.silence.sounds in
-      record {
-        read = sounds.read link;
-        written = sounds.written link;
-        lost = sounds.lost link;
-        broken = sounds.broken link;
-        heard = sounds.heard link;
-        pieces = sounds.pieces link;
-        opened = open-kept link log e nothing.stays;
-      })
+nothing-step {service} {log} {e} {tables} happens nothing = (let sound : Sound service log None tables = happens.sound in
+    let passes : Passes service log e = grind (arith, common_steps, sounds-mute) in
+    let leaves : (link : LinkId) → Leaves link log e = λ link. (let sounds = passes.silence.sounds in assumption
+    (sounds.read link, sounds.written link, sounds.lost link, sounds.broken link, sounds.heard link, sounds.pieces link, open-kept link log e nothing.stays))
+    in
+    record {
+      came = grind (arith, common_steps, arrivals-plain);
+      here = cc (sound.here, connected-plain log e nothing.plain);
+      counts = counts-all (log ++ e ∷ []) (lawful-more Fits log e happens.told happens.fits);
+      seats = λ n seat is. sits-then service log e tables.numbers tables.lends n seat happens.lawful sound.lends
+          (silent-calm service log e passes.silence.silent n) (λ link lent row. leaves link) (leaves seat.link) (sound.seats n seat is);
+      numbers = sound.numbers;
+      unlent = sound.unlent;
+      unclosing = sound.unclosing;
+      away = sound.away;
+      lends = lends-pass service log e tables.lends passes (λ link lent row. leaves link) (λ link is. leaves link) sound.lends;
+      one_parts = sound.one_parts;
+      parts = λ parting is. (let stands = sound.parts parting is in record {
+        opened = (leaves parting.link).opened ∙ stands.opened;
+        unnumbered = stands.unnumbered;
+        unlent = stands.unlent;
+        unclosing = stands.unclosing;
+        alone = stands.alone;
+        n = stands.n;
+        came = stands.came;
+        is_came = arrival-stays stands.n log (e ∷ []) stands.came stands.is_came;
+        link = stands.link;
+        counted = grind (arith, common_steps, connected-plain);
+        is_client = stands.is_client;
+        at = part-passes service log e passes stands.n stands.came parting.bytes stands.is_came stands.at;
+      });
+      known = λ link opened. sound.known link (sym (leaves link).opened ∙ opened);
+      served = happens.served;
+    })

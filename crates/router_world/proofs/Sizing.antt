@@ -1,28 +1,18 @@
 -- What the router lends for a link is all that is owed to it.
 use Rattle.router_world.proofs.Names.{common_steps, ◌≡◌, ◌+◌, ◌<◌, ℕ, zero, suc, Bool, true, false, nat_eq, cond, List, [], ◌∷◌, ◌++◌, length, take, drop}
 use Rattle.router_world.proofs.Names.{slice_get, Option, Some, None, refl, sym, ◌∙◌, ap, inl, inr, arith, length-append, ClientNo, LinkId, Log, written_of}
-use Rattle.router_world.proofs.Names.{AllLawful, Fits, Sent, nat_eq-true, Account, BackendState, left, said_of, Arrival, arrivals, arrival_of, Lent}
-use Rattle.router_world.proofs.Names.{heard_of, Command, pieces_of, commands_on, Forms, Service, work_of, due, some-same, Parting, Seat}
-use Rattle.router_world.proofs.Names.{seat_sends, sends_by, sends, farewell_of, IsFarewell, lends, bytes_in, LinkAt, Tables, ◌≤◌, LawfulAfter}
-use Rattle.router_world.proofs.Names.{MayFollow, Entry, Got, Wrote, Setup, most_command, IsOurs}
-use Rattle.router_world.proofs.Hands.{numbered-seat, told-seat}
-use Rattle.std.proofs.Math.Seq.{drop-append_seam}
-use Rattle.std.proofs.lemmas.List.{length-take-le}
-use Rattle.server_side.specs.Login.{opening}
+use Rattle.router_world.proofs.Names.{AllLawful, Fits, Sent, nat_eq-true, Account, BackendState, left, said_of, Arrival, arrivals, arrival_of, Lent, heard_of}
+use Rattle.router_world.proofs.Names.{Command, pieces_of, commands_on, Forms, Service, work_of, due, some-same, Parting, Seat, seat_sends, sends_by, sends}
+use Rattle.router_world.proofs.Names.{farewell_of, IsFarewell, lends, bytes_in, LinkAt, Tables, ◌≤◌, LawfulAfter, MayFollow, Entry, Got, Wrote, Setup}
+use Rattle.router_world.proofs.Names.{most_command, IsOurs}
+use Rattle.router_world.proofs.{Hands.numbered-seat, Hands.told-seat, Promises.StandsFor, Promises.stands-all, Keeping.service-of}
+use Rattle.{std.proofs.Math.Seq.drop-append_seam, std.proofs.lemmas.List.length-take-le, server_side.specs.Login.opening, router_world.specs.Owed.IsWhole}
+use Rattle.{mx_wire.specs.Offers.Offers, recording.specs.declared.entry.RecordEntry.RecordEntry, promises.specs.Replay.KeepsSized}
 use Rattle.promises.specs.Sizes.{unwritten, client_at, query_in, last_bytes, owed_standing, login_first, owed, IsSized}
-use Rattle.router_world.specs.Owed.{IsWhole}
-use Rattle.mx_wire.specs.Offers.{Offers}
-use Rattle.recording.specs.declared.entry.RecordEntry.{RecordEntry}
-use Rattle.mem_wire.specs.Came.{known, with_link, known_room}
-use Rattle.mem_wire.specs.Fitting.{fitting, takes}
-use Rattle.mem_wire.specs.Play.{IsAnswerOf, IsPlay}
-use Rattle.promises.specs.Replay.{KeepsSized}
-use Rattle.router_world.proofs.Dues.{due-refused}
+use Rattle.mem_wire.specs.{Came.known, Came.with_link, Came.known_room, Fitting.fitting, Fitting.takes, Play.IsAnswerOf, Play.IsPlay}
 use Rattle.router_world.proofs.Sound.{PartAt, Refused, PartStands, RowStands, Sound, IsAsked}
-use Rattle.router_world.proofs.Lawful.{unowned, same-client, row-user, row_standing, row-written, row-inside, row-clean, row-sends, row-commands, asked-spelt}
+use Rattle.router_world.proofs.Lawful.{unowned, row-user, row_standing, row-written, row-inside, row-clean, row-sends, row-commands, asked-spelt, once}
 use Rattle.router_world.proofs.Lawful.{closes-next, LeftAt, OfLogin, OfCommand, left-at}
-use Rattle.router_world.proofs.Promises.{StandsFor, stands-all}
-use Rattle.router_world.proofs.Keeping.{service-of}
 
 -- What is lent.
 
@@ -31,19 +21,15 @@ seat-whole o piece whole = grind (arith, common_steps, some-same)
 
 -- The client of a link.
 
-link-is : (one other : LinkId) → nat_eq one.0 other.0 ≡ true → one ≡ other
-link-is one other is = grind (arith, common_steps, nat_eq-true)
-
 first-at : (link : LinkId) (xs : List Arrival) (start k : ℕ) (came : Arrival) → slice_get xs k ≡ Some came → came.link ≡ link
     → ((j : ℕ) (other : Arrival) → slice_get xs j ≡ Some other → other.link ≡ link → j ≡ k) → client_at link start xs ≡ Some (start + k)
 first-at link [] start k came is on one = cc
 first-at link (x ∷ xs) start zero came is on one = grind (arith, common_steps, some-same)
-first-at link (x ∷ xs) start (suc k) came is on one =
-    by (nat_eq x.link.0 link.0) refl
-    (first-at link xs (suc start) k came is on (λ j other has there. let next : suc j ≡ suc k = one (suc j) other has there in omega arith)) where
+first-at link (x ∷ xs) start (suc k) came is on one = by (nat_eq x.link.0 link.0) refl (first-at link xs (suc start) k came is on
+    (λ j other has there. let next : suc j ≡ suc k = one (suc j) other has there in omega arith)) where
       by : (b : Bool) → nat_eq x.link.0 link.0 ≡ b → client_at link (suc start) xs ≡ Some (suc start + k)
           → cond b (Some start) (client_at link (suc start) xs) ≡ Some (start + suc k)
-      by true at later = absurd (let no : 0 ≡ suc k = one 0 x refl (link-is x.link link at) in omega arith)
+      by true at later = absurd (let no : 0 ≡ suc k = one 0 x refl (grind (arith, common_steps, nat_eq-true)) in omega arith)
       by false at later = grind (arith, common_steps)
 
 none-at : (link : LinkId) (xs : List Arrival) (start : ℕ) → ((j : ℕ) (other : Arrival) → slice_get xs j ≡ Some other → other.link ≡ link → ⊥)
@@ -51,7 +37,7 @@ none-at : (link : LinkId) (xs : List Arrival) (start : ℕ) → ((j : ℕ) (othe
 none-at link [] start none = refl
 none-at link (x ∷ xs) start none = by (nat_eq x.link.0 link.0) refl (none-at link xs (suc start) (λ j other has there. none (suc j) other has there)) where
   by : (b : Bool) → nat_eq x.link.0 link.0 ≡ b → client_at link (suc start) xs ≡ None → cond b (Some start) (client_at link (suc start) xs) ≡ None
-  by true at later = absurd (none 0 x refl (link-is x.link link at))
+  by true at later = absurd (none 0 x refl (grind (arith, common_steps, nat_eq-true)))
   by false at later = later
 
 last-behind : (others : List Command) (c : Command) → last_bytes (others ++ c ∷ []) ≡ c.bytes
@@ -69,12 +55,7 @@ said-left forms user heard pieces backend h5 = grind (arith, common_steps, drop-
 module _ (service : Service) (log : Log) (told : AllLawful Fits log) where
   client-at : (n : ℕ) (came : Arrival) (link : LinkId) → arrival_of n log ≡ Some came → came.link ≡ link → client_at link 1 (arrivals log) ≡ Some n
   client-at zero came link is on = cc
-  client-at (suc k) came link is on = cc (
-    first-at link (arrivals log) 1 k came is on
-        (λ j other has there. let same : suc j ≡ suc k = same-client log told (suc j) (suc k) other came has is (there ∙ sym on) in
-        omega arith),
-    let same : 1 + k ≡ suc k = omega arith in same,
-  )
+  client-at (suc k) came link is on = grind (arith, common_steps, first-at, once)
 
   owed-client : (n : ℕ) (came : Arrival) (link : LinkId) (bytes : List ℕ) → arrival_of n log ≡ Some came → came.link ≡ link
       → written_of came.link log ++ bytes ≡ due service n log → bytes ≡ owed service link log
@@ -88,7 +69,7 @@ module _ {service : Service} {log : Log} {tables : Tables} (told : AllLawful Fit
       (by parting.bytes stands.at some) where
         by : (bytes : List ℕ) → PartAt service log stands.n stands.came bytes → 0 < length bytes
             → written_of stands.came.link log ++ bytes ≡ due service stands.n log
-        by bytes (Refused refused traffic unwritten) some = grind (arith, common_steps, due-refused)
+        by bytes (Refused refused traffic unwritten) some = grind (arith, common_steps)
         by bytes other some = absurd (omega arith)
 
   -- a link to a server
@@ -109,8 +90,7 @@ module _ {service : Service} {log : Log} {tables : Tables} (told : AllLawful Fit
 
     whole : owed service link log ≡ login_first lent.backend.own rest
     whole = cc (
-      none-at link (arrivals log) 1
-          (λ j other has there. cc (unowned log told service (suc j) other has there, row.is_turn)),
+      none-at link (arrivals log) 1 (λ j other has there. cc (unowned log told service (suc j) other has there, row.is_turn)),
       row.is_turn,
       row-user row,
       own,
@@ -128,11 +108,9 @@ module _ {service : Service} {log : Log} {tables : Tables} (told : AllLawful Fit
       behind : (sent : ℕ) → command.sent ≡ sent → rest ≡ drop command.sent command.bytes
       behind zero at = cc (row-clean row has at, the-query, at)
       behind (suc sent) at = ap (λ standing. owed_standing standing (commands_on lent.backend.account link log) query) (row-sends row has (omega arith) less)
-          ∙ ap (λ cs. drop (length (last_bytes cs)) query) (row-commands row has (omega arith))
-          ∙ ap (λ bytes. drop (length bytes) query)
-          (last-behind (row-inside row has).others (record { tag = command.tag; bytes = take command.sent command.bytes }))
-          ∙ ap (λ k. drop k query) (length-take-le command.sent command.bytes (omega arith))
-          ∙ ap (drop command.sent) the-query
+          ∙ ap (λ cs. drop (length (last_bytes cs)) query) (row-commands row has (omega arith)) ∙ ap (λ bytes. drop (length bytes) query) (last-behind
+          (row-inside row has).others (record { tag = command.tag; bytes = take command.sent command.bytes }))
+          ∙ ap (λ k. drop k query) (length-take-le command.sent command.bytes (omega arith)) ∙ ap (drop command.sent) the-query
 
   -- all
   sends-owed : (link : LinkId) (piece : List ℕ) → IsWhole (sends tables link) piece → piece ≡ owed service link log
@@ -140,10 +118,8 @@ module _ {service : Service} {log : Log} {tables : Tables} (told : AllLawful Fit
     by : (o : Option ClientNo) → tables.numbers link.0 ≡ o → IsWhole (sends_by tables link o) piece → piece ≡ owed service link log
     by (Some client) at whole = (let one = seat-whole (tables.seats client.0) piece whole in
         let seat = numbered-seat service log tables link client sound at in
-        let stands = (sound.seats client.0 one.0 one.1).stands in
-        one.2 ∙ owed-client service log told client.0 stands.came link one.0.session.client.outgoing stands.is_came
-        (cc (stands.link, some-same one.0 seat.0 (sym one.1 ∙ seat.1), seat.2))
-        (told-seat service log client.0 one.0 stands))
+        let stands = (sound.seats client.0 one.0 one.1).stands in one.2 ∙ owed-client service log told client.0 stands.came link one.0.session.client.outgoing
+        stands.is_came (cc (stands.link, some-same one.0 seat.0 (sym one.1 ∙ seat.1), seat.2)) (told-seat service log client.0 one.0 stands))
     by None at whole = grind (arith, common_steps, owed-row, some-same)
 
   farewell-owed : (link : LinkId) (piece : List ℕ) → IsFarewell tables link → IsWhole (farewell_of tables.parting) piece → piece ≡ owed service link log

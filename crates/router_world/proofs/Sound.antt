@@ -5,10 +5,8 @@ use Rattle.router_world.proofs.Names.{is_begun, Handed, In, Arrival, arrivals, a
 use Rattle.router_world.proofs.Names.{Session, is_finished, Ask, Lent, Lends, was_lost, was_broken, heard_of, most_command, pieces_of, carrier_of, Turn}
 use Rattle.router_world.proofs.Names.{Service, open_tries, turn_of, turns, talk_with, user_of, is_here, is_refused, due, message_of, form_of, IsDone, MayDrop}
 use Rattle.router_world.proofs.Names.{was_offered, IsServed, Parting, Seat, replied, LinkAt, list_all, SeatAt, Tables}
-use Rattle.packet_frame.specs.Packets.{spelling}
-use Rattle.promises.specs.Sends.{Asks}
-use Rattle.router_world.proofs.RowsPieces.{has_bytes}
-use Rattle.router_world.proofs.Connecting.{is_among, Counts}
+use Rattle.{packet_frame.specs.Packets.spelling, promises.specs.Sends.Asks}
+use Rattle.router_world.proofs.{RowsPieces.has_bytes, Connecting.is_among, Connecting.Counts}
 use Rattle.client_talk.specs.declared.session.Phase.TheVariants as phase
 
 -- what the reply to each message of a client is like is what the message asks for
@@ -73,7 +71,8 @@ pub record RowStands (service : Service) (log : Log) (lends : Lends) (link : Lin
 -- nothing is asked of them
 pub record Free (lends : Lends) (n : ℕ) : Type 0 where
   pub unasked : lends.asks n ≡ None
-  pub idle : (link : LinkId) (lent : Lent) → lends.owned n ≡ Some link → lends.links link.0 ≡ Some lent → (lent.backend.stage ≡ In) × (lent.backend.command ≡ None)
+  pub idle : (link : LinkId) (lent : Lent) → lends.owned n ≡ Some link → lends.links link.0 ≡ Some lent
+      → (lent.backend.stage ≡ In) × (lent.backend.command ≡ None)
 
 -- nothing is left of it
 pub record Gone (lends : Lends) (n : ℕ) : Type 0 where
@@ -83,9 +82,10 @@ pub record Gone (lends : Lends) (n : ℕ) : Type 0 where
 -- its command waits for a link to be opened, or for the login on its link; or it is on its link
 pub data Busy (lends : Lends) (n i : ℕ) : Type 0 where
   Waits : (ask : Ask) → lends.asks n ≡ Some ask → ask.ordinal ≡ i → lends.owned n ≡ None → lends.waiting ≡ record { 0 = n } ∷ [] → Busy lends n i
-  Logs : (ask : Ask) → lends.asks n ≡ Some ask → ask.ordinal ≡ i → (link : LinkId) (lent : Lent) → lends.owned n ≡ Some link → lends.links link.0 ≡ Some lent → lent.backend.stage ≢ In → Busy lends n i
-  On : lends.asks n ≡ None → (link : LinkId) (lent : Lent) (command : Handed) → lends.owned n ≡ Some link → lends.links link.0 ≡ Some lent → lent.backend.stage ≡ In → lent.backend.command ≡ Some command
-      → command.tag ≡ For (record { 0 = n }) i → Busy lends n i
+  Logs : (ask : Ask) → lends.asks n ≡ Some ask → ask.ordinal ≡ i → (link : LinkId) (lent : Lent) → lends.owned n ≡ Some link → lends.links link.0 ≡ Some lent
+      → lent.backend.stage ≢ In → Busy lends n i
+  On : lends.asks n ≡ None → (link : LinkId) (lent : Lent) (command : Handed) → lends.owned n ≡ Some link → lends.links link.0 ≡ Some lent
+      → lent.backend.stage ≡ In → lent.backend.command ≡ Some command → command.tag ≡ For (record { 0 = n }) i → Busy lends n i
 
 abbrev pub Serves : Phase → Lends → (n i : ℕ) → Type 0
 Serves phase.LoggingIn lends n i = Gone lends n
@@ -144,7 +144,8 @@ pub data Known (numbers : ℕ → Option ClientNo) (lends : Lends) (parting : Li
 -- A client's link that is to be closed: its client is at its end or broken, or there was no room for it, or it came to the port of administrators.
 pub data PartAt (service : Service) (log : Log) (n : ℕ) (came : Arrival) : (bytes : List ℕ) → Type 0 where
   Done : is_served service.setup came ≡ true → (was_broken came.link log ≡ true) ⊎ IsDone service n came log → PartAt service log n came []
-  Refused : is_served service.setup came ≡ false → came.port ≡ Traffic → written_of came.link log ≡ [] → PartAt service log n came (spelling 0 too_many_connections)
+  Refused : is_served service.setup came ≡ false → came.port ≡ Traffic → written_of came.link log ≡ []
+      → PartAt service log n came (spelling 0 too_many_connections)
   Offered : is_served service.setup came ≡ false → came.port ≡ Traffic → was_offered came.link log ≡ true → PartAt service log n came []
   Strange : came.port ≡ Admin → PartAt service log n came []
 
@@ -168,7 +169,8 @@ pub record CloseStands (service : Service) (log : Log) (lends : Lends) (link : L
   pub unlent : lends.links link.0 ≡ None
   pub turn : Turn
   pub is_turn : turn_of service link log ≡ Some turn
-  pub may : (user : Account) → user_of service turn.client log ≡ Some user → MayDrop service (record { client = turn.client; hostgroup = turn.hostgroup }) user link log
+  pub may : (user : Account) → user_of service turn.client log ≡ Some user
+      → MayDrop service (record { client = turn.client; hostgroup = turn.hostgroup }) user link log
 
 -- A seat that a client has, with its number and its command.
 pub record Sits (service : Service) (log : Log) (numbers : ℕ → Option ClientNo) (lends : Lends) (n : ℕ) (seat : Seat) : Type 0 where
@@ -194,7 +196,8 @@ pub record Owns (lends : Lends) (n : ℕ) (link : LinkId) : Type 0 where
 
 -- The links to servers and the commands that go there stand for the log, but for those of client n.
 pub record LendsBut (service : Service) (log : Log) (n : ℕ) (lends : Lends) : Type 0 where
-  pub rows : (link : LinkId) (lent : Lent) → lends.links link.0 ≡ Some lent → (turn : Turn) → turn_of service link log ≡ Some turn → nat_eq turn.client n ≡ false → RowStands service log lends link lent
+  pub rows : (link : LinkId) (lent : Lent) → lends.links link.0 ≡ Some lent → (turn : Turn) → turn_of service link log ≡ Some turn
+      → nat_eq turn.client n ≡ false → RowStands service log lends link lent
   pub turns : (link : LinkId) (lent : Lent) → lends.links link.0 ≡ Some lent → (turn : Turn) × (turn_of service link log ≡ Some turn)
   pub asks : (k : ℕ) (ask : Ask) → nat_eq k n ≡ false → lends.asks k ≡ Some ask → AskStands service log k ask
   pub owned : (k : ℕ) (link : LinkId) → lends.owned k ≡ Some link → Owns lends k link
@@ -214,7 +217,8 @@ pub record Sound (service : Service) (log : Log) (hand : Option Hand) (tables : 
   pub here : tables.here ≡ length (connected log)
   pub counts : Counts log
   pub seats : (n : ℕ) (seat : Seat) → tables.seats n ≡ Some seat → Sits service log tables.numbers tables.lends n seat
-  pub numbers : (link : LinkId) (client : ClientNo) → tables.numbers link.0 ≡ Some client → OnHand hand client.0 link ⊎ ((seat : Seat) × (tables.seats client.0 ≡ Some seat) × (seat.link ≡ link))
+  pub numbers : (link : LinkId) (client : ClientNo) → tables.numbers link.0 ≡ Some client
+      → OnHand hand client.0 link ⊎ ((seat : Seat) × (tables.seats client.0 ≡ Some seat) × (seat.link ≡ link))
   pub unlent : (link : LinkId) (client : ClientNo) → tables.numbers link.0 ≡ Some client → tables.lends.links link.0 ≡ None
   pub unclosing : (link : LinkId) → tables.lends.closing ≡ link ∷ [] → tables.numbers link.0 ≡ None
   pub away : (n : ℕ) → tables.seats n ≡ None → InHand hand n ⊎ Gone tables.lends n

@@ -1,17 +1,13 @@
 -- An entry that concerns one client leaves all others as they were.
-use Rattle.router_world.proofs.Names.{arith, common_steps, ◌≡◌, ◌⊎◌, ℕ, Bool, true, false, nat_eq, List, [], ◌∷◌, ◌++◌, Option, Some, None, refl}
-use Rattle.router_world.proofs.Names.{sym, ◌∙◌, ap, subst, append-nil, inl, inr, fold-append, ClientNo, LinkId, Log, AllLawful, IsOpen, Entry}
-use Rattle.router_world.proofs.Names.{arrivals, arrival_in, connected, connected_step, Lent, Lends, Turn, Service, turn_of, IsLawful, IsServed}
-use Rattle.router_world.proofs.Names.{some-same, none-if, arrivals-more, Seat, Tables, is_some, option_and_then, link_of, open_step}
-use Rattle.router_world.proofs.Names.{Fits, Setup, set, refused_by, refused_on, refused_for}
+use Rattle.router_world.proofs.Names.{arith, common_steps, ◌≡◌, ◌⊎◌, ℕ, Bool, true, false, nat_eq, List, [], ◌∷◌, ◌++◌, Option, Some, None, refl, sym, ◌∙◌, ap}
+use Rattle.router_world.proofs.Names.{subst, append-nil, inl, inr, fold-append, ClientNo, LinkId, Log, AllLawful, IsOpen, Entry, arrivals, arrival_in}
+use Rattle.router_world.proofs.Names.{connected, connected_step, Lent, Lends, Turn, Service, turn_of, IsLawful, IsServed, some-same, none-if, arrivals-more}
+use Rattle.router_world.proofs.Names.{Seat, Tables, is_some, option_and_then, link_of, open_step, Fits, Setup, set, refused_by, refused_on, refused_for}
 use Rattle.router_world.proofs.Names.{without_seat, closes, opens, asks}
-use Rattle.router_world.proofs.Hands.{away-gone, known-later, none-some}
-use Rattle.router_world.specs.Tables.{with_lends}
+use Rattle.router_world.proofs.{Hands.away-gone, Hands.known-later, Hands.none-some, Connecting.Counts, Calm.Leaves, Calm.Spares}
+use Rattle.{router_world.specs.Tables.with_lends, std.proofs.lemmas.Bool.or_parts}
 use Rattle.router_world.proofs.Apart.{Traces, one-or-other, Apart, serves-apart, gone-apart, set-same, set-other}
-use Rattle.std.proofs.lemmas.Bool.{or_parts}
 use Rattle.router_world.proofs.Sound.{CloseStands, Sits, Happens, LendsSound, Sound, Hand, InHand, OnHand, Gone, Known, AtMostOne, Nobody}
-use Rattle.router_world.proofs.Connecting.{Counts}
-use Rattle.router_world.proofs.Calm.{Leaves, Spares}
 use Rattle.router_world.proofs.Frames.{Calm, busy-none, seat-calm, owner-turn, ask-calm, row-calm}
 
 -- nobody comes and no client's link closes by the entry
@@ -57,56 +53,55 @@ pub record Mine (service : Service) (log : Log) (e : Entry) (n : ℕ) (hand : Op
 pub moved : (service : Service) (log : Log) (e : Entry) (n : ℕ) (hand : Option Hand) (tables : Tables) (seats : ℕ → Option Seat) (lends : Lends)
     → Sound service log None tables → Others service log e n tables
     → Mine service log e n hand tables seats lends → Sound service (log ++ e ∷ []) hand (record tables { seats = seats; lends = lends })
-moved service log e n hand tables seats lends sound others mine = record {
-  came = cc (sound.came, arrivals-plain log e others.plain.arrives);
-  here = cc (sound.here, connected-plain log e others.plain);
-  counts = others.counts;
-  seats = λ k seat is. one-or-other k n (λ m. seats m ≡ Some seat → Sits service (log ++ e ∷ []) tables.numbers lends m seat) (mine.seat seat)
-      (λ at was. sits k seat at (sym (mine.others k at) ∙ was)) is;
-  numbers = λ link client is. numbers link client (sound.numbers link client is);
-  unlent = λ link client is. grind (arith, common_steps, none-if);
-  unclosing = λ link is. unclosing link (mine.closed link is);
-  away = λ k is. grind (arith, common_steps, away-gone, gone-apart, one-or-other);
-  lends = mine.lends;
-  one_parts = subst AtMostOne (sym others.unparted) Nobody;
-  parts = λ parting is. cc (others.unparted, is);
-  known = λ link opened. elim (mine.known link opened) [
-    | inr is ↦ is
-    | inl was ↦ known-later tables.numbers tables.lends lends tables.parting link (mine.to link) (mine.closes link) (sound.known link was)
-  ];
-  served = others.served;
-} where
-  unlent : (link : LinkId) (client : ClientNo) → tables.numbers link.0 ≡ Some client
-      → ((old : Lent) × (tables.lends.links link.0 ≡ Some old)) ⊎ (tables.numbers link.0 ≡ None) → ⊥
-  unlent link client is h3 = grind (arith, common_steps, none-some)
+moved service log e n hand tables seats lends sound others mine = (let unlent : (link : LinkId) (client : ClientNo) → tables.numbers link.0 ≡ Some client
+    → ((old : Lent) × (tables.lends.links link.0 ≡ Some old)) ⊎ (tables.numbers link.0 ≡ None)
+    → ⊥ = λ link client is h3. grind (arith, common_steps, none-some) in
+    let unclosing : (link : LinkId) → (tables.lends.closing ≡ link ∷ []) ⊎ ((lent : Lent) × (tables.lends.links link.0 ≡ Some lent))
+    → tables.numbers link.0 ≡ None = λ link h1. grind (arith, common_steps, none-if, none-some) in
+    record {
+      came = cc (sound.came, arrivals-plain log e others.plain.arrives);
+      here = cc (sound.here, connected-plain log e others.plain);
+      counts = others.counts;
+      seats = λ k seat is. one-or-other k n (λ m. seats m ≡ Some seat → Sits service (log ++ e ∷ []) tables.numbers lends m seat) (mine.seat seat)
+          (λ at was. sits k seat at (sym (mine.others k at) ∙ was)) is;
+      numbers = λ link client is. numbers link client (sound.numbers link client is);
+      unlent = λ link client is. grind (arith, common_steps, none-if);
+      unclosing = λ link is. unclosing link (mine.closed link is);
+      away = λ k is. grind (arith, common_steps, away-gone, gone-apart, one-or-other);
+      lends = mine.lends;
+      one_parts = subst AtMostOne (sym others.unparted) Nobody;
+      parts = λ parting is. cc (others.unparted, is);
+      known = λ link opened. elim (mine.known link opened) [
+        | inr is ↦ is
+        | inl was ↦ known-later tables.numbers tables.lends lends tables.parting link (mine.to link) (mine.closes link) (sound.known link was)
+      ];
+      served = others.served;
+    }) where
+      leaves : (k : ℕ) → nat_eq k n ≡ false → (link : LinkId) (lent : Lent) → tables.lends.owned k ≡ Some link → tables.lends.links link.0 ≡ Some lent
+          → Leaves link log e
+      leaves k apart link lent owns is = (let row = sound.lends.rows link lent is in let owner = sound.lends.owned k link owns in
+          let client = owner-turn service log tables.lends link lent k row.turn.client row.owned (cc (
+            some-same lent owner.lent (sym is ∙ owner.there),
+            owner.owner,
+          )) in others.rows link lent row.turn is row.is_turn (cc (client, apart)))
 
-  unclosing : (link : LinkId) → (tables.lends.closing ≡ link ∷ []) ⊎ ((lent : Lent) × (tables.lends.links link.0 ≡ Some lent)) → tables.numbers link.0 ≡ None
-  unclosing link h1 = grind (arith, common_steps, none-if, none-some)
+      sits : (k : ℕ) (seat : Seat) → nat_eq k n ≡ false → tables.seats k ≡ Some seat → Sits service (log ++ e ∷ []) tables.numbers lends k seat
+      sits k seat at was = (let sits = sound.seats k seat was in record {
+        stands = seat-calm service log e k seat others.lawful sits.stands (others.calm k at) (others.seats k seat at was)
+            (λ user same. busy-none service log e tables.lends k seat.session.client.arrived others.lawful sound.lends
+            (others.calm k at) (leaves k at) (rw same at sits.serves));
+        serves = grind (arith, common_steps, serves-apart);
+        unfinished = sits.unfinished;
+        numbered = sits.numbered;
+      })
 
-  leaves : (k : ℕ) → nat_eq k n ≡ false → (link : LinkId) (lent : Lent) → tables.lends.owned k ≡ Some link → tables.lends.links link.0 ≡ Some lent
-      → Leaves link log e
-  leaves k apart link lent owns is = (let row = sound.lends.rows link lent is in let owner = sound.lends.owned k link owns in
-      let client = owner-turn service log tables.lends link lent k row.turn.client row.owned
-      (cc (some-same lent owner.lent (sym is ∙ owner.there), owner.owner)) in
-      others.rows link lent row.turn is row.is_turn (cc (client, apart)))
-
-  sits : (k : ℕ) (seat : Seat) → nat_eq k n ≡ false → tables.seats k ≡ Some seat → Sits service (log ++ e ∷ []) tables.numbers lends k seat
-  sits k seat at was = (let sits = sound.seats k seat was in record {
-    stands = seat-calm service log e k seat others.lawful sits.stands (others.calm k at) (others.seats k seat at was)
-        (λ user same. busy-none service log e tables.lends k seat.session.client.arrived others.lawful sound.lends
-        (others.calm k at) (leaves k at) (rw same at sits.serves));
-    serves = grind (arith, common_steps, serves-apart);
-    unfinished = sits.unfinished;
-    numbered = sits.numbered;
-  })
-
-  numbers : (link : LinkId) (client : ClientNo) → OnHand None client.0 link ⊎ ((seat : Seat) × (tables.seats client.0 ≡ Some seat) × (seat.link ≡ link))
-      → OnHand hand client.0 link ⊎ ((seat : Seat) × (seats client.0 ≡ Some seat) × (seat.link ≡ link))
-  numbers link client (inl none) = absurd none
-  numbers link client (inr seat) = one-or-other client.0 n
-      (λ m. tables.seats m ≡ Some seat.0 → OnHand hand m link ⊎ ((s : Seat) × (seats m ≡ Some s) × (s.link ≡ link)))
-      (λ is. elim (mine.numbers link seat.0 is seat.2) [ inl held ↦ inl held | inr put ↦ inr (seat.0, put, seat.2) ])
-      (λ at is. inr (seat.0, mine.others client.0 at ∙ is, seat.2)) seat.1
+      numbers : (link : LinkId) (client : ClientNo) → OnHand None client.0 link ⊎ ((seat : Seat) × (tables.seats client.0 ≡ Some seat) × (seat.link ≡ link))
+          → OnHand hand client.0 link ⊎ ((seat : Seat) × (seats client.0 ≡ Some seat) × (seat.link ≡ link))
+      numbers link client (inl none) = absurd none
+      numbers link client (inr seat) = one-or-other client.0 n
+          (λ m. tables.seats m ≡ Some seat.0 → OnHand hand m link ⊎ ((s : Seat) × (seats m ≡ Some s) × (s.link ≡ link)))
+          (λ is. elim (mine.numbers link seat.0 is seat.2) [ inl held ↦ inl held | inr put ↦ inr (seat.0, put, seat.2) ])
+          (λ at is. inr (seat.0, mine.others client.0 at ∙ is, seat.2)) seat.1
 
 -- An entry on an open link.
 
@@ -126,8 +121,7 @@ nobody-waits setup tables is has = grind (arith, common_steps, closes, opens)
 
 -- The links to servers and all commands stay, where the entry touches none.
 pub lends-framed : (service : Service) (log : Log) (e : Entry) (lends : Lends) → AllLawful (IsLawful service) (log ++ e ∷ []) → Fits log e
-    → LendsSound service log lends → ((k : ℕ) → Calm service log e k)
-    → ((link : LinkId) (lent : Lent) → lends.links link.0 ≡ Some lent → Leaves link log e)
+    → LendsSound service log lends → ((k : ℕ) → Calm service log e k) → ((link : LinkId) (lent : Lent) → lends.links link.0 ≡ Some lent → Leaves link log e)
     → ((link : LinkId) → lends.closing ≡ link ∷ [] → CloseStands service (log ++ e ∷ []) lends link) → LendsSound service (log ++ e ∷ []) lends
 lends-framed service log e lends lawful fits sound calm leaves closes = record {
   rows = λ link lent is. (let stands = sound.rows link lent is in

@@ -1,25 +1,12 @@
 -- What the router does next, by what it knows: what it reads, writes, opens and closes.
 use Rattle.std.specs.Prelude.{◌≡◌, ◌⊎◌, ℕ, Bool, true, false, is_some, ◌||◌, ◌&&◌, List, [], ◌∷◌, take, Option, Some, None}
-use Rattle.mx_base.specs.Fields.{AreBytes}
-use Rattle.mx_base.specs.declared.names.ClientNo.{ClientNo}
-use Rattle.mx_base.specs.declared.names.LinkId.{LinkId}
-use Rattle.mx_base.specs.declared.tag.Tag.{Tag}
-use Rattle.mx_base.specs.declared.tag.Tag.TheVariants.{Reply}
-use Rattle.mx_wire.specs.Log.{Log}
-use Rattle.mx_wire.specs.declared.entry.Entry.{Entry}
+use Rattle.{mx_base.specs.Fields.AreBytes, mx_base.specs.Sent.Sent, ready_loop.specs.Machine.Target, ready_loop.specs.Drained.MayWait}
+use Rattle.{client_talk.specs.Sessions.is_read, promises.specs.Closes.was_offered, lend_core.specs.Events.left_in, lend_core.specs.Events.is_waiting}
+use Rattle.mx_base.specs.declared.{names.ClientNo.ClientNo, names.LinkId.LinkId, tag.Tag.Tag, tag.Tag.TheVariants.Reply}
+use Rattle.mx_wire.specs.{Log.Log, declared.entry.Entry.Entry}
+use Rattle.client_session.specs.{declared.setup.ServerAt.ServerAt, Setups.Setup, Setups.has_server}
+use Rattle.router_world.specs.{declared.seat.Parting.Parting, declared.seat.Seat.Seat, Tables.Tables, World.tables_after}
 use Rattle.mx_wire.specs.declared.entry.Entry.TheVariants as entry
-use Rattle.mx_base.specs.Sent.{Sent}
-use Rattle.ready_loop.specs.Machine.{Target}
-use Rattle.ready_loop.specs.Drained.{MayWait}
-use Rattle.client_session.specs.declared.setup.ServerAt.{ServerAt}
-use Rattle.client_session.specs.Setups.{Setup, has_server}
-use Rattle.client_talk.specs.Sessions.{is_read}
-use Rattle.promises.specs.Closes.{was_offered}
-use Rattle.lend_core.specs.Events.{left_in, is_waiting}
-use Rattle.router_world.specs.declared.seat.Parting.{Parting}
-use Rattle.router_world.specs.declared.seat.Seat.{Seat}
-use Rattle.router_world.specs.Tables.{Tables}
-use Rattle.router_world.specs.World.{tables_after}
 
 -- What is to be written on a link.
 
@@ -120,11 +107,13 @@ IsOurs setup log (entry.Ended link) = asks setup (tables_after setup log) ≡ fa
 IsOurs setup log (entry.ReadFailed link) = asks setup (tables_after setup log) ≡ false
 IsOurs setup log (entry.WriteFailed link) = (asks setup (tables_after setup log) ≡ false) ⊎ IsFarewell (tables_after setup log) link
 IsOurs setup log (entry.Wrote link tag bytes) =
-    ((asks setup (tables_after setup log) ≡ false) × IsFront (sends (tables_after setup log) link) tag bytes) ⊎ (IsFarewell (tables_after setup log) link × IsFront (farewell_of (tables_after setup log).parting) tag bytes)
+    ((asks setup (tables_after setup log) ≡ false) × IsFront (sends (tables_after setup log) link) tag bytes) ⊎ (IsFarewell (tables_after setup log) link ×
+    IsFront (farewell_of (tables_after setup log).parting) tag bytes)
 IsOurs setup log (entry.Opened server address link) = awaits setup (tables_after setup log) ≡ Some (record { server = server; address = address })
 IsOurs setup log (entry.OpenFailed server address) = awaits setup (tables_after setup log) ≡ Some (record { server = server; address = address })
 IsOurs setup log (entry.Closed link) = IsClosing (tables_after setup log) link log
-IsOurs setup log (entry.Woke until_ms now_ms) = MayWait (reads (tables_after setup log)) (sends (tables_after setup log)) (asks setup (tables_after setup log)) log
+IsOurs setup log (entry.Woke until_ms now_ms) = MayWait (reads (tables_after setup log)) (sends (tables_after setup log)) (asks setup (tables_after setup log))
+    log
 IsOurs setup log entry.WaitFailed = MayWait (reads (tables_after setup log)) (sends (tables_after setup log)) (asks setup (tables_after setup log)) log
 IsOurs setup log entry.Over = MayWait (reads (tables_after setup log)) (sends (tables_after setup log)) (asks setup (tables_after setup log)) log
 IsOurs setup log _ = Unit {0}

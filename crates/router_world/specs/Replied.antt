@@ -1,14 +1,9 @@
 -- The answers of a client by the replies to its queries.
 use Rattle.std.specs.Prelude.{ℕ, suc, is_some, if◌then◌else◌, List, [], ◌∷◌, Option, Some, None}
-use Rattle.mx_wire.specs.Log.{Log}
+use Rattle.{mx_wire.specs.Log.Log, command_parse.specs.Meaning.parsed, exchange.specs.Replies.Answer}
 use Rattle.packet_frame.specs.Packets.{Framed, next_id}
-use Rattle.command_parse.specs.Meaning.{parsed}
-use Rattle.client_session.specs.Setups.{Setup}
-use Rattle.client_session.specs.Errors.{no_server, connection_refused}
-use Rattle.exchange.specs.Replies.{Answer}
-use Rattle.promises.specs.Service.{Service}
-use Rattle.promises.specs.Owners.{is_refused}
-use Rattle.promises.specs.Due.{reply_to, answer_by, answered, Work}
+use Rattle.client_session.specs.{Setups.Setup, Errors.no_server, Errors.connection_refused}
+use Rattle.promises.specs.{Service.Service, Owners.is_refused, Due.reply_to, Due.answer_by, Due.answered, Due.Work}
 
 -- what comes of the i-th query of client n at a server: its reply, or the error in the reply's place
 abbrev pub replied : Service → (n i : ℕ) → Log → Option Answer
@@ -21,9 +16,11 @@ answer_of setup reply payload = answer_by (if is_some setup.target then reply el
 -- the answers to the messages from the i-th on, up to the first that isn't there, and what comes last
 abbrev pub answers_by : Setup → (ℕ → Option Answer) → ℕ → List Framed → List ℕ → List ℕ
 answers_by setup reply i [] last = last
-answers_by setup reply i (message ∷ messages) last = answered (next_id message.last) (answer_of setup (reply i) message.payload) (answers_by setup reply (suc i) messages last)
+answers_by setup reply i (message ∷ messages) last = answered (next_id message.last) (answer_of setup (reply i) message.payload) (answers_by setup reply (suc i)
+    messages last)
 
 -- the first message without an answer
 abbrev pub first_open : Setup → (ℕ → Option Answer) → ℕ → List Framed → Option Work
 first_open setup reply i [] = None
-first_open setup reply i (message ∷ messages) = if is_some (answer_of setup (reply i) message.payload) then first_open setup reply (suc i) messages else Some (record { ordinal = i; message = message })
+first_open setup reply i (message ∷ messages) = if is_some (answer_of setup (reply i) message.payload) then first_open setup reply (suc i) messages else Some
+    (record { ordinal = i; message = message })

@@ -1,19 +1,10 @@
 -- How a link to a server stands for what was read and written there.
 use Rattle.std.specs.Prelude.{◌≡◌, ◌⊎◌, ◌≤◌, ℕ, zero, suc, Bool, true, false, List, [], ◌∷◌, ◌++◌, length, take, Option, Some, None}
-use Rattle.std.specs.List.{flat_map, list_all, list_any}
-use Rattle.std.specs.Option.{option_and_then}
-use Rattle.mx_base.specs.Fields.{AreBytes}
-use Rattle.packet_frame.specs.Packets.{spelling}
-use Rattle.reply_track.specs.Runs.{Going, run, renumbered}
-use Rattle.reply_track.specs.Tracking.{started}
-use Rattle.reply_track.specs.Replying.{kind_to, id_after, to_command}
-use Rattle.server_side.specs.Account.{Account}
-use Rattle.server_side.specs.Login.{Goes, LogsIn, opening}
-use Rattle.server_side.specs.Backend.{BackendState}
-use Rattle.server_side.specs.Reading.{IsLoggingIn}
-use Rattle.server_side.specs.declared.command.Command.{Command as Handed}
-use Rattle.server_side.specs.declared.stage.Stage.TheVariants.{In}
-use Rattle.exchange.specs.Logins.{IsPrefix}
+use Rattle.std.specs.{List.flat_map, List.list_all, List.list_any, Option.option_and_then}
+use Rattle.{mx_base.specs.Fields.AreBytes, packet_frame.specs.Packets.spelling, exchange.specs.Logins.IsPrefix}
+use Rattle.reply_track.specs.{Runs.Going, Runs.run, Runs.renumbered, Tracking.started, Replying.kind_to, Replying.id_after, Replying.to_command}
+use Rattle.server_side.specs.{Account.Account, Login.Goes, Login.LogsIn, Login.opening, Backend.BackendState, Reading.IsLoggingIn}
+use Rattle.server_side.specs.declared.{command.Command.Command as Handed, stage.Stage.TheVariants.In}
 use Rattle.exchange.specs.Commands.{Command, most_command, is_whole, is_command, place_in, behind, commands_in, commands_behind}
 use Rattle.exchange.specs.Replies.{Form, Forms, Answer, Replies, Standing, command_reply, replies_by, rest_of, reply_at, standing_in}
 
@@ -30,7 +21,8 @@ standing_said forms user heard pieces = standing_in (opening user heard) (comman
 
 -- the reply to the i-th command of client n, or the error in its place
 abbrev pub reply_said : (forms : Forms) (n i : ℕ) → Account → (heard : List ℕ) → (pieces : List Command) → (lost : Bool) → Option Answer
-reply_said forms n i user heard pieces lost = option_and_then (λ place. reply_at place (replies_said forms user heard pieces) lost) (place_in n i 0 (commands_said user heard pieces))
+reply_said forms n i user heard pieces lost = option_and_then (λ place. reply_at place (replies_said forms user heard pieces) lost) (place_in n i 0
+    (commands_said user heard pieces))
 
 abbrev pub piece_bytes : Command → List ℕ
 piece_bytes piece = piece.bytes

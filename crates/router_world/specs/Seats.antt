@@ -1,21 +1,13 @@
 -- How a client's session stands for what was read of it and written to it.
 use Rattle.std.specs.Prelude.{◌≡◌, ◌≤◌, ℕ, suc, Bool, true, is_some, List, ◌++◌, length, Option, Some, None}
 use Rattle.packet_frame.specs.Packets.{Framed, Nothing, split, with_front, first_message, next_id, spelling}
-use Rattle.server_side.specs.Account.{Account}
-use Rattle.client_side.specs.declared.stage.Stage.TheVariants as stage
-use Rattle.client_side.specs.Client.{ClientState}
-use Rattle.client_side.specs.Login.{Waits}
-use Rattle.client_side.specs.Reading.{IsReading, IsLoggingIn}
+use Rattle.{server_side.specs.Account.Account, exchange.specs.Commands.most_command, exchange.specs.Replies.Answer, promises.specs.Due.Work}
+use Rattle.{promises.specs.Closes.ends_in, promises.specs.Closes.ends_by, router_world.specs.Replied.answers_by, router_world.specs.Replied.first_open}
+use Rattle.client_side.specs.{Client.ClientState, Login.Waits, Reading.IsReading, Reading.IsLoggingIn}
 use Rattle.client_session.specs.Answers.{Talk, front, opening_of, account, commands, messages_of, fault_answer, is_query}
-use Rattle.client_talk.specs.declared.session.Phase.{Phase}
+use Rattle.client_talk.specs.{declared.session.Phase.Phase, declared.session.Session.Session, Queries.Query}
+use Rattle.client_side.specs.declared.stage.Stage.TheVariants as stage
 use Rattle.client_talk.specs.declared.session.Phase.TheVariants as phase
-use Rattle.client_talk.specs.declared.session.Session.{Session}
-use Rattle.client_talk.specs.Queries.{Query}
-use Rattle.exchange.specs.Commands.{most_command}
-use Rattle.exchange.specs.Replies.{Answer}
-use Rattle.promises.specs.Due.{Work}
-use Rattle.promises.specs.Closes.{ends_in, ends_by}
-use Rattle.router_world.specs.Replied.{answers_by, first_open}
 
 -- By what comes of its queries: the bytes that a client is due, the message in work, and whether it is at its end.
 
@@ -92,4 +84,5 @@ Unanswered reply session = (i : ℕ) → unanswered_from session.phase session.c
 abbrev pub Asks : Option Query → Talk → (ℕ → Option Answer) → (old new : Session) → Type 0
 Asks None talk reply old new = (user : Account) → new.phase ≡ phase.Working user → old.phase ≡ phase.Working user
 Asks (Some query) talk reply old new =
-    (user : Account) × (working : IsWorking talk reply user new.client) × (new.phase ≡ phase.Working user) × (query.ordinal ≡ new.client.arrived) × (query.first ≡ next_id working.message.last) × (query.packets ≡ spelling 0 working.message.payload)
+    (user : Account) × (working : IsWorking talk reply user new.client) × (new.phase ≡ phase.Working user) × (query.ordinal ≡ new.client.arrived) × (query.first
+    ≡ next_id working.message.last) × (query.packets ≡ spelling 0 working.message.payload)

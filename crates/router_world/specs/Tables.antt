@@ -1,10 +1,8 @@
 -- What the router knows, and what changes of it, one table at a time.
 use Rattle.std.specs.Prelude.{ℕ, List, [], ◌∷◌, ◌++◌, Option, Some, None}
-use Rattle.mx_base.specs.declared.names.ClientNo.{ClientNo}
-use Rattle.mx_base.specs.declared.names.LinkId.{LinkId}
+use Rattle.mx_base.specs.declared.names.{ClientNo.ClientNo, LinkId.LinkId}
 use Rattle.lend_core.specs.Lends.{Lends, nothing_lent, set}
-use Rattle.router_world.specs.declared.seat.Parting.{Parting}
-use Rattle.router_world.specs.declared.seat.Seat.{Seat}
+use Rattle.router_world.specs.declared.seat.{Parting.Parting, Seat.Seat}
 
 -- How many clients came, and how many are connected; of each client that is served its seat, by its number; of each client's link its number; the links
 -- to servers with the commands that go there; and the clients' links that are to be closed, the oldest first.

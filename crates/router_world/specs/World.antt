@@ -1,33 +1,15 @@
 -- What each entry of a log makes of what the router knows.
 use Rattle.std.specs.Prelude.{ℕ, ◌-◌, Bool, true, false, nat_eq, nat_lt, if◌then◌else◌, List, [], ◌∷◌, ◌++◌, length, fold, Option, Some, None}
-use Rattle.mx_base.specs.declared.names.ClientNo.{ClientNo}
-use Rattle.mx_base.specs.declared.names.LinkId.{LinkId}
-use Rattle.mx_base.specs.declared.names.Port.{Port}
-use Rattle.mx_base.specs.declared.names.Port.TheVariants.{Traffic, Admin}
-use Rattle.mx_wire.specs.Log.{Log}
-use Rattle.mx_wire.specs.declared.entry.Entry.{Entry}
-use Rattle.mx_wire.specs.declared.entry.Entry.TheVariants as entry
-use Rattle.packet_frame.specs.Packets.{spelling}
-use Rattle.server_side.specs.Account.{Account}
-use Rattle.client_side.specs.Client.{counted}
-use Rattle.client_session.specs.Setups.{Setup}
-use Rattle.client_session.specs.Errors.{too_many_connections}
-use Rattle.client_talk.specs.declared.session.Session.{Session}
-use Rattle.client_talk.specs.Queries.{Query}
-use Rattle.client_talk.specs.Sessions.{new_session, account_in, is_ending, is_finished}
-use Rattle.client_talk.specs.Steps.{ended}
-use Rattle.client_talk.specs.Going.{Turned, still}
-use Rattle.client_talk.specs.Events.{said, answered, taken}
-use Rattle.lend_core.specs.declared.ask.Answered.{Answered}
-use Rattle.lend_core.specs.declared.ask.Ask.{Ask}
-use Rattle.lend_core.specs.declared.lent.Lent.{Lent}
-use Rattle.lend_core.specs.Lends.{Lends, Told, oldest}
-use Rattle.lend_core.specs.Changes.{taken_on, without_close}
-use Rattle.lend_core.specs.Events.{asked, opened, open_failed, heard, lost, gone}
-use Rattle.promises.specs.Service.{Turn}
-use Rattle.router_world.specs.declared.seat.Parting.{Parting}
-use Rattle.router_world.specs.declared.seat.Seat.{Seat}
+use Rattle.mx_base.specs.declared.names.{ClientNo.ClientNo, LinkId.LinkId, Port.Port, Port.TheVariants.Traffic, Port.TheVariants.Admin}
+use Rattle.{mx_wire.specs.Log.Log, mx_wire.specs.declared.entry.Entry.Entry, packet_frame.specs.Packets.spelling, server_side.specs.Account.Account}
+use Rattle.{client_side.specs.Client.counted, client_session.specs.Setups.Setup, client_session.specs.Errors.too_many_connections, promises.specs.Service.Turn}
+use Rattle.{router_world.specs.declared.seat.Parting.Parting, router_world.specs.declared.seat.Seat.Seat}
+use Rattle.client_talk.specs.{declared.session.Session.Session, Queries.Query, Sessions.new_session, Sessions.account_in, Sessions.is_ending}
+use Rattle.client_talk.specs.{Sessions.is_finished, Steps.ended, Going.Turned, Going.still, Events.said, Events.answered, Events.taken}
+use Rattle.lend_core.specs.{declared.ask.Answered.Answered, declared.ask.Ask.Ask, declared.lent.Lent.Lent, Lends.Lends, Lends.Told, Lends.oldest}
+use Rattle.lend_core.specs.{Changes.taken_on, Changes.without_close, Events.asked, Events.opened, Events.open_failed, Events.heard, Events.lost, Events.gone}
 use Rattle.router_world.specs.Tables.{Tables, no_tables, with_seat, without_seat, with_number, without_number, with_lends, to_part}
+use Rattle.mx_wire.specs.declared.entry.Entry.TheVariants as entry
 
 -- A client comes.
 

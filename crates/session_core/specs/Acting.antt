@@ -1,18 +1,10 @@
 -- What the core asks for.
 use Rattle.std.specs.Prelude.{◌≡◌, Bool, true, false, if◌then◌else◌, List, [], ◌∷◌, Option, Some, None}
-use Rattle.mx_base.specs.declared.names.ClientNo.{ClientNo}
-use Rattle.mx_base.specs.declared.names.LinkId.{LinkId}
-use Rattle.ready_loop.specs.declared.machines.Act.{Act}
+use Rattle.mx_base.specs.declared.names.{ClientNo.ClientNo, LinkId.LinkId}
+use Rattle.{ready_loop.specs.declared.machines.Act.Act, client_session.specs.declared.setup.ServerAt.ServerAt, lend_core.specs.Events.is_waiting}
+use Rattle.router_world.specs.{declared.seat.Parting.Parting, Tables.Tables, World.fewer, World.closed_by, Acts.next_close}
+use Rattle.session_core.specs.{declared.known.Leaver.Leaver, declared.router.Core.Core, Known.tables_of, Known.is_changed}
 use Rattle.ready_loop.specs.declared.machines.Act.TheVariants as act
-use Rattle.client_session.specs.declared.setup.ServerAt.{ServerAt}
-use Rattle.lend_core.specs.Events.{is_waiting}
-use Rattle.router_world.specs.declared.seat.Parting.{Parting}
-use Rattle.router_world.specs.Tables.{Tables}
-use Rattle.router_world.specs.World.{fewer, closed_by}
-use Rattle.router_world.specs.Acts.{next_close}
-use Rattle.session_core.specs.declared.known.Leaver.{Leaver}
-use Rattle.session_core.specs.declared.router.Core.{Core}
-use Rattle.session_core.specs.Known.{tables_of, is_changed}
 
 abbrev pub changed : Core → LinkId → Bool
 changed core link = is_changed core.known link

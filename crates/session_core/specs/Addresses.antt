@@ -1,9 +1,6 @@
 -- Where the core listens, and how many links it may have open.
-use Rattle.std.specs.Prelude.{ℕ, ◌+◌, nat_lt, if◌then◌else◌}
-use Rattle.mx_base.specs.declared.names.Address.{Address}
-use Rattle.mx_base.specs.declared.names.Port.{Port}
-use Rattle.mx_base.specs.declared.names.Port.TheVariants.{Traffic, Admin}
-use Rattle.session_core.specs.declared.router.Core.{Core}
+use Rattle.{std.specs.Prelude.ℕ, std.specs.Prelude.◌+◌, std.specs.Prelude.nat_lt, std.specs.Prelude.if◌then◌else◌, session_core.specs.declared.router.Core.Core}
+use Rattle.mx_base.specs.declared.names.{Address.Address, Port.Port, Port.TheVariants.Traffic, Port.TheVariants.Admin}
 
 abbrev pub address_of : Core → Port → Address
 address_of core Traffic = core.listen

@@ -1,32 +1,16 @@
 -- The core is carried over an entry.
 use Rattle.std.specs.Prelude.{◌≡◌, ◌<◌, ℕ, ◌+◌, Bool, true, false, is_some, nat_eq, ◌||◌, cond, [], ◌∷◌, ◌++◌, length, Option, Some, None, IsSome, refl}
 use Rattle.std.proofs.Common.{sym, ◌∙◌, ap, subst, arith, length-append}
-use Rattle.std.proofs.lemmas.List.Sums.{fold-append}
-use Rattle.mx_base.specs.declared.names.ClientNo.{ClientNo}
-use Rattle.mx_base.specs.declared.names.LinkId.{LinkId}
-use Rattle.mx_wire.specs.Log.{Log}
-use Rattle.mx_wire.specs.Tells.{Fits, MayFollow}
-use Rattle.mx_wire.specs.Moments.{lawful-more}
-use Rattle.mx_wire.specs.declared.entry.Entry.{Entry}
-use Rattle.ready_loop.specs.Drained.{MayWait}
-use Rattle.ready_loop.specs.Machine.{CarriesOver, Target}
-use Rattle.mx_base.specs.Sent.{Sent}
-use Rattle.client_session.specs.Setups.{Setup}
-use Rattle.lend_core.specs.declared.lent.Lent.{Lent}
-use Rattle.lend_core.specs.Events.{left_in}
-use Rattle.client_talk.specs.Sessions.{is_read}
-use Rattle.router_world.specs.declared.seat.Seat.{Seat}
-use Rattle.router_world.specs.Tables.{Tables, no_tables}
-use Rattle.router_world.specs.World.{step, tables_after}
+use Rattle.std.proofs.lemmas.{List.Sums.fold-append, Grind.common_steps}
+use Rattle.mx_base.specs.{declared.names.ClientNo.ClientNo, declared.names.LinkId.LinkId, Sent.Sent}
+use Rattle.mx_wire.specs.{Log.Log, Tells.MayFollow, Moments.lawful-more, declared.entry.Entry.Entry}
+use Rattle.ready_loop.specs.{Drained.MayWait, Machine.CarriesOver, Machine.Target}
+use Rattle.{client_session.specs.Setups.Setup, lend_core.specs.declared.lent.Lent.Lent, lend_core.specs.Events.left_in, client_talk.specs.Sessions.is_read}
+use Rattle.router_world.specs.{declared.seat.Seat.Seat, Tables.Tables, Tables.no_tables, World.step, World.tables_after}
+use Rattle.session_core.specs.{declared.known.Known.Known, declared.known.Leaver.Leaver, declared.router.Core.Core, Known.tables_of, Says.seat_reads}
+use Rattle.session_core.specs.{Says.seat_sends, Says.client_reads, Says.client_sends, Says.or_sent, Says.farewell, Says.reads_in, Says.sends_in, Says.reads}
+use Rattle.session_core.specs.{Says.sends, Says.asks, Says.awaits, Says.awaited_unless, Tidy.Tidy, Tidying.tidy-after, Stands.Stands, Stands.due_in}
 use Rattle.router_world.specs.Acts as acts
-use Rattle.session_core.specs.declared.known.Known.{Known}
-use Rattle.session_core.specs.declared.known.Leaver.{Leaver}
-use Rattle.session_core.specs.declared.router.Core.{Core}
-use Rattle.session_core.specs.Known.{tables_of}
-use Rattle.session_core.specs.Says.{seat_reads, seat_sends, client_reads, client_sends, or_sent, farewell, reads_in, sends_in, reads, sends, asks, awaits, awaited_unless}
-use Rattle.session_core.specs.Tidy.{Tidy}
-use Rattle.session_core.specs.Tidying.{tidy-after}
-use Rattle.session_core.specs.Stands.{Stands, due_in}
 
 pub tables-more : (setup : Setup) (log : Log) (e : Entry) → tables_after setup (log ++ e ∷ []) ≡ step setup (tables_after setup log) e
 tables-more setup log e = fold-append (step setup) no_tables log (e ∷ [])
@@ -39,16 +23,12 @@ pub record Goes (old : Core) (known : Known) (log : Log) (e : Entry) : Type 0 wh
 pub one-more : (log : Log) (e : Entry) → length log + 1 < 281474976710656 → length (log ++ e ∷ []) < 281474976710656
 one-more log e few = (let long : length (log ++ e ∷ []) ≡ length log + 1 = length-append log (e ∷ []) in omega arith)
 
-pub stands-more : (old : Core) (known : Known) (log : Log) (e : Entry) → MayFollow log e → Stands old log → Goes old known log e → Stands (record old { known = known }) (log ++ e ∷ [])
-stands-more old known log e may held goes = record {
-  tables = goes.is ∙ ap (λ (t : Tables). step old.setup t e) held.tables ∙ sym (tables-more old.setup log e);
-  ours = lawful-more (acts.IsOurs old.setup) log e held.ours goes.ours;
-  fits = lawful-more Fits log e held.fits may.fits;
-  few = one-more log e may.bounded;
-  short = held.short;
-}
+pub stands-more : (old : Core) (known : Known) (log : Log) (e : Entry) → MayFollow log e → Stands old log → Goes old known log e
+    → Stands (record old { known = known }) (log ++ e ∷ [])
+stands-more old known log e may held goes = grind (arith, common_steps, tables-more, lawful-more, one-more)
 
-pub carried : (old : Core) (known : Known) (e : Entry) → ((log : Log) → due_in old log e → Stands old log → Goes old known log e) → CarriesOver Stands due_in old (record old { known = known }) e
+pub carried : (old : Core) (known : Known) (e : Entry) → ((log : Log) → due_in old log e → Stands old log → Goes old known log e)
+    → CarriesOver Stands due_in old (record old { known = known }) e
 carried old known e goes = record { carried = λ log may is_due held. stands-more old known log e may held (goes log is_due held) }
 
 -- What the core says is what its tables say.
@@ -59,43 +39,36 @@ tidy-of core log held = subst (λ (t : Tables). Tidy t log) (sym held.tables) (t
 same-key : (k : ℕ) → nat_eq k k ≡ true
 same-key k = grind arith
 
-or-last : (a b : Bool) → a ≡ false → (a || b) ≡ b
-or-last a b none = ap (λ x. x || b) none
-
 or-none : (a : Bool) → (a || false) ≡ a
-or-none true = refl
-or-none false = refl
+or-none h0 = grind (arith, common_steps)
 
 or-nothing : (o : Option Sent) → or_sent o None ≡ o
-or-nothing None = refl
-or-nothing (Some sent) = refl
+or-nothing h0 = grind (arith, common_steps)
 
 here : (seat link : LinkId) → seat ≡ link → nat_eq seat.0 link.0 ≡ true
 here seat link same = ap (λ (l : LinkId). nat_eq l.0 link.0) same ∙ same-key link.0
 
 pub reads-same : (tables : Tables) (log : Log) (link : LinkId) → Tidy tables log → reads_in tables link ≡ acts.reads tables link
 reads-same tables log link tidy = by (tables.numbers link.0) refl where
-  by : (o : Option ClientNo) → tables.numbers link.0 ≡ o → (is_some (tables.lends.links link.0) || client_reads link tables.seats o) ≡ acts.reads_by tables link o
+  by : (o : Option ClientNo) → tables.numbers link.0 ≡ o
+      → (is_some (tables.lends.links link.0) || client_reads link tables.seats o) ≡ acts.reads_by tables link o
   by None at = or-none (is_some (tables.lends.links link.0))
-  by (Some client) at = (let seated = tidy.seated link client at in
-      ap (λ (o : Option Lent). is_some o || seat_reads link (tables.seats client.0)) seated.unlent
-      ∙ ap (λ (o : Option Seat). seat_reads link o) seated.is
-      ∙ ap (λ (b : Bool). cond b (is_read seated.seat.session.phase) false) (here seated.seat.link link seated.same)
-      ∙ sym (ap (λ (o : Option Seat). acts.seat_reads o) seated.is))
+  by (Some client) at = (let seated = tidy.seated link client at in ap (λ (o : Option Lent). is_some o || seat_reads link (tables.seats client.0)) seated.unlent
+      ∙ ap (λ (o : Option Seat). seat_reads link o) seated.is ∙ ap (λ (b : Bool). cond b (is_read seated.seat.session.phase) false)
+      (here seated.seat.link link seated.same) ∙ sym (ap (λ (o : Option Seat). acts.seat_reads o) seated.is))
 
 pub sends-same : (tables : Tables) (log : Log) (link : LinkId) → Tidy tables log → sends_in tables link ≡ acts.sends tables link
 sends-same tables log link tidy = by (tables.numbers link.0) refl where
-  by : (o : Option ClientNo) → tables.numbers link.0 ≡ o → or_sent (left_in (tables.lends.links link.0)) (client_sends link tables.seats o) ≡ acts.sends_by tables link o
+  by : (o : Option ClientNo) → tables.numbers link.0 ≡ o
+      → or_sent (left_in (tables.lends.links link.0)) (client_sends link tables.seats o) ≡ acts.sends_by tables link o
   by None at = or-nothing (left_in (tables.lends.links link.0))
   by (Some client) at = (let seated = tidy.seated link client at in
       ap (λ (o : Option Lent). or_sent (left_in o) (seat_sends link (tables.seats client.0))) seated.unlent
-      ∙ ap (λ (o : Option Seat). seat_sends link o) seated.is
-      ∙ ap (λ (b : Bool). cond b (acts.reply_sent seated.seat.session.client.outgoing) None) (here seated.seat.link link seated.same)
-      ∙ sym (ap (λ (o : Option Seat). acts.seat_sends o) seated.is))
+      ∙ ap (λ (o : Option Seat). seat_sends link o) seated.is ∙ ap (λ (b : Bool). cond b (acts.reply_sent seated.seat.session.client.outgoing) None)
+      (here seated.seat.link link seated.same) ∙ sym (ap (λ (o : Option Seat). acts.seat_sends o) seated.is))
 
 none-asked : (o : Option Leaver) (b : Bool) → (is_some o || b) ≡ false → (o ≡ None) × (b ≡ false)
-none-asked None b is = (refl, is)
-none-asked (Some leaver) b is = absurd (let no : true ≡ false = is in cc)
+none-asked h0 b is = grind (arith, common_steps)
 
 -- no act is asked for
 pub unasked : (core : Core) → asks core ≡ false → (core.known.leaver ≡ None) × (acts.asks core.setup (tables_of core.known) ≡ false)
@@ -114,7 +87,8 @@ waits-after core log held may = subst (λ (t : Tables). MayWait (acts.reads t) (
     accepted = may.drained.accepted;
     named = may.drained.named;
     read = λ link opened is. may.drained.read link opened (reads-same (tables_of core.known) log link tidy ∙ is);
-    written = λ link opened is. may.drained.written link opened (subst (λ (o : Option Sent). IsSome o) (sym (calm-sends core link may.acted ∙ sends-same (tables_of core.known) log link tidy)) is);
+    written = λ link opened is. may.drained.written link opened (subst (λ (o : Option Sent). IsSome o) (sym (calm-sends core link may.acted
+        ∙ sends-same (tables_of core.known) log link tidy)) is);
   };
   acted = (unasked core may.acted).1;
 }) where
@@ -122,8 +96,9 @@ waits-after core log held may = subst (λ (t : Tables). MayWait (acts.reads t) (
   tidy = tidy-of core log held
 
 awaited-so : (o : Option Leaver) (target : Option Target) (t : Target) → awaited_unless o target ≡ Some t → target ≡ Some t
-awaited-so None target t is = is
-awaited-so (Some leaver) target t is = absurd (let no : ◌≡◌ {A = Option Target} None (Some t) = is in cc)
+awaited-so h0 target t is = grind (arith, common_steps)
 
-pub awaited-after : (core : Core) (log : Log) (target : Target) → awaits core ≡ Some target → Stands core log → acts.awaits core.setup (tables_after core.setup log) ≡ Some target
-awaited-after core log target is held = sym (ap (λ (t : Tables). acts.awaits core.setup t) held.tables) ∙ awaited-so core.known.leaver (acts.awaits core.setup (tables_of core.known)) target is
+pub awaited-after : (core : Core) (log : Log) (target : Target) → awaits core ≡ Some target → Stands core log
+    → acts.awaits core.setup (tables_after core.setup log) ≡ Some target
+awaited-after core log target is held = sym (ap (λ (t : Tables). acts.awaits core.setup t) held.tables)
+    ∙ awaited-so core.known.leaver (acts.awaits core.setup (tables_of core.known)) target is

@@ -1,11 +1,8 @@
 -- What the core takes of the configuration.
 use Rattle.std.specs.Prelude.{List, [], ◌∷◌, Option, Some, None, map, All}
-use Rattle.handshake.specs.Spelling.{IsText}
-use Rattle.hostgroups.specs.declared.row.ServerRow.{ServerRow}
-use Rattle.client_session.specs.declared.setup.ServerAt.{ServerAt}
-use Rattle.client_session.specs.Setups.{User, Setup}
-use Rattle.mx_config.specs.declared.config.Config.{Config}
-use Rattle.mx_config.specs.declared.config.UserRow.{UserRow}
+use Rattle.{handshake.specs.Spelling.IsText, hostgroups.specs.declared.row.ServerRow.ServerRow}
+use Rattle.client_session.specs.{declared.setup.ServerAt.ServerAt, Setups.User, Setups.Setup}
+use Rattle.mx_config.specs.declared.config.{Config.Config, UserRow.UserRow}
 
 -- the first server has the number 1
 abbrev pub server_of : List ServerRow → Option ServerAt

@@ -1,12 +1,7 @@
 -- What the router knows, as the tables of its world.
 use Rattle.std.specs.Prelude.{Bool, false, nat_eq, ◌||◌, if◌then◌else◌, List, [], ◌∷◌, Option, Some, None}
-use Rattle.std.specs.HashMap.{get}
-use Rattle.mx_base.specs.declared.names.LinkId.{LinkId}
-use Rattle.lend_core.specs.Lends.{lends_of}
-use Rattle.router_world.specs.declared.seat.Parting.{Parting}
-use Rattle.router_world.specs.Tables.{Tables}
-use Rattle.session_core.specs.declared.known.Known.{Known}
-use Rattle.session_core.specs.declared.known.Leaver.{Leaver}
+use Rattle.{std.specs.HashMap.get, mx_base.specs.declared.names.LinkId.LinkId, lend_core.specs.Lends.lends_of, router_world.specs.declared.seat.Parting.Parting}
+use Rattle.{router_world.specs.Tables.Tables, session_core.specs.declared.known.Known.Known, session_core.specs.declared.known.Leaver.Leaver}
 
 -- a link is to be closed until its close is asked for
 abbrev pub parted_by : Option Leaver → List Parting

@@ -1,12 +1,8 @@
 -- Entries of which the core isn't told.
-use Rattle.std.specs.Prelude.{ℕ, refl}
-use Rattle.mx_wire.specs.Log.{Log}
-use Rattle.mx_wire.specs.declared.entry.Entry.{Entry}
+use Rattle.{std.specs.Prelude.ℕ, std.specs.Prelude.refl, ready_loop.specs.Machine.CarriesOver, ready_loop.specs.Machine.IsQuiet}
+use Rattle.mx_wire.specs.{Log.Log, declared.entry.Entry.Entry}
+use Rattle.session_core.specs.{declared.router.Core.Core, Stands.Stands, Stands.due_in, Carrying.Goes, Carrying.carried, Carrying.waits-after}
 use Rattle.mx_wire.specs.declared.entry.Entry.TheVariants as entry
-use Rattle.ready_loop.specs.Machine.{CarriesOver, IsQuiet}
-use Rattle.session_core.specs.declared.router.Core.{Core}
-use Rattle.session_core.specs.Stands.{Stands, due_in}
-use Rattle.session_core.specs.Carrying.{Goes, carried, waits-after}
 
 stays : (core : Core) (log : Log) (e : Entry) → IsQuiet e → due_in core log e → Stands core log → Goes core core.known log e
 stays core log (entry.Listening port address) q is_due held = record { is = refl; ours = tt }
@@ -27,4 +23,5 @@ pub quiet : (core : Core) (e : Entry) → IsQuiet e → CarriesOver Stands due_i
 quiet core e q = carried core core.known e (λ log is_due held. stays core log e q is_due held)
 
 pub woke : (core : Core) (until_ms now_ms : ℕ) → CarriesOver Stands due_in core core (entry.Woke until_ms now_ms)
-woke core until_ms now_ms = carried core core.known (entry.Woke until_ms now_ms) (λ log is_due held. record { is = refl; ours = waits-after core log held is_due })
+woke core until_ms now_ms = carried core core.known (entry.Woke until_ms now_ms)
+    (λ log is_due held. record { is = refl; ours = waits-after core log held is_due })

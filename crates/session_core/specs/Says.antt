@@ -1,23 +1,11 @@
 -- What is to be read and written, and what is asked for, by what the router knows.
 use Rattle.std.specs.Prelude.{ℕ, ◌≤◌, length, Bool, true, false, is_some, nat_eq, ◌||◌, if◌then◌else◌, Option, Some, None}
-use Rattle.std.specs.Option.{option_map}
-use Rattle.mx_base.specs.declared.names.ClientNo.{ClientNo}
-use Rattle.mx_base.specs.declared.names.LinkId.{LinkId}
-use Rattle.ready_loop.specs.Machine.{Target}
-use Rattle.mx_base.specs.Sent.{Sent}
-use Rattle.client_talk.specs.Sessions.{is_read, is_finished}
-use Rattle.client_talk.specs.Events.{taken}
-use Rattle.lend_core.specs.Changes.{taken_on}
-use Rattle.lend_core.specs.Lends.{set}
-use Rattle.lend_core.specs.Events.{left_in}
-use Rattle.router_world.specs.declared.seat.Seat.{Seat}
-use Rattle.router_world.specs.Tables.{Tables, with_lends, without_seat}
-use Rattle.router_world.specs.World.{parts}
+use Rattle.{std.specs.Option.option_map, ready_loop.specs.Machine.Target, client_talk.specs.Sessions.is_read, client_talk.specs.Sessions.is_finished}
+use Rattle.{client_talk.specs.Events.taken, lend_core.specs.Changes.taken_on, lend_core.specs.Lends.set, lend_core.specs.Events.left_in}
+use Rattle.mx_base.specs.{declared.names.ClientNo.ClientNo, declared.names.LinkId.LinkId, Sent.Sent}
+use Rattle.router_world.specs.{declared.seat.Seat.Seat, Tables.Tables, Tables.with_lends, Tables.without_seat, World.parts}
+use Rattle.session_core.specs.{declared.known.Known.Known, declared.known.Leaver.Leaver, declared.router.Core.Core, Known.tables_of}
 use Rattle.router_world.specs.Acts as acts
-use Rattle.session_core.specs.declared.known.Known.{Known}
-use Rattle.session_core.specs.declared.known.Leaver.{Leaver}
-use Rattle.session_core.specs.declared.router.Core.{Core}
-use Rattle.session_core.specs.Known.{tables_of}
 
 -- A client's link is read and written by its seat.
 

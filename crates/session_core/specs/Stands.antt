@@ -1,16 +1,8 @@
 -- Where the core may be after a log: what it knows is the fold of the log, and each entry was its own.
-use Rattle.std.specs.Prelude.{◌≡◌, ◌≤◌, ◌<◌, length}
-use Rattle.mx_wire.specs.Log.{Log}
-use Rattle.mx_wire.specs.Tells.{Fits}
-use Rattle.mx_wire.specs.Moments.{AllLawful}
-use Rattle.mx_wire.specs.declared.entry.Entry.{Entry}
-use Rattle.client_session.specs.Setups.{most_message}
-use Rattle.ready_loop.specs.Drained.{IsDue}
-use Rattle.router_world.specs.World.{tables_after}
-use Rattle.router_world.specs.Acts.{IsOurs}
-use Rattle.session_core.specs.declared.router.Core.{Core}
-use Rattle.session_core.specs.Known.{tables_of}
-use Rattle.session_core.specs.Says.{reads, sends, asks}
+use Rattle.{std.specs.Prelude.◌≡◌, std.specs.Prelude.◌≤◌, std.specs.Prelude.◌<◌, std.specs.Prelude.length, client_session.specs.Setups.most_message}
+use Rattle.{ready_loop.specs.Drained.IsDue, router_world.specs.World.tables_after, router_world.specs.Acts.IsOurs}
+use Rattle.mx_wire.specs.{Log.Log, Tells.Fits, Moments.AllLawful, declared.entry.Entry.Entry}
+use Rattle.session_core.specs.{declared.router.Core.Core, Known.tables_of, Says.reads, Says.sends, Says.asks}
 
 pub record Stands (core : Core) (log : Log) : Type 0 where
   pub tables : tables_of core.known ≡ tables_after core.setup log

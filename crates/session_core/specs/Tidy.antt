@@ -1,14 +1,7 @@
 -- What the tables are after each log of the router's: no link is two things, and nothing is left of a client that ends.
-use Rattle.std.specs.Prelude.{◌≡◌, true, Some, None}
-use Rattle.mx_base.specs.declared.names.ClientNo.{ClientNo}
-use Rattle.mx_base.specs.declared.names.LinkId.{LinkId}
-use Rattle.mx_wire.specs.Log.{Log}
-use Rattle.mx_wire.specs.Tells.{IsOpen}
-use Rattle.client_talk.specs.Sessions.{is_ending}
-use Rattle.lend_core.specs.Events.{gone}
-use Rattle.router_world.specs.declared.seat.Seat.{Seat}
-use Rattle.router_world.specs.Tables.{Tables}
-use Rattle.router_world.specs.Acts.{next_close}
+use Rattle.{std.specs.Prelude.◌≡◌, std.specs.Prelude.true, std.specs.Prelude.Some, std.specs.Prelude.None, mx_base.specs.declared.names.ClientNo.ClientNo}
+use Rattle.{mx_base.specs.declared.names.LinkId.LinkId, mx_wire.specs.Log.Log, mx_wire.specs.Tells.IsOpen, client_talk.specs.Sessions.is_ending}
+use Rattle.{lend_core.specs.Events.gone, router_world.specs.declared.seat.Seat.Seat, router_world.specs.Tables.Tables, router_world.specs.Acts.next_close}
 
 -- a link that is to be closed is open, and nothing else
 pub record IsApart (tables : Tables) (log : Log) (link : LinkId) : Type 0 where
@@ -26,4 +19,5 @@ pub record IsSeated (tables : Tables) (client : ClientNo) (link : LinkId) : Type
 pub record Tidy (tables : Tables) (log : Log) : Type 0 where
   pub closes : (link : LinkId) → next_close tables ≡ Some link → IsApart tables log link
   pub seated : (link : LinkId) (client : ClientNo) → tables.numbers link.0 ≡ Some client → IsSeated tables client link
-  pub ended : (client : ClientNo) (seat : Seat) → tables.seats client.0 ≡ Some seat → is_ending seat.session.phase ≡ true → gone client tables.lends ≡ tables.lends
+  pub ended : (client : ClientNo) (seat : Seat) → tables.seats client.0 ≡ Some seat → is_ending seat.session.phase ≡ true
+      → gone client tables.lends ≡ tables.lends

@@ -1,6 +1,4 @@
-use Rattle.std.proofs.Common.{refl}
-use Rattle.client_talk.specs.Sessions.{account_in}
-use Rattle.session_core.proofs.Telling.{asked-for}
+use Rattle.{std.proofs.Common.refl, client_talk.specs.Sessions.account_in, session_core.proofs.Telling.asked-for}
 use Rattle.session_core.proofs.known.Known.ask_for.Goals as goal
 
 pub returns-clause-tables : goal.returns-clause-tables

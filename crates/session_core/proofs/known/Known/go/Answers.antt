@@ -1,8 +1,5 @@
 use Rattle.lend_core.specs.Events.{gone}
-use Rattle.session_core.specs.Known.{tables_of, listed}
-use Rattle.session_core.proofs.Changing.{lends-only}
-use Rattle.session_core.proofs.Rows.{gone-leaves}
-use Rattle.session_core.proofs.Telling.{lent}
+use Rattle.session_core.{specs.Known.tables_of, specs.Known.listed, proofs.Changing.lends-only, proofs.Rows.gone-leaves, proofs.Telling.lent}
 use Rattle.session_core.proofs.known.Known.go.Goals as goal
 
 pub returns-clause-tables : goal.returns-clause-tables

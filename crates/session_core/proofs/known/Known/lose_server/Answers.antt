@@ -1,16 +1,11 @@
-use Rattle.std.proofs.Common.{◌∙◌, [], ◌∷◌}
-use Rattle.lend_core.specs.Events.{lost}
-use Rattle.session_core.specs.Known.{tables_of}
-use Rattle.session_core.proofs.Changing.{then, lends-only}
-use Rattle.session_core.proofs.Rows.{lost-leaves}
-use Rattle.session_core.proofs.Telling.{lent-told, told-by}
+use Rattle.{std.proofs.Common.◌∙◌, std.proofs.Common.[], std.proofs.Common.◌∷◌, lend_core.specs.Events.lost, session_core.specs.Known.tables_of}
+use Rattle.session_core.proofs.{Changing.then, Changing.lends-only, Rows.lost-leaves, Telling.lent-told, Telling.told-by}
 use Rattle.session_core.proofs.known.Known.lose_server.Goals as goal
 
 pub returns-clause-tables : goal.returns-clause-tables
 returns-clause-tables c = c.in_ok-tell.ensures.tables ∙ told-by _ _ _ _ _ (lost c.args.link) c.in_ok-mark.ensures.tables c.in_ok-answer.ensures
 
 pub returns-clause-changes : goal.returns-clause-changes
-returns-clause-changes c = then _ _ _
-    (lends-only _ _ _ (c.args.link ∷ []) (lent-told _ _ _ _ (lost c.args.link) c.in_ok-mark.ensures.tables c.in_ok-answer.ensures) c.in_ok-mark.ensures.leaver c.in_ok-mark.ensures.changed
-    (λ k off. lost-leaves c.args.link (tables_of c.args.self.now).lends k off))
-    c.in_ok-tell.ensures.changes
+returns-clause-changes c = then _ _ _ (lends-only _ _ _ (c.args.link ∷ [])
+    (lent-told _ _ _ _ (lost c.args.link) c.in_ok-mark.ensures.tables c.in_ok-answer.ensures) c.in_ok-mark.ensures.leaver c.in_ok-mark.ensures.changed
+    (λ k off. lost-leaves c.args.link (tables_of c.args.self.now).lends k off)) c.in_ok-tell.ensures.changes

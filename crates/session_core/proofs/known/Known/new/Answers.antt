@@ -1,5 +1,4 @@
-use Rattle.std.specs.Prelude.{refl}
-use Rattle.session_core.proofs.Alike.{one}
+use Rattle.{std.specs.Prelude.refl, session_core.proofs.Alike.one}
 use Rattle.session_core.proofs.known.Known.new.Goals as goal
 
 pub returns-clause-tables : goal.returns-clause-tables

@@ -1,6 +1,5 @@
 use Rattle.std.proofs.Common.{◌≡◌, [], ◌∷◌, ◌++◌, refl, rules}
-use Rattle.session_core.proofs.Alike.{one, row}
-use Rattle.session_core.proofs.Changing.{number-only}
+use Rattle.session_core.proofs.{Alike.one, Alike.row, Changing.number-only}
 use Rattle.session_core.proofs.known.Known.put_number.Goals as goal
 
 pub returns-clause-changes : goal.returns-clause-changes

@@ -1,9 +1,6 @@
 use Rattle.std.proofs.Common.{◌≡◌, ◌∙◌, Option, false, sym, ap, rules}
-use Rattle.std.specs.Prelude.{is_some}
-use Rattle.mx_base.specs.Sent.{Sent}
-use Rattle.session_core.specs.Known.{tables_of}
-use Rattle.session_core.specs.Says.{took_by}
-use Rattle.session_core.proofs.Written.{none-left}
+use Rattle.{std.specs.Prelude.is_some, mx_base.specs.Sent.Sent}
+use Rattle.session_core.{specs.Known.tables_of, specs.Says.took_by, proofs.Written.none-left}
 use Rattle.session_core.proofs.known.Known.wrote.Goals as goal
 
 pub returns-else-is_some-clause-tables : goal.returns-else-is_some-clause-tables

@@ -1,5 +1,4 @@
-use Rattle.session_core.proofs.Closing.{acts-carry, owes-farewell}
-use Rattle.session_core.proofs.Shrinking.{acts-only}
+use Rattle.session_core.proofs.{Closing.acts-carry, Closing.owes-farewell, Shrinking.acts-only}
 use Rattle.session_core.proofs.machine.CoreMachine.next_act.Goals as goal
 
 pub returns-clause-act : goal.returns-clause-act
