@@ -14,7 +14,7 @@ use Rattle.log_story.specs.Tale.{Client}
 use Rattle.client_due.specs.Told.{Told}
 use Rattle.told_clients.specs.Clients.{AreClients, AreFound, AreTold, DoWait, IsHome, IsIdle, IsNumbered, Waits, home_at}
 use Rattle.told_clients.specs.declared.clients.Clients.{Clients}
-use Rattle.told_clients.proofs.Placing.{all_stay, found_at, found_more, found_on, number_at, told_more, told_on}
+use Rattle.told_clients.proofs.Placing.{all_stay, found_at, found_more, found_on, last_or_before, number_at, told_more, told_on}
 
 apart : {A : Type 0} {b : Bool} → b ≡ true → b ≡ false → A
 apart is isnt = absurd (cc)
@@ -159,16 +159,6 @@ module _ (setup : Setup) (code : Clients) (clients : List Client) (are : AreClie
         stay
         (waits_on setup clients at of_link stay (contains nat_cmp code.waiting) (contains nat_cmp new.waiting) kept are.waiting
         (λ client is isnt. subst (IsIdle setup) (sym (goes client is)) (idle client is isnt)))
-
-last_or_before : {X : Type 0} (xs : List X) (x it : X) (n : ℕ) → slice_get (xs ++ x ∷ []) n ≡ Some it → (slice_get xs n ≡ Some it) ⊎ ((n ≡ length xs) × (x ≡ it))
-last_or_before [] x it zero is = inr (refl, same_Some x it is)
-last_or_before [] x it (suc n) is = absurd (none-some it is)
-last_or_before (y ∷ xs) x it zero is = inl is
-last_or_before (y ∷ xs) x it (suc n) is = later (last_or_before xs x it n is)
-  where
-    later : (slice_get xs n ≡ Some it) ⊎ ((n ≡ length xs) × (x ≡ it)) → (slice_get xs n ≡ Some it) ⊎ ((suc n ≡ suc (length xs)) × (x ≡ it))
-    later (inl there) = inl there
-    later (inr last) = inr (ap suc last.0, last.1)
 
 -- one more comes, on a link that was none
 module _ (setup : Setup) (old new waiting : Clients) (clients : List Client) (code : Told) (client : Client) (at : ℕ) (are : AreClients setup old clients) (place : at ≡ length clients)

@@ -1,6 +1,6 @@
 -- Clients of a log by their places.
-use Rattle.std.specs.Prelude.{◌≡◌, ◌+◌, ℕ, zero, suc, false, is_some, nat_eq, List, [], ◌∷◌, ◌++◌, length, map, set, drop, slice_get, Option, Some, None}
-use Rattle.std.proofs.Common.{◌∙◌, refl, sym, ap, subst, arith}
+use Rattle.std.specs.Prelude.{◌≡◌, ◌⊎◌, ◌+◌, ℕ, zero, suc, false, is_some, nat_eq, List, [], ◌∷◌, ◌++◌, length, map, set, drop, slice_get, Option, Some, None}
+use Rattle.std.proofs.Common.{◌∙◌, inl, inr, refl, sym, ap, subst, arith}
 use Rattle.std.proofs.lemmas.Option.{none-some, same_Some}
 use Rattle.mx_base.specs.declared.names.LinkId.{LinkId}
 use Rattle.client_session.specs.Setups.{Setup}
@@ -36,6 +36,17 @@ pub none_later : {X : Type 0} (xs : List X) (i : ℕ) → slice_get xs i ≡ Non
 none_later [] i none = refl
 none_later (x ∷ xs) zero none = absurd (none-some x (sym none))
 none_later (x ∷ xs) (suc i) none = none_later xs i none
+
+-- what stands behind others is the last, or one of them
+pub last_or_before : {X : Type 0} (xs : List X) (x it : X) (n : ℕ) → slice_get (xs ++ x ∷ []) n ≡ Some it → (slice_get xs n ≡ Some it) ⊎ ((n ≡ length xs) × (x ≡ it))
+last_or_before [] x it zero is = inr (refl, same_Some x it is)
+last_or_before [] x it (suc n) is = absurd (none-some it is)
+last_or_before (y ∷ xs) x it zero is = inl is
+last_or_before (y ∷ xs) x it (suc n) is = later (last_or_before xs x it n is)
+  where
+    later : (slice_get xs n ≡ Some it) ⊎ ((n ≡ length xs) × (x ≡ it)) → (slice_get xs n ≡ Some it) ⊎ ((suc n ≡ suc (length xs)) × (x ≡ it))
+    later (inl there) = inl there
+    later (inr last) = inr (ap suc last.0, last.1)
 
 pub all_stay : (f : Client → Client) (clients : List Client) → ((j : ℕ) (client : Client) → slice_get clients j ≡ Some client → f client ≡ client) → map f clients ≡ clients
 all_stay f [] stay = refl

@@ -1,4 +1,5 @@
 mod Adding
 mod Binding
 mod Finding
+mod Keeping
 mod Requesting

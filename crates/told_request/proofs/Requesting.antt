@@ -1,5 +1,6 @@
 -- What an execute asks for.
 use Rattle.std.proofs.Common.{◌≡◌, ℕ, ◌-◌, Bool, is_some, cond, nat_eq, List, take, drop, slice_index_or, unwrap_or, Option, None, Some, ◌∙◌, sym, ap}
+use Rattle.std.specs.Prelude.{Err, Ok, OnOk, Result}
 use Rattle.std.specs.Option.{option_and_then, option_map}
 use Rattle.mx_base.specs.Fields.{number_at}
 use Rattle.mx_base.specs.declared.names.ClientNo.{ClientNo}
@@ -11,6 +12,11 @@ use Rattle.log_story.specs.Executes.{Prepared, Request, args_in, executed_by, pr
 use Rattle.log_story.specs.Owed.{messages}
 use Rattle.log_story.specs.Plan.{Plan, Route, com_execute, own_at}
 use Rattle.log_story.specs.Tale.{Client}
+
+-- what is so anyhow
+pub always : {T E P : Type 0} (result : Result T E) → P → OnOk result P
+always (Ok value) is = is
+always (Err fault) is = tt
 
 abbrev pub quits : Request
 quits = record { command = Quit; key = 0 }

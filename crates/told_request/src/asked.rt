@@ -1,5 +1,5 @@
 // What a message asks for.
-ghost use Rattle.std.specs.Prelude.{◌≡◌, ◌-◌, drop, slice_index_or, take, unwrap_or, IfOk};
+ghost use Rattle.std.specs.Prelude.{◌≡◌, drop, slice_index_or, unwrap_or, IfOk, OnOk};
 ghost use Rattle.private_model.specs.Commands as model;
 ghost use Rattle.private_model.specs.View.{Setup, View};
 ghost use Rattle.client_due.specs.Standing.{IsTold};
@@ -9,9 +9,10 @@ ghost use Rattle.story_view.specs.Forms.{args_of, command_of};
 ghost use Rattle.story_view.specs.Known.{IsKnown};
 ghost use Rattle.told_plan.specs.KeyTable.{AreKeys, key_at};
 ghost use Rattle.told_plan.specs.Plans.{plan_of, route_of};
+ghost use Rattle.told_request.specs.Bindings.{AreBindings, BindsOn};
 ghost use Rattle.told_request.specs.Forms.{asked_of};
 
-use crate::bound::args_in;
+use crate::bindings::{Bindings, args_kept};
 use crate::command_byte::{
     COM_FIELD_LIST, COM_INIT_DB, COM_QUERY, COM_STMT_EXECUTE, COM_STMT_PREPARE,
 };
@@ -97,18 +98,6 @@ fn quit() -> Asked
     }
 }
 
-// A client's messages before that of an ordinal.
-fn messages_before(messages: &[Message], ordinal: u64) -> &[Message]
-    ensures { result.now ≡ take (ordinal - 1) messages.now }
-{
-    let count = ordinal.saturating_sub(1);
-    if count < messages.len() as u64 {
-        messages.split_at(count as usize).0
-    } else {
-        messages
-    }
-}
-
 /// What a message of a client asks of a server: its own first byte says which command it is (client/server protocol, "Command Phase").
 ///
 /// - A COM_QUERY, COM_INIT_DB, COM_FIELD_LIST or COM_STMT_PREPARE has the text of the route, where rules rewrote it, or else what
@@ -121,21 +110,24 @@ fn messages_before(messages: &[Message], ordinal: u64) -> &[Message]
 ///   router itself had answered at `moment` binds nothing, and nor does what came before the preparation.
 /// - Anything else, and an execute of what isn't prepared, asks for the connection's end.
 ///
-/// OutOfMemory where memory is refused.
+/// What messages before an execute bound is kept in `bindings`, where the next one goes on from it. OutOfMemory where memory is refused: then
+/// nothing is promised of them.
 pub fn requested(
     alloc: Global,
     view: &StoryView,
     plan: &Plan,
     keys: &Keys,
     moment: u64,
+    bindings: &mut Bindings,
     client: &ToldClient,
     ordinal: u64,
     route: &Route,
     payload: &[u8],
 ) -> Result<Asked, OutOfMemory>
-    ensures { IfOk result (λ asked. (setup : Setup) (v : View) (c : TheClient) → IsKnown setup view.now v → AreKeys setup keys.now
-        → IsTold (plan_of plan.now).service client.now c
+    ensures asked { IfOk result (λ asked. (setup : Setup) (v : View) (c : TheClient) → IsKnown setup view.now v → AreKeys setup keys.now
+        → IsTold (plan_of plan.now).service client.now c → AreBindings (plan_of plan.now) moment client.now.heard.side.number client.now.heard.messages bindings.old
         → asked_of asked ≡ requested setup v (plan_of plan.now) moment c ordinal (route_of route.now) payload.now) }
+    ensures kept { OnOk result (BindsOn (plan_of plan.now) moment client.now.heard.side.number client.now.heard.messages bindings.old bindings.new) }
 {
     if first_byte(payload) != COM_STMT_EXECUTE {
         return text_requested(alloc, route, payload);
@@ -152,15 +144,8 @@ pub fn requested(
         moment,
         client: client.number(),
     };
-    let before = messages_before(messages, ordinal);
-    let args = args_in(
-        alloc,
-        prepared.params,
-        number,
-        &refusals,
-        prepared.ordinal,
-        before,
-        payload,
+    let args = args_kept(
+        alloc, bindings, number, prepared, &refusals, messages, ordinal, payload,
     )?;
     run_of(alloc, keys, prepared.key, args)
 }

@@ -25,22 +25,31 @@ pub(crate) struct Bound {
     pub long: Vec<LongPart>,
 }
 
+fn copy_of(alloc: Global, types: Option<&Bytes>) -> Result<Option<Bytes>, OutOfMemory>
+    ensures { IfOk result (λ copy. copy ≡ option_copied types.entry) }
+{
+    match types {
+        Some(types) => Ok(Some(Bytes::from_slice(alloc, types.as_slice())?)),
+        None => Ok(None),
+    }
+}
+
 // The types that an execute sends, or else those that are bound.
 fn types_or(
     alloc: Global,
     sent: Option<&[u8]>,
-    bound: Option<Bytes>,
+    bound: Option<&Bytes>,
 ) -> Result<Option<Bytes>, OutOfMemory>
-    ensures { IfOk result (λ types. types ≡ option_or (option_copied sent.entry) bound) }
+    ensures { IfOk result (λ types. types ≡ option_or (option_copied sent.entry) (option_copied bound.entry)) }
 {
     match sent {
         Some(types) => Ok(Some(Bytes::from_slice(alloc, types)?)),
-        None => Ok(bound),
+        None => copy_of(alloc, bound),
     }
 }
 
 impl Bound {
-    fn new(alloc: Global) -> Self
+    pub(crate) fn new(alloc: Global) -> Self
         ensures { bound_of result ≡ record { types = None; long = [] } }
     {
         Bound {
@@ -82,7 +91,7 @@ impl Bound {
 
     // A message comes, which may be for the statement of a number, of so many parameters. An execute that the router refused binds
     // nothing.
-    fn take(
+    pub(crate) fn take(
         &mut self,
         alloc: Global,
         params: u16,
@@ -124,18 +133,17 @@ impl Bound {
     }
 
     // The arguments of an execute that gives these itself.
-    fn into_args(self, alloc: Global, given: Given) -> Result<Args, OutOfMemory>
+    pub(crate) fn args(&self, alloc: Global, given: Given) -> Result<Args, OutOfMemory>
         ensures { IfOk result (λ args. args_of args ≡ record (given_of given.entry) {
-          types = option_or (given_of given.entry).types (bound_of self).types;
-          long = (bound_of self).long;
+          types = option_or (given_of given.entry).types (bound_of self.now).types;
+          long = (bound_of self.now).long;
         }) }
     {
-        let Bound { types, long } = self;
         Ok(Args {
-            types: types_or(alloc, given.types, types)?,
+            types: types_or(alloc, given.types, self.types.as_ref())?,
             nulls: Bytes::from_slice(alloc, given.nulls)?,
             values: Bytes::from_slice(alloc, given.values)?,
-            long: long_parts(alloc, long)?,
+            long: long_parts(alloc, &self.long)?,
         })
     }
 }
@@ -173,8 +181,6 @@ pub(crate) fn args_in(
 ) -> Result<Args, OutOfMemory>
     ensures { IfOk result (λ args. args_of args ≡ args_in params number (refused_by refusals.now) unprepared before.now payload.now) }
 {
-    bound_by(alloc, params, number, refusals, unprepared, before)?.into_args(
-        alloc,
-        given_in(params, payload),
-    )
+    let bound = bound_by(alloc, params, number, refusals, unprepared, before)?;
+    bound.args(alloc, given_in(params, payload))
 }

@@ -2,6 +2,7 @@
 #![tactic(auto)]
 
 mod asked;
+mod bindings;
 mod bound;
 mod command_byte;
 mod given;
@@ -11,3 +12,4 @@ mod prepared;
 mod refusals;
 
 pub use asked::{Asked, requested};
+pub use bindings::Bindings;

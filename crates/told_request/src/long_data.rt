@@ -34,13 +34,22 @@ pub(crate) fn add_long(
     Ok(())
 }
 
-// Takes the parts over.
-pub(crate) fn long_parts(alloc: Global, parts: Vec<LongPart>) -> Result<LongParts, OutOfMemory>
-    ensures { IfOk result (λ long. long ≡ parts.items) }
+fn copy_of(alloc: Global, part: &LongPart) -> Result<LongPart, OutOfMemory>
+    ensures { IfOk result (λ copy. copy ≡ part.now) }
+{
+    Ok(LongPart {
+        parameter: part.parameter,
+        bytes: Bytes::from_slice(alloc, part.bytes.as_slice())?,
+    })
+}
+
+// Copies of the parts.
+pub(crate) fn long_parts(alloc: Global, parts: &[LongPart]) -> Result<LongParts, OutOfMemory>
+    ensures { IfOk result (λ long. long ≡ parts.now) }
 {
     let mut long = LongParts::new(alloc);
     for part in parts {
-        long.push(part)?;
+        long.push(copy_of(alloc, part)?)?;
     }
     Ok(long)
 }

@@ -1,6 +1,8 @@
 // What the router itself answered.
 ghost use Rattle.std.specs.Prelude.{◌≡◌};
 ghost use Rattle.story_view.specs.Names.{message_of};
+ghost use Rattle.told_plan.specs.Plans.{plan_of};
+ghost use Rattle.told_request.specs.Bindings.{is_settled};
 ghost use Rattle.told_request.specs.Forms.{refused_by};
 
 use mx_base::ClientNo;
@@ -26,6 +28,13 @@ pub(crate) fn message_key(client: ClientNo, ordinal: u64) -> MessageKey
 }
 
 impl Refusals<'_> {
+    // Whether it answered that message by now, or never does.
+    pub(crate) fn is_settled(&self, ordinal: u64) -> bool
+        ensures { result ≡ is_settled (plan_of self.now.plan.now) self.now.moment self.now.client ordinal }
+    {
+        self.plan.own(message_key(self.client, ordinal)).is_none() || self.has(ordinal)
+    }
+
     // Whether it answered the message of this ordinal.
     pub(crate) fn has(&self, ordinal: u64) -> bool
         ensures { result ≡ refused_by self.now ordinal }

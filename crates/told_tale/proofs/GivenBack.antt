@@ -129,6 +129,7 @@ tale_freed stored step setup plan moment wires code tale is told links new freed
       links = freed.has.links;
       lent = freed.has.lent;
       ending = stands.ending;
+      bound = stands.bound;
       wires = stands.wires;
       there = stands.there;
       counted = stands.counted;

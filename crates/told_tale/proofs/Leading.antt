@@ -26,6 +26,8 @@ use Rattle.told_link.specs.declared.link.ToldLink.{ToldLink}
 use Rattle.told_story.specs.declared.told.Told.{Told}
 use Rattle.told_plan.specs.Plans.{plan_of}
 use Rattle.told_tale.proofs.Counting.{counted-heard}
+use Rattle.told_request.specs.declared.bindings.Bindings.{Bindings}
+use Rattle.told_tale.specs.Bound.{AreBound}
 use Rattle.told_tale.specs.Counts.{AreCounted, IsReady, known_in}
 use Rattle.told_tale.proofs.Folding.{apart}
 use Rattle.told_tale.specs.Standing.{DoEnd, IsTale, Leads}
@@ -55,6 +57,7 @@ module _ {R : Type 0} (stored : R → List ℕ) (step : Step) (setup : Setup) (p
     links = is.links;
     lent = λ n link there isnt. led.idles link (is.lent n link there isnt);
     ending = is.ending;
+    bound = is.bound;
     wires = is.wires;
     there = is.there;
     counted = subst (λ (replies : MessageName → Option Reply). AreCounted (record { plan = plan; moment = tale.moment; replies = replies }) code.counts) (sym led.keeps) is.counted;
@@ -71,6 +74,7 @@ module _ {R : Type 0} (stored : R → List ℕ) (step : Step) (setup : Setup) (p
     links = is.links;
     lent = is.lent;
     ending = is.ending;
+    bound = is.bound;
     wires = is.wires;
     there = is.there;
     counted = are;
@@ -78,8 +82,8 @@ module _ {R : Type 0} (stored : R → List ℕ) (step : Step) (setup : Setup) (p
 
   -- clients alone go on
   pub tale_of_clients : (clients : Clients) (these : List Client) → AreClients plan.service clients these → length these ≡ length tale.clients
-      → IsTale stored step setup plan (record code { clients = clients }) (record tale { clients = these })
-  tale_of_clients clients these are count = record {
+      → AreBound plan tale.moment code.bindings these → IsTale stored step setup plan (record code { clients = clients }) (record tale { clients = these })
+  tale_of_clients clients these are count bound = record {
     planned = is.planned;
     keys = is.keys;
     moment = is.moment;
@@ -88,15 +92,16 @@ module _ {R : Type 0} (stored : R → List ℕ) (step : Step) (setup : Setup) (p
     links = is.links;
     lent = is.lent;
     ending = subst (DoEnd plan code.ending) (sym count) is.ending;
+    bound = bound;
     wires = is.wires;
     there = is.there;
     counted = is.counted;
   }
 
   -- a client more came
-  pub tale_more : (clients : Clients) (moments : Moments) (these : List Client) → AreClients plan.service clients these → DoEnd plan moments (length these)
+  pub tale_more : (clients : Clients) (moments : Moments) (these : List Client) → AreClients plan.service clients these → DoEnd plan moments (length these) → AreBound plan tale.moment code.bindings these
       → IsTale stored step setup plan (record code { clients = clients; ending = moments }) (record tale { clients = these })
-  tale_more clients moments these are ends = record {
+  tale_more clients moments these are ends bound = record {
     planned = is.planned;
     keys = is.keys;
     moment = is.moment;
@@ -105,6 +110,24 @@ module _ {R : Type 0} (stored : R → List ℕ) (step : Step) (setup : Setup) (p
     links = is.links;
     lent = is.lent;
     ending = ends;
+    bound = bound;
+    wires = is.wires;
+    there = is.there;
+    counted = is.counted;
+  }
+
+  -- what messages bound alone goes on
+  pub tale_bound : (bindings : Bindings) → AreBound plan tale.moment bindings tale.clients → IsTale stored step setup plan (record code { bindings = bindings }) tale
+  tale_bound bindings bound = record {
+    planned = is.planned;
+    keys = is.keys;
+    moment = is.moment;
+    told = is.told;
+    clients = is.clients;
+    links = is.links;
+    lent = is.lent;
+    ending = is.ending;
+    bound = bound;
     wires = is.wires;
     there = is.there;
     counted = is.counted;
@@ -121,6 +144,7 @@ module _ {R : Type 0} (stored : R → List ℕ) (step : Step) (setup : Setup) (p
     links = are;
     lent = λ n link there isnt. is.lent n link there (unlent (is_lent code.links n) (is_lent links n) (kept n) isnt);
     ending = is.ending;
+    bound = is.bound;
     wires = is.wires;
     there = is.there;
     counted = is.counted;
@@ -158,6 +182,7 @@ module _ {R : Type 0} (stored : R → List ℕ) (step : Step) (setup : Setup) (p
       links = is.links;
       lent = λ n l at isnt. unlent n l at isnt (is_link_id l link) refl;
       ending = is.ending;
+      bound = is.bound;
       wires = wires_on code.wires new link there back tale.wires led.wire is.wires led.knows;
       there = λ l. is.there l ∙ stays l;
       counted = counted-heard plan tale.moment (view_of setup tale).replies (view_of setup after).replies code.counts asked led.keeps ready is.counted;

@@ -2,6 +2,7 @@ pub mod Folding
 pub mod Leading
 pub mod Replies
 pub mod Takes
+pub mod Binding
 pub mod Counting
 pub mod Idling
 pub mod Ending

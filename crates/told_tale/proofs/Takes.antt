@@ -2,7 +2,7 @@
 use Rattle.std.specs.Prelude.{◌≡◌, ◌+◌, ◌<◌, ◌≤◌, ℕ, zero, suc, min, Bool, true, false, not, is_some, ◌&&◌, ◌||◌, nat_eq, List, [], ◌∷◌, ◌++◌, drop, fold, length, slice_get, if◌then◌else◌, Option, Some, None}
 use Rattle.std.specs.Option.{option_map, option_map_or}
 use Rattle.std.proofs.lemmas.List.{length-map}
-use Rattle.std.proofs.Common.{◌∙◌, refl, sym, ap, subst, arith}
+use Rattle.std.proofs.Common.{◌∙◌, append-nil, refl, sym, ap, subst, arith}
 use Rattle.std.proofs.lemmas.Option.{none-some, same_Some, slice_get-map}
 use Rattle.mx_base.specs.declared.names.ClientNo.{ClientNo}
 use Rattle.mx_base.specs.declared.names.Hostgroup.{Hostgroup}
@@ -10,7 +10,10 @@ use Rattle.mx_base.specs.declared.names.LinkId.{LinkId}
 use Rattle.mx_wire.specs.declared.entry.Entry.{Entry}
 use Rattle.packet_frame.specs.Packets.{Framed}
 use Rattle.session_state.specs.declared.names.MessageName.{MessageName}
+use Rattle.client_due.specs.Standing.{IsTold as IsClient}
+use Rattle.client_due.specs.Told.{Told as ClientCode}
 use Rattle.client_session.specs.Setups.{Setup as Service}
+use Rattle.private_model.proofs.Maps.{number_of}
 use Rattle.private_model.specs.Commands.{Command, Step}
 use Rattle.private_model.specs.Story.{BecameDue, is_client}
 use Rattle.private_model.specs.View.{Setup, View, present}
@@ -27,6 +30,9 @@ use Rattle.told_question.specs.Due.{copy_told, due_told}
 use Rattle.told_story.specs.Tells.{IsTold}
 use Rattle.told_story.specs.declared.told.Told.{Told}
 use Rattle.told_tale.specs.Answers.{HasHeard, IsHeard}
+use Rattle.told_request.specs.Bindings.{AreBindings, BindsOn}
+use Rattle.told_request.specs.declared.bindings.Bindings.{Bindings}
+use Rattle.told_tale.specs.Bound.{AreBound}
 use Rattle.told_tale.specs.Concern.{concerns_by}
 use Rattle.told_tale.specs.Counts.{AreCounted, known_in}
 use Rattle.told_tale.specs.declared.concern.Concern.{Concern}
@@ -36,8 +42,9 @@ use Rattle.told_tale.specs.Taking.{GoesAt, IsGoing, IsNextTaken, IsTaking, IsTak
 use Rattle.told_tale.specs.declared.answers.Heard.{Heard}
 use Rattle.told_tale.specs.declared.counts.Counts.{Counts}
 use Rattle.told_tale.specs.declared.tale.ToldTale.{ToldTale}
+use Rattle.told_tale.proofs.Binding.{Grows, bound-on}
 use Rattle.told_tale.proofs.Folding.{drop_at, skip_rest, skip_to}
-use Rattle.told_tale.proofs.Leading.{tale_counted, tale_led, tale_of_clients}
+use Rattle.told_tale.proofs.Leading.{tale_bound, tale_counted, tale_led, tale_of_clients}
 
 pub some_copied : {B A : Type 0} (f : B → A) (o : Option B) → is_some (option_map f o) ≡ is_some o
 some_copied f None = refl
@@ -156,22 +163,65 @@ module _ (setup : Service) (code : Clients) (clients : List Client) (are : AreCl
       stays None is = refl
       stays (Some c) is = ap (λ (x : Client). Some x) (leaves setup code clients are at it (behind it) here refl j c is other)
 
+-- what is kept by what the code knows of a client
+module _ (code plan : Plan) (planned : code ≡ plan) (told : ClientCode) (it : Client) (is : IsClient plan.service told it) where
+  its : (messages plan it ≡ told.heard.messages) × (told.heard.side.number ≡ it.number)
+  its = (is.stands.all.whole, is.number)
+
+  pub bindings_of : (moment at : ℕ) → moment ≡ at → (bindings : Bindings) → AreBindings plan moment it.number (messages plan it) bindings
+      → AreBindings code at told.heard.side.number told.heard.messages bindings
+  bindings_of moment at same bindings are =
+      subst (λ (p : Plan). AreBindings p at told.heard.side.number told.heard.messages bindings) (sym planned)
+      (subst (λ m. AreBindings plan m told.heard.side.number told.heard.messages bindings) same
+      (subst (λ c. AreBindings plan moment c told.heard.messages bindings) (sym its.1)
+      (subst (λ all. AreBindings plan moment it.number all bindings) its.0 are)))
+
+  pub binds_of : (at : ℕ) (old new : Bindings) → BindsOn code at told.heard.side.number told.heard.messages old new → BindsOn plan at it.number (messages plan it) old new
+  binds_of at old new binds =
+      subst (λ (p : Plan). BindsOn p at it.number (messages plan it) old new) planned
+      (subst (λ c. BindsOn code at c (messages plan it) old new) its.1
+      (subst (λ all. BindsOn code at told.heard.side.number all old new) (sym its.0) binds))
+
+-- who takes a message more has its messages still
+takes-on : (plan : Plan) (code : Clients) (clients : List Client) (are : AreClients plan.service code clients) (at : ℕ) (it : Client) → slice_get clients at ≡ Some it
+    → (n : ℕ) (other : Client) → slice_get clients n ≡ Some other
+    → ((if is_client other.number it.number then behind it else other).number ≡ other.number) × Grows (messages plan other) (messages plan (if is_client other.number it.number then behind it else other))
+takes-on plan code clients are at it here n other there = by (nat_eq at n) refl
+  where
+    stays : {c : Client} → c ≡ other → (c.number ≡ other.number) × Grows (messages plan other) (messages plan c)
+    stays same = (ap (λ (x : Client). x.number) same, record { later = []; is = ap (messages plan) same ∙ sym (append-nil (messages plan other)) })
+
+    by : (b : Bool) → nat_eq at n ≡ b
+        → ((if is_client other.number it.number then behind it else other).number ≡ other.number) × Grows (messages plan other) (messages plan (if is_client other.number it.number then behind it else other))
+    by true same =
+        let its : other ≡ it = same_Some other it (sym there ∙ ap (slice_get clients) (sym (number_of at n same)) ∙ here) in
+        let now = replaces plan.service code clients are at it (behind it) here refl other (ap (slice_get clients) (number_of at n same) ∙ there) in
+        subst (λ (c : Client). (c.number ≡ other.number) × Grows (messages plan other) (messages plan c)) (sym now)
+        (ap (λ (c : Client). c.number) (sym its), record { later = []; is = ap (messages plan) (sym its) ∙ sym (append-nil (messages plan other)) })
+    by false apart = stays (leaves plan.service code clients are at it (behind it) here refl n other there apart)
+
 module _ {R : Type 0} (stored : R → List ℕ) (step : Step) (setup : Setup) (plan : Plan) where
   -- a message is taken up, and counted
-  pub next_taken_up : (code : ToldTale R) (told : Told R) (clients : Clients) (counts : Counts) (tale : Tale) (client : Client) (message : Framed) → IsTale stored step setup plan code tale
+  pub next_taken_up : (code : ToldTale R) (told : Told R) (clients : Clients) (counts : Counts) (bindings : Bindings) (at : ℕ) (tale : Tale) (client : Client) (message : Framed)
+      → (is : IsTale stored step setup plan code tale) → slice_get tale.clients at ≡ Some client
       → slice_get (messages plan client) client.taken ≡ Some message → may setup plan client tale ≡ true
       → (up : IsTakenUp stored step setup told tale (taken setup plan client tale message))
-      → AreClients plan.service clients (replaced (behind client) tale.clients) → AreCounted (known_in setup plan tale) counts
-      → IsNextTaken stored step setup plan (record code { told = told; clients = clients; counts = counts }) client tale
-  next_taken_up code told clients counts tale client message is there may_be up are counted =
+      → AreClients plan.service clients (replaced (behind client) tale.clients) → AreCounted (known_in setup plan tale) counts → AreBound plan tale.moment bindings tale.clients
+      → IsNextTaken stored step setup plan (record code { told = told; clients = clients; counts = counts; bindings = bindings }) client tale
+  next_taken_up code told clients counts bindings at tale client message is here there may_be up are counted bound =
       let same : up.new.clients ≡ tale.clients = ap (λ (t : Tale). t.clients) up.led.same in
       record {
         other = up.new;
         is = next_goes setup plan client tale message there may_be ∙ up.is;
         same = same;
-        stands = tale_of_clients stored step setup plan (record code { told = told; counts = counts }) up.new
-            (tale_led stored step setup plan (record code { counts = counts }) tale (tale_counted stored step setup plan code tale is counts counted) told up.new up.led) clients (replaced (behind client) up.new.clients)
-            (subst (λ all. AreClients plan.service clients (replaced (behind client) all)) (sym same) are) (length-map up.new.clients _);
+        stands = tale_of_clients stored step setup plan (record code { told = told; counts = counts; bindings = bindings }) up.new
+            (tale_led stored step setup plan (record code { counts = counts; bindings = bindings }) tale
+            (tale_bound stored step setup plan (record code { counts = counts }) tale (tale_counted stored step setup plan code tale is counts counted) bindings bound) told up.new up.led)
+            clients (replaced (behind client) up.new.clients)
+            (subst (λ all. AreClients plan.service clients (replaced (behind client) all)) (sym same) are) (length-map up.new.clients _)
+            (subst (λ (t : Tale). AreBound plan t.moment bindings (replaced (behind client) t.clients)) (sym up.led.same)
+            (bound-on plan tale.moment bindings tale.clients bound (λ (other : Client). if is_client other.number client.number then behind client else other)
+            (takes-on plan code.clients tale.clients is.clients at client here)));
       }
 
   pub taking_first : (code : ToldTale R) (at most : ℕ) (client : Client) (tale : Tale) → IsTale stored step setup plan code tale → slice_get tale.clients at ≡ Some client
@@ -230,7 +280,7 @@ module _ {R : Type 0} (stored : R → List ℕ) (step : Step) (setup : Setup) (p
       → IsGoing stored step setup plan (record code { clients = clients }) f i tale
   going_rests code clients i so_far are = record {
     now = so_far.now;
-    stands = tale_of_clients stored step setup plan code so_far.now so_far.stands clients so_far.now.clients are refl;
+    stands = tale_of_clients stored step setup plan code so_far.now so_far.stands clients so_far.now.clients are refl so_far.stands.bound;
     rest = so_far.rest;
     later = so_far.later;
   }

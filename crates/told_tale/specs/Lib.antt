@@ -1,4 +1,5 @@
 pub mod Answers
+pub mod Bound
 pub mod Concern
 pub mod Counts
 pub mod Freeing

@@ -20,6 +20,7 @@ use Rattle.told_plan.specs.KeyTable.{AreKeys}
 use Rattle.told_plan.specs.Plans.{plan_of}
 use Rattle.told_plan.specs.declared.keys.Keys.{Keys}
 use Rattle.told_story.specs.Tells.{IsTold}
+use Rattle.told_tale.specs.Bound.{AreBound}
 use Rattle.told_tale.specs.Counts.{AreCounted, known_in}
 use Rattle.told_tale.specs.Moments.{has_moment}
 use Rattle.told_tale.specs.Steps.{AreLent}
@@ -40,6 +41,7 @@ pub record IsTale {R : Type 0} (stored : R → List ℕ) (step : Step) (setup : 
   pub links : AreLinks code.links tale.links
   pub lent : AreLent setup code.links tale
   pub ending : DoEnd plan code.ending (length tale.clients)
+  pub bound : AreBound plan tale.moment code.bindings tale.clients
   pub wires : AreWires code.wires tale.wires
   pub there : (l : LinkId) → is_to_server tale l ≡ is_some (wire_at code.wires l)
   pub counted : AreCounted (known_in setup plan tale) code.counts

@@ -15,6 +15,7 @@ ghost use Rattle.told_clients.specs.Clients.{IsBefore};
 ghost use Rattle.told_plan.specs.KeyTable.{AreKeys};
 ghost use Rattle.told_plan.specs.Plans.{plan_of};
 ghost use Rattle.told_story.specs.Tells.{IsTold};
+ghost use Rattle.told_request.specs.Bindings.{AreBindings, BindsOn};
 ghost use Rattle.told_tale.specs.Answers.{HasHeard, IsHeard};
 ghost use Rattle.told_tale.specs.Concern.{concerns_by};
 ghost use Rattle.told_tale.specs.Counts.{AreCounted, known_in};
@@ -34,7 +35,7 @@ use std::alloc::Global;
 use story_view::{MessageKey, Party};
 use told_plan::{Keys, Plan};
 use told_question::becomes_due;
-use told_request::requested;
+use told_request::{Bindings, requested};
 use told_story::Told;
 
 /// The command of a COM_RESET_CONNECTION (client/server protocol, "COM_RESET_CONNECTION").
@@ -161,6 +162,7 @@ fn take_up_here<R: TameServer + Drop>(
 // A message is taken up, unless a capture is due before it.
 fn take_up<R: TameServer + Drop>(
     told: &mut Told<R>,
+    bindings: &mut Bindings,
     by: &Taking<'_>,
     client: &ToldClient,
     ordinal: u64,
@@ -169,8 +171,10 @@ fn take_up<R: TameServer + Drop>(
     requires { IsSound R.tests R.stored told.old.own }
     ensures sound { OnOk result (IsSound R.tests R.stored told.new.own) }
     ensures taken { IfOk result (λ more. (setup : Setup) (tale : Tale) (it : Client) (plan : log.Plan) → plan_of by.now.plan.now ≡ plan → AreKeys setup by.now.keys.now → tale.moment ≡ by.now.moment
-        → IsTold R.stored (runs R.step) setup told.old tale.story → IsClient plan.service client.now it
+        → IsTold R.stored (runs R.step) setup told.old tale.story → IsClient plan.service client.now it → AreBindings plan tale.moment it.number (messages plan it) bindings.old
         → IsTaken R.stored (runs R.step) setup told.new more tale (taken_by setup plan it ordinal message.now (plan.routes (name_of it ordinal)) tale)) }
+    ensures binds { OnOk result ((plan : log.Plan) (it : Client) → plan_of by.now.plan.now ≡ plan → IsClient plan.service client.now it
+        → BindsOn plan by.now.moment it.number (messages plan it) bindings.old bindings.new) }
 {
     let party = Party::accepted(client.number());
     let Some(route) = by.plan.route(MessageKey { party, ordinal }) else {
@@ -180,7 +184,7 @@ fn take_up<R: TameServer + Drop>(
     let payload = message.payload.as_slice();
     let view = told.view();
     let asked = requested(
-        by.alloc, view, by.plan, by.keys, by.moment, client, ordinal, route, payload,
+        by.alloc, view, by.plan, by.keys, by.moment, bindings, client, ordinal, route, payload,
     )?;
     let number = client.number();
     let more = becomes_due(
@@ -226,7 +230,8 @@ impl<R: TameServer + Drop> ToldTale<R> {
             keys: &self.keys,
             moment: self.moment,
         };
-        if !take_up(&mut self.told, &by, client, ordinal, message)? {
+        let (told, bindings) = (&mut self.told, &mut self.bindings);
+        if !take_up(told, bindings, &by, client, ordinal, message)? {
             return Ok(false);
         }
         self.clients.takes(at);

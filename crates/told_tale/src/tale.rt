@@ -23,6 +23,7 @@ use std::alloc::Global;
 use story_view::Openings;
 use told_clients::{Clients, Links, Wires};
 use told_plan::{Keys, Plan};
+use told_request::Bindings;
 use told_story::Told;
 
 /// What is kept of a log as it is read: its story as its bytes tell it, with what the router knows and the private world, its clients,
@@ -40,6 +41,7 @@ pub struct ToldTale<R: TameServer + Drop> {
     pub(crate) wires: Wires,
     pub(crate) counts: Counts,
     pub(crate) ending: Moments,
+    pub(crate) bindings: Bindings,
 }
 
 // One entry more.
@@ -75,6 +77,7 @@ impl<R: TameServer + Drop> ToldTale<R> {
             wires: Wires::new(alloc),
             counts: Counts::new(alloc),
             ending: Moments::new(alloc),
+            bindings: Bindings::new(alloc),
         }
     }
 

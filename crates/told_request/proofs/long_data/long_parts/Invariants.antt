@@ -1,5 +1,5 @@
-use Rattle.std.proofs.Common.{◌≡◌, ◌++◌}
+use Rattle.std.proofs.Common.{◌≡◌, ◌++◌, drop}
 use Rattle.told_request.proofs.long_data.long_parts.Given as goal
 
 abbrev pub invariant-loop-part : goal.invariant-loop-part
-invariant-loop-part l = l.long ++ l.part-iterator.rest.items ≡ l.fn.parts.items
+invariant-loop-part l = l.long ++ drop l.part-index l.parts ≡ l.parts

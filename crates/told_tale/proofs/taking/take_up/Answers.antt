@@ -1,4 +1,4 @@
-use Rattle.std.proofs.Common.{◌≡◌, ◌∙◌, ◌++◌, true, None, Some, ap, subst, sym}
+use Rattle.std.proofs.Common.{◌≡◌, ◌∙◌, ◌++◌, true, None, Some, ap, refl, subst, sym}
 use Rattle.std.specs.Option.{option_map}
 use Rattle.std.specs.Prelude.{not, option_copied}
 use Rattle.packet_frame.specs.Packets.{Framed}
@@ -17,11 +17,11 @@ use Rattle.told_question.specs.Due.{due_told}
 use Rattle.told_request.specs.Forms.{asked_of}
 use Rattle.told_story.specs.Tells.{IsTold}
 use Rattle.told_tale.specs.Taking.{IsTaken}
-use Rattle.told_tale.proofs.Takes.{due_taken}
+use Rattle.told_tale.proofs.Takes.{bindings_of, binds_of, due_taken}
 use Rattle.told_tale.proofs.taking.take_up.Goals as goal
 
 pub returns-in_default-clause-taken : goal.returns-in_default-clause-taken
-returns-in_default-clause-taken g c = λ setup tale it plan planned keys moment told is.
+returns-in_default-clause-taken g c = λ setup tale it plan planned keys moment told is bound.
     let name : message_of (record { party = c.accepted-party.result; ordinal = c.args.ordinal }) ≡ name_of it c.args.ordinal =
     λ i. record { client = (c.accepted-party.ensures ∙ c.number.ensures ∙ is.number) i; ordinal = c.args.ordinal } in
     let routes : plan.routes (name_of it c.args.ordinal) ≡ None =
@@ -31,7 +31,7 @@ returns-in_default-clause-taken g c = λ setup tale it plan planned keys moment 
     (c.in_ok-take_up_here.ensures.taken setup tale plan it c.args.ordinal told (c.number-in_default.ensures ∙ is.number))
 
 pub returns-clause-taken : goal.returns-clause-taken
-returns-clause-taken g c = λ setup tale it plan planned keys moment told is.
+returns-clause-taken g c = λ setup tale it plan planned keys moment told is bound.
     let name : message_of (record { party = c.accepted-party.result; ordinal = c.args.ordinal }) ≡ name_of it c.args.ordinal =
     λ i. record { client = (c.accepted-party.ensures ∙ c.number.ensures ∙ is.number) i; ordinal = c.args.ordinal } in
     let routes : plan.routes (name_of it c.args.ordinal) ≡ Some (route_of c.in-Some.route.now) =
@@ -40,7 +40,8 @@ returns-clause-taken g c = λ setup tale it plan planned keys moment told is.
     let payload : c.as_slice-payload.result.now ≡ c.args.message.now.payload = c.as_slice-payload.ensures ∙ ap (λ (m : Framed). m.payload) c.message.view_is in
     let known : IsKnown setup c.view-view.result.now (view_of setup tale) = subst (λ code. IsKnown setup code (view_of setup tale)) (sym c.view-view.ensures) told.known in
     let request : asked_of c.in_ok-asked.asked ≡ requested setup (view_of setup tale) plan tale.moment it c.args.ordinal (route_of c.in-Some.route.now) c.args.message.now.payload =
-    c.in_ok-asked.ensures setup (view_of setup tale) it known keys (subst (λ (p : log.Plan). IsClient p.service c.args.client.now it) (sym planned) is)
+    c.in_ok-asked.ensures.asked setup (view_of setup tale) it known keys (subst (λ (p : log.Plan). IsClient p.service c.args.client.now it) (sym planned) is)
+    (bindings_of (plan_of c.args.by.now.plan.now) plan planned c.args.client.now it is tale.moment c.args.by.now.moment moment c.args.bindings.now bound)
     ∙ (λ i. requested setup (view_of setup tale) (planned i) (sym moment i) it c.args.ordinal (route_of c.in-Some.route.now) (payload i)) in
     let number = c.number-number.ensures ∙ is.number in
     subst (λ r. IsTaken g.R.TameServer.stored (runs g.R.TameServer.step) setup c.becomes_due.new.told c.in_ok-more.more tale (taken_by setup plan it c.args.ordinal c.args.message.now r tale)) (sym routes)
@@ -50,3 +51,10 @@ returns-clause-taken g c = λ setup tale it plan planned keys moment told is.
     (c.in_ok-more.ensures.due more setup tale.story told))
     (c.in_ok-more.ensures.captures setup tale.story told ∙ ap (λ n. not (captures_first ((view_of setup tale).held (present (view_of setup tale) n (route_of c.in-Some.route.now).hostgroup)))) number)
     c.in_ok-more.ensures.same told))
+
+pub returns-in_default-clause-binds : goal.returns-in_default-clause-binds
+returns-in_default-clause-binds g c = λ plan it planned is. record { mine = λ are. are; others = λ d number other. refl }
+
+pub returns-clause-binds : goal.returns-clause-binds
+returns-clause-binds g c = λ plan it planned is.
+    binds_of (plan_of c.args.by.now.plan.now) plan planned c.args.client.now it is c.args.by.now.moment c.args.bindings.now c.requested.new.bindings c.in_ok-asked.ensures.kept

@@ -7,6 +7,7 @@ use Rattle.log_story.specs.Tale.{new_client}
 use Rattle.told_clients.specs.Clients.{AreClients}
 use Rattle.told_plan.specs.Plans.{plan_of}
 use Rattle.told_tale.specs.Standing.{DoEnd}
+use Rattle.told_tale.proofs.Binding.{bound-more}
 use Rattle.told_tale.proofs.Ending.{ends_more, put_has, put_keeps}
 use Rattle.told_tale.proofs.Leading.{by_plan, tale_more}
 use Rattle.told_tale.proofs.tale.ToldTale.accepts.Goals as goal
@@ -23,7 +24,8 @@ returns-in_ok-put-clause-leads g c =
     (ends_more plan c.args.self.now.ending c.put.new.self (length tale.clients)
     (λ m at. put_has c.args.self.now.ending c.put.new.self c.in-Some.moment c.in_ok-put.ensures m
     (same_Some c.in-Some.moment m (c.in-Some.ensures ∙ ap plan.ends (λ i. record { 0 = number i }) ∙ at)))
-    (put_keeps c.args.self.now.ending c.put.new.self c.in-Some.moment c.in_ok-put.ensures) is.ending)))
+    (put_keeps c.args.self.now.ending c.put.new.self c.in-Some.moment c.in_ok-put.ensures) is.ending))
+    (bound-more plan tale.moment c.args.self.now.bindings tale.clients is.bound (new_client (length tale.clients + 1) c.args.link c.args.salt) (omega arith)))
 
 pub returns-in_default-clause-leads : goal.returns-in_default-clause-leads
 returns-in_default-clause-leads g c =
@@ -36,4 +38,5 @@ returns-in_default-clause-leads g c =
     (subst (DoEnd plan c.args.self.now.ending) (sym (length-append tale.clients (new_client (length tale.clients + 1) c.args.link c.args.salt ∷ []) ∙ omega arith))
     (ends_more plan c.args.self.now.ending c.args.self.now.ending (length tale.clients)
     (λ m at. absurd (none-some m (c.in_default.ensures ∙ ap plan.ends (λ i. record { 0 = number i }) ∙ at)))
-    (λ m had. had) is.ending)))
+    (λ m had. had) is.ending))
+    (bound-more plan tale.moment c.args.self.now.bindings tale.clients is.bound (new_client (length tale.clients + 1) c.args.link c.args.salt) (omega arith)))

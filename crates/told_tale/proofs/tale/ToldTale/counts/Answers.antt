@@ -1,5 +1,6 @@
 use Rattle.std.proofs.Common.{◌∙◌, ap, suc, sym}
 use Rattle.log_story.specs.Tale.{view_of}
+use Rattle.told_tale.proofs.Binding.{bound-later}
 use Rattle.told_tale.proofs.Counting.{counted-next}
 use Rattle.told_tale.proofs.tale.ToldTale.counts.Goals as goal
 
@@ -13,6 +14,7 @@ returns-clause-leads g c = λ setup plan tale is. record {
   links = is.links;
   lent = is.lent;
   ending = is.ending;
+  bound = bound-later plan tale.moment c.args.self.now.bindings tale.clients is.bound;
   wires = is.wires;
   there = is.there;
   counted = counted-next plan tale.moment (view_of setup tale).replies c.args.self.now.counts is.counted;

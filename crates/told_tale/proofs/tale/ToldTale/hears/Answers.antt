@@ -16,6 +16,7 @@ use Rattle.told_clients.specs.declared.wires.Wires.{Wires}
 use Rattle.told_plan.specs.Plans.{plan_of}
 use Rattle.told_tale.specs.Counts.{message_in}
 use Rattle.told_tale.specs.Standing.{IsTale}
+use Rattle.told_tale.proofs.Binding.{bound-on, hears-on}
 use Rattle.told_tale.proofs.Leading.{by_plan, is_server, knew, no_server, tale_counted, tale_led_on, tale_lent, tale_of_clients}
 use Rattle.told_tale.proofs.tale.ToldTale.hears.Goals as goal
 
@@ -32,7 +33,7 @@ returns-in_default-clause-leads g c =
     (sym (ap (λ b. if b then server_says setup (plan_of c.args.self.now.plan) c.args.link c.args.bytes.now tale else record tale { clients = (map (client_hears c.args.link c.args.bytes.now) tale.clients) }) (no_server g.R.TameServer.stored (runs g.R.TameServer.step) setup (plan_of c.args.self.now.plan) (record c.args.self.now { counts = c.forget_asked.new.counts; links = c.lend.new.self }) tale is c.args.link none)))
     (tale_of_clients g.R.TameServer.stored (runs g.R.TameServer.step) setup (plan_of c.args.self.now.plan) (record c.args.self.now { counts = c.forget_asked.new.counts; links = c.lend.new.self }) tale is c.hears.new.self (map (client_hears c.args.link c.args.bytes.now) tale.clients)
     (subst (λ service. AreClients service c.hears.new.self (map (client_hears c.args.link c.args.bytes.now) tale.clients)) c.service.ensures
-    (c.in_ok-hears.ensures tale.clients (subst (λ service. AreClients service c.args.self.now.clients tale.clients) (sym c.service.ensures) is.clients))) (length-map tale.clients _))))
+    (c.in_ok-hears.ensures tale.clients (subst (λ service. AreClients service c.args.self.now.clients tale.clients) (sym c.service.ensures) is.clients))) (length-map tale.clients _) (bound-on (plan_of c.args.self.now.plan) tale.moment c.args.self.now.bindings tale.clients before.bound (client_hears c.args.link c.args.bytes.now) (λ n client there. hears-on (plan_of c.args.self.now.plan) c.args.bytes.now (is_link_id client.link c.args.link) client)))))
 
 pub returns-clause-leads : goal.returns-clause-leads
 returns-clause-leads g c = on_ok_weaker c.says.result (λ goes.

@@ -20,6 +20,7 @@ returns-clause-first g c = λ setup is. record {
   links = c.new-3.ensures;
   lent = λ n link there isnt. absurd (none-some link there);
   ending = λ n moment inside at. absurd (omega (arith, inside));
+  bound = record { here = λ n client there. absurd (none-some client there); none = λ client number past. c.new-7.ensures client number };
   wires = λ l. subst (λ o. IsWireAt o (new_wire (record { 0 = 0 }))) (sym (c.new-4.ensures l)) refl;
   there = λ l. sym (ap is_some (c.new-4.ensures l));
   counted = λ client small. subst (λ (k : Counted). IsCounted (known_in setup (plan_of c.args.plan) first_tale) client k) (sym (c.new-5.ensures client)) (counted-first (known_in setup (plan_of c.args.plan) first_tale) client);

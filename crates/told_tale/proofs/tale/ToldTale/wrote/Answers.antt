@@ -14,6 +14,7 @@ use Rattle.told_clients.specs.Wires.{wire_at}
 use Rattle.told_clients.specs.declared.wires.Wires.{Wires}
 use Rattle.told_plan.specs.Plans.{plan_of}
 use Rattle.told_tale.specs.Standing.{IsTale}
+use Rattle.told_tale.proofs.Binding.{bound-on, gets-on}
 use Rattle.told_tale.proofs.Leading.{by_plan, is_server, knew, no_server, tale_led_on, tale_lent, tale_of_clients}
 use Rattle.told_tale.proofs.tale.ToldTale.wrote.Goals as goal
 
@@ -27,7 +28,7 @@ returns-in_default-clause-leads g c =
     (subst (IsTale g.R.TameServer.stored (runs g.R.TameServer.step) setup (plan_of c.args.self.now.plan) (record c.args.self.now { links = c.lend.new.self; clients = c.gets.new.self }))
     (sym (ap (λ b. if b then writes setup (plan_of c.args.self.now.plan) c.args.link c.args.tag c.args.bytes.now (tale.wires c.args.link) tale else record tale { clients = (map (client_gets c.args.link (length c.args.bytes.now)) tale.clients) }) (no_server g.R.TameServer.stored (runs g.R.TameServer.step) setup (plan_of c.args.self.now.plan) (record c.args.self.now { links = c.lend.new.self }) tale is c.args.link none)))
     (tale_of_clients g.R.TameServer.stored (runs g.R.TameServer.step) setup (plan_of c.args.self.now.plan) (record c.args.self.now { links = c.lend.new.self }) tale is c.gets.new.self (map (client_gets c.args.link (length c.args.bytes.now)) tale.clients)
-    (c.gets.ensures (plan_of c.args.self.now.plan).service tale.clients is.clients) (length-map tale.clients _))))
+    (c.gets.ensures (plan_of c.args.self.now.plan).service tale.clients is.clients) (length-map tale.clients _) (bound-on (plan_of c.args.self.now.plan) tale.moment c.args.self.now.bindings tale.clients before.bound (client_gets c.args.link (length c.args.bytes.now)) (λ n client there. gets-on (plan_of c.args.self.now.plan) (length c.args.bytes.now) (is_link_id client.link c.args.link) client)))))
 
 pub returns-clause-leads : goal.returns-clause-leads
 returns-clause-leads g c = on_ok_weaker c.writes.result (λ goes.
