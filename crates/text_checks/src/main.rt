@@ -1,9 +1,11 @@
-//! Shows what the calls on SQL texts and on the replies to them answer, a line for each case of stdin.
+//! Shows what the calls on SQL texts and on the replies to them answer, what a server in memory answers to them, and what the turns of a
+//! private world leave, a line for each case of stdin.
 #![tactic(auto)]
 
 mod answered;
 mod classes;
 mod digests;
+mod memory;
 mod pins;
 mod rule_table;
 mod rules;
@@ -34,6 +36,8 @@ fn read(fields: &mut Fields<'_>) {
         "route" => rules::route(fields),
         "as" => rules::route_as(fields),
         "pattern" => rules::pattern(fields),
+        "run" => memory::run_steps(fields),
+        "turns" => memory::take_turns(fields),
         _ => fields.answer.bad(),
     }
 }

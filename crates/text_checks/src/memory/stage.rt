@@ -1,7 +1,7 @@
 // A server, and two sessions at it.
-use crate::answers::{Answering, answers};
-use crate::seat::Seat;
-use crate::verb::Step;
+use crate::memory::answers::{Answering, answers};
+use crate::memory::seat::Seat;
+use crate::memory::verb::Step;
 use check_lines::Answer;
 use mem_server::MemServer;
 use mx_base::OutOfMemory;

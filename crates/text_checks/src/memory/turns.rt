@@ -1,5 +1,5 @@
 // Turns of a private world over a server that refuses.
-use crate::answers::{Answering, answers};
+use crate::memory::answers::{Answering, answers};
 use check_lines::{Answer, Case, CaseFault};
 use mx_base::{Bytes, ClientNo, Hostgroup, OutOfMemory};
 use oracle::{Statement, Who, World};

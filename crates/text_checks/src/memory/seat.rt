@@ -1,7 +1,7 @@
 // A session at a server.
-use crate::bound::Bound;
-use crate::reply::put_reply;
-use crate::verb::{Step, Verb};
+use crate::memory::bound::Bound;
+use crate::memory::reply::put_reply;
+use crate::memory::verb::{Step, Verb};
 use check_lines::Answer;
 use mem_server::MemServer;
 use mx_base::{Bytes, OutOfMemory};

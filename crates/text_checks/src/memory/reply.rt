@@ -1,8 +1,8 @@
 // Replies as a case shows them.
-use crate::fields::{
+use crate::memory::fields::{
     Done, column_name, done_of, eof_status, err_parts, prepared_counts, take_text,
 };
-use crate::verb::Verb;
+use crate::memory::verb::Verb;
 use check_lines::Answer;
 use mx_base::Bytes;
 
