@@ -194,6 +194,7 @@ impl Clients {
     /// The first place from this one on where a client may wait whose message is whole and wasn't taken up; none waits before it. Takes no
     /// memory.
     pub fn next_waiting(&self, from: usize) -> Option<usize>
+        ensures waits { IfSome result (λ at. contains nat_cmp self.now.waiting at ≡ true) }
         ensures later { IfSome result (λ at. from ≤ at) }
         ensures rests { (setup : Service) (clients : List Client) (n : ℕ) (client : Client) → AreClients setup self.now clients → from ≤ n → IsBefore n result
             → slice_get clients n ≡ Some client → IsIdle setup client }
@@ -202,6 +203,7 @@ impl Clients {
     }
 
     fn next_place(&self, from: usize) -> Option<usize>
+        ensures waits { IfSome result (λ at. contains nat_cmp self.now.waiting at ≡ true) }
         ensures later { IfSome result (λ at. from ≤ at) }
         ensures least { IfSome result (λ at. (n : ℕ) → from ≤ n → contains nat_cmp self.now.waiting n ≡ true → at ≤ n) }
         ensures none { IfNone result ((n : ℕ) → from ≤ n → contains nat_cmp self.now.waiting n ≡ false) }

@@ -93,6 +93,7 @@ impl Links {
 
     /// The first place from this one on of a link that may be lent. Takes no memory.
     pub fn next_lent(&self, from: usize) -> Option<usize>
+        ensures lent { IfSome result (λ at. is_lent self.now at ≡ true) }
         ensures later { IfSome result (λ at. from ≤ at) }
         ensures least { IfSome result (λ at. (n : ℕ) → from ≤ n → is_lent self.now n ≡ true → at ≤ n) }
         ensures none { IfNone result ((n : ℕ) → from ≤ n → is_lent self.now n ≡ false) }
