@@ -1,10 +1,9 @@
 -- Where the client of a link stands, and what becomes of all as one goes on.
-use Rattle.std.specs.Prelude.{◌≡◌, ◌⊎◌, ℕ, zero, suc, Bool, true, false, is_some, nat_eq, List, [], ◌∷◌, ◌++◌, length, map, set, slice_get, Option, Some, None, if◌then◌else◌}
-use Rattle.std.specs.BTreeSet.{contains}
+use Rattle.std.specs.Prelude.{◌≡◌, ◌<◌, ℕ, suc, Bool, true, false, is_some, nat_eq, List, [], ◌∷◌, ◌++◌, length, map, set, slice_get, Option, Some, None, IfSome, if◌then◌else◌}
 use Rattle.std.specs.HashMap.{get_by}
 use Rattle.std.specs.Option.{option_map}
-use Rattle.std.specs.Ordering.{nat_cmp}
-use Rattle.std.proofs.Common.{◌∙◌, inl, inr, refl, sym, ap, subst, arith}
+use Rattle.std.proofs.Common.{◌∙◌, refl, sym, ap, subst, arith}
+use Rattle.std.proofs.lemmas.Map.Keys.{any_passes_from_place}
 use Rattle.std.proofs.lemmas.Option.{none-some, same_Some, slice_get-map}
 use Rattle.mx_base.specs.declared.names.LinkId.{LinkId}
 use Rattle.client_session.specs.Setups.{Setup}
@@ -12,9 +11,9 @@ use Rattle.private_model.proofs.Maps.{number_of, same_number}
 use Rattle.private_model.specs.Story.{is_client, is_link_id, put}
 use Rattle.log_story.specs.Tale.{Client}
 use Rattle.client_due.specs.Told.{Told}
-use Rattle.told_clients.specs.Clients.{AreClients, AreFound, AreTold, DoWait, IsHome, IsIdle, IsNumbered, Waits, home_at}
+use Rattle.told_clients.specs.Clients.{AreClients, AreFound, AreTold, IsHome, IsIdle, IsNumbered, Waits, home_at, is_at, is_taken, is_waiting}
 use Rattle.told_clients.specs.declared.clients.Clients.{Clients}
-use Rattle.told_clients.proofs.Placing.{all_stay, found_at, found_more, found_on, last_or_before, number_at, told_more, told_on}
+use Rattle.told_clients.proofs.Placing.{all_stay, each_fails, found_at, found_more, found_on, last_of, none_passes, number_at, some_within, told_more, told_on}
 
 apart : {A : Type 0} {b : Bool} → b ≡ true → b ≡ false → A
 apart is isnt = absurd (cc)
@@ -53,28 +52,6 @@ module _ (home : LinkId → Option ℕ) (link : LinkId) (clients : List Client) 
         go false true e f = apart (ap (nat_eq at) (sym (here j client is f)) ∙ same_number at) e
         go false false e f = f ∙ sym e
 
--- who waits, as one goes on and the others stay
-pub waits_on : (setup : Setup) (clients : List Client) (at : ℕ) (f : Client → Client) → ((j : ℕ) (client : Client) → slice_get clients j ≡ Some client → nat_eq at j ≡ false → f client ≡ client)
-    → (old new : ℕ → Bool) → ((n : ℕ) → old n ≡ true → new n ≡ true) → DoWait setup old clients
-    → ((client : Client) → slice_get clients at ≡ Some client → new at ≡ false → IsIdle setup (f client)) → DoWait setup new (map f clients)
-waits_on setup clients at f others old new kept wait here n c is isnt = its (slice_get clients n) refl
-  where
-    went : option_map f (slice_get clients n) ≡ Some c
-    went = sym (slice_get-map f clients n) ∙ is
-
-    was : (b : Bool) → old n ≡ b → old n ≡ false
-    was true did = apart (kept n did) isnt
-    was false did = did
-
-    by : (client : Client) → slice_get clients n ≡ Some client → (b : Bool) → nat_eq at n ≡ b → IsIdle setup (f client)
-    by client there true same = here client (ap (slice_get clients) (number_of at n same) ∙ there) (ap new (number_of at n same) ∙ isnt)
-    by client there false other = subst (IsIdle setup) (sym (others n client there other)) (wait n client there (was (old n) refl))
-
-    its : (o : Option Client) → slice_get clients n ≡ o → IsIdle setup c
-    its None none = absurd (none-some c (sym (ap (option_map f) none) ∙ went))
-    its (Some client) there =
-        subst (IsIdle setup) (same_Some (f client) c (sym (ap (option_map f) there) ∙ went)) (by client there (nat_eq at n) refl)
-
 -- one goes on, and the others stay
 module _ (setup : Setup) (old new : Clients) (clients : List Client) (at : ℕ) (code : Told) (are : AreClients setup old clients) (items : new.clients.items ≡ set old.clients.items at code)
     (homes : new.homes ≡ old.homes) (f : Client → Client) (here : (client : Client) → slice_get clients at ≡ Some client → IsNumbered setup at code (f client))
@@ -87,11 +64,10 @@ module _ (setup : Setup) (old new : Clients) (clients : List Client) (at : ℕ) 
       go true same = link client (ap (slice_get clients) (number_of at j same) ∙ is)
       go false other = ap (λ (c : Client). c.link) (others j client is other)
 
-  pub clients_on : DoWait setup (contains nat_cmp new.waiting) (map f clients) → AreClients setup new (map f clients)
-  clients_on waiting = record {
+  pub clients_on : AreClients setup new (map f clients)
+  clients_on = record {
     told = subst (λ codes. AreTold setup 0 codes (map f clients)) (sym items) (told_on setup f code 0 at at old.clients.items clients (omega arith) are.told here others);
     found = subst (λ table. AreFound (λ l. get_by (λ key. is_link_id l key) table) 0 (map f clients)) (sym homes) (found_on (home_at old) f 0 clients keeps are.found);
-    waiting = waiting;
   }
 
 -- one goes on under its number
@@ -120,6 +96,17 @@ module _ (setup : Setup) (code : Clients) (clients : List Client) (are : AreClie
 pub own_link : (link : LinkId) (P : Client → Type 0) (there here : Client) → P (if is_link_id link link then there else here) → P there
 own_link link P there here is = subst P (ap (λ b. if b then there else here) (same_number link.0)) is
 
+-- whether a client has the link, by where it is found
+pub taken_at : (home : Option ℕ) (link : LinkId) (clients : List Client) (count : ℕ) → IsHome home link clients → length clients ≡ count
+    → IfSome home (λ at. at < count)
+    → is_some home ≡ is_taken link clients
+taken_at None link clients count is same within = sym (none_passes (λ (c : Client). is_link_id c.link link) clients is)
+taken_at (Some at) link clients count is same within = go (slice_get clients at) refl
+  where
+    go : (o : Option Client) → slice_get clients at ≡ o → true ≡ is_taken link clients
+    go None none = apart (some_within clients at (omega (arith, same, within))) (ap is_some none)
+    go (Some client) there = sym (any_passes_from_place (λ (c : Client). is_link_id c.link link) clients at client there (is at client there ∙ same_number at))
+
 -- the client of a link goes on
 module _ (setup : Setup) (code : Clients) (clients : List Client) (are : AreClients setup code clients) (link : LinkId) (g : Client → Client) where
   abbrev pub of_link : Client → Client
@@ -129,8 +116,26 @@ module _ (setup : Setup) (code : Clients) (clients : List Client) (are : AreClie
   none_goes home =
       subst (λ all. AreClients setup code all) (sym (all_stay of_link clients (λ j client is. ap (λ b. if b then g client else client) (home j client is)))) are
 
+  -- it has its link still
+  pub at_home : (home : Option ℕ) → IsHome home link clients → ((client : Client) → (g client).link ≡ client.link) → (n : ℕ) (client : Client)
+      → slice_get (map of_link clients) n ≡ Some client → is_link_id client.link link ≡ true → is_at home n ≡ true
+  at_home home is keeps n client there same = go (slice_get clients n) refl
+    where
+      went : option_map of_link (slice_get clients n) ≡ Some client
+      went = sym (slice_get-map of_link clients n) ∙ there
+
+      link_stays : (c : Client) (b : Bool) → (if b then g c else c).link ≡ c.link
+      link_stays c true = keeps c
+      link_stays c false = refl
+
+      go : (o : Option Client) → slice_get clients n ≡ o → is_at home n ≡ true
+      go None none = absurd (none-some client (sym (ap (option_map of_link) none) ∙ went))
+      go (Some c) was =
+          let now : of_link c ≡ client = same_Some (of_link c) client (sym (ap (option_map of_link) was) ∙ went) in
+          sym (is n c was) ∙ ap (λ l. is_link_id l link) (sym (link_stays c (is_link_id c.link link)) ∙ ap (λ (x : Client). x.link) now) ∙ same
+
   module _ (at : ℕ) (home : IsHome (Some at) link clients) where
-    pub its_link : (client : Client) → slice_get clients at ≡ Some client → is_link_id client.link link ≡ true
+    its_link : (client : Client) → slice_get clients at ≡ Some client → is_link_id client.link link ≡ true
     its_link client is = home at client is ∙ same_number at
 
     goes : (client : Client) → slice_get clients at ≡ Some client → of_link client ≡ g client
@@ -139,65 +144,49 @@ module _ (setup : Setup) (code : Clients) (clients : List Client) (are : AreClie
     stay : (j : ℕ) (client : Client) → slice_get clients j ≡ Some client → nat_eq at j ≡ false → of_link client ≡ client
     stay j client is other = ap (λ b. if b then g client else client) (home j client is ∙ other)
 
-    pub goes_told : (now : Told) → ((client : Client) → slice_get clients at ≡ Some client → IsNumbered setup at now (g client))
+    goes_told : (now : Told) → ((client : Client) → slice_get clients at ≡ Some client → IsNumbered setup at now (g client))
         → AreTold setup 0 (set code.clients.items at now) (map of_link clients)
     goes_told now here = told_on setup of_link now 0 at at code.clients.items clients (omega arith) are.told
         (λ client is. subst (λ (c : Client). IsNumbered setup at now c) (sym (goes client is)) (here client is)) stay
 
-    pub goes_here : (client : Client) → slice_get clients at ≡ Some client → slice_get (map of_link clients) at ≡ Some (g client)
-    goes_here client is = slice_get-map of_link clients at ∙ ap (option_map of_link) is ∙ ap (λ (c : Client). Some c) (goes client is)
-
     pub one_goes : (new : Clients) (now : Told) → new.clients.items ≡ set code.clients.items at now → new.homes ≡ code.homes
         → ((client : Client) → slice_get clients at ≡ Some client → IsNumbered setup at now (g client)) → ((client : Client) → (g client).link ≡ client.link)
-        → ((n : ℕ) → contains nat_cmp code.waiting n ≡ true → contains nat_cmp new.waiting n ≡ true)
-        → ((client : Client) → slice_get clients at ≡ Some client → contains nat_cmp new.waiting at ≡ false → IsIdle setup (g client))
         → AreClients setup new (map of_link clients)
-    one_goes new now items homes here keeps kept idle =
+    one_goes new now items homes here keeps =
         clients_on setup code new clients at now are items homes of_link
         (λ client is. subst (λ (c : Client). IsNumbered setup at now c) (sym (goes client is)) (here client is))
         (λ client is. ap (λ (c : Client). c.link) (goes client is) ∙ keeps client)
         stay
-        (waits_on setup clients at of_link stay (contains nat_cmp code.waiting) (contains nat_cmp new.waiting) kept are.waiting
-        (λ client is isnt. subst (IsIdle setup) (sym (goes client is)) (idle client is isnt)))
 
--- one more comes, on a link that was none
+    -- it waits, unless it is idle
+    pub wakes_there : {led : Clients} (waiting : Clients) (now : Told) → Waits led waiting at → led.clients.items ≡ set code.clients.items at now
+        → ((client : Client) → slice_get clients at ≡ Some client → IsNumbered setup at now (g client)) → ((client : Client) → (g client).link ≡ client.link)
+        → (n : ℕ) (client : Client) → slice_get (map of_link clients) n ≡ Some client → is_link_id client.link link ≡ true
+        → is_waiting waiting n ≡ false → IsIdle setup client
+    wakes_there waiting now waits items here keeps n client there same isnt =
+        let place : n ≡ at = sym (number_of at n (at_home (Some at) home keeps n client there same)) in
+        waits.here setup (map of_link clients) client (subst (λ codes. AreTold setup 0 codes (map of_link clients)) (sym items) (goes_told now here))
+        (ap (slice_get (map of_link clients)) (sym place) ∙ there) (ap (is_waiting waiting) (sym place) ∙ isnt)
+
+-- One more comes, on a link that nobody has.
+
 module _ (setup : Setup) (old new waiting : Clients) (clients : List Client) (code : Told) (client : Client) (at : ℕ) (are : AreClients setup old clients) (place : at ≡ length clients)
-    (items : new.clients.items ≡ old.clients.items ++ code ∷ []) (none : is_some (home_at old client.link) ≡ false)
-    (homes : (l : LinkId) → home_at new l ≡ put is_link_id (home_at old) client.link (Some at) l) (is : IsNumbered setup at code client)
-    (waited : new.waiting ≡ old.waiting) (same : waiting ≡ record new { waiting = waiting.waiting }) (waits : Waits new waiting at) where
-  kept : (l : LinkId) (i : ℕ) → home_at old l ≡ Some i → home_at new l ≡ Some i
-  kept l i there = go (is_link_id l client.link) refl
-    where
-      go : (b : Bool) → is_link_id l client.link ≡ b → home_at new l ≡ Some i
-      go true same = apart (ap is_some there) (ap (λ k. is_some (home_at old k)) (same_link l client.link same) ∙ none)
-      go false other = homes l ∙ ap (λ b. if b then Some at else home_at old l) other ∙ there
-
+    (items : new.clients.items ≡ old.clients.items ++ code ∷ []) (is : IsNumbered setup at code client) where
   abbrev all : List Client
   all = clients ++ client ∷ []
 
   told : AreTold setup 0 new.clients.items all
   told = subst (λ codes. AreTold setup 0 codes all) (sym items) (told_more setup 0 at old.clients.items clients code client (omega (arith, place)) are.told is)
 
-  found : AreFound (home_at new) 0 all
-  found = found_more (home_at old) (home_at new) client kept 0 at clients (omega (arith, place))
-      (homes client.link ∙ ap (λ b. if b then Some at else home_at old client.link) (same_number client.link.0)) are.found
-
-  wait : DoWait setup (contains nat_cmp waiting.waiting) all
-  wait n it there isnt = by (last_or_before clients client it n there)
-    where
-      before : (b : Bool) → contains nat_cmp old.waiting n ≡ b → contains nat_cmp old.waiting n ≡ false
-      before true did = apart (waits.kept n (ap (λ w. contains nat_cmp w n) waited ∙ did)) isnt
-      before false did = did
-
-      by : (slice_get clients n ≡ Some it) ⊎ ((n ≡ length clients) × (client ≡ it)) → IsIdle setup it
-      by (inl first) = are.waiting n it first (before (contains nat_cmp old.waiting n) refl)
-      by (inr last) =
-          let here : n ≡ at = last.0 ∙ sym place in
-          waits.here setup all it told (ap (slice_get all) (sym here) ∙ there) (ap (contains nat_cmp waiting.waiting) (sym here) ∙ isnt)
-
-  pub one_comes : AreClients setup waiting all
-  one_comes = record {
+  pub one_comes : is_taken client.link clients ≡ false → ((l : LinkId) → home_at new l ≡ put is_link_id (home_at old) client.link (Some at) l)
+      → waiting ≡ record new { waiting = waiting.waiting } → AreClients setup waiting all
+  one_comes strange homes same = record {
     told = subst (λ (c : Clients). AreTold setup 0 c.clients.items all) (sym same) told;
-    found = subst (λ (c : Clients). AreFound (home_at c) 0 all) (sym same) found;
-    waiting = wait;
+    found = subst (λ (c : Clients). AreFound (home_at c) 0 all) (sym same)
+        (found_more (home_at old) (home_at new) client at homes 0 clients (omega (arith, place)) (each_fails (λ
+        (c : Client). is_link_id c.link client.link) clients strange) are.found);
   }
+
+  -- it waits, unless it is idle
+  pub idle_if : Waits new waiting at → is_waiting waiting (length clients) ≡ false → IsIdle setup client
+  idle_if waits isnt = waits.here setup all client told (ap (slice_get all) place ∙ last_of clients client) (ap (is_waiting waiting) place ∙ isnt)

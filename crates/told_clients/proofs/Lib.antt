@@ -1,3 +1,5 @@
+pub mod Carrying
 pub mod Homes
+pub mod Opening
 pub mod Placing
 pub mod Wiring

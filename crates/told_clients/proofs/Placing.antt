@@ -1,9 +1,13 @@
 -- Clients of a log by their places.
-use Rattle.std.specs.Prelude.{◌≡◌, ◌⊎◌, ◌+◌, ℕ, zero, suc, false, is_some, nat_eq, List, [], ◌∷◌, ◌++◌, length, map, set, drop, slice_get, Option, Some, None}
+use Rattle.std.specs.Prelude.{◌≡◌, ◌<◌, ◌⊎◌, ◌+◌, ◌||◌, ℕ, zero, suc, Bool, true, false, is_some, nat_eq, List, [], ◌∷◌, ◌++◌, length, map, set, drop, slice_get, Option, Some, None, if◌then◌else◌}
+use Rattle.std.specs.List.{list_any}
 use Rattle.std.proofs.Common.{◌∙◌, inl, inr, refl, sym, ap, subst, arith}
+use Rattle.std.proofs.lemmas.Map.Keys.{any_passes_from_place}
 use Rattle.std.proofs.lemmas.Option.{none-some, same_Some}
 use Rattle.mx_base.specs.declared.names.LinkId.{LinkId}
 use Rattle.client_session.specs.Setups.{Setup}
+use Rattle.private_model.proofs.Maps.{same_number}
+use Rattle.private_model.specs.Story.{is_link_id, put}
 use Rattle.log_story.specs.Tale.{Client}
 use Rattle.client_due.specs.Told.{Told}
 use Rattle.told_clients.specs.Clients.{AreFound, AreTold, IsNumbered, IsSeen}
@@ -27,15 +31,21 @@ first_not j = grind arith
 apart_more : (i j : ℕ) → nat_eq i j ≡ false → nat_eq (suc i) (suc j) ≡ false
 apart_more i j is = grind arith
 
+pub false_isnt_true : false ≡ true → ⊥
+false_isnt_true is = cc
+
 pub none_of : {X : Type 0} (o : Option X) → is_some o ≡ false → o ≡ None
 none_of None isnt = refl
 none_of (Some x) isnt = absurd (cc)
 
--- nor is there anything behind the end
-pub none_later : {X : Type 0} (xs : List X) (i : ℕ) → slice_get xs i ≡ None → slice_get xs (suc i) ≡ None
-none_later [] i none = refl
-none_later (x ∷ xs) zero none = absurd (none-some x (sym none))
-none_later (x ∷ xs) (suc i) none = none_later xs i none
+pub some_within : {X : Type 0} (xs : List X) (i : ℕ) → i < length xs → is_some (slice_get xs i) ≡ true
+some_within [] i within = absurd (omega arith)
+some_within (x ∷ xs) zero within = refl
+some_within (x ∷ xs) (suc i) within = some_within xs i (omega arith)
+
+pub last_of : {X : Type 0} (xs : List X) (x : X) → slice_get (xs ++ x ∷ []) (length xs) ≡ Some x
+last_of [] x = refl
+last_of (y ∷ xs) x = last_of xs x
 
 -- what stands behind others is the last, or one of them
 pub last_or_before : {X : Type 0} (xs : List X) (x it : X) (n : ℕ) → slice_get (xs ++ x ∷ []) n ≡ Some it → (slice_get xs n ≡ Some it) ⊎ ((n ≡ length xs) × (x ≡ it))
@@ -47,6 +57,18 @@ last_or_before (y ∷ xs) x it (suc n) is = later (last_or_before xs x it n is)
     later : (slice_get xs n ≡ Some it) ⊎ ((n ≡ length xs) × (x ≡ it)) → (slice_get xs n ≡ Some it) ⊎ ((suc n ≡ suc (length xs)) × (x ≡ it))
     later (inl there) = inl there
     later (inr last) = inr (ap suc last.0, last.1)
+
+-- whether one of them passes a test
+pub none_passes : {X : Type 0} (p : X → Bool) (xs : List X) → ((j : ℕ) (x : X) → slice_get xs j ≡ Some x → p x ≡ false) → list_any p xs ≡ false
+none_passes p [] fails = refl
+none_passes p (x ∷ xs) fails = λ i. fails zero x refl i || none_passes p xs (λ j. fails (suc j)) i
+
+pub each_fails : {X : Type 0} (p : X → Bool) (xs : List X) → list_any p xs ≡ false → (j : ℕ) (x : X) → slice_get xs j ≡ Some x → p x ≡ false
+each_fails p xs none j x is = go (p x) refl
+  where
+    go : (b : Bool) → p x ≡ b → p x ≡ false
+    go true passes = absurd (false_isnt_true (sym none ∙ any_passes_from_place p xs j x is passes))
+    go false fails = fails
 
 pub all_stay : (f : Client → Client) (clients : List Client) → ((j : ℕ) (client : Client) → slice_get clients j ≡ Some client → f client ≡ client) → map f clients ≡ clients
 all_stay f [] stay = refl
@@ -144,9 +166,14 @@ module _ (home : LinkId → Option ℕ) where
   found_on f n [] keeps found = tt
   found_on f n (c ∷ clients) keeps found = (ap home (keeps zero c refl) ∙ found.0, found_on f (suc n) clients (λ j. keeps (suc j)) found.1)
 
-  -- one more comes on a link that was none
-  pub found_more : (other : LinkId → Option ℕ) (client : Client) → ((l : LinkId) (at : ℕ) → home l ≡ Some at → other l ≡ Some at) → (n m : ℕ) (clients : List Client) → m ≡ length clients + n
-      → other client.link ≡ Some m → AreFound home n clients → AreFound other n (clients ++ client ∷ [])
-  found_more other client keeps n m [] at here found = (here ∙ ap (λ k. Some k) (omega (arith, at)), tt)
-  found_more other client keeps n m (c ∷ clients) at here found =
-      (keeps c.link n found.0, found_more other client keeps (suc n) m clients (omega (arith, at)) here found.1)
+-- one more comes on a link that nobody has
+module _ (home other : LinkId → Option ℕ) (client : Client) (m : ℕ) (homes : (l : LinkId) → other l ≡ put is_link_id home client.link (Some m) l) where
+  pub found_more : (n : ℕ) (clients : List Client) → m ≡ length clients + n → ((j : ℕ) (c : Client) → slice_get clients j ≡ Some c
+      → is_link_id c.link client.link ≡ false)
+      → AreFound home n clients → AreFound other n (clients ++ client ∷ [])
+  found_more n [] at strange found =
+      (homes client.link ∙ ap (λ b. if b then Some m else home client.link) (same_number client.link.0) ∙ ap (λ k. Some k) (omega (arith, at)), tt)
+  found_more n (c ∷ clients) at strange found = (
+    homes c.link ∙ ap (λ b. if b then Some m else home c.link) (strange zero c refl) ∙ found.0,
+    found_more (suc n) clients (omega (arith, at)) (λ j. strange (suc j)) found.1,
+  )

@@ -2,6 +2,7 @@
 use Rattle.std.specs.Prelude.{◌≡◌, ◌<◌, ℕ, suc, Bool, true, false, nat_eq, List, [], ◌∷◌, map, slice_get, Option, Some, None, if◌then◌else◌}
 use Rattle.std.specs.BTreeSet.{contains}
 use Rattle.std.specs.HashMap.{get_by}
+use Rattle.std.specs.List.{list_any}
 use Rattle.std.specs.Ordering.{nat_cmp}
 use Rattle.mx_base.specs.declared.names.LinkId.{LinkId}
 use Rattle.client_session.specs.Setups.{Setup}
@@ -40,14 +41,13 @@ home_at code link = get_by (λ key. is_link_id link key) code.homes
 abbrev pub IsIdle : Setup → Client → Type 0
 IsIdle setup client = (plan : Plan) → plan.service ≡ setup → slice_get (messages plan client) client.taken ≡ None
 
--- all others wait
-abbrev pub DoWait : Setup → (waits : ℕ → Bool) → List Client → Type 0
-DoWait setup waits clients = (n : ℕ) (client : Client) → slice_get clients n ≡ Some client → waits n ≡ false → IsIdle setup client
+-- the one at this place is to be looked at
+abbrev pub is_waiting : Clients → (place : ℕ) → Bool
+is_waiting code n = contains nat_cmp code.waiting n
 
 pub record AreClients (setup : Setup) (code : Clients) (clients : List Client) : Type 0 where
   pub told : AreTold setup 0 code.clients.items clients
   pub found : AreFound (home_at code) 0 clients
-  pub waiting : DoWait setup (contains nat_cmp code.waiting) clients
 
 -- so it is where this says no
 abbrev pub RestsUnless : Clients → (at : ℕ) → (waits : Bool) → Type 0
@@ -56,8 +56,8 @@ RestsUnless code at waits = (setup : Setup) (clients : List Client) (client : Cl
 
 -- the one at a place waits, unless it is idle, and so do those that did
 pub record Waits (old new : Clients) (at : ℕ) : Type 0 where
-  pub kept : (n : ℕ) → contains nat_cmp old.waiting n ≡ true → contains nat_cmp new.waiting n ≡ true
-  pub here : RestsUnless old at (contains nat_cmp new.waiting at)
+  pub kept : (n : ℕ) → is_waiting old n ≡ true → is_waiting new n ≡ true
+  pub here : RestsUnless old at (is_waiting new at)
 
 abbrev pub IsBefore : (n : ℕ) → Option ℕ → Type 0
 IsBefore n None = Unit {0}
@@ -66,6 +66,10 @@ IsBefore n (Some at) = n < at
 -- a client goes on as this one
 abbrev pub replaced : Client → List Client → List Client
 replaced client clients = map (λ (other : Client). if is_client other.number client.number then client else other) clients
+
+-- a client has this link
+abbrev pub is_taken : LinkId → List Client → Bool
+is_taken link clients = list_any (λ (client : Client). is_link_id client.link link) clients
 
 abbrev pub is_at : Option ℕ → ℕ → Bool
 is_at None n = false

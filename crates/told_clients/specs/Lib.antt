@@ -1,4 +1,5 @@
 pub mod Clients
+pub mod Carrying
 pub mod Wires
 pub mod Lending
 pub mod Links

@@ -1,12 +1,11 @@
 // The clients of a log.
-ghost use Rattle.std.specs.Prelude.{◌≡◌, ◌<◌, ◌≤◌, ◌+◌, ℕ, true, false, is_some, List, [], ◌∷◌, ◌++◌, suc, length, map, slice_get, Some, None, IfNone, IfOk, IfSome, OnOk, option_copied};
-ghost use Rattle.std.specs.BTreeSet.{contains};
-ghost use Rattle.std.specs.Ordering.{nat_cmp};
+ghost use Rattle.std.specs.Prelude.{◌≡◌, ◌<◌, ◌≤◌, ◌+◌, ◌&&◌, ℕ, true, false, not, nat_eq, List, [], ◌∷◌, ◌++◌, suc, length, map, slice_get, Some, None, IfErr, IfNone, IfOk, IfSome, OnOk, option_copied};
 ghost use Rattle.mx_base.specs.declared.names.LinkId.{LinkId as TheLink};
 ghost use Rattle.client_session.specs.Setups.{Setup as Service};
 ghost use Rattle.private_model.specs.Story.{is_link_id, put as place};
 ghost use Rattle.log_story.specs.Tale.{Client, client_gets, client_hears, new_client};
-ghost use Rattle.told_clients.specs.Clients.{AreClients, AreTold, IsBefore, IsHome, IsIdle, IsSeen, RestsUnless, Waits, home_at, replaced};
+ghost use Rattle.told_clients.specs.declared.fault.Fault.TheVariants as faults;
+ghost use Rattle.told_clients.specs.Clients.{AreClients, AreTold, IsHome, IsIdle, IsSeen, RestsUnless, Waits, home_at, is_taken, is_waiting, replaced};
 
 use crate::Fault;
 use client_due::ToldClient;
@@ -15,12 +14,13 @@ use mx_base::{ClientNo, LinkId, OutOfMemory};
 use std::alloc::Global;
 use std::collections::{BTreeSet, HashMap};
 
-/// The clients of a log in the order in which they came. Their numbers count from 1, and no two have one link.
+/// The clients of a log in the order in which they came, and which of them are to be looked at, since a message of theirs may be taken up.
+/// Their numbers count from 1, and no two have one link.
 #[derive(Drop)]
 pub struct Clients {
     clients: Vec<ToldClient>,
     homes: HashMap<LinkId, usize>,
-    /// The places of those of whom a message is whole that wasn't taken up, and of some others.
+    /// The places of those that are to be looked at.
     waiting: BTreeSet<usize>,
 }
 
@@ -72,7 +72,8 @@ impl Clients {
         self.seat(at)
     }
 
-    /// A client comes on a link, with this salt (client/server protocol, "Connection Phase"); its number. After an error nothing is promised.
+    /// A client comes on a link, with this salt (client/server protocol, "Connection Phase"); its number. It waits, unless it is idle.
+    /// LinkTwice where the link stands for another client. After an error nothing more is promised.
     pub fn accept(
         &mut self,
         alloc: Global,
@@ -83,6 +84,11 @@ impl Clients {
         ensures clients { OnOk result ((clients : List Client) → AreClients setup.now self.old clients
             → AreClients setup.now self.new (clients ++ new_client (length clients + 1) link salt ∷ [])) }
         ensures number { IfOk result (λ number. (clients : List Client) → AreClients setup.now self.old clients → number.0 ≡ length clients + 1) }
+        ensures kept { OnOk result ((n : ℕ) → is_waiting self.old n ≡ true → is_waiting self.new n ≡ true) }
+        ensures here { OnOk result ((clients : List Client) → AreClients setup.now self.old clients → is_waiting self.new (length clients) ≡ false
+            → IsIdle setup.now (new_client (length clients + 1) link salt)) }
+        ensures twice { IfErr result (λ fault. fault ≡ faults.LinkTwice → (clients : List Client) → AreClients setup.now self.old clients
+            → is_taken link clients ≡ true) }
     {
         if self.is_found(link) {
             return Err(Fault::LinkTwice);
@@ -99,9 +105,9 @@ impl Clients {
 
     // Whether a client has this link.
     fn is_found(&self, link: LinkId) -> bool
-        ensures { result ≡ is_some (home_at self.now link) }
+        ensures { (setup : Service) (clients : List Client) → AreClients setup self.now clients → result ≡ is_taken link clients }
     {
-        self.homes.contains_key(&link)
+        self.home(link).is_some()
     }
 
     // A client more stands at this place.
@@ -127,7 +133,17 @@ impl Clients {
         }
     }
 
-    // The client at a place waits, where a message of it is whole that wasn't taken up.
+    /// The client at a place waits, where a message of it is whole that wasn't taken up. After OutOfMemory nothing is promised.
+    pub fn wakes(&mut self, at: usize) -> Result<(), OutOfMemory>
+        ensures clients { OnOk result ((setup : Service) (clients : List Client) → AreClients setup self.old clients → AreClients setup self.new clients) }
+        ensures kept { OnOk result ((n : ℕ) → is_waiting self.old n ≡ true → is_waiting self.new n ≡ true) }
+        ensures here { OnOk result ((setup : Service) (clients : List Client) (client : Client) → AreClients setup self.old clients
+            → slice_get clients at ≡ Some client
+            → is_waiting self.new at ≡ false → IsIdle setup client) }
+    {
+        self.waits(at)
+    }
+
     fn waits(&mut self, at: usize) -> Result<(), OutOfMemory>
         ensures same { self.new ≡ record self.old { waiting = self.new.waiting } }
         ensures waits { OnOk result (Waits self.old self.new at) }
@@ -160,7 +176,7 @@ impl Clients {
         Some(at)
     }
 
-    /// Bytes were read of the client of a link, if there is one. After OutOfMemory nothing is promised.
+    /// Bytes were read of the client of a link, if there is one: it waits, unless it is idle. After OutOfMemory nothing is promised.
     pub fn hears(
         &mut self,
         alloc: Global,
@@ -168,8 +184,12 @@ impl Clients {
         link: LinkId,
         bytes: &[u8],
     ) -> Result<(), OutOfMemory>
-        ensures { OnOk result ((clients : List Client) → AreClients setup.now self.old clients
+        ensures clients { OnOk result ((clients : List Client) → AreClients setup.now self.old clients
             → AreClients setup.now self.new (map (client_hears link bytes.now) clients)) }
+        ensures kept { OnOk result ((n : ℕ) → is_waiting self.old n ≡ true → is_waiting self.new n ≡ true) }
+        ensures here { OnOk result ((clients : List Client) (n : ℕ) (client : Client) → AreClients setup.now self.old clients
+            → slice_get (map (client_hears link bytes.now) clients) n ≡ Some client → is_link_id client.link link ≡ true → is_waiting self.new n ≡ false
+            → IsIdle setup.now client) }
     {
         match self.home(link) {
             None => Ok(()),
@@ -180,49 +200,47 @@ impl Clients {
         }
     }
 
-    /// So many bytes were written to the client of a link, if there is one. Takes no memory.
-    pub fn gets(&mut self, link: LinkId, count: usize)
-        ensures { (setup : Service) (clients : List Client) → AreClients setup self.old clients
-            → AreClients setup self.new (map (client_gets link count) clients) }
+    /// So many bytes were written to the client of a link, if there is one: it waits, unless it is idle. After OutOfMemory nothing is
+    /// promised.
+    pub fn gets(&mut self, link: LinkId, count: usize) -> Result<(), OutOfMemory>
+        ensures clients { OnOk result ((setup : Service) (clients : List Client) → AreClients setup self.old clients
+            → AreClients setup self.new (map (client_gets link count) clients)) }
+        ensures kept { OnOk result ((n : ℕ) → is_waiting self.old n ≡ true → is_waiting self.new n ≡ true) }
+        ensures here { OnOk result ((setup : Service) (clients : List Client) (n : ℕ) (client : Client) → AreClients setup self.old clients
+            → slice_get (map (client_gets link count) clients) n ≡ Some client → is_link_id client.link link ≡ true → is_waiting self.new n ≡ false
+            → IsIdle setup client) }
     {
         match self.home(link) {
-            None => {}
-            Some(at) => self.clients[at].gets(count),
+            None => Ok(()),
+            Some(at) => {
+                self.clients[at].gets(count);
+                self.waits(at)
+            }
         }
     }
 
-    /// The first place from this one on where a client may wait whose message is whole and wasn't taken up; none waits before it. Takes no
-    /// memory.
+    /// The first place from this one on where a client waits. Takes no memory.
     pub fn next_waiting(&self, from: usize) -> Option<usize>
-        ensures waits { IfSome result (λ at. contains nat_cmp self.now.waiting at ≡ true) }
+        ensures waits { IfSome result (λ at. is_waiting self.now at ≡ true) }
         ensures later { IfSome result (λ at. from ≤ at) }
-        ensures rests { (setup : Service) (clients : List Client) (n : ℕ) (client : Client) → AreClients setup self.now clients → from ≤ n → IsBefore n result
-            → slice_get clients n ≡ Some client → IsIdle setup client }
-    {
-        self.next_place(from)
-    }
-
-    fn next_place(&self, from: usize) -> Option<usize>
-        ensures waits { IfSome result (λ at. contains nat_cmp self.now.waiting at ≡ true) }
-        ensures later { IfSome result (λ at. from ≤ at) }
-        ensures least { IfSome result (λ at. (n : ℕ) → from ≤ n → contains nat_cmp self.now.waiting n ≡ true → at ≤ n) }
-        ensures none { IfNone result ((n : ℕ) → from ≤ n → contains nat_cmp self.now.waiting n ≡ false) }
+        ensures least { IfSome result (λ at. (n : ℕ) → from ≤ n → is_waiting self.now n ≡ true → at ≤ n) }
+        ensures none { IfNone result ((n : ℕ) → from ≤ n → is_waiting self.now n ≡ false) }
     {
         self.waiting.range(from..).next().copied()
     }
 
-    /// The client at a place was looked at: it waits no longer, where no message of it is whole that wasn't taken up. Takes no memory.
-    pub fn rests(&mut self, at: usize)
-        ensures { (setup : Service) (clients : List Client) → AreClients setup self.old clients → AreClients setup self.new clients }
+    /// The client at a place waits no longer. Takes no memory.
+    pub fn forget(&mut self, at: usize)
+        ensures clients { (setup : Service) (clients : List Client) → AreClients setup self.old clients → AreClients setup self.new clients }
+        ensures waiting { (n : ℕ) → is_waiting self.new n ≡ (is_waiting self.old n && not (nat_eq at n)) }
     {
-        if !self.has_next(at) {
-            self.waiting.remove(&at);
-        }
+        self.waiting.remove(&at);
     }
 
     /// A message more of the client at this place was taken up. Takes no memory.
     pub fn takes(&mut self, at: usize)
-        ensures { (setup : Service) (clients : List Client) (client : Client) → AreClients setup self.old clients → slice_get clients at ≡ Some client
+        ensures waiting { (n : ℕ) → is_waiting self.new n ≡ is_waiting self.old n }
+        ensures clients { (setup : Service) (clients : List Client) (client : Client) → AreClients setup self.old clients → slice_get clients at ≡ Some client
             → AreClients setup self.new (replaced (record client { taken = suc client.taken }) clients) }
     {
         if at < self.clients.len() {

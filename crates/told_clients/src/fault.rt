@@ -13,6 +13,11 @@ pub enum Fault {
 }
 
 impl From<OutOfMemory> for Fault {
+    ghost use Rattle.std.specs.Prelude.{◌≡◌};
+    ghost use Rattle.told_clients.specs.declared.fault.Fault.TheVariants as faults;
+
+    ghost from_gives = { λ _ fault. fault ≡ faults.OutOfMemory };
+
     fn from(_: OutOfMemory) -> Self {
         Fault::OutOfMemory
     }

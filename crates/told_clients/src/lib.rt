@@ -1,6 +1,7 @@
 //! The clients of a log and its links to servers, in code.
 #![tactic(auto)]
 
+mod carried;
 mod clients;
 mod fault;
 mod links;

@@ -1,6 +1,7 @@
 //! What a router decided of which its log tells nothing, in code: where messages go, what it answered itself, whom it logged in as.
 #![tactic(auto)]
 
+mod begins;
 mod keys;
 mod plan;
 mod route;

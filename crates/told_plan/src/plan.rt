@@ -1,27 +1,30 @@
 // What a router decided.
 ghost use Rattle.std.specs.Prelude.{◌≡◌, ℕ, Some, None, OnOk, option_copied, if◌then◌else◌};
+ghost use Rattle.std.specs.List.{list_any};
 ghost use Rattle.std.specs.Option.{option_map};
 ghost use Rattle.mx_base.specs.declared.names.ClientNo.{ClientNo as TheClient};
 ghost use Rattle.mx_base.specs.declared.names.LinkId.{LinkId as TheLink};
 ghost use Rattle.session_state.specs.declared.names.MessageName.{MessageName};
 ghost use Rattle.private_model.specs.Story.{is_client, is_link_id, is_message, put};
-ghost use Rattle.story_view.specs.Names.{message_of};
+ghost use Rattle.story_view.specs.Names.{message_of, number_of};
 ghost use Rattle.log_story.specs.Plan.{own_at};
 ghost use Rattle.told_link.specs.Forms.{step_of};
+ghost use Rattle.told_plan.specs.Begins.{IsIndexed, is_begun};
 ghost use Rattle.told_plan.specs.Plans.{account_or, is_step_of, own_of, plan_of, route_of, step_or};
 
+use crate::begins::Begins;
 use crate::{OwnAnswer, Route};
 use client_session::Setup;
 use mx_base::{Bytes, ClientNo, LinkId, OutOfMemory};
 use server_side::Account;
 use std::alloc::Global;
 use std::collections::HashMap;
-use story_view::MessageKey;
+use story_view::{MessageKey, Party};
 use told_link::StepText;
 
 /// By what clients log in; how many bytes for a client are unwritten while its messages wait; who logs in on each link to a server;
-/// where each message goes, if it goes to a server; what the router answers itself; at which entry it ends a client, counted from 1; and
-/// which step it is that begins as so many questions were begun on a link.
+/// where each message goes, if it goes to a server; what the router answers itself, and at which entry, counted from 1, which parties'
+/// answers begin; at which entry it ends a client; and which step it is that begins as so many questions were begun on a link.
 #[derive(Drop)]
 pub struct Plan {
     service: Setup,
@@ -30,6 +33,7 @@ pub struct Plan {
     others: Account,
     routes: HashMap<MessageKey, Route>,
     own: HashMap<MessageKey, OwnAnswer>,
+    begins: Begins,
     ends: HashMap<ClientNo, u64>,
     steps: HashMap<StepKey, StepText>,
     other_step: StepText,
@@ -76,6 +80,7 @@ impl Plan {
         ensures own { (m : MessageName) → (plan_of result).own m ≡ None }
         ensures ends { (c : TheClient) → (plan_of result).ends c ≡ None }
         ensures steps { (link : TheLink) (begun : ℕ) → (plan_of result).steps link begun ≡ step_of other_step }
+        ensures indexed { IsIndexed result }
     {
         Plan {
             service,
@@ -84,6 +89,7 @@ impl Plan {
             others,
             routes: HashMap::new(alloc),
             own: HashMap::new(alloc),
+            begins: Begins::new(alloc),
             ends: HashMap::new(alloc),
             steps: HashMap::new(alloc),
             other_step,
@@ -108,6 +114,7 @@ impl Plan {
     pub fn put_login(&mut self, link: LinkId, account: Account) -> Result<(), OutOfMemory>
         ensures logins { OnOk result ((l : TheLink) → (plan_of self.new).logins l ≡ put is_link_id (plan_of self.old).logins link account l) }
         ensures others { plan_of self.new ≡ record (plan_of self.old) { logins = (plan_of self.new).logins } }
+        ensures indexed { IsIndexed self.old → IsIndexed self.new }
     {
         self.logins.insert(link, account)?;
         Ok(())
@@ -118,6 +125,7 @@ impl Plan {
         ensures routes { OnOk result ((m : MessageName) → (plan_of self.new).routes m
             ≡ put is_message (plan_of self.old).routes (message_of message) (Some (route_of route)) m) }
         ensures others { plan_of self.new ≡ record (plan_of self.old) { routes = (plan_of self.new).routes } }
+        ensures indexed { IsIndexed self.old → IsIndexed self.new }
     {
         message.party.fits();
         self.routes.insert(message, route)?;
@@ -129,8 +137,10 @@ impl Plan {
         ensures own { OnOk result ((m : MessageName) → (plan_of self.new).own m
             ≡ put is_message (plan_of self.old).own (message_of message) (Some (own_of answer)) m) }
         ensures others { plan_of self.new ≡ record (plan_of self.old) { own = (plan_of self.new).own } }
+        ensures indexed { OnOk result (IsIndexed self.old → IsIndexed self.new) }
     {
         message.party.fits();
+        self.begins.put(answer.from, message.party)?;
         self.own.insert(message, answer)?;
         Ok(())
     }
@@ -139,6 +149,7 @@ impl Plan {
     pub fn put_end(&mut self, client: ClientNo, at: u64) -> Result<(), OutOfMemory>
         ensures ends { OnOk result ((c : TheClient) → (plan_of self.new).ends c ≡ put is_client (plan_of self.old).ends client (Some at) c) }
         ensures others { plan_of self.new ≡ record (plan_of self.old) { ends = (plan_of self.new).ends } }
+        ensures indexed { IsIndexed self.old → IsIndexed self.new }
     {
         self.ends.insert(client, at)?;
         Ok(())
@@ -149,6 +160,7 @@ impl Plan {
         ensures steps { OnOk result ((l : TheLink) (n : ℕ) → (plan_of self.new).steps l n
             ≡ (if is_step_of l n link begun then step_of step else (plan_of self.old).steps l n)) }
         ensures others { plan_of self.new ≡ record (plan_of self.old) { steps = (plan_of self.new).steps } }
+        ensures indexed { IsIndexed self.old → IsIndexed self.new }
     {
         self.steps.insert(StepKey { link, begun }, step)?;
         Ok(())
@@ -193,6 +205,13 @@ impl Plan {
             return None;
         }
         Some(answer.payloads.as_slice())
+    }
+
+    /// Whose own answers begin at an entry, each as often as answers to it do.
+    pub fn begins(&self, moment: u64) -> &[Party]
+        ensures { (c : TheClient) → list_any (λ party. is_client (number_of party) c) result.now ≡ is_begun self.now moment c }
+    {
+        self.begins.at(moment)
     }
 
     /// At which entry it ends a client, None where it doesn't.
