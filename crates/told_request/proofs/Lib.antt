@@ -1,5 +1,8 @@
 mod Adding
-mod Binding
 mod Finding
 mod Keeping
+pub mod Kept
+mod Preparing
+mod Recounting
 mod Requesting
+pub mod Using

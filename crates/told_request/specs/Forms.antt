@@ -1,12 +1,8 @@
 -- What the code makes, as the definitions' data.
-use Rattle.std.specs.Prelude.{ℕ, Bool, is_some, List, [], Option, option_copied}
+use Rattle.std.specs.Prelude.{ℕ, Bool, is_some, [], option_copied}
 use Rattle.private_model.specs.Commands as model
-use Rattle.private_model.specs.View.{View}
 use Rattle.log_story.specs.Executes as log
-use Rattle.log_story.specs.Executes.{prepared_in}
-use Rattle.log_story.specs.Owed.{name_of}
-use Rattle.log_story.specs.Plan.{Plan, own_at}
-use Rattle.log_story.specs.Tale.{Client}
+use Rattle.log_story.specs.Plan.{own_at}
 use Rattle.story_view.specs.Forms.{command_of}
 use Rattle.told_plan.specs.Plans.{plan_of}
 use Rattle.told_request.specs.declared.asked.Asked.{Asked}
@@ -30,7 +26,3 @@ prepared_of prepared = record { key = prepared.key; params = prepared.params; or
 -- the router itself answered the message of this ordinal
 abbrev pub refused_by : Refusals → (ordinal : ℕ) → Bool
 refused_by refusals i = is_some (own_at (plan_of refusals.plan.now) refusals.moment (record { client = refusals.client; ordinal = i }))
-
--- the preparation that a client's message of this ordinal is, where it is that of a number
-abbrev pub prepared_at : View → Plan → Client → (number ordinal : ℕ) → (payload : List ℕ) → Option log.Prepared
-prepared_at view plan client number ordinal payload = prepared_in number ordinal payload (plan.routes (name_of client ordinal)) (view.replies (name_of client ordinal))

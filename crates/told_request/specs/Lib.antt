@@ -1,2 +1,4 @@
 pub mod Bindings
 pub mod Forms
+pub mod Preparations
+pub mod Uses

@@ -17,7 +17,6 @@ use crate::command_byte::{
     COM_FIELD_LIST, COM_INIT_DB, COM_QUERY, COM_STMT_EXECUTE, COM_STMT_PREPARE,
 };
 use crate::payload::{behind, first_byte};
-use crate::prepared::prepared_by;
 use crate::refusals::Refusals;
 use client_due::{Message, ToldClient};
 use mx_base::{Bytes, OutOfMemory, get_u32};
@@ -110,8 +109,8 @@ fn quit() -> Asked
 ///   router itself had answered at `moment` binds nothing, and nor does what came before the preparation.
 /// - Anything else, and an execute of what isn't prepared, asks for the connection's end.
 ///
-/// What messages before an execute bound is kept in `bindings`, where the next one goes on from it. OutOfMemory where memory is refused: then
-/// nothing is promised of them.
+/// What messages before an execute bound is kept in `bindings`, and which of them are COM_STMT_PREPAREs of which number or are for it, where
+/// the next one goes on from it. OutOfMemory where memory is refused: then nothing is promised of them.
 pub fn requested(
     alloc: Global,
     view: &StoryView,
@@ -135,14 +134,15 @@ pub fn requested(
     let Some(number) = get_u32(payload, 1) else {
         return Ok(quit());
     };
-    let messages = client.messages();
-    let Some(prepared) = prepared_by(view, plan, client.number(), number, messages) else {
+    let (who, messages) = (client.number(), client.messages());
+    let found = bindings.prepared_by(alloc, view, plan, who, number, messages)?;
+    let Some(prepared) = found else {
         return Ok(quit());
     };
     let refusals = Refusals {
         plan,
         moment,
-        client: client.number(),
+        client: who,
     };
     let args = args_kept(
         alloc, bindings, number, prepared, &refusals, messages, ordinal, payload,

@@ -1,10 +1,12 @@
 // What earlier messages bound to a prepared statement.
-ghost use Rattle.std.specs.Prelude.{◌≡◌, drop, if◌then◌else◌, option_copied, suc, [], None, IfOk, OnOk};
+ghost use Rattle.std.specs.Prelude.{◌≡◌, ◌-◌, drop, if◌then◌else◌, option_copied, slice_get, take, [], None, Some, IfOk, OnOk};
 ghost use Rattle.std.specs.Option.{option_map_or, option_or};
 ghost use Rattle.mx_base.specs.Fields.{number_at};
-ghost use Rattle.log_story.specs.Executes.{args_in, bound_after, bound_by, given_in, with_long};
+ghost use Rattle.packet_frame.specs.Packets.{Framed};
+ghost use Rattle.log_story.specs.Executes.{args_in, bound_after, given_in, with_long};
 ghost use Rattle.story_view.specs.Forms.{args_of};
 ghost use Rattle.told_request.specs.Forms.{bound_of, given_of, refused_by};
+ghost use Rattle.told_request.specs.Uses.{between, bound_uses, uses, using};
 
 use crate::command_byte::{COM_STMT_EXECUTE, COM_STMT_RESET, COM_STMT_SEND_LONG_DATA};
 use crate::given::{Given, given_in};
@@ -114,21 +116,27 @@ impl Bound {
         Ok(())
     }
 
-    // What a message binds, where it came behind the preparation.
-    fn take_behind(
+    // What the message of an ordinal binds, where one of its ordinal counts.
+    pub(crate) fn take_at(
         &mut self,
         alloc: Global,
-        is_behind: bool,
+        counts: bool,
         params: u16,
         number: u32,
-        refused: bool,
-        payload: &[u8],
+        refusals: &Refusals<'_>,
+        messages: &[Message],
+        ordinal: u64,
     ) -> Result<(), OutOfMemory>
-        ensures { OnOk result (bound_of self.new ≡ (if is_behind then bound_after params number refused payload.now (bound_of self.old) else bound_of self.old)) }
+        ensures { OnOk result ((message : Framed) → slice_get messages.now (ordinal - 1) ≡ Some message → bound_of self.new
+            ≡ (if counts then bound_after params number (refused_by refusals.now ordinal) message.payload (bound_of self.old) else bound_of self.old)) }
     {
-        if !is_behind {
+        let Some(message) = messages.get(ordinal.saturating_sub(1) as usize) else {
+            return Ok(());
+        };
+        if !counts {
             return Ok(());
         }
+        let (refused, payload) = (refusals.has(ordinal), message.payload.as_slice());
         self.take(alloc, params, number, refused, payload)
     }
 
@@ -148,39 +156,52 @@ impl Bound {
     }
 }
 
-// What messages bind, in order, but for the first of them, so many.
+// Whether it came behind a preparation and before an execute.
+fn is_between(unprepared: u64, ordinal: u64, at: u64) -> bool
+    ensures { result ≡ between unprepared ordinal at }
+{
+    unprepared < at && at < ordinal
+}
+
+// What messages that are for a number bind, those of these ordinals that came before an execute and behind the preparation.
 fn bound_by(
     alloc: Global,
     params: u16,
     number: u32,
-    refusals: &Refusals,
+    refusals: &Refusals<'_>,
     unprepared: u64,
+    ordinals: &[u64],
     messages: &[Message],
+    ordinal: u64,
 ) -> Result<Bound, OutOfMemory>
-    ensures { IfOk result (λ bound. bound_of bound
-        ≡ bound_by params number (refused_by refusals.now) (suc unprepared) (drop unprepared messages.now) (record { types = None; long = [] })) }
+    ensures { IfOk result (λ bound. ordinals.now ≡ using number 1 messages.now → bound_of bound
+        ≡ bound_uses params number (refused_by refusals.now) (between unprepared ordinal) (uses number 1 messages.now) (record { types = None; long = [] })) }
 {
     let mut bound = Bound::new(alloc);
-    for (i, message) in messages.iter().enumerate() {
-        let (at, payload) = (i as u64, message.payload.as_slice());
-        let refused = refusals.has(at + 1);
-        bound.take_behind(alloc, at >= unprepared, params, number, refused, payload)?;
+    for at in ordinals {
+        let counts = is_between(unprepared, ordinal, *at);
+        bound.take_at(alloc, counts, params, number, refusals, messages, *at)?;
     }
     Ok(bound)
 }
 
-// The arguments of an execute behind these messages.
+// The arguments of an execute of this ordinal, before which messages of these were for its number.
 pub(crate) fn args_in(
     alloc: Global,
     params: u16,
     number: u32,
-    refusals: &Refusals,
+    refusals: &Refusals<'_>,
     unprepared: u64,
-    before: &[Message],
+    ordinals: &[u64],
+    messages: &[Message],
+    ordinal: u64,
     payload: &[u8],
 ) -> Result<Args, OutOfMemory>
-    ensures { IfOk result (λ args. args_of args ≡ args_in params number (refused_by refusals.now) unprepared before.now payload.now) }
+    ensures { IfOk result (λ args. ordinals.now ≡ using number 1 messages.now
+        → args_of args ≡ args_in params number (refused_by refusals.now) unprepared (take (ordinal - 1) messages.now) payload.now) }
 {
-    let bound = bound_by(alloc, params, number, refusals, unprepared, before)?;
+    let bound = bound_by(
+        alloc, params, number, refusals, unprepared, ordinals, messages, ordinal,
+    )?;
     bound.args(alloc, given_in(params, payload))
 }

@@ -7,7 +7,9 @@ mod bound;
 mod command_byte;
 mod given;
 mod long_data;
+mod ordinals;
 mod payload;
+mod preparations;
 mod prepared;
 mod refusals;
 

@@ -1,16 +1,19 @@
-use Rattle.std.proofs.Common.{◌∙◌, ap}
-use Rattle.packet_frame.specs.Packets.{Framed}
+use Rattle.std.proofs.Common.{◌∙◌, ap, [], None}
+use Rattle.std.proofs.lemmas.Option.{slice_get-get_or}
 use Rattle.told_request.specs.Forms.{bound_of, refused_by}
-use Rattle.told_request.proofs.Binding.{bound-all, bound-first, bound-more}
+use Rattle.told_request.specs.Uses.{between, bound_uses}
+use Rattle.told_request.proofs.Using.{binds-next, is-next, reads-all}
 use Rattle.told_request.proofs.bound.bound_by.Goals as goal
 
-pub loop-i-init : goal.loop-i-init
-loop-i-init c = bound-first c.args.params c.args.number (refused_by c.args.refusals.now) c.args.unprepared c.args.messages.now (bound_of c.new-bound.result) c.new-bound.ensures
-
-pub loop-i-preserved : goal.loop-i-preserved
-loop-i-preserved c = bound-more c.args.params c.args.number (refused_by c.args.refusals.now) c.args.unprepared c.args.messages.now _ c.loop-i.i
-    c.index-messages-i.result c.loop-i-test.true c.index-messages-i.is c.as_slice-payload.result.now (c.as_slice-payload.ensures ∙ ap (λ (m : Framed). m.payload) c.message.view_is)
-    c.has-refused.result c.has-refused.ensures (bound_of c.loop-i.bound) (bound_of c.take_behind.new.self) c.in_ok-take_behind.ensures c.loop-i.invariant
+pub loop-at-preserved : goal.loop-at-preserved
+loop-at-preserved c = λ listed.
+    binds-next c.args.params c.args.number (refused_by c.args.refusals.now) (between c.args.unprepared c.args.ordinal) c.args.messages.now c.loop-at.at-index _
+    (is-next c.args.number c.args.messages.now c.args.ordinals.now c.loop-at.at-index _ listed
+    (slice_get-get_or c.args.ordinals.now c.loop-at.at-index 0 c.loop-at-test.true))
+    _ c.is_between-counts.ensures (bound_of c.loop-at.bound) (bound_of c.take_at.new.self) (record { types = None; long = [] }) c.in_ok-take_at.ensures
+    (c.loop-at.invariant listed)
 
 pub returns : goal.returns
-returns c = bound-all c.args.params c.args.number (refused_by c.args.refusals.now) c.args.unprepared c.args.messages.now _ c.loop-i.i (bound_of c.loop-i.bound) c.loop-i-test.false c.loop-i.invariant
+returns c = λ listed. c.loop-at.invariant listed
+    ∙ ap (λ these. bound_uses c.args.params c.args.number (refused_by c.args.refusals.now) (between c.args.unprepared c.args.ordinal) these
+    (record { types = None; long = [] })) (reads-all c.args.number c.args.messages.now c.args.ordinals.now c.loop-at.at-index listed c.loop-at-test.false)
