@@ -1,9 +1,10 @@
 -- What is kept of what messages bound stays right as a log goes on.
-use Rattle.std.specs.Prelude.{◌≡◌, ◌⊎◌, ◌+◌, ◌<◌, ◌≤◌, ℕ, zero, suc, Bool, true, false, not, is_some, nat_eq, nat_le, ◌&&◌, ◌||◌, if◌then◌else◌, List, [], ◌∷◌, ◌++◌, drop, length, map, slice_get, take, Option, Some, None}
+use Rattle.std.specs.Prelude.{◌≡◌, ◌⊎◌, ◌+◌, ◌<◌, ◌≤◌, ℕ, suc, Bool, true, false, not, is_some, nat_le, nat_lt, ◌&&◌, ◌||◌}
+use Rattle.std.specs.Prelude.{if◌then◌else◌, List, [], ◌∷◌, ◌++◌, length, map, slice_get, take, Option, Some, None}
 use Rattle.std.specs.Option.{option_and_then, option_map}
 use Rattle.std.proofs.Common.{◌∙◌, inl, inr, refl, sym, ap, subst, arith, append-nil}
 use Rattle.std.proofs.lemmas.Bool.Decides.{nat_tests}
-use Rattle.std.proofs.lemmas.List.{drop-append-le, length-append, length-map, length-take, take-append-le}
+use Rattle.std.proofs.lemmas.List.{length-append, length-map, take-append-le}
 use Rattle.std.proofs.lemmas.Option.{none-some, same_Some, slice_get-map, slice_get_within}
 use Rattle.mx_base.specs.declared.names.ClientNo.{ClientNo}
 use Rattle.packet_frame.specs.Packets.{Framed, Split, grown, split}
@@ -14,18 +15,23 @@ use Rattle.client_side.specs.Laws.{opening-says-more}
 use Rattle.client_side.specs.Login.{Fails, Opening, Says, Waits}
 use Rattle.client_session.specs.Accounts.{account_of}
 use Rattle.client_session.specs.Answers.{Talk, client_messages, commands_in, heard_more, if_known, messages_of, opening_of}
-use Rattle.private_model.proofs.Maps.{number_of, same_number}
-use Rattle.private_model.specs.Story.{is_client, is_link_id}
-use Rattle.log_story.specs.Executes.{Bound, bound_after, bound_by}
+use Rattle.private_model.proofs.Maps.{number_of}
+use Rattle.private_model.specs.Story.{is_client}
+use Rattle.log_story.specs.Executes.{Bound, bound_after}
 use Rattle.log_story.specs.Owed.{messages, talk_of}
-use Rattle.log_story.specs.Plan.{OwnAnswer, Plan, own_at}
-use Rattle.log_story.specs.Tale.{Client, client_hears, new_client}
-use Rattle.told_clients.specs.Clients.{AreClients, IsNumbered, replaced}
+use Rattle.log_story.specs.Plan.{OwnAnswer, Plan}
+use Rattle.log_story.specs.Tale.{Client}
+use Rattle.told_clients.specs.Clients.{AreClients}
 use Rattle.told_clients.specs.declared.clients.Clients.{Clients}
 use Rattle.told_clients.proofs.Placing.{last_or_before, number_at}
-use Rattle.told_request.specs.Bindings.{AreBindings, BindsOn, IsBinding, behind_it, binding_at, is_settled, nothing, refuses}
+use Rattle.told_request.proofs.Kept.{kept-none, kept-same}
+use Rattle.told_request.proofs.Using.{both-true, uses-append}
+use Rattle.told_request.specs.Bindings.{AreBindings, BindsOn, IsBinding, are_settled, first_uses, is_settled, nothing, refuses}
+use Rattle.told_request.specs.Preparations.{AreSeen, listed, seen_at}
+use Rattle.told_request.specs.Uses.{Use, bound_use, bound_uses, uses}
 use Rattle.told_request.specs.declared.bindings.Binding.{Binding}
 use Rattle.told_request.specs.declared.bindings.Bindings.{Bindings}
+use Rattle.told_request.specs.declared.preparations.Preparations.{Preparations}
 use Rattle.told_tale.specs.Bound.{AreBound}
 
 -- The messages of a client grow as more is read of it.
@@ -68,57 +74,46 @@ module _ (talk : Talk) (more : List ℕ) where
 
 -- What was bound is bound by the same messages of more.
 
-behind-grows : (count ordinal : ℕ) (was now : List Framed) → Grows was now → count ≤ length (drop ordinal was) → behind_it count ordinal now ≡ behind_it count ordinal was
-behind-grows zero ordinal was now grows within = refl
-behind-grows (suc count) ordinal was now grows within =
-    ap (λ all. take (suc count) (drop ordinal all)) grows.is ∙ ap (take (suc count)) (drop-append-le ordinal was grows.later (inside ordinal was within))
-    ∙ take-append-le (suc count) (drop ordinal was) grows.later within
-  where
-    inside : (u : ℕ) (xs : List Framed) → suc count ≤ length (drop u xs) → u ≤ length xs
-    inside zero xs some = omega arith
-    inside (suc u) [] some = absurd (omega (arith, some))
-    inside (suc u) (x ∷ xs) some = let rest = inside u xs some in omega (arith, rest)
+uses-grow : (number : ℕ) (was now : List Framed) → Grows was now → (count : ℕ) → count ≤ length (uses number 1 was)
+    → first_uses count number now ≡ first_uses count number was
+uses-grow number was now grows count within =
+    ap (λ all. take count (uses number 1 all)) grows.is ∙ ap (take count) (uses-append number 1 was grows.later)
+    ∙ take-append-le count (uses number 1 was) (uses number (1 + length was) grows.later) within
 
-within-grows : (count ordinal : ℕ) (was now : List Framed) → Grows was now → count ≤ length (drop ordinal was) → count ≤ length (drop ordinal now)
-within-grows zero ordinal was now grows within = omega arith
-within-grows (suc count) ordinal was now grows within = subst (λ all. suc count ≤ length (drop ordinal all)) (sym grows.is) (longer ordinal was within)
-  where
-    longer : (u : ℕ) (xs : List Framed) → suc count ≤ length (drop u xs) → suc count ≤ length (drop u (xs ++ grows.later))
-    longer zero xs some = let all = length-append xs grows.later in omega (arith, some, all)
-    longer (suc u) [] some = absurd (omega (arith, some))
-    longer (suc u) (x ∷ xs) some = longer u xs some
+more-uses : (number : ℕ) (was now : List Framed) → Grows was now → length (uses number 1 was) ≤ length (uses number 1 now)
+more-uses number was now grows =
+    let size = length-append (uses number 1 was) (uses number (1 + length was) grows.later) in
+    let all = ap (λ (these : List Use). length these) (ap (uses number 1) grows.is ∙ uses-append number 1 was grows.later) in
+    omega (arith, size, all)
 
 module _ (plan : Plan) (moment : ℕ) (c : ClientNo) where
   binding-grows : (number : ℕ) (was now : List Framed) (code : Binding) → Grows was now → IsBinding plan moment c number was code → IsBinding plan moment c number now code
   binding-grows number was now code grows is = record {
-    within = within-grows code.count code.ordinal was now grows is.within;
-    settled = is.settled;
-    bound = is.bound ∙ ap (λ all. bound_by code.params number (refuses plan moment c) (suc code.ordinal) all nothing) (sym (behind-grows code.count code.ordinal was now grows is.within));
+    within = let inside = is.within in let more = more-uses number was now grows in omega (arith, inside, more);
+    settled = ap (are_settled plan moment c) same ∙ is.settled;
+    bound = is.bound ∙ ap (λ (these : List Use). bound_uses code.params number (refuses plan moment c) (nat_lt code.ordinal) these nothing) (sym same);
+  }
+    where
+      same : first_uses code.count number now ≡ first_uses code.count number was
+      same = uses-grow number was now grows code.count is.within
+
+  seen-grows : (was now : List Framed) (code : Preparations) → Grows was now → AreSeen plan c was code → AreSeen plan c now code
+  seen-grows was now code grows are = record {
+    within = subst (λ all. seen_at code c ≤ length all) (sym grows.is) (let size = length-append was grows.later in let inside = are.within in omega (arith, size, inside));
+    lists = λ number. are.lists number
+        ∙ ap (listed plan c number) (sym (ap (take (seen_at code c)) grows.is ∙ take-append-le (seen_at code c) was grows.later are.within));
   }
 
   pub bindings-grow : (was now : List Framed) (code : Bindings) → Grows was now → AreBindings plan moment c was code → AreBindings plan moment c now code
-  bindings-grow was now code grows are number binding at = binding-grows number was now binding grows (are number binding at)
+  bindings-grow was now code grows are = record {
+    bindings = λ number binding at. binding-grows number was now binding grows (are.bindings number binding at);
+    seen = seen-grows was now code.preparations grows are.seen;
+  }
 
 -- An entry more leaves what is settled.
 
 le-more : (n m : ℕ) → nat_le n m ≡ true → nat_le n (suc m) ≡ true
 le-more n m is = grind (arith, is, nat_tests)
-
-bound-same : (params number : ℕ) (old new : ℕ → Bool) (i : ℕ) (xs : List Framed) (bound : Bound) → ((k : ℕ) → k < length xs → new (i + k) ≡ old (i + k))
-    → bound_by params number new i xs bound ≡ bound_by params number old i xs bound
-bound-same params number old new i [] bound same = refl
-bound-same params number old new i (x ∷ xs) bound same =
-    ap (λ b. bound_by params number new (suc i) xs (bound_after params number b x.payload bound)) (here ∙ same 0 (omega arith) ∙ sym (ap old first))
-    ∙ bound-same params number old new (suc i) xs (bound_after params number (old i) x.payload bound) (λ k below. ap new (next k) ∙ same (suc k) (omega (arith, below)) ∙ ap old (sym (next k)))
-  where
-    first : i ≡ i + 0
-    first = omega arith
-
-    here : new i ≡ new (i + 0)
-    here = ap new first
-
-    next : (k : ℕ) → suc i + k ≡ i + suc k
-    next k = omega arith
 
 module _ (plan : Plan) (moment : ℕ) (c : ClientNo) where
   abbrev own_by : Option OwnAnswer → ℕ → Option (List (List ℕ))
@@ -145,25 +140,43 @@ module _ (plan : Plan) (moment : ℕ) (c : ClientNo) where
   settled-later : (i : ℕ) → is_settled plan moment c i ≡ true → (is_settled plan (suc moment) c i ≡ true) × (refuses plan (suc moment) c i ≡ refuses plan moment c i)
   settled-later i is = later-by (plan.own (record { client = c; ordinal = i })) is
 
+  all-settled-later : (these : List Use) → are_settled plan moment c these ≡ true → are_settled plan (suc moment) c these ≡ true
+  all-settled-later [] is = refl
+  all-settled-later (one ∷ these) is =
+      let parts = both-true (is_settled plan moment c one.ordinal) (are_settled plan moment c these) is in
+      ap (λ b. b && are_settled plan (suc moment) c these) (settled-later one.ordinal parts.0).0 ∙ all-settled-later these parts.1
+
+  module _ (params number : ℕ) (counts : ℕ → Bool) where
+    one-same : (b old new : Bool) (payload : List ℕ) (bound : Bound) → new ≡ old
+        → (if b then bound_after params number new payload bound else bound) ≡ (if b then bound_after params number old payload bound else bound)
+    one-same b old new payload bound same = ap (λ r. if b then bound_after params number r payload bound else bound) same
+
+    uses-later : (these : List Use) (bound : Bound) → are_settled plan moment c these ≡ true
+        → bound_uses params number (refuses plan (suc moment) c) counts these bound ≡ bound_uses params number (refuses plan moment c) counts these bound
+    uses-later [] bound is = refl
+    uses-later (one ∷ these) bound is =
+        let parts = both-true (is_settled plan moment c one.ordinal) (are_settled plan moment c these) is in
+        ap (bound_uses params number (refuses plan (suc moment) c) counts these)
+        (one-same (counts one.ordinal) (refuses plan moment c one.ordinal) (refuses plan (suc moment) c one.ordinal) one.payload bound
+        (settled-later one.ordinal parts.0).1)
+        ∙ uses-later these (bound_use params number (refuses plan moment c) counts one bound) parts.1
+
   binding-later : (number : ℕ) (these : List Framed) (code : Binding) → IsBinding plan moment c number these code → IsBinding plan (suc moment) c number these code
   binding-later number these code is = record {
     within = is.within;
-    settled = λ i below. (settled-later (suc (code.ordinal + i)) (is.settled i below)).0;
-    bound = is.bound ∙ sym (bound-same code.params number (refuses plan moment c) (refuses plan (suc moment) c) (suc code.ordinal) (behind_it code.count code.ordinal these) nothing same);
+    settled = all-settled-later (first_uses code.count number these) is.settled;
+    bound = is.bound ∙ sym (uses-later code.params number (nat_lt code.ordinal) (first_uses code.count number these) nothing is.settled);
   }
-    where
-      same : (k : ℕ) → k < length (behind_it code.count code.ordinal these) → refuses plan (suc moment) c (suc code.ordinal + k) ≡ refuses plan moment c (suc code.ordinal + k)
-      same k below =
-          let size = length-take code.count (drop code.ordinal these) in
-          let place : suc (code.ordinal + k) ≡ suc code.ordinal + k = omega arith in
-          subst (λ n. refuses plan (suc moment) c n ≡ refuses plan moment c n) place (settled-later (suc (code.ordinal + k)) (is.settled k (omega (arith, below, size)))).1
 
 -- All that is kept.
 
 module _ (plan : Plan) (moment : ℕ) (code : Bindings) (clients : List Client) (are : AreBound plan moment code clients) where
   pub bound-later : AreBound plan (suc moment) code clients
   bound-later = record {
-    here = λ n client there number binding at. binding-later plan moment client.number number (messages plan client) binding (are.here n client there number binding at);
+    here = λ n client there. record {
+      bindings = λ number binding at. binding-later plan moment client.number number (messages plan client) binding ((are.here n client there).bindings number binding at);
+      seen = (are.here n client there).seen;
+    };
     none = are.none;
   }
 
@@ -192,8 +205,8 @@ module _ (plan : Plan) (moment : ℕ) (code : Bindings) (clients : List Client) 
     where
       by : (n : ℕ) (it : Client) → (slice_get clients n ≡ Some it) ⊎ ((n ≡ length clients) × (client ≡ it)) → AreBindings plan moment it.number (messages plan it) code
       by n it (inl first) = are.here n it first
-      by n it (inr last) = λ number binding at. absurd (none-some binding (sym (are.none it.number number
-          (let number_is : it.number.0 ≡ suc (length clients) = sym (ap (λ (c : Client). c.number.0) last.1) ∙ numbered in omega (arith, number_is))) ∙ at))
+      by n it (inr last) = kept-none plan moment it.number (messages plan it) code (λ number. are.none it.number number
+          (let number_is : it.number.0 ≡ suc (length clients) = sym (ap (λ (c : Client). c.number.0) last.1) ∙ numbered in omega (arith, number_is)))
 
   -- what is kept of one client goes on
   pub bound-binds : (service : Clients) (told : AreClients plan.service service clients) (new : Bindings) (at : ℕ) (client : Client) → slice_get clients at ≡ Some client
@@ -220,7 +233,7 @@ module _ (plan : Plan) (moment : ℕ) (code : Bindings) (clients : List Client) 
           let place : n ≡ at = omega (arith, its, one, numbered) in
           let is : client ≡ it = same_Some client it (sym here ∙ ap (slice_get clients) (sym place) ∙ there) in
           subst (λ (c : Client). AreBindings plan moment c.number (messages plan c) new) is (binds.mine (are.here at client here))
-      by n it there false other = λ number binding at_new. are.here n it there number binding (sym (binds.others it.number number other) ∙ at_new)
+      by n it there false other = kept-same plan moment it.number (messages plan it) code new (λ number. binds.others it.number number other) (are.here n it there)
 
 pub hears-on : (plan : Plan) (link_bytes : List ℕ) (hears : Bool) (client : Client)
     → ((if hears then record client { read = client.read ++ link_bytes } else client).number ≡ client.number)

@@ -13,8 +13,8 @@ use Rattle.session_state.specs.declared.names.SessionName.{SessionName}
 use Rattle.session_state.specs.declared.names.MessageName.{MessageName}
 use Rattle.private_model.proofs.Maps.{number_of, same_number}
 use Rattle.private_model.specs.Commands.{Command, Quit, Reply}
-use Rattle.private_model.specs.Story.{Capture, End, Happening, Left, Own, Prep, Question, Sent, Statement, Story, Sync, is_client, is_link_id, put}
-use Rattle.private_model.specs.View.{Answered, Asked, Carried, Joined, Lent, Link, Nobody, Quiet, Setup, Stage, View, asked, closed_number, heard, present, ran_by, session_in, view_after, view_heard}
+use Rattle.private_model.specs.Story.{Capture, End, Happening, Left, Own, Prep, Question, Sent, Statement, Story, Sync, is_client, put}
+use Rattle.private_model.specs.View.{Answered, Asked, Carried, Joined, Lent, Link, Nobody, Quiet, Setup, Stage, View, asked, present, ran_by, session_in, view_after, view_heard}
 use Rattle.server_rule.specs.Classes.{Reads}
 use Rattle.client_due.proofs.Counting.{counted-first, counted-later}
 use Rattle.client_due.specs.Counting.{IsCounted, name_at}
@@ -108,24 +108,6 @@ heard-keeps setup view link reply (Answered (Own command)) m other = refl
 heard-keeps setup view link reply (Answered (End n)) m other = refl
 heard-keeps setup view link reply (Answered (Capture n)) m other = refl
 
--- as one link is put, another stays
-pub other-stays : (links : LinkId → Link) (link : LinkId) (x : Link) (l : LinkId) → is_link_id l link ≡ false → put is_link_id links link x l ≡ links l
-other-stays links link x l other = ap (λ b. if b then x else links l) other
-
--- a reply is one of its link alone
-pub heard-others : (setup : Setup) (view : View) (link : LinkId) (reply : Reply) (stage : Stage) (l : LinkId) → is_link_id l link ≡ false
-    → (view_heard setup view link reply stage).links l ≡ view.links l
-heard-others setup view link reply Quiet l other = refl
-heard-others setup view link reply (Asked question) l other = refl
-heard-others setup view link reply (Answered question) l other = other-stays view.links link (heard setup.reads question reply (view.links link)) l other
-
-pub run-others : (setup : Setup) (stage : Stage) (link : LinkId) (tale : Tale) (l : LinkId) → is_link_id l link ≡ false
-    → link_in setup (runs_first stage link tale) l ≡ link_in setup tale l
-run-others setup (Asked question) link tale l other =
-    let there = link_in setup tale link in other-stays (view_of setup tale).links link (ran_by setup.reads there.alive there.stage there) l other
-run-others setup Quiet link tale l other = refl
-run-others setup (Answered question) link tale l other = refl
-
 -- what runs leaves the message that is asked, and all replies
 ran-asks : (reads : Reads) (alive : Bool) (stage : Stage) (link : Link) → link.stage ≡ stage → message_in (ran_by reads alive stage link).stage ≡ message_in stage
 ran-asks reads true (Asked question) link is = refl
@@ -162,11 +144,7 @@ module _ (setup : Setup) (link : LinkId) (tale : Tale) where
       heard-keeps setup (view_of setup (with_run setup link tale)) link reply (link_in setup (with_run setup link tale) link).stage m (ap (λ asked. is_asked asked m) run-asks ∙ other)
       ∙ ap (λ (replies : MessageName → Option Reply). replies m) (run-leaves setup there.stage link tale)
 
--- No happening by which a question begins is a reply, or is one of another link.
-
-pub record Stays (link : LinkId) (old new : View) : Type 0 where
-  pub replies : new.replies ≡ old.replies
-  pub others : (l : LinkId) → is_link_id l link ≡ false → new.links l ≡ old.links l
+-- No happening by which a question begins is a reply.
 
 module _ (setup : Setup) (story : Story) where
   module _ (plan : Plan) (view : View) (link : LinkId) where
@@ -174,16 +152,16 @@ module _ (setup : Setup) (story : Story) where
     before_it = view_after setup story
 
     abbrev Silent : List Happening → Type 0
-    Silent happenings = Stays link before_it (view_after setup (happenings ++ story))
+    Silent happenings = (view_after setup (happenings ++ story)).replies ≡ before_it.replies
 
     sent : (question : Question) → Silent (Sent link question ∷ [])
-    sent question = record { replies = refl; others = other-stays before_it.links link (asked question (before_it.links link)) }
+    sent question = refl
 
     sent_as_left : (client : ClientNo) (question : Question) → Silent (Left client ∷ Sent link question ∷ [])
-    sent_as_left client question = record { replies = refl; others = other-stays before_it.links link (asked question (before_it.links link)) }
+    sent_as_left client question = refl
 
     nothing : Silent []
-    nothing = record { replies = refl; others = λ l other. refl }
+    nothing = refl
 
     routed-silent : (client : ClientNo) (ordinal : ℕ) (happens : Route → List Happening) → ((route : Route) → Silent (happens route)) → Silent (routed plan link client ordinal happens)
     routed-silent client ordinal happens silent = by (plan.routes (record { client = client; ordinal = ordinal }))
@@ -194,7 +172,7 @@ module _ (setup : Setup) (story : Story) where
 
     stepped-silent : (question : Command → Question) (step : StepText) → Silent (stepped link question step)
     stepped-silent question (Asks command) = sent (question command)
-    stepped-silent question (Closes number) = record { replies = refl; others = other-stays before_it.links link (closed_number number (before_it.links link)) }
+    stepped-silent question (Closes number) = refl
     stepped-silent question (Resets number) = nothing
 
     copy-silent : (n : SessionName) (carries : Carried) → Silent (copy_by view link n carries)

@@ -1,47 +1,17 @@
 -- A fold goes on over what a tale has.
-use Rattle.std.specs.Prelude.{◌≡◌, ◌+◌, ◌-◌, ◌<◌, ◌≤◌, ℕ, zero, suc, Bool, true, false, List, [], ◌∷◌, fold, drop, get_or, length, slice_get, Option, Some, None}
+use Rattle.std.specs.Prelude.{◌≡◌, ◌+◌, ◌-◌, ◌<◌, ◌≤◌, ℕ, zero, suc, Bool, true, false, List, [], ◌∷◌, fold, drop, length, slice_get, Option, Some, None}
+use Rattle.std.specs.Option.{option_map_or}
 use Rattle.std.proofs.Common.{◌∙◌, refl, sym, ap, subst, arith}
 use Rattle.std.proofs.lemmas.List.{drop_all}
-use Rattle.std.proofs.lemmas.Option.{none-some, same_Some, slice_get_read}
-use Rattle.client_due.specs.Told.{Told as Code}
-use Rattle.client_session.specs.Setups.{Setup as Service}
+use Rattle.std.proofs.lemmas.Option.{none-some, same_Some}
 use Rattle.private_model.specs.Commands.{Step}
 use Rattle.private_model.specs.View.{Setup}
-use Rattle.log_story.specs.Tale.{Client, Tale}
-use Rattle.told_story.specs.Tells.{IsTold}
-use Rattle.told_story.specs.declared.told.Told.{Told}
-use Rattle.told_clients.specs.Clients.{AreTold, IsNumbered}
-use Rattle.told_clients.proofs.Placing.{same_count, there_at}
-use Rattle.told_tale.specs.Steps.{IsFolding, IsLed}
-
-module _ {R : Type 0} (stored : R → List ℕ) (step : Step) (setup : Setup) where
-  pub led_first : (code : Told R) (tale : Tale) → IsTold stored step setup code tale.story → IsLed stored step setup code tale tale
-  led_first code tale told = record { same = refl; told = told; keeps = refl; idles = λ l is. is }
-
-  pub led_more : (mid new : Told R) (tale at next : Tale) → IsLed stored step setup mid tale at → IsLed stored step setup new at next → IsLed stored step setup new tale next
-  led_more mid new tale at next first then = record {
-    same = then.same ∙ ap (λ (t : Tale). record t { story = next.story }) first.same;
-    told = then.told;
-    keeps = then.keeps ∙ first.keeps;
-    idles = λ l is. then.idles l (first.idles l is);
-  }
-
-  module _ {X : Type 0} (f : Tale → X → Tale) (all : List X) (tale : Tale) where
-    pub folds_first : (code : Told R) → IsTold stored step setup code tale.story → IsFolding stored step setup code f all 0 tale
-    folds_first code told = record { at = tale; led = led_first code tale told; rest = refl }
-
-    pub folds_more : (mid new : Told R) (i : ℕ) (x : X) (so_far : IsFolding stored step setup mid f all i tale) → drop i all ≡ x ∷ drop (i + 1) all
-        → IsLed stored step setup new so_far.at (f so_far.at x) → IsFolding stored step setup new f all (i + 1) tale
-    folds_more mid new i x so_far here led = record {
-      at = f so_far.at x;
-      led = led_more mid new tale so_far.at (f so_far.at x) so_far.led led;
-      rest = so_far.rest ∙ ap (fold f so_far.at) here;
-    }
-
-    pub folded : (code : Told R) (i : ℕ) → length all ≤ i → IsFolding stored step setup code f all i tale → IsLed stored step setup code tale (fold f tale all)
-    folded code i past so_far =
-        let done : fold f tale all ≡ so_far.at = so_far.rest ∙ ap (fold f so_far.at) (drop_all i all past) in
-        subst (λ (t : Tale). IsLed stored step setup code tale t) (sym done) so_far.led
+use Rattle.log_story.specs.Plan.{Plan}
+use Rattle.log_story.specs.Tale.{Tale}
+use Rattle.told_tale.specs.Folding.{IsFolded}
+use Rattle.told_tale.specs.Standing.{IsTale}
+use Rattle.told_tale.specs.Steps.{at_place}
+use Rattle.told_tale.specs.declared.tale.ToldTale.{ToldTale}
 
 -- What a fold does nothing with is passed over.
 
@@ -85,22 +55,47 @@ module _ {S X : Type 0} (f : S → X → S) (all : List X) (now : S) where
   pub skip_rest : (i : ℕ) → ((n : ℕ) (x : X) → i ≤ n → slice_get all n ≡ Some x → f now x ≡ now) → fold f now (drop i all) ≡ now
   skip_rest i stays = skip (length all) i (λ n x from inside. stays n x from) ∙ ap (fold f now) (drop_all (i + length all) all (omega arith))
 
--- a fold over clients comes to the next
-module _ {R : Type 0} (stored : R → List ℕ) (step : Step) (setup : Setup) (service : Service) (f : Tale → Client → Tale) (codes : List Code) (tale : Tale)
-    (are : AreTold service 0 codes tale.clients) where
-  pub clients_more : (mid new : Told R) (i : ℕ) (code : Code) → i < length codes → code ≡ get_or codes i code → (so_far : IsFolding stored step setup mid f tale.clients i tale)
-      → ((client : Client) → IsNumbered service i code client → IsLed stored step setup new so_far.at (f so_far.at client))
-      → IsFolding stored step setup new f tale.clients (i + 1) tale
-  clients_more mid new i code inside here so_far leads =
-      let there = there_at service 0 i codes tale.clients i code (omega arith) are (slice_get_read codes (length codes) i code refl inside here) in
-      folds_more stored step setup f tale.clients tale mid new i there.client so_far there.rest (leads there.client there.told)
+-- Something is done with what stands at each place, one after the other.
+module _ {R X : Type 0} (stored : R → List ℕ) (step : Step) (setup : Setup) (plan : Plan) (of : Tale → List X) (f : Tale → X → Tale) (stays : (t : Tale) (x : X) → of (f t x) ≡ of t) (tale : Tale) where
+  pub folded_first : (code : ToldTale R) → IsTale stored step setup plan code tale → IsFolded stored step setup plan code of f 0 tale
+  folded_first code is = record { now = tale; stands = is; same = refl; rest = refl }
 
-  pub clients_all : (code : Told R) (i : ℕ) → length codes ≤ i → IsFolding stored step setup code f tale.clients i tale → IsLed stored step setup code tale (fold f tale tale.clients)
-  clients_all code i past so_far = folded stored step setup f tale.clients tale code i (omega (arith, past, same_count service 0 codes tale.clients are)) so_far
+  module _ (old : ToldTale R) (i : ℕ) (so_far : IsFolded stored step setup plan old of f i tale) where
+    abbrev now : Tale
+    now = so_far.now
 
--- what a fold leaves
-pub same_moment : {R : Type 0} (stored : R → List ℕ) (step : Step) (setup : Setup) (code : Told R) (old new : Tale) → IsLed stored step setup code old new → new.moment ≡ old.moment
-same_moment stored step setup code old new led = ap (λ (t : Tale). t.moment) led.same
+    is_now : (n : ℕ) (o : Option X) → slice_get (of tale) n ≡ o → slice_get (of now) n ≡ o
+    is_now n o is = ap (λ all. slice_get all n) so_far.same ∙ is
+
+    abbrev by_place : Option X → Tale
+    by_place o = option_map_or (f now) o now
+
+    pub folded_more : (new : ToldTale R) (at : ℕ) → i ≤ at → ((n : ℕ) (x : X) → i ≤ n → n < at → slice_get (of now) n ≡ Some x → f now x ≡ now)
+        → IsTale stored step setup plan new (at_place of f at now) → IsFolded stored step setup plan new of f (at + 1) tale
+    folded_more new at later passes stands = record {
+      now = at_place of f at now;
+      stands = stands;
+      same = kept (slice_get (of now) at) ∙ so_far.same;
+      rest = so_far.rest ∙ skip_to f (of tale) now i at later (λ n x from inside here. passes n x from inside (is_now n (Some x) here)) ∙ by (slice_get (of tale) at) refl;
+    }
+      where
+        kept : (o : Option X) → of (by_place o) ≡ of now
+        kept None = refl
+        kept (Some x) = stays now x
+
+        by : (o : Option X) → slice_get (of tale) at ≡ o → fold f now (drop at (of tale)) ≡ fold f (at_place of f at now) (drop (at + 1) (of tale))
+        by None none =
+            let past = past_at (of tale) at none in
+            ap (fold f now) (drop_all at (of tale) past) ∙ sym (ap by_place (is_now at None none)) ∙ sym (ap (fold f (at_place of f at now)) (drop_all (at + 1) (of tale) (omega (arith, past))))
+        by (Some x) here = ap (fold f now) (drop_at (of tale) at x here) ∙ ap (λ t. fold f t (drop (at + 1) (of tale))) (sym (ap by_place (is_now at (Some x) here)))
+
+    pub folded_done : ((n : ℕ) (x : X) → i ≤ n → slice_get (of now) n ≡ Some x → f now x ≡ now) → IsTale stored step setup plan old (fold f tale (of tale))
+    folded_done passes = subst (IsTale stored step setup plan old) (sym (so_far.rest ∙ skip_rest f (of tale) now i (λ n x from here. passes n x from (is_now n (Some x) here)))) so_far.stands
 
 pub apart : {A : Type 0} {b : Bool} → b ≡ true → b ≡ false → A
 apart is isnt = absurd (cc)
+
+-- none was passed over of which this is so
+pub not_before : (at n : ℕ) (b : Bool) → (b ≡ true → at ≤ n) → n < at → b ≡ false
+not_before at n true least below = absurd (omega (arith, least refl, below))
+not_before at n false least below = refl

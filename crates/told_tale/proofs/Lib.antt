@@ -1,9 +1,14 @@
 pub mod Folding
 pub mod Leading
+pub mod Marking
+pub mod Happens
+pub mod Moving
 pub mod Replies
+pub mod Resting
+pub mod Seats
+pub mod GivenBack
 pub mod Takes
+pub mod Touching
 pub mod Binding
 pub mod Counting
-pub mod Idling
 pub mod Ending
-pub mod GivenBack

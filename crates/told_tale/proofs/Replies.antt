@@ -10,8 +10,8 @@ use Rattle.reply_track.specs.Runs.{Ending}
 use Rattle.reply_track.specs.Runs.Ending.{Ended, Failed, Going}
 use Rattle.server_side.specs.Login.{Fails, Goes, LogsIn, Opening}
 use Rattle.private_model.specs.Commands.{Account, Reply, Step, is_prepare}
-use Rattle.private_model.specs.Story.{Happening, Heard, LoggedIn, Question, Ran, command_of, is_link_id}
-use Rattle.private_model.specs.View.{Answered, Asked, Quiet, Setup, Stage, new_link, view_after}
+use Rattle.private_model.specs.Story.{Happening, Heard, LoggedIn, Question, Ran, command_of}
+use Rattle.private_model.specs.View.{Answered, Asked, Quiet, Setup, Stage}
 use Rattle.log_story.specs.Plan.{Plan}
 use Rattle.log_story.specs.Servers.{begins, begun_by, entered_by, heard_by, hears, is_quiet, kind_by, may_begin, read_as, runs_first, with_run, writes, written_in}
 use Rattle.log_story.specs.Tale.{Tale, Wire, is_reset_step, link_in, tell, view_of, with_wire}
@@ -22,7 +22,7 @@ use Rattle.told_link.specs.Told.{IsWire}
 use Rattle.told_link.specs.declared.link.ToldLink.{ToldLink}
 use Rattle.told_story.specs.Tells.{IsTold}
 use Rattle.told_story.specs.declared.told.Told.{Told}
-use Rattle.told_tale.proofs.Counting.{Stays, begun-silent, heard-others, other-stays, reply-keeps, run-leaves, run-others}
+use Rattle.told_tale.proofs.Counting.{begun-silent, reply-keeps, run-leaves}
 use Rattle.told_tale.specs.Counts.{Keeps, message_in}
 use Rattle.told_tale.specs.Steps.{IsLedOn, awaited_in, is_asked_in, reply_said}
 use Rattle.told_tale.specs.declared.serving.Awaited.{Awaited}
@@ -69,7 +69,6 @@ module _ {R : Type 0} (stored : R → List ℕ) (step : Step) (setup : Setup) wh
       knows = knows;
       told = told (steps.after_login (LogsIn said rest) wire) knows;
       keeps = λ m other. refl;
-      others = other-stays (view_of setup tale).links link (new_link (steps.after_login (LogsIn said rest) wire).server account);
     }
     login_there (Goes said) is knows told = absurd (cc)
     login_there (Fails said fault) is knows told = absurd (cc)
@@ -77,8 +76,8 @@ module _ {R : Type 0} (stored : R → List ℕ) (step : Step) (setup : Setup) wh
     pub login_goes : (said : Opening) → steps.has_entered said ≡ false → IsWire there (steps.after_login said wire) → IsTold stored step setup new tale.story
         → IsLedOn stored step setup new link there asked tale (entered_by plan link wire said tale)
     login_goes (LogsIn said rest) isnt knows told = absurd (cc)
-    login_goes (Goes said) isnt knows told = record { wire = wire; same = refl; knows = knows; told = told; keeps = λ m other. refl; others = λ l other. refl }
-    login_goes (Fails said fault) isnt knows told = record { wire = wire; same = refl; knows = knows; told = told; keeps = λ m other. refl; others = λ l other. refl }
+    login_goes (Goes said) isnt knows told = record { wire = wire; same = refl; knows = knows; told = told; keeps = λ m other. refl }
+    login_goes (Fails said fault) isnt knows told = record { wire = wire; same = refl; knows = knows; told = told; keeps = λ m other. refl }
 
   -- a reply
   module _ (link : LinkId) (new : Told R) (there : ToldLink) (bytes : List ℕ) (tale : Tale) where
@@ -102,14 +101,8 @@ module _ {R : Type 0} (stored : R → List ℕ) (step : Step) (setup : Setup) wh
       knows = knows;
       told = subst (IsTold stored step setup new) (sym (ap (λ (t : Tale). t.story) same ∙ is)) told;
       keeps = λ m other. ap (λ (t : Tale). (view_of setup t).replies m) same ∙ kept r m other;
-      others = λ l other. ap (λ (t : Tale). link_in setup t l) same ∙ stayed r l other;
     }
       where
-        stayed : (r : Option Reply) (l : LinkId) → is_link_id l link ≡ false → link_in setup (tell_reply link r (with_wire link w run)) l ≡ link_in setup tale l
-        stayed None l other = run-others setup (link_in setup tale link).stage link tale l other
-        stayed (Some reply) l other = heard-others setup (view_of setup run) link reply (link_in setup run link).stage l other
-            ∙ run-others setup (link_in setup tale link).stage link tale l other
-
         kept : (r : Option Reply) → Keeps asked (view_of setup tale).replies (view_of setup (tell_reply link r (with_wire link w run))).replies
         kept None m other = ap (λ (replies : MessageName → Option Reply). replies m) (run-leaves setup (link_in setup tale link).stage link tale)
         kept (Some reply) m other = reply-keeps setup link tale reply m other
@@ -159,7 +152,7 @@ module _ {R : Type 0} (stored : R → List ℕ) (step : Step) (setup : Setup) wh
     pub goes_on : (quiet && steps.is_free (tale.wires link)) ≡ false → IsWire there (steps.after_write bytes (tale.wires link)) → IsTold stored step setup new tale.story
         → IsLedOn stored step setup new link there None tale (writes setup plan link tag bytes (tale.wires link) tale)
     goes_on isnt knows told = subst (IsLedOn stored step setup new link there None tale) (sym (ap written (may ∙ isnt)))
-        (record { wire = steps.after_write bytes (tale.wires link); same = refl; knows = knows; told = told; keeps = λ m other. refl; others = λ l other. refl })
+        (record { wire = steps.after_write bytes (tale.wires link); same = refl; knows = knows; told = told; keeps = λ m other. refl })
 
     pub begins_there : (quiet && steps.is_free (tale.wires link)) ≡ true → IsWire there (steps.after_begin tag (plan.steps link (tale.wires link).begun) bytes (tale.wires link))
         → IsTold stored step setup new (begun_by setup plan (view_of setup tale) link (tale.wires link).begun tag ++ tale.story)
@@ -170,9 +163,5 @@ module _ {R : Type 0} (stored : R → List ℕ) (step : Step) (setup : Setup) wh
           same = refl;
           knows = knows;
           told = told;
-          keeps = λ m other. ap (λ (replies : MessageName → Option Reply). replies m) stays.replies;
-          others = stays.others;
+          keeps = λ m other. ap (λ (replies : MessageName → Option Reply). replies m) (begun-silent setup tale.story plan (view_of setup tale) link (tale.wires link).begun tag);
         })
-      where
-        stays : Stays link (view_of setup tale) (view_after setup (begun_by setup plan (view_of setup tale) link (tale.wires link).begun tag ++ tale.story))
-        stays = begun-silent setup tale.story plan (view_of setup tale) link (tale.wires link).begun tag

@@ -1,18 +1,16 @@
 -- How messages are taken up.
-use Rattle.std.specs.Prelude.{◌≡◌, ◌+◌, ◌<◌, ◌≤◌, ℕ, zero, suc, min, Bool, true, false, not, is_some, ◌&&◌, ◌||◌, nat_eq, List, [], ◌∷◌, ◌++◌, drop, fold, length, slice_get, if◌then◌else◌, Option, Some, None}
+use Rattle.std.specs.Prelude.{◌≡◌, ◌+◌, ◌<◌, ◌≤◌, ℕ, zero, suc, min, Bool, true, false, not, is_some, ◌&&◌, ◌||◌, nat_eq, List, [], ◌∷◌, ◌++◌, fold, length, slice_get, if◌then◌else◌, Option, Some, None}
 use Rattle.std.specs.Option.{option_map, option_map_or}
 use Rattle.std.proofs.lemmas.List.{length-map}
 use Rattle.std.proofs.Common.{◌∙◌, append-nil, refl, sym, ap, subst, arith}
-use Rattle.std.proofs.lemmas.Option.{none-some, same_Some, slice_get-map}
+use Rattle.std.proofs.lemmas.Option.{same_Some}
 use Rattle.mx_base.specs.declared.names.ClientNo.{ClientNo}
 use Rattle.mx_base.specs.declared.names.Hostgroup.{Hostgroup}
-use Rattle.mx_base.specs.declared.names.LinkId.{LinkId}
 use Rattle.mx_wire.specs.declared.entry.Entry.{Entry}
 use Rattle.packet_frame.specs.Packets.{Framed}
 use Rattle.session_state.specs.declared.names.MessageName.{MessageName}
 use Rattle.client_due.specs.Standing.{IsTold as IsClient}
 use Rattle.client_due.specs.Told.{Told as ClientCode}
-use Rattle.client_session.specs.Setups.{Setup as Service}
 use Rattle.private_model.proofs.Maps.{number_of}
 use Rattle.private_model.specs.Commands.{Command, Step}
 use Rattle.private_model.specs.Story.{BecameDue, is_client}
@@ -22,8 +20,9 @@ use Rattle.log_story.specs.Executes.{Request}
 use Rattle.log_story.specs.Owed.{has_room, messages, name_of}
 use Rattle.log_story.specs.Plan.{Plan, Route, is_by_now, own_at}
 use Rattle.log_story.specs.Servers.{tell_all}
-use Rattle.log_story.specs.Tale.{Client, Tale, link_in, tell, view_of, with_client}
-use Rattle.told_clients.specs.Clients.{AreClients, replaced}
+use Rattle.log_story.specs.Tale.{Client, Tale, tell, view_of, with_client}
+use Rattle.told_clients.specs.Clients.{AreClients, is_waiting, replaced}
+use Rattle.told_clients.specs.declared.links.Links.{Links}
 use Rattle.told_clients.specs.declared.clients.Clients.{Clients}
 use Rattle.told_clients.proofs.Homes.{leaves, replaces}
 use Rattle.told_question.specs.Due.{copy_told, due_told}
@@ -36,15 +35,20 @@ use Rattle.told_tale.specs.Bound.{AreBound}
 use Rattle.told_tale.specs.Concern.{concerns_by}
 use Rattle.told_tale.specs.Counts.{AreCounted, known_in}
 use Rattle.told_tale.specs.declared.concern.Concern.{Concern}
-use Rattle.told_tale.specs.Standing.{IsTale}
-use Rattle.told_tale.specs.Steps.{is_idle}
+use Rattle.told_tale.specs.Marks.{HasMarks}
+use Rattle.told_tale.specs.Moving.{IsResting, client_and_job, no_link_at, nobody}
+use Rattle.told_tale.specs.Standing.{DoEnd, IsTale}
 use Rattle.told_tale.specs.Taking.{GoesAt, IsGoing, IsNextTaken, IsTaking, IsTaken, IsTakenUp, behind, next_of}
 use Rattle.told_tale.specs.declared.answers.Heard.{Heard}
 use Rattle.told_tale.specs.declared.counts.Counts.{Counts}
 use Rattle.told_tale.specs.declared.tale.ToldTale.{ToldTale}
 use Rattle.told_tale.proofs.Binding.{Grows, bound-on}
 use Rattle.told_tale.proofs.Folding.{drop_at, skip_rest, skip_to}
-use Rattle.told_tale.proofs.Leading.{tale_bound, tale_counted, tale_led, tale_of_clients}
+use Rattle.told_tale.proofs.Leading.{tale_led, tale_of_clients, tale_with}
+use Rattle.told_tale.proofs.Marking.{marks-moved}
+use Rattle.told_tale.proofs.Moving.{taken-moved}
+use Rattle.told_tale.proofs.Resting.{resting-is-left}
+use Rattle.told_tale.proofs.Seats.{marks-taken, own-number, replaced_here, replaced_others}
 
 pub some_copied : {B A : Type 0} (f : B → A) (o : Option B) → is_some (option_map f o) ≡ is_some o
 some_copied f None = refl
@@ -92,12 +96,6 @@ due-keeps : (setup : Setup) (message : MessageName) (client : ClientNo) (hostgro
 due-keeps setup message client hostgroup ordinal request multiplex tale None = refl
 due-keeps setup message client hostgroup ordinal request multiplex tale (Some other) = refl
 
-due-idles : (setup : Setup) (message : MessageName) (client : ClientNo) (hostgroup : Hostgroup) (ordinal : ℕ) (request : Request) (multiplex : Option Bool) (tale : Tale) (mirror : Option Hostgroup)
-    (l : LinkId) → is_idle (link_in setup tale l) ≡ true
-    → is_idle (link_in setup (tell_all (copy_told message request.command mirror ++ (BecameDue client hostgroup ordinal request.key request.command multiplex ∷ [])) tale) l) ≡ true
-due-idles setup message client hostgroup ordinal request multiplex tale None l is = is
-due-idles setup message client hostgroup ordinal request multiplex tale (Some other) l is = is
-
 flipped : (b : Bool) → true ≡ not b → b ≡ false
 flipped true is = is
 flipped false is = refl
@@ -117,7 +115,6 @@ module _ {R : Type 0} (stored : R → List ℕ) (step : Step) (setup : Setup) (c
       same = refl;
       told = tells refl;
       keeps = due-keeps setup (name_of client ordinal) client.number route.hostgroup ordinal request route.multiplex tale route.mirror;
-      idles = due-idles setup (name_of client ordinal) client.number route.hostgroup ordinal request route.multiplex tale route.mirror;
     };
   }
   due_taken false tells is same told =
@@ -131,9 +128,6 @@ module _ (setup : Setup) (plan : Plan) (client : Client) (tale : Tale) where
 
   abbrev pub taken : Framed → Option Tale
   taken message = taken_by setup plan client (suc client.taken) message (plan.routes (name_of client (suc client.taken))) tale
-
-  pub none_next : slice_get (messages plan client) client.taken ≡ None → next_of setup plan client tale ≡ None
-  none_next none = ap (λ o. next_taken setup plan client o tale) none
 
   pub next_waits : (message : Framed) → slice_get (messages plan client) client.taken ≡ Some message → may ≡ false → next_of setup plan client tale ≡ None
   next_waits message there isnt = ap (λ o. next_taken setup plan client o tale) there ∙ ap (λ b. if b then taken message else None) isnt
@@ -150,18 +144,6 @@ take_one setup plan k it now other is = ap (λ o. option_map_or (λ t. taken_up 
 pub take_none : (setup : Setup) (plan : Plan) (k : ℕ) (it : Client) (now : Tale) → next_of setup plan it now ≡ None → taken_up k setup plan it now ≡ now
 take_none setup plan zero it now is = refl
 take_none setup plan (suc k) it now is = ap (λ o. option_map_or (λ t. taken_up k setup plan (behind it) (with_client (behind it) t)) o now) is
-
--- who was replaced, and who stayed
-module _ (setup : Service) (code : Clients) (clients : List Client) (are : AreClients setup code clients) (at : ℕ) (it : Client) (here : slice_get clients at ≡ Some it) where
-  pub replaced_here : slice_get (replaced (behind it) clients) at ≡ Some (behind it)
-  replaced_here = slice_get-map _ clients at ∙ ap (option_map _) here ∙ ap (λ (c : Client). Some c) (replaces setup code clients are at it (behind it) here refl it here)
-
-  pub replaced_others : (j : ℕ) → nat_eq at j ≡ false → slice_get (replaced (behind it) clients) j ≡ slice_get clients j
-  replaced_others j other = slice_get-map _ clients j ∙ stays (slice_get clients j) refl
-    where
-      stays : (o : Option Client) → slice_get clients j ≡ o → option_map (λ (c : Client). if is_client c.number it.number then behind it else c) o ≡ o
-      stays None is = refl
-      stays (Some c) is = ap (λ (x : Client). Some x) (leaves setup code clients are at it (behind it) here refl j c is other)
 
 -- what is kept by what the code knows of a client
 module _ (code plan : Plan) (planned : code ≡ plan) (told : ClientCode) (it : Client) (is : IsClient plan.service told it) where
@@ -201,27 +183,37 @@ takes-on plan code clients are at it here n other there = by (nat_eq at n) refl
     by false apart = stays (leaves plan.service code clients are at it (behind it) here refl n other there apart)
 
 module _ {R : Type 0} (stored : R → List ℕ) (step : Step) (setup : Setup) (plan : Plan) where
-  -- a message is taken up, and counted
-  pub next_taken_up : (code : ToldTale R) (told : Told R) (clients : Clients) (counts : Counts) (bindings : Bindings) (at : ℕ) (tale : Tale) (client : Client) (message : Framed)
+  -- a message is taken up, and counted, and what that touched is looked at
+  pub next_taken_up : (code : ToldTale R) (told : Told R) (seats : Clients) (counts : Counts) (bindings : Bindings) (at : ℕ) (tale : Tale) (client : Client) (message : Framed)
       → (is : IsTale stored step setup plan code tale) → slice_get tale.clients at ≡ Some client
       → slice_get (messages plan client) client.taken ≡ Some message → may setup plan client tale ≡ true
       → (up : IsTakenUp stored step setup told tale (taken setup plan client tale message))
-      → AreClients plan.service clients (replaced (behind client) tale.clients) → AreCounted (known_in setup plan tale) counts → AreBound plan tale.moment bindings tale.clients
-      → IsNextTaken stored step setup plan (record code { told = told; clients = clients; counts = counts; bindings = bindings }) client tale
-  next_taken_up code told clients counts bindings at tale client message is here there may_be up are counted bound =
+      → AreClients plan.service seats (replaced (behind client) tale.clients) → ((n : ℕ) → is_waiting seats n ≡ is_waiting code.clients n)
+      → AreCounted (known_in setup plan tale) counts → AreBound plan tale.moment bindings tale.clients → (links : Links) (clients : Clients)
+      → (HasMarks setup plan no_link_at (client_and_job client (suc client.taken)) code.links seats (with_client (behind client) up.new)
+      → HasMarks setup plan no_link_at nobody links clients (with_client (behind client) up.new))
+      → IsNextTaken stored step setup plan (record code { told = told; counts = counts; bindings = bindings; links = links; clients = clients }) client tale
+  next_taken_up code told seats counts bindings at tale client message is here there may_be up are same_waiting counted bound links clients touched =
+      let whose = client_and_job client (suc client.taken) in
       let same : up.new.clients ≡ tale.clients = ap (λ (t : Tale). t.clients) up.led.same in
+      let moved = taken-moved setup plan client (suc client.taken) message (plan.routes (name_of client (suc client.taken))) tale up.new up.is in
+      let these = replaced (behind client) up.new.clients in
+      let sit = subst (λ all. AreClients plan.service seats (replaced (behind client) all)) (sym same) are in
+      let counting = tale_with stored step setup plan no_link_at nobody code tale is counts bindings code.links code.clients no_link_at nobody counted bound is.marks in
+      let led = tale_led stored step setup plan no_link_at nobody (record code { counts = counts; bindings = bindings }) tale counting no_link_at whose told up.new up.led
+      (marks-moved setup plan code.links code.clients no_link_at whose tale up.new moved is.marks) in
+      let marks = marks-taken setup plan code.links code.clients seats whose at client tale up.new moved here (own-number client (suc client.taken)) same_waiting sit is.marks in
+      let taken = tale_of_clients stored step setup plan no_link_at whose (record code { told = told; counts = counts; bindings = bindings }) up.new led seats code.ending these no_link_at whose marks
+      (subst (DoEnd plan code.ending) (sym (length-map up.new.clients _ ∙ ap length same)) is.ending)
+      (subst (λ (t : Tale). AreBound plan t.moment bindings (replaced (behind client) t.clients)) (sym up.led.same)
+      (bound-on plan tale.moment bindings tale.clients bound (λ (other : Client). if is_client other.number client.number then behind client else other)
+      (takes-on plan code.clients tale.clients is.marks.clients at client here))) in
       record {
         other = up.new;
         is = next_goes setup plan client tale message there may_be ∙ up.is;
         same = same;
-        stands = tale_of_clients stored step setup plan (record code { told = told; counts = counts; bindings = bindings }) up.new
-            (tale_led stored step setup plan (record code { counts = counts; bindings = bindings }) tale
-            (tale_bound stored step setup plan (record code { counts = counts }) tale (tale_counted stored step setup plan code tale is counts counted) bindings bound) told up.new up.led)
-            clients (replaced (behind client) up.new.clients)
-            (subst (λ all. AreClients plan.service clients (replaced (behind client) all)) (sym same) are) (length-map up.new.clients _)
-            (subst (λ (t : Tale). AreBound plan t.moment bindings (replaced (behind client) t.clients)) (sym up.led.same)
-            (bound-on plan tale.moment bindings tale.clients bound (λ (other : Client). if is_client other.number client.number then behind client else other)
-            (takes-on plan code.clients tale.clients is.clients at client here)));
+        stands = tale_with stored step setup plan no_link_at whose (record code { told = told; counts = counts; bindings = bindings; clients = seats }) (with_client (behind client) up.new) taken
+            counts bindings links clients no_link_at nobody taken.counted taken.bound (touched marks);
       }
 
   pub taking_first : (code : ToldTale R) (at most : ℕ) (client : Client) (tale : Tale) → IsTale stored step setup plan code tale → slice_get tale.clients at ≡ Some client
@@ -231,7 +223,7 @@ module _ {R : Type 0} (stored : R → List ℕ) (step : Step) (setup : Setup) (p
   pub taking_more : (old new : ToldTale R) (at most left k : ℕ) (client : Client) (tale : Tale) → left ≡ suc k → (so_far : IsTaking stored step setup plan old at most left client tale)
       → IsNextTaken stored step setup plan new so_far.it so_far.now → IsTaking stored step setup plan new at most k client tale
   taking_more old new at most left k client tale one so_far next =
-      let are = so_far.stands.clients in
+      let are = so_far.stands.marks.clients in
       record {
         now = with_client (behind so_far.it) next.other;
         it = behind so_far.it;
@@ -243,14 +235,22 @@ module _ {R : Type 0} (stored : R → List ℕ) (step : Step) (setup : Setup) (p
       }
 
   pub taking_stops : (old new : ToldTale R) (at most left : ℕ) (client : Client) (tale : Tale) (so_far : IsTaking stored step setup plan old at most left client tale)
-      → next_of setup plan so_far.it so_far.now ≡ None → IsTale stored step setup plan new so_far.now → GoesAt stored step setup plan new at tale (taken_up most setup plan client tale)
+      → next_of setup plan so_far.it so_far.now ≡ None → IsTale stored step setup plan new so_far.now → GoesAt stored step setup plan new true at tale (taken_up most setup plan client tale)
   taking_stops old new at most left client tale so_far none stands =
-      subst (GoesAt stored step setup plan new at tale) (sym (so_far.rest ∙ take_none setup plan left so_far.it so_far.now none)) (record { stands = stands; others = so_far.others })
+      subst (GoesAt stored step setup plan new true at tale) (sym (so_far.rest ∙ take_none setup plan left so_far.it so_far.now none)) (record {
+        stands = stands;
+        rests = λ seen it there going. subst (λ (x : Client). next_of setup plan x so_far.now ≡ None) (same_Some so_far.it it (sym so_far.here ∙ there)) none;
+        others = so_far.others;
+      })
 
   pub taking_done : (code : ToldTale R) (at most left : ℕ) (client : Client) (tale : Tale) → left ≡ 0 → (so_far : IsTaking stored step setup plan code at most left client tale)
-      → GoesAt stored step setup plan code at tale (taken_up most setup plan client tale)
+      → GoesAt stored step setup plan code false at tale (taken_up most setup plan client tale)
   taking_done code at most left client tale none so_far =
-      subst (GoesAt stored step setup plan code at tale) (sym (so_far.rest ∙ ap (λ n. taken_up n setup plan so_far.it so_far.now) none)) (record { stands = so_far.stands; others = so_far.others })
+      subst (GoesAt stored step setup plan code false at tale) (sym (so_far.rest ∙ ap (λ n. taken_up n setup plan so_far.it so_far.now) none)) (record {
+        stands = so_far.stands;
+        rests = λ seen. absurd (cc);
+        others = so_far.others;
+      })
 
 -- Clients go on one after the other.
 
@@ -263,7 +263,7 @@ module _ {R : Type 0} (stored : R → List ℕ) (step : Step) (setup : Setup) (p
 
   pub going_more : (old new : ToldTale R) (i at : ℕ) (client : Client) (so_far : IsGoing stored step setup plan old f i tale) → i ≤ at
       → ((n : ℕ) (c : Client) → i ≤ n → n < at → slice_get tale.clients n ≡ Some c → f so_far.now c ≡ so_far.now) → slice_get tale.clients at ≡ Some client
-      → GoesAt stored step setup plan new at so_far.now (f so_far.now client) → IsGoing stored step setup plan new f (at + 1) tale
+      → GoesAt stored step setup plan new false at so_far.now (f so_far.now client) → IsGoing stored step setup plan new f (at + 1) tale
   going_more old new i at client so_far past stays here goes = record {
     now = f so_far.now client;
     stands = goes.stands;
@@ -275,16 +275,6 @@ module _ {R : Type 0} (stored : R → List ℕ) (step : Step) (setup : Setup) (p
       → ((n : ℕ) (c : Client) → i ≤ n → slice_get tale.clients n ≡ Some c → f so_far.now c ≡ so_far.now) → IsTale stored step setup plan code (fold f tale tale.clients)
   going_done code i so_far stays = subst (IsTale stored step setup plan code) (sym (so_far.rest ∙ skip_rest f tale.clients so_far.now i stays)) so_far.stands
 
-  -- who rests is known to
-  pub going_rests : (code : ToldTale R) (clients : Clients) (i : ℕ) (so_far : IsGoing stored step setup plan code f i tale) → AreClients plan.service clients so_far.now.clients
-      → IsGoing stored step setup plan (record code { clients = clients }) f i tale
-  going_rests code clients i so_far are = record {
-    now = so_far.now;
-    stands = tale_of_clients stored step setup plan code so_far.now so_far.stands clients so_far.now.clients are refl so_far.stands.bound;
-    rest = so_far.rest;
-    later = so_far.later;
-  }
-
 pub record IsElement {X : Type 0} (xs : List X) (i : ℕ) : Type 0 where
   pub it : X
   pub here : slice_get xs i ≡ Some it
@@ -294,16 +284,15 @@ element [] i inside = absurd (omega (arith, inside))
 element (x ∷ xs) zero inside = record { it = x; here = refl }
 element (x ∷ xs) (suc i) inside = let rest = element xs i (omega (arith, inside)) in record { it = rest.it; here = rest.here }
 
--- A client goes on by nothing that it isn't concerned by, and where no message of it waits.
+-- A client goes on by nothing that it isn't concerned by, and where it rests.
 module _ (setup : Setup) (plan : Plan) (view : View) (e : Entry) (concern : Concern) (now : Tale) (client : Client) (concerns : is_event_of view client e ≡ concerns_by concern client)
-    (rests : concerns_by concern client ≡ true → slice_get (messages plan client) client.taken ≡ None) where
-  abbrev goes : Bool → Bool → Tale
-  goes event ended = if event && not ended then taken_up (length (messages plan client)) setup plan client now else now
-
+    (rests : concerns_by concern client ≡ true → IsResting setup plan client now) where
   pub rests_on : client_goes_on setup plan view e now client ≡ now
-  rests_on = ap (λ b. goes b (is_by_now now.moment (plan.ends client.number))) concerns ∙ by (concerns_by concern client) (is_by_now now.moment (plan.ends client.number)) refl
+  rests_on = by (concerns_by concern client) refl
     where
-      by : (event ended : Bool) → concerns_by concern client ≡ event → goes event ended ≡ now
-      by false ended is = refl
-      by true true is = refl
-      by true false is = take_none setup plan (length (messages plan client)) client now (none_next setup plan client now (rests is))
+      goes : Bool → Tale
+      goes event = if event && not (is_by_now now.moment (plan.ends client.number)) then taken_up (length (messages plan client)) setup plan client now else now
+
+      by : (b : Bool) → concerns_by concern client ≡ b → client_goes_on setup plan view e now client ≡ now
+      by true is = resting-is-left setup plan client now view e (rests is)
+      by false isnt = ap goes (concerns ∙ isnt)

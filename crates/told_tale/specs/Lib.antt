@@ -2,8 +2,10 @@ pub mod Answers
 pub mod Bound
 pub mod Concern
 pub mod Counts
-pub mod Freeing
-pub mod Moments
+pub mod Endings
+pub mod Folding
+pub mod Marks
+pub mod Moving
 pub mod Reading
 pub mod Standing
 pub mod Steps

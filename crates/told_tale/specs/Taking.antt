@@ -8,6 +8,7 @@ use Rattle.log_story.specs.Plan.{Plan}
 use Rattle.log_story.specs.Tale.{Client, Tale, with_client}
 use Rattle.told_story.specs.Tells.{IsTold}
 use Rattle.told_story.specs.declared.told.Told.{Told}
+use Rattle.told_tale.specs.Moving.{IsResting}
 use Rattle.told_tale.specs.Standing.{IsTale}
 use Rattle.told_tale.specs.Steps.{IsLed}
 use Rattle.told_tale.specs.declared.tale.ToldTale.{ToldTale}
@@ -48,9 +49,10 @@ pub record IsTaking {R : Type 0} (stored : R → List ℕ) (step : Step) (setup 
   pub rest : taken_up most setup plan client tale ≡ taken_up left setup plan it now
   pub others : (j : ℕ) → nat_eq at j ≡ false → slice_get now.clients j ≡ slice_get tale.clients j
 
--- the code stands for what became of a tale, in which the others of its clients stayed
-pub record GoesAt {R : Type 0} (stored : R → List ℕ) (step : Step) (setup : Setup) (plan : Plan) (code : ToldTale R) (at : ℕ) (old new : Tale) : Type 0 where
+-- the code stands for what became of a tale, in which the others of its clients stayed; where it is seen that this one rests, it does
+pub record GoesAt {R : Type 0} (stored : R → List ℕ) (step : Step) (setup : Setup) (plan : Plan) (code : ToldTale R) (seen : Bool) (at : ℕ) (old new : Tale) : Type 0 where
   pub stands : IsTale stored step setup plan code new
+  pub rests : seen ≡ true → (client : Client) → slice_get new.clients at ≡ Some client → IsResting setup plan client new
   pub others : (j : ℕ) → nat_eq at j ≡ false → slice_get new.clients j ≡ slice_get old.clients j
 
 -- clients go on one after the other, and so far the others stayed

@@ -1,19 +1,17 @@
 // Whom an entry concerns.
-ghost use Rattle.std.specs.Prelude.{◌≡◌, ◌||◌, Option};
-ghost use Rattle.std.specs.Option.{option_map, option_map_or};
-ghost use Rattle.private_model.specs.Story.{is_client, is_link_id};
-ghost use Rattle.private_model.specs.View.{session_in};
+ghost use Rattle.std.specs.Prelude.{◌≡◌};
+ghost use Rattle.private_model.specs.Story.{is_client};
 ghost use Rattle.log_story.specs.Clients.{concerns, is_event_of};
 ghost use Rattle.log_story.specs.Tale.{Client};
-ghost use Rattle.story_view.specs.Forms.{carried_of};
 ghost use Rattle.story_view.specs.Known.{Knows};
 ghost use Rattle.story_view.specs.Names.{number_of};
 ghost use Rattle.told_tale.specs.Concern.{concerns_by};
 
+use crate::marks::carried_on;
 use client_due::ToldClient;
 use mx_base::{ClientNo, LinkId};
 use mx_wire::Entry;
-use story_view::{Carried, Party, StoryView};
+use story_view::{Party, StoryView};
 
 /// Of which clients an entry is an event: each, none, or the one of a link and the one whose session that carries.
 #[derive(Clone, Copy)]
@@ -24,26 +22,6 @@ pub(crate) enum Concern {
         link: LinkId,
         carried: Option<Party>,
     },
-}
-
-fn party_in(carries: Carried) -> Option<Party>
-    ensures { option_map number_of result ≡ option_map (λ n. n.client) (session_in (carried_of carries)) }
-{
-    match carries {
-        Carried::Nobody => None,
-        Carried::Lent(session) => Some(session.party),
-        Carried::Joined(session) => Some(session.party),
-    }
-}
-
-// What a link carries.
-fn carries_at(view: &StoryView, link: LinkId) -> Carried
-    ensures { Knows view.now (λ setup v. carried_of result ≡ (v.links link).carries) }
-{
-    match view.link(link) {
-        None => Carried::Nobody,
-        Some(known) => known.carries,
-    }
 }
 
 // Whether a party is this client.
@@ -60,8 +38,10 @@ impl Concern {
     fn at(view: &StoryView, link: LinkId) -> Self
         ensures { Knows view.now (λ setup v. (client : Client) → concerns v client link ≡ concerns_by result client) }
     {
-        let carried = party_in(carries_at(view, link));
-        Concern::At { link, carried }
+        Concern::At {
+            link,
+            carried: carried_on(view, link),
+        }
     }
 
     /// That of an entry, by what the router knows before it.

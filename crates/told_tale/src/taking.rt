@@ -1,5 +1,5 @@
 // Messages that are taken up.
-ghost use Rattle.std.specs.Prelude.{◌≡◌, ◌<◌, ◌≤◌, ◌&&◌, ◌||◌, ℕ, suc, true, not, is_some, nat_eq, Some, None, IfOk, IfSome, OnOk, length, slice_get, slice_index_or};
+ghost use Rattle.std.specs.Prelude.{◌≡◌, ◌<◌, ◌≤◌, ◌&&◌, ◌||◌, ℕ, suc, true, false, is_some, nat_eq, Some, None, IfOk, IfSome, OnOk, length, slice_get, slice_index_or};
 ghost use Rattle.private_model.specs.Commands.{runs};
 ghost use Rattle.private_model.specs.View.{Setup, View};
 ghost use Rattle.mx_wire.specs.declared.entry.Entry.{Entry};
@@ -19,12 +19,14 @@ ghost use Rattle.told_request.specs.Bindings.{AreBindings, BindsOn};
 ghost use Rattle.told_tale.specs.Answers.{HasHeard, IsHeard};
 ghost use Rattle.told_tale.specs.Concern.{concerns_by};
 ghost use Rattle.told_tale.specs.Counts.{AreCounted, known_in};
+ghost use Rattle.told_tale.specs.Moving.{IsResting};
 ghost use Rattle.told_tale.specs.Standing.{IsTale};
 ghost use Rattle.told_tale.specs.Taking.{GoesAt, IsNext, IsTaken};
 
 use crate::answers::Heard;
 use crate::concern::Concern;
 use crate::counts::Counts;
+use crate::marks::touch;
 use crate::places::{first_from, next_place, place_of};
 use crate::{Stop, ToldTale};
 use client_due::{Answers, Message, ToldClient};
@@ -230,11 +232,15 @@ impl<R: TameServer + Drop> ToldTale<R> {
             keys: &self.keys,
             moment: self.moment,
         };
+        let number = client.number();
         let (told, bindings) = (&mut self.told, &mut self.bindings);
         if !take_up(told, bindings, &by, client, ordinal, message)? {
             return Ok(false);
         }
         self.clients.takes(at);
+        let (links, clients) = (&mut self.links, &mut self.clients);
+        touch(links, clients, Some(Party::accepted(number)))?;
+        touch(links, clients, Some(Party::job(number, ordinal)))?;
         Ok(true)
     }
 
@@ -249,27 +255,26 @@ impl<R: TameServer + Drop> ToldTale<R> {
         }
     }
 
-    // Messages of the client at a place are taken up, as many as may be.
-    fn takes_up(&mut self, at: usize) -> Result<(), Stop>
+    // Messages of the client at a place are taken up, as many as may be; true where it was seen that the next may not be.
+    fn takes_up(&mut self, at: usize) -> Result<bool, Stop>
         requires { IsSound R.tests R.stored self.old.told.own }
         ensures sound { OnOk result (IsSound R.tests R.stored self.new.told.own) }
-        ensures taken { OnOk result ((setup : Setup) (plan : log.Plan) (tale : Tale) (client : Client) → IsTale R.stored (runs R.step) setup plan self.old tale → slice_get tale.clients at ≡ Some client
-            → GoesAt R.stored (runs R.step) setup plan self.new at tale (taken_up (length (messages plan client)) setup plan client tale)) }
+        ensures taken { IfOk result (λ rests. (setup : Setup) (plan : log.Plan) (tale : Tale) (client : Client) → IsTale R.stored (runs R.step) setup plan self.old tale → slice_get tale.clients at ≡ Some client
+            → GoesAt R.stored (runs R.step) setup plan self.new rests at tale (taken_up (length (messages plan client)) setup plan client tale)) }
     {
         for _turn in 0..self.most(at) {
             if !self.takes_next(at)? {
-                return Ok(());
+                return Ok(true);
             }
         }
-        Ok(())
+        Ok(false)
     }
 
-    // The first place from this one on where a client may stand that such an entry concerns and of whom a message is whole that wasn't
-    // taken up.
+    // The first place from this one on where a client may stand that such an entry concerns and whose next message may be taken up.
     fn place_concerned(&self, concern: Concern, from: usize) -> Option<usize>
         ensures later { IfSome result (λ at. from ≤ at) }
         ensures rests { (setup : Setup) (plan : log.Plan) (tale : Tale) (n : ℕ) (client : Client) → IsTale R.stored (runs R.step) setup plan self.now tale → from ≤ n → IsBefore n result
-            → slice_get tale.clients n ≡ Some client → concerns_by concern client ≡ true → slice_get (messages plan client) client.taken ≡ None }
+            → slice_get tale.clients n ≡ Some client → concerns_by concern client ≡ true → IsResting setup plan client tale }
     {
         match concern {
             Concern::Each => self.clients.next_waiting(from),
@@ -286,7 +291,7 @@ impl<R: TameServer + Drop> ToldTale<R> {
         ensures later { IfSome result (λ at. from ≤ at) }
         ensures within { IfSome result (λ at. (setup : Setup) (plan : log.Plan) (tale : Tale) → IsTale R.stored (runs R.step) setup plan self.now tale → at < length tale.clients) }
         ensures rests { (setup : Setup) (plan : log.Plan) (tale : Tale) (n : ℕ) (client : Client) → IsTale R.stored (runs R.step) setup plan self.now tale → from ≤ n → IsBefore n result
-            → slice_get tale.clients n ≡ Some client → concerns_by concern client ≡ true → slice_get (messages plan client) client.taken ≡ None }
+            → slice_get tale.clients n ≡ Some client → concerns_by concern client ≡ true → IsResting setup plan client tale }
     {
         let at = self.place_concerned(concern, from)?;
         if at < self.clients.count() {
@@ -296,27 +301,56 @@ impl<R: TameServer + Drop> ToldTale<R> {
         }
     }
 
-    // Whether the messages of the client at a place go on at an entry.
-    fn is_to_go_on(&self, at: usize, concern: Concern) -> bool
+    // Whether the router ended the client at a place.
+    fn has_ended(&self, at: usize) -> bool
         ensures { (setup : Setup) (plan : log.Plan) (tale : Tale) (client : Client) → IsTale R.stored (runs R.step) setup plan self.now tale → slice_get tale.clients at ≡ Some client
-            → result ≡ (concerns_by concern client && not (is_by_now tale.moment (plan.ends client.number))) }
+            → result ≡ is_by_now tale.moment (plan.ends client.number) }
     {
-        let Some(client) = self.clients.get(at) else {
-            return false;
-        };
-        concern.is_of(client) && !is_by_now(self.moment, self.plan.end(client.number()))
+        match self.clients.get(at) {
+            None => false,
+            Some(client) => is_by_now(self.moment, self.plan.end(client.number())),
+        }
     }
 
-    // Messages of the client at a place are taken up, where the entry is an event of it and the router didn't end it.
+    // Whether an entry of this concern is an event of the client at a place.
+    fn is_event_at(&self, at: usize, concern: Concern) -> bool
+        ensures { (setup : Setup) (plan : log.Plan) (tale : Tale) (client : Client) → IsTale R.stored (runs R.step) setup plan self.now tale → slice_get tale.clients at ≡ Some client
+            → result ≡ concerns_by concern client }
+    {
+        match self.clients.get(at) {
+            None => false,
+            Some(client) => concern.is_of(client),
+        }
+    }
+
+    // Messages of the client at a place are taken up, where the entry is an event of it and the router didn't end it; true where it needs no
+    // look until something touches it.
+    fn looks_at(&mut self, at: usize, concern: Concern) -> Result<bool, Stop>
+        requires { IsSound R.tests R.stored self.old.told.own }
+        ensures sound { OnOk result (IsSound R.tests R.stored self.new.told.own) }
+        ensures goes { IfOk result (λ rests. (setup : Setup) (plan : log.Plan) (tale : Tale) (client : Client) (view : View) (e : Entry) → is_event_of view client e ≡ concerns_by concern client
+            → IsTale R.stored (runs R.step) setup plan self.old tale → slice_get tale.clients at ≡ Some client
+            → GoesAt R.stored (runs R.step) setup plan self.new rests at tale (client_goes_on setup plan view e tale client)) }
+    {
+        if !self.is_event_at(at, concern) {
+            return Ok(false);
+        }
+        if self.has_ended(at) {
+            return Ok(true);
+        }
+        self.takes_up(at)
+    }
+
+    // So it is, and the client is looked at no more until something touches it.
     fn goes_at(&mut self, at: usize, concern: Concern) -> Result<(), Stop>
         requires { IsSound R.tests R.stored self.old.told.own }
         ensures sound { OnOk result (IsSound R.tests R.stored self.new.told.own) }
         ensures goes { OnOk result ((setup : Setup) (plan : log.Plan) (tale : Tale) (client : Client) (view : View) (e : Entry) → is_event_of view client e ≡ concerns_by concern client
             → IsTale R.stored (runs R.step) setup plan self.old tale → slice_get tale.clients at ≡ Some client
-            → GoesAt R.stored (runs R.step) setup plan self.new at tale (client_goes_on setup plan view e tale client)) }
+            → GoesAt R.stored (runs R.step) setup plan self.new false at tale (client_goes_on setup plan view e tale client)) }
     {
-        if self.is_to_go_on(at, concern) {
-            self.takes_up(at)?;
+        if self.looks_at(at, concern)? {
+            self.clients.forget(at);
         }
         Ok(())
     }
@@ -331,7 +365,6 @@ impl<R: TameServer + Drop> ToldTale<R> {
         let mut from = 0;
         'going: while let Some(at) = self.next_concerned(concern, from) {
             self.goes_at(at, concern)?;
-            self.clients.rests(at);
             let Some(next) = next_place(at) else {
                 return Err(Stop::TooMany);
             };

@@ -2,20 +2,18 @@
 ghost use Rattle.std.specs.Prelude.{◌≡◌, ℕ, suc, fold, IfSome, OnOk};
 ghost use Rattle.private_model.specs.Commands.{runs};
 ghost use Rattle.private_model.specs.View.{Setup};
-ghost use Rattle.log_story.specs.Clients.{clients_are_ended};
-ghost use Rattle.log_story.specs.Servers.{links_are_freed};
 ghost use Rattle.log_story.specs.Tale.{counted, first_tale};
 ghost use Rattle.log_story.specs.Telling.{tale_step};
 ghost use Rattle.private_turns.specs.Kept.{AreAccepted, IsSound};
+ghost use Rattle.told_plan.specs.Begins.{IsIndexed};
 ghost use Rattle.told_plan.specs.Plans.{plan_of};
 ghost use Rattle.told_tale.specs.Standing.{IsSetUp, IsTale, Leads};
 
 use crate::Stop;
 use crate::concern::Concern;
 use crate::counts::Counts;
-use crate::freeing::free_links;
-use crate::leaving::end_clients;
-use crate::moments::Moments;
+use crate::endings::Endings;
+use crate::marks::touch_all;
 use mx_wire::Entry;
 use private_turns::{Accounts, Servers};
 use server_rule::TameServer;
@@ -27,8 +25,9 @@ use told_request::Bindings;
 use told_story::Told;
 
 /// What is kept of a log as it is read: its story as its bytes tell it, with what the router knows and the private world, its clients,
-/// its links to servers, and what was counted of what clients are due. Behind an error nothing is promised. An entry costs a look at each
-/// link that may carry a session, and a wake one at each client of which a whole message waits.
+/// its links to servers, what was counted of what clients are due, and what messages bound. Behind an error nothing is promised. An entry
+/// costs a look at the links and clients that it touches: those whose question, session, answer or end it tells of, and the links that
+/// carry their sessions. A wake looks at the clients that were touched since they were looked at last.
 #[derive(Drop)]
 pub struct ToldTale<R: TameServer + Drop> {
     pub(crate) alloc: Global,
@@ -40,7 +39,7 @@ pub struct ToldTale<R: TameServer + Drop> {
     pub(crate) links: Links,
     pub(crate) wires: Wires,
     pub(crate) counts: Counts,
-    pub(crate) ending: Moments,
+    pub(crate) ending: Endings,
     pub(crate) bindings: Bindings,
 }
 
@@ -64,7 +63,7 @@ impl<R: TameServer + Drop> ToldTale<R> {
     ) -> Self
         requires { AreAccepted R.tests R.stored servers }
         ensures sound { IsSound R.tests R.stored result.told.own }
-        ensures first { (setup : Setup) → IsSetUp R.stored setup keys openings accounts servers → IsTale R.stored (runs R.step) setup (plan_of plan) result first_tale }
+        ensures first { (setup : Setup) → IsSetUp R.stored setup keys openings accounts servers → IsIndexed plan → IsTale R.stored (runs R.step) setup (plan_of plan) result first_tale }
     {
         ToldTale {
             alloc,
@@ -76,7 +75,7 @@ impl<R: TameServer + Drop> ToldTale<R> {
             links: Links::new(alloc),
             wires: Wires::new(alloc),
             counts: Counts::new(alloc),
-            ending: Moments::new(alloc),
+            ending: Endings::new(alloc),
             bindings: Bindings::new(alloc),
         }
     }
@@ -88,7 +87,7 @@ impl<R: TameServer + Drop> ToldTale<R> {
         &self.plan
     }
 
-    // One entry more is counted.
+    // One entry more is counted, at which the router may answer messages by itself.
     fn counts(&mut self) -> Result<(), Stop>
         requires { IsSound R.tests R.stored self.old.told.own }
         ensures sound { OnOk result (IsSound R.tests R.stored self.new.told.own) }
@@ -98,35 +97,9 @@ impl<R: TameServer + Drop> ToldTale<R> {
             return Err(Stop::TooMany);
         };
         self.moment = moment;
+        let (links, clients) = (&mut self.links, &mut self.clients);
+        touch_all(links, clients, self.plan.begins(moment))?;
         Ok(())
-    }
-
-    // The router ends clients.
-    fn ends_clients(&mut self) -> Result<(), Stop>
-        requires { IsSound R.tests R.stored self.old.told.own }
-        ensures sound { OnOk result (IsSound R.tests R.stored self.new.told.own) }
-        ensures leads { OnOk result (Leads R.stored (runs R.step) self.old self.new (λ setup plan tale. clients_are_ended plan tale)) }
-    {
-        if !self.ending.has(self.moment) {
-            return Ok(());
-        }
-        end_clients(
-            self.alloc,
-            &mut self.told,
-            &self.plan,
-            self.moment,
-            self.clients.as_slice(),
-        )
-    }
-
-    // Links are given back.
-    fn frees_links(&mut self) -> Result<(), Stop>
-        requires { IsSound R.tests R.stored self.old.told.own }
-        ensures sound { OnOk result (IsSound R.tests R.stored self.new.told.own) }
-        ensures leads { OnOk result (Leads R.stored (runs R.step) self.old self.new (λ setup plan tale. links_are_freed setup plan tale)) }
-    {
-        let (told, links) = (&mut self.told, &mut self.links);
-        free_links(told, &self.plan, self.moment, links, &self.wires)
     }
 
     /// Reads an entry more of the log.

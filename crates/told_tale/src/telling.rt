@@ -6,16 +6,38 @@ ghost use Rattle.log_story.specs.Tale.{new_client, new_wire, tell, with_wire};
 ghost use Rattle.log_story.specs.Telling.{is_lost_or_left, told};
 ghost use Rattle.mx_wire.specs.declared.entry.Entry.TheVariants.{Got, Wrote};
 ghost use Rattle.private_turns.specs.Kept.{IsSound};
+ghost use Rattle.told_story.specs.Tells.{Tells};
 ghost use Rattle.told_tale.specs.Standing.{Leads};
 
 use crate::asking::forget_asked;
-use crate::leaving::leave_link;
+use crate::marks::asked_on;
 use crate::serving::{says, writes};
 use crate::{Stop, ToldTale};
 use mx_base::{LinkId, ServerId, Tag};
 use mx_wire::Entry;
 use server_rule::TameServer;
+use std::alloc::Global;
 use told_link::ToldLink;
+use told_story::Told;
+
+// A server runs what stands on a link; a QUIT ends it.
+fn run<R: TameServer + Drop>(
+    alloc: Global,
+    told: &mut Told<R>,
+    link: LinkId,
+    quits: bool,
+) -> Result<(), Stop>
+    requires { IsSound R.tests R.stored told.old.own }
+    ensures sound { OnOk result (IsSound R.tests R.stored told.new.own) }
+    ensures tells { OnOk result (Tells R.stored (runs R.step) told.old told.new (if quits then Dropped link else Ran link)) }
+{
+    if quits {
+        told.dropped(alloc, link)?;
+    } else {
+        told.ran(alloc, link)?;
+    }
+    Ok(())
+}
 
 impl<R: TameServer + Drop> ToldTale<R> {
     // A client comes.
@@ -25,9 +47,10 @@ impl<R: TameServer + Drop> ToldTale<R> {
         ensures leads { OnOk result (Leads R.stored (runs R.step) self.old self.new (λ setup plan tale. record tale { clients = tale.clients ++ new_client (length tale.clients + 1) link salt ∷ [] })) }
     {
         let service = self.plan.service();
+        let at = self.clients.count();
         let number = self.clients.accept(self.alloc, service, link, salt)?;
         if let Some(moment) = self.plan.end(number) {
-            self.ending.put(moment)?;
+            self.ending.put(moment, at)?;
         }
         Ok(())
     }
@@ -40,7 +63,7 @@ impl<R: TameServer + Drop> ToldTale<R> {
     {
         self.links.open(link)?;
         self.wires.put(link, ToldLink::new(self.alloc, server))?;
-        Ok(())
+        self.touches(link, None)
     }
 
     // Bytes are read.
@@ -50,13 +73,14 @@ impl<R: TameServer + Drop> ToldTale<R> {
         ensures leads { OnOk result (Leads R.stored (runs R.step) self.old self.new (λ setup plan tale. told setup plan tale (Got link bytes.now))) }
     {
         forget_asked(&mut self.counts, self.told.view(), link);
-        self.links.lend(link)?;
+        let asked = asked_on(self.told.view(), link);
         let Some(wire) = self.wires.at_mut(link) else {
             self.clients
                 .hears(self.alloc, self.plan.service(), link, bytes)?;
             return Ok(());
         };
-        says(self.alloc, &mut self.told, &self.plan, link, wire, bytes)
+        says(self.alloc, &mut self.told, &self.plan, link, wire, bytes)?;
+        self.touches(link, asked)
     }
 
     // Bytes are written.
@@ -65,9 +89,9 @@ impl<R: TameServer + Drop> ToldTale<R> {
         ensures sound { OnOk result (IsSound R.tests R.stored self.new.told.own) }
         ensures leads { OnOk result (Leads R.stored (runs R.step) self.old self.new (λ setup plan tale. told setup plan tale (Wrote link tag bytes.now))) }
     {
-        self.links.lend(link)?;
+        let asked = asked_on(self.told.view(), link);
         let Some(wire) = self.wires.at_mut(link) else {
-            self.clients.gets(link, bytes.len());
+            self.clients.gets(link, bytes.len())?;
             return Ok(());
         };
         writes(
@@ -79,7 +103,8 @@ impl<R: TameServer + Drop> ToldTale<R> {
             tag,
             wire,
             bytes,
-        )
+        )?;
+        self.touches(link, asked)
     }
 
     // A server runs what stands on a link; a QUIT ends it.
@@ -95,12 +120,9 @@ impl<R: TameServer + Drop> ToldTale<R> {
         if !wire.entered() {
             return Ok(());
         }
-        if wire.quits() {
-            self.told.dropped(self.alloc, link)?;
-        } else {
-            self.told.ran(self.alloc, link)?;
-        }
-        Ok(())
+        let quits = wire.quits();
+        run(self.alloc, &mut self.told, link, quits)?;
+        self.touches(link, None)
     }
 
     // A server ends a link by itself.
@@ -110,7 +132,7 @@ impl<R: TameServer + Drop> ToldTale<R> {
         ensures leads { OnOk result (Leads R.stored (runs R.step) self.old self.new (λ setup plan tale. tell (Dropped link) tale)) }
     {
         self.told.dropped(self.alloc, link)?;
-        Ok(())
+        self.touches(link, None)
     }
 
     // A link to a server is lost or closed, or a client leaves.
@@ -119,10 +141,12 @@ impl<R: TameServer + Drop> ToldTale<R> {
         ensures sound { OnOk result (IsSound R.tests R.stored self.new.told.own) }
         ensures leads { OnOk result (Leads R.stored (runs R.step) self.old self.new (λ setup plan tale. is_lost_or_left link tale)) }
     {
-        match self.wires.at(link) {
-            None => leave_link(self.alloc, &mut self.told, link, &self.clients),
-            Some(_) => Ok(self.told.gone(link)?),
-        }
+        let Some(_) = self.wires.at(link) else {
+            return self.leaves(link);
+        };
+        let asked = asked_on(self.told.view(), link);
+        self.told.gone(link)?;
+        self.touches(link, asked)
     }
 
     /// What an entry tells.

@@ -15,7 +15,7 @@ returns-in_ok-left-clause-taken g c = λ setup tale plan it ordinal told number.
     record {
       new = tell (Left it.number) tale;
       is = ap (λ b. Some (if b then tell (Left it.number) tale else tale)) is;
-      led = record { same = refl; told = subst (λ n. IsTold g.R.TameServer.stored (runs g.R.TameServer.step) setup c.left.new.self (Left n ∷ tale.story)) (c.accepted.ensures ∙ number) (c.in_ok-left.ensures.tells setup tale.story told); keeps = refl; idles = λ l is. is };
+      led = record { same = refl; told = subst (λ n. IsTold g.R.TameServer.stored (runs g.R.TameServer.step) setup c.left.new.self (Left n ∷ tale.story)) (c.accepted.ensures ∙ number) (c.in_ok-left.ensures.tells setup tale.story told); keeps = refl };
     }
 
 pub returns-else-is_reset-clause-taken : goal.returns-else-is_reset-clause-taken
@@ -25,5 +25,5 @@ returns-else-is_reset-clause-taken g c = λ setup tale plan it ordinal told numb
     record {
       new = tale;
       is = ap (λ b. Some (if b then tell (Left it.number) tale else tale)) isnt;
-      led = record { same = refl; told = told; keeps = refl; idles = λ l is. is };
+      led = record { same = refl; told = told; keeps = refl };
     }

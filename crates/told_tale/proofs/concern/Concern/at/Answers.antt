@@ -15,8 +15,8 @@ fused f test (Some a) d = refl
 pub returns : goal.returns
 returns c = λ setup v is client.
     let test : ClientNo → Bool = λ n. is_client n client.number in
-    let same : option_map number_of c.party_in-carried.result ≡ option_map (λ (n : SessionName). n.client) (session_in (v.links c.args.link).carries) =
-    c.party_in-carried.ensures ∙ ap (λ carries. option_map (λ (n : SessionName). n.client) (session_in carries)) (c.carries_at.ensures setup v is) in
-    let whose : option_map_or (λ (n : SessionName). is_client n.client client.number) (session_in (v.links c.args.link).carries) false ≡ option_map_or (λ party. is_client (number_of party) client.number) c.party_in-carried.result false =
-    sym (fused (λ (n : SessionName). n.client) test (session_in (v.links c.args.link).carries) false) ∙ ap (λ o. option_map_or test o false) (sym same) ∙ fused number_of test c.party_in-carried.result false in
+    let same : option_map number_of c.carried_on.result ≡ option_map (λ (n : SessionName). n.client) (session_in (v.links c.args.link).carries) =
+    c.carried_on.ensures setup v is in
+    let whose : option_map_or (λ (n : SessionName). is_client n.client client.number) (session_in (v.links c.args.link).carries) false ≡ option_map_or (λ party. is_client (number_of party) client.number) c.carried_on.result false =
+    sym (fused (λ (n : SessionName). n.client) test (session_in (v.links c.args.link).carries) false) ∙ ap (λ o. option_map_or test o false) (sym same) ∙ fused number_of test c.carried_on.result false in
     ap (λ b. is_link_id client.link c.args.link || b) whose

@@ -1,22 +1,28 @@
-use Rattle.std.proofs.Common.{◌≡◌, ◌∙◌, true, false, ap, length, refl, subst, sym}
-use Rattle.std.specs.Prelude.{◌&&◌, if◌then◌else◌, not}
+use Rattle.std.proofs.Common.{true, refl, subst}
 use Rattle.private_model.specs.Commands.{runs}
-use Rattle.log_story.specs.Clients.{is_event_of, taken_up}
-use Rattle.log_story.specs.Owed.{messages}
-use Rattle.log_story.specs.Plan.{is_by_now}
+use Rattle.log_story.specs.Clients.{client_goes_on}
+use Rattle.log_story.specs.Tale.{Tale}
+use Rattle.told_tale.specs.Moving.{no_link_at, nobody}
 use Rattle.told_tale.specs.Taking.{GoesAt}
+use Rattle.told_tale.proofs.Leading.{tale_with}
+use Rattle.told_tale.proofs.Seats.{marks-forgotten}
 use Rattle.told_tale.proofs.tale.ToldTale.goes_at.Goals as goal
 
-pub returns-in_ok-takes_up-clause-goes : goal.returns-in_ok-takes_up-clause-goes
-returns-in_ok-takes_up-clause-goes g c = λ setup plan tale client view e concerns is here.
-    let goes : (is_event_of view client e && not (is_by_now tale.moment (plan.ends client.number))) ≡ true =
-    ap (λ b. b && not (is_by_now tale.moment (plan.ends client.number))) concerns ∙ sym (c.is_to_go_on.ensures setup plan tale client is here) ∙ c.if-is_to_go_on.true in
-    subst (GoesAt g.R.TameServer.stored (runs g.R.TameServer.step) setup plan c.takes_up.new.self c.args.at tale) (sym (ap (λ b. if b then taken_up (length (messages plan client)) setup plan client tale else tale) goes))
-    (c.in_ok-takes_up.ensures.taken setup plan tale client is here)
+pub returns-then-branch-clause-goes : goal.returns-then-branch-clause-goes
+returns-then-branch-clause-goes g c = λ setup plan tale client view e concerns is here.
+    let after : Tale = client_goes_on setup plan view e tale client in
+    let gone : GoesAt g.R.TameServer.stored (runs g.R.TameServer.step) setup plan c.looks_at.new.self true c.args.at tale after =
+    subst (λ b. GoesAt g.R.TameServer.stored (runs g.R.TameServer.step) setup plan c.looks_at.new.self b c.args.at tale after) c.if-branch.true (c.in_ok-looks_at.ensures.goes setup plan tale client view e concerns is here) in
+    record {
+      stands = tale_with g.R.TameServer.stored (runs g.R.TameServer.step) setup plan no_link_at nobody c.looks_at.new.self after gone.stands c.looks_at.new.self.counts c.looks_at.new.self.bindings
+          c.looks_at.new.self.links c.forget.new.self no_link_at nobody gone.stands.counted gone.stands.bound
+          (marks-forgotten setup plan c.looks_at.new.self.links c.looks_at.new.self.clients c.forget.new.self c.args.at after (c.forget.ensures.clients plan.service after.clients gone.stands.marks.clients)
+          c.forget.ensures.waiting (gone.rests refl) gone.stands.marks);
+      rests = λ seen. absurd (cc);
+      others = gone.others;
+    }
 
-pub returns-else-is_to_go_on-clause-goes : goal.returns-else-is_to_go_on-clause-goes
-returns-else-is_to_go_on-clause-goes g c = λ setup plan tale client view e concerns is here.
-    let stays : (is_event_of view client e && not (is_by_now tale.moment (plan.ends client.number))) ≡ false =
-    ap (λ b. b && not (is_by_now tale.moment (plan.ends client.number))) concerns ∙ sym (c.is_to_go_on.ensures setup plan tale client is here) ∙ c.if-is_to_go_on.false in
-    subst (GoesAt g.R.TameServer.stored (runs g.R.TameServer.step) setup plan c.args.self.now c.args.at tale) (sym (ap (λ b. if b then taken_up (length (messages plan client)) setup plan client tale else tale) stays))
-    (record { stands = is; others = λ j other. refl })
+pub returns-else-branch-clause-goes : goal.returns-else-branch-clause-goes
+returns-else-branch-clause-goes g c = λ setup plan tale client view e concerns is here.
+    subst (λ b. GoesAt g.R.TameServer.stored (runs g.R.TameServer.step) setup plan c.looks_at.new.self b c.args.at tale (client_goes_on setup plan view e tale client)) c.if-branch.false
+    (c.in_ok-looks_at.ensures.goes setup plan tale client view e concerns is here)

@@ -1,8 +1,8 @@
-use Rattle.std.proofs.Common.{◌∙◌, ◌+◌, subst, sym}
+use Rattle.std.proofs.Common.{◌∙◌, subst, sym}
 use Rattle.private_model.specs.Commands.{runs}
 use Rattle.log_story.specs.Clients.{client_goes_on}
 use Rattle.told_tale.specs.Taking.{IsGoing}
-use Rattle.told_tale.proofs.Takes.{element, going_done, going_first, going_more, going_rests, rests_on}
+use Rattle.told_tale.proofs.Takes.{element, going_done, going_first, going_more, rests_on}
 use Rattle.told_tale.proofs.tale.ToldTale.goes_on.Goals as goal
 
 pub going-init : goal.going-init
@@ -23,10 +23,8 @@ going-preserved g c = (
       (c.in-Some.ensures.rests setup plan so_far.now n client so_far.stands from below (so_far.later n from ∙ here)))
       (sym (so_far.later c.in-Some.at c.in-Some.ensures.later) ∙ its.here)
       (c.in_ok-goes_at.ensures.goes setup plan so_far.now its.it view e (concerns its.it) so_far.stands its.here) in
-      subst (λ next. IsGoing g.R.TameServer.stored (runs g.R.TameServer.step) setup plan (record c.goes_at.new.self { clients = c.rests.new.self }) (client_goes_on setup plan view e) next tale)
-      (sym c.in-Some-next_place.ensures)
-      (going_rests g.R.TameServer.stored (runs g.R.TameServer.step) setup plan (client_goes_on setup plan view e) tale c.goes_at.new.self c.rests.new.self (c.in-Some.at + 1) now
-      (c.rests.ensures plan.service now.now.clients now.stands.clients)),
+      subst (λ next. IsGoing g.R.TameServer.stored (runs g.R.TameServer.step) setup plan c.goes_at.new.self (client_goes_on setup plan view e) next tale)
+      (sym c.in-Some-next_place.ensures) now,
 )
 
 pub returns-clause-goes : goal.returns-clause-goes

@@ -11,17 +11,21 @@ use Rattle.told_tale.specs.Counts.{known_in}
 use Rattle.told_tale.proofs.tale.ToldTale.new.Goals as goal
 
 pub returns-clause-first : goal.returns-clause-first
-returns-clause-first g c = λ setup is. record {
-  planned = refl;
-  keys = is.texts;
+returns-clause-first g c = λ setup is indexed. record {
+  by = record { planned = refl; begins = indexed; texts = is.texts };
   moment = refl;
   told = c.new.ensures.first setup is.reads is.places is.logins is.brings;
-  clients = c.new-2.ensures (plan_of c.args.plan).service;
-  links = c.new-3.ensures;
-  lent = λ n link there isnt. absurd (none-some link there);
+  marks = record {
+    clients = c.new-2.ensures (plan_of c.args.plan).service;
+    links = c.new-3.ensures;
+    marked = record {
+      carried = λ l free n s there. absurd (none-some l there);
+      lent = λ n l there. absurd (none-some l there);
+      waiting = λ n client there. absurd (none-some client there);
+    };
+  };
   ending = λ n moment inside at. absurd (omega (arith, inside));
   bound = record { here = λ n client there. absurd (none-some client there); none = λ client number past. c.new-7.ensures client number };
-  wires = λ l. subst (λ o. IsWireAt o (new_wire (record { 0 = 0 }))) (sym (c.new-4.ensures l)) refl;
-  there = λ l. sym (ap is_some (c.new-4.ensures l));
+  wires = record { are = λ l. subst (λ o. IsWireAt o (new_wire (record { 0 = 0 }))) (sym (c.new-4.ensures l)) refl; there = λ l. sym (ap is_some (c.new-4.ensures l)) };
   counted = λ client small. subst (λ (k : Counted). IsCounted (known_in setup (plan_of c.args.plan) first_tale) client k) (sym (c.new-5.ensures client)) (counted-first (known_in setup (plan_of c.args.plan) first_tale) client);
 }

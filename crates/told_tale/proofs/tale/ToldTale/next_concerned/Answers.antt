@@ -7,6 +7,6 @@ returns-in_err-at-clause-rests g c = λ setup plan tale n client is from before 
 
 pub returns-else-at-count-clause-rests : goal.returns-else-at-count-clause-rests
 returns-else-at-count-clause-rests g c = λ setup plan tale n client is from before here concerned.
-    let count = c.count.ensures plan.service tale.clients is.clients in
+    let count = c.count.ensures plan.service tale.clients is.marks.clients in
     let within = slice_get_within tale.clients n client here in
     c.in_ok-at.ensures.rests setup plan tale n client is from (omega (arith, count, within, c.if-at-count.false)) here concerned
