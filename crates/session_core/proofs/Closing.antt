@@ -1,5 +1,5 @@
 -- The core is carried over what it asks for.
-use Rattle.std.specs.Prelude.{◌≡◌, ℕ, Bool, true, false, is_some, nat_eq, cond, List, [], ◌∷◌, ◌++◌, Option, Some, None, IsSome, refl}
+use Rattle.std.specs.Prelude.{◌≡◌, Bool, true, false, is_some, List, [], ◌∷◌, ◌++◌, Option, Some, None, IsSome, refl}
 use Rattle.{promises.specs.Closes.is_write, promises.specs.Closes.was_offered, std.proofs.lemmas.Grind.common_steps, client_session.specs.Setups.Setup}
 use Rattle.std.proofs.Common.{sym, ◌∙◌, ap, subst, inr, append_assoc, append-nil, arith}
 use Rattle.mx_base.specs.{declared.names.LinkId.LinkId, Sent.Sent}
@@ -7,7 +7,7 @@ use Rattle.mx_wire.specs.Log.{Log, link_of, is_link, AreMarks}
 use Rattle.mx_wire.specs.{Tells.Fits, Tells.MayFollow, Moments.AllLawful, Moments.lawful-more, declared.entry.Entry.Entry}
 use Rattle.ready_loop.specs.{declared.machines.Act.Act, Machine.Keeps, Machine.Closes, Machine.Acts, Machine.OwesFarewell, Machine.IsFarewell}
 use Rattle.router_world.specs.{Owed.IsWhole, Owed.lends, declared.seat.Parting.Parting, Tables.Tables, World.step, World.tables_after, World.closed_by}
-use Rattle.session_core.specs.{declared.known.Known.Known, declared.known.Leaver.Leaver, declared.router.Core.Core, Known.tables_of, Known.parted_by}
+use Rattle.session_core.specs.{declared.known.Known.Known, declared.known.Leaver.Leaver, declared.router.Core.Core, Known.tables_of}
 use Rattle.session_core.specs.{Acting.next_leaver, Acting.acting, Acting.Asked, Tidy.IsApart, Stands.Stands, Stands.due_in, Carrying.tables-more}
 use Rattle.session_core.specs.{Carrying.one-more, Carrying.carried, Carrying.tidy-of, Says.or_sent, Says.farewell, Says.sends_in, Says.sends}
 use Rattle.mx_wire.specs.declared.entry.Entry.TheVariants as entry
@@ -54,9 +54,6 @@ record Offered (setup : Setup) (tables : Tables) (log : Log) (link : LinkId) (e 
   here : is_link link (link_of e) ≡ true
   write : is_write e ≡ true
 
-same-key : (k : ℕ) → nat_eq k k ≡ true
-same-key k = grind arith
-
 farewell-ours : (setup : Setup) (tables : Tables) (log : Log) (link : LinkId) (sent : Sent) (e : Entry) → tables ≡ tables_after setup log → acts.next_close
     tables ≡ Some link → IsApart tables log link → acts.farewell_of tables.parting ≡ Some sent → IsFarewell (Some sent) link e → Offered setup tables log link e
 farewell-ours setup tables log link sent h5 is next apart says told = grind (arith, common_steps)
@@ -71,26 +68,22 @@ lent-of : (old : Core) (known : Known) (link : LinkId) → acts.next_close (tabl
     → LentBy old known link
 lent-of old known link next leaver = by old.known.leaver refl where
   by : (o : Option Leaver) → old.known.leaver ≡ o → LentBy old known link
-  by None at = Nothing (ap (λ (l : Option Leaver). acts.farewell_of (parted_by l)) at) (leaver ∙ ap next_leaver at)
+  by None at = Nothing (grind (arith, common_steps)) (grind (arith, common_steps))
   by (Some l) at = of l.is_asked refl where
     of : (b : Bool) → l.is_asked ≡ b → LentBy old known link
-    of true asked = Nothing (ap (λ (l : Option Leaver). acts.farewell_of (parted_by l)) at
-        ∙ ap (λ (b : Bool). acts.farewell_of (cond b [] (l.parting ∷ []))) asked) (leaver ∙ ap next_leaver at
-        ∙ ap (λ (b : Bool). cond b None (Some (record l { is_asked = true }))) asked)
-    of false asked = Bytes (acts.reply_sent l.parting.bytes)
-        (ap (λ (l : Option Leaver). acts.farewell_of (parted_by l)) at ∙ ap (λ (b : Bool). acts.farewell_of (cond b [] (l.parting ∷ []))) asked)
-        (ap (farewell link) (leaver ∙ ap next_leaver at ∙ ap (λ (b : Bool). cond b None (Some (record l { is_asked = true }))) asked)
-        ∙ ap (λ (b : Bool). cond b (acts.reply_sent l.parting.bytes) None) same) where
-          first : Some l.parting.link ≡ Some link
-          first = sym (ap (λ (o : Option Leaver). acts.close_of (parted_by o) (tables_of old.known).lends.closing) at
-              ∙ ap (λ (b : Bool). acts.close_of (cond b [] (l.parting ∷ [])) (tables_of old.known).lends.closing) asked) ∙ next
+    of true asked = Nothing (grind (arith, common_steps)) (grind (arith, common_steps))
+    of false asked = Bytes (acts.reply_sent l.parting.bytes) (grind (arith, common_steps)) (grind (arith, common_steps))
 
-          link_at : Option LinkId → ℕ
-          link_at None = link.0
-          link_at (Some x) = x.0
-
-          same : nat_eq l.parting.link.0 link.0 ≡ true
-          same = ap (λ (k : ℕ). nat_eq k link.0) (ap link_at first) ∙ same-key link.0
+-- what is lent of it is the farewell alone
+said-last : (old : Core) (known : Known) (link : LinkId) (log : Log) → Stands old log → acts.next_close (tables_of old.known) ≡ Some link
+    → tables_of known ≡ closed_by (tables_of old.known).parting (tables_of old.known) → sends (record old { known = known }) link ≡ farewell link known.leaver
+said-last old known link log held next is = (let silent : sends_in (tables_of known) link ≡ None = ap (λ (t : Tables). sends_in t link) is
+    ∙ closed-says (tables_of old.known).parting (tables_of old.known) link
+    ∙ none-said (tables_of old.known) log link ((tidy-of old log held).closes link next) in
+    ap (λ (o : Option Sent). or_sent (farewell link known.leaver) o) silent ∙ or-nothing (farewell link known.leaver)) where
+      or-nothing : (o : Option Sent) → or_sent o None ≡ o
+      or-nothing None = refl
+      or-nothing (Some sent) = refl
 
 none-some : (a b : Option Sent) → or_sent a b ≡ None → is_some a ≡ true → ⊥
 none-some h0 b is some = grind (arith, common_steps)
@@ -121,16 +114,8 @@ closes old known link next is leaver = record {
   unsaid none (Bytes sent says lent) some = none-some (farewell link known.leaver) (sends_in (tables_of known) link) none (ap (λ (o : Option Sent). is_some o)
       (lent ∙ sym says) ∙ some)
 
-  silent : (log : Log) → Stands old log → sends_in (tables_of known) link ≡ None
-  silent log held = ap (λ (t : Tables). sends_in t link) is ∙ closed-says (tables_of old.known).parting (tables_of old.known) link
-      ∙ none-said (tables_of old.known) log link ((tidy-of old log held).closes link next)
-
-  or-nothing : (o : Option Sent) → or_sent o None ≡ o
-  or-nothing None = refl
-  or-nothing (Some sent) = refl
-
   said : (log : Log) → Stands old log → sends new link ≡ farewell link known.leaver
-  said log held = ap (λ (o : Option Sent). or_sent (farewell link known.leaver) o) (silent log held) ∙ or-nothing (farewell link known.leaver)
+  said log held = said-last old known link log held next is
 
   ends : (log : Log) (e : Entry) (marks : Log) (sent : Sent) → IsFarewell (Some sent) link e → AreMarks marks → MayFollow log e
       → MayFollow (log ++ e ∷ [] ++ marks) (entry.Closed link) → Stands old log → acts.farewell_of (tables_of old.known).parting ≡ Some sent
@@ -188,16 +173,8 @@ farewell-whole : (old : Core) (known : Known) (link : LinkId) → acts.next_clos
     → tables_of known ≡ closed_by (tables_of old.known).parting (tables_of old.known) → known.leaver ≡ next_leaver old.known.leaver → (log : Log) (sent : Sent)
     → Stands old log → sends (record old { known = known }) link ≡ Some sent → lends old.setup log link sent.bytes
 farewell-whole old known link next is leaver log sent held some = by (lent-of old known link next leaver) where
-  silent : sends_in (tables_of known) link ≡ None
-  silent = ap (λ (t : Tables). sends_in t link) is ∙ closed-says (tables_of old.known).parting (tables_of old.known) link
-      ∙ none-said (tables_of old.known) log link ((tidy-of old log held).closes link next)
-
-  or-nothing : (o : Option Sent) → or_sent o None ≡ o
-  or-nothing None = refl
-  or-nothing (Some sent) = refl
-
   said : farewell link known.leaver ≡ Some sent
-  said = sym (ap (λ (o : Option Sent). or_sent (farewell link known.leaver) o) silent ∙ or-nothing (farewell link known.leaver)) ∙ some
+  said = sym (said-last old known link log held next is) ∙ some
 
   by : LentBy old known link → lends old.setup log link sent.bytes
   by (Nothing no_farewell gone) = absurd (let no : ◌≡◌ {A = Option Sent} None (Some sent) = sym (ap (farewell link) gone) ∙ said in cc)

@@ -1,44 +1,30 @@
 -- The core is carried over what it is told of.
-use Rattle.std.{specs.Prelude.◌≡◌, specs.Prelude.ℕ, specs.Prelude.false, specs.Prelude.List, specs.Prelude.Some, proofs.Common.inl}
-use Rattle.{mx_base.specs.Fields.AreBytes, ready_loop.specs.Machine.CarriesOver, lend_core.specs.Events.opened, lend_core.specs.Events.open_failed}
-use Rattle.mx_base.specs.declared.names.{Address.Address, LinkId.LinkId, Port.Port, ServerId.ServerId}
-use Rattle.router_world.specs.{Tables.with_lends, World.comes, World.told, World.got_on, World.ended_on, World.failed_on}
+use Rattle.std.specs.Prelude.{◌≡◌, ℕ, List, [], Option}
+use Rattle.std.proofs.{Common.sym, Common.◌∙◌, Common.arith, lemmas.Grind.common_steps}
+use Rattle.{mx_base.specs.Fields.AreBytes, client_session.specs.Setups.Setup, mx_wire.specs.Log.Log, mx_wire.specs.declared.entry.Entry.Entry}
+use Rattle.ready_loop.specs.{declared.machines.Event.Event, Machine.CarriesOver, Machine.HasActed, Machine.IsHeard, Machine.IsToldOf, Machine.Target}
+use Rattle.router_world.specs.{Tables.Tables, World.step}
 use Rattle.session_core.specs.{declared.known.Known.Known, declared.router.Core.Core, Known.tables_of, Says.asks, Says.awaits, Stands.Stands, Stands.due_in}
-use Rattle.session_core.specs.{Carrying.carried, Carrying.acted-after, Carrying.awaited-after}
-use Rattle.mx_wire.specs.declared.entry.Entry.TheVariants as entry
+use Rattle.session_core.specs.{Carrying.carried, Carrying.acted-after, Carrying.awaited-after, Carrying.waits-after, Telling.on_event}
+use Rattle.router_world.specs.Acts as acts
 
-pub comes-carries : (old : Core) (known : Known) (port : Port) (link : LinkId) (salt : List ℕ) → asks old ≡ false → tables_of known ≡ comes port old.setup link
-    salt (tables_of old.known) → CarriesOver Stands due_in old (record old { known = known }) (entry.Accepted port link salt)
-comes-carries old known port link salt acted is = carried old known (entry.Accepted port link salt)
-    (λ log is_due held. record { is = is; ours = acted-after old log acted held })
+-- an event is told of an entry of the world's, which is the router's
+told-step : (setup : Setup) (awaited : Option Target) (event : Event) (bytes : List ℕ) (tables : Tables) (e : Entry)
+    → IsToldOf 18446744073709551615 awaited event bytes e → step setup tables e ≡ on_event setup event bytes tables
+told-step setup awaited h2 bytes tables e told = grind (arith, common_steps)
 
-pub got-carries : (old : Core) (known : Known) (link : LinkId) (bytes : List ℕ) → AreBytes bytes → asks old ≡ false → tables_of known ≡ got_on old.setup link
-    bytes ((tables_of old.known).numbers link.0) (tables_of old.known) → CarriesOver Stands due_in old (record old { known = known }) (entry.Got link bytes)
-got-carries old known link bytes are acted is = carried old known (entry.Got link bytes)
-    (λ log is_due held. record { is = is; ours = (acted-after old log acted held, are) })
+told-ours : (old : Core) (event : Event) (bytes : List ℕ) (log : Log) (e : Entry) → AreBytes bytes → HasActed (asks old) event → Stands old log
+    → due_in old log e → IsToldOf 18446744073709551615 (awaits old) event bytes e → acts.IsOurs old.setup log e
+told-ours old h1 bytes log e are acted held is_due told = grind (arith, common_steps, acted-after, awaited-after, waits-after)
 
-pub ended-carries : (old : Core) (known : Known) (link : LinkId) → asks old ≡ false → tables_of known ≡ ended_on old.setup link
-    ((tables_of old.known).numbers link.0) (tables_of old.known) → CarriesOver Stands due_in old (record old { known = known }) (entry.Ended link)
-ended-carries old known link acted is = carried old known (entry.Ended link) (λ log is_due held. record { is = is; ours = acted-after old log acted held })
+pub told-carries : (old : Core) (known : Known) (event : Event) (bytes : List ℕ) → AreBytes bytes → HasActed (asks old) event
+    → tables_of known ≡ on_event old.setup event bytes (tables_of old.known) → (e : Entry) → IsToldOf 18446744073709551615 (awaits old) event bytes e
+    → CarriesOver Stands due_in old (record old { known = known }) e
+told-carries old known event bytes are acted is e told = carried old known e (λ log is_due held. record {
+  is = is ∙ sym (told-step old.setup (awaits old) event bytes (tables_of old.known) e told);
+  ours = told-ours old event bytes log e are acted held is_due told;
+})
 
-pub unread-carries : (old : Core) (known : Known) (link : LinkId) → asks old ≡ false → tables_of known ≡ failed_on old.setup link
-    ((tables_of old.known).numbers link.0) (tables_of old.known) → CarriesOver Stands due_in old (record old { known = known }) (entry.ReadFailed link)
-unread-carries old known link acted is = carried old known (entry.ReadFailed link)
-    (λ log is_due held. record { is = is; ours = acted-after old log acted held })
-
-pub unwritten-carries : (old : Core) (known : Known) (link : LinkId) → asks old ≡ false → tables_of known ≡ failed_on old.setup link
-    ((tables_of old.known).numbers link.0) (tables_of old.known) → CarriesOver Stands due_in old (record old { known = known }) (entry.WriteFailed link)
-unwritten-carries old known link acted is = carried old known (entry.WriteFailed link)
-    (λ log is_due held. record { is = is; ours = inl (acted-after old log acted held) })
-
-pub opened-carries : (old : Core) (known : Known) (server : ServerId) (address : Address) (link : LinkId)
-    → awaits old ≡ Some (record { server = server; address = address }) → tables_of known ≡ with_lends (opened link (tables_of old.known).lends)
-    (tables_of old.known) → CarriesOver Stands due_in old (record old { known = known }) (entry.Opened server address link)
-opened-carries old known server address link awaited is = carried old known (entry.Opened server address link)
-    (λ log is_due held. record { is = is; ours = awaited-after old log _ awaited held })
-
-pub open_failed-carries : (old : Core) (known : Known) (server : ServerId) (address : Address)
-    → awaits old ≡ Some (record { server = server; address = address }) → tables_of known ≡ told old.setup (open_failed (tables_of old.known).lends)
-    (tables_of old.known) → CarriesOver Stands due_in old (record old { known = known }) (entry.OpenFailed server address)
-open_failed-carries old known server address awaited is = carried old known (entry.OpenFailed server address)
-    (λ log is_due held. record { is = is; ours = awaited-after old log _ awaited held })
+-- no link of a client's is to be closed by then
+pub none-parts : (old : Core) (event : Event) → IsHeard (awaits old) event → HasActed (asks old) event → (tables_of old.known).parting ≡ []
+none-parts old h1 heard acted = grind (arith, common_steps)

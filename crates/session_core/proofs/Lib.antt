@@ -3,6 +3,7 @@ pub mod Rows
 pub mod Changing
 pub mod Written
 pub mod Telling
+pub mod Turning
 pub mod Coming
 pub mod Naming
 pub mod Taking

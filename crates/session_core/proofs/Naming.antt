@@ -5,16 +5,9 @@ use Rattle.{packet_frame.specs.PacketLaws.nat_eq-true, ready_loop.specs.Changes.
 use Rattle.std.proofs.{Common.◌∙◌, Common.ap, Common.arith, lemmas.Grind.common_steps}
 use Rattle.session_core.specs.{declared.router.Core.Core, Known.is_among, Acting.changed}
 
-or-assoc : (a b c : Bool) → (a || (b || c)) ≡ ((a || b) || c)
-or-assoc h0 b c = grind (arith, common_steps)
-
-or-false : (a : Bool) → (a || false) ≡ a
-or-false h0 = grind (arith, common_steps)
-
 among-end : (link last : LinkId) (links : List LinkId) → is_among link (links ++ last ∷ []) ≡ (is_among link links || nat_eq link.0 last.0)
-among-end link last [] = or-false (nat_eq link.0 last.0)
-among-end link last (x ∷ links) = ap (λ b. nat_eq link.0 x.0 || b) (among-end link last links)
-    ∙ or-assoc (nat_eq link.0 x.0) (is_among link links) (nat_eq link.0 last.0)
+among-end link last [] = grind (arith, common_steps)
+among-end link last (x ∷ links) = grind (arith, common_steps, among-end link last links)
 
 both-false : (a b : Bool) → a ≡ false → b ≡ false → (a || b) ≡ false
 both-false a b one two = ap (λ x. x || b) one ∙ two

@@ -1,13 +1,10 @@
 -- Which links to servers an event among them leaves.
-use Rattle.std.specs.Prelude.{◌≡◌, ℕ, Bool, false, nat_eq, ◌||◌, cond, List, [], ◌∷◌, Option}
-use Rattle.{std.proofs.Common.ap, std.proofs.Common.arith, std.proofs.lemmas.Grind.common_steps, mx_base.specs.declared.names.ClientNo.ClientNo}
+use Rattle.std.specs.Prelude.{◌≡◌, ℕ, Bool, false, nat_eq, ◌||◌, List, [], ◌∷◌, Option}
+use Rattle.{std.proofs.Common.arith, std.proofs.lemmas.Grind.common_steps, mx_base.specs.declared.names.ClientNo.ClientNo}
 use Rattle.{mx_base.specs.declared.names.LinkId.LinkId, session_core.specs.Known.is_among, session_core.specs.Known.listed}
-use Rattle.lend_core.specs.{declared.ask.Ask.Ask, Lends.Lends, Lends.set, Lends.oldest, declared.lent.Lent.Lent, Decisions.refused_owner}
+use Rattle.lend_core.specs.{declared.ask.Ask.Ask, Lends.Lends, Lends.oldest, declared.lent.Lent.Lent, Decisions.refused_owner}
 use Rattle.lend_core.specs.Changes.{without_link, without_ask, without_first, waits_no_more, owns_none}
 use Rattle.lend_core.specs.Events.{asked_by, asked, opened_for, opened, open_failed, heard_on, heard, lost_on, lost, left_by, gone}
-
-pub set-other : {X : Type 0} (f : ℕ → X) (key : ℕ) (value : X) (k : ℕ) → nat_eq k key ≡ false → set f key value k ≡ f k
-set-other f key value k other = ap (λ (b : Bool). cond b value (f k)) other
 
 -- one of the lends that leaves the links but this one
 abbrev pub Leaves : ℕ → Lends → Lends → Type 0

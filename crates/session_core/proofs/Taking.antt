@@ -6,43 +6,32 @@ use Rattle.mx_base.specs.{declared.names.ClientNo.ClientNo, declared.names.LinkI
 use Rattle.client_talk.specs.{Sessions.is_ending, Going.still, Events.taken}
 use Rattle.lend_core.specs.{declared.lent.Lent.Lent, Events.left_in, Events.gone}
 use Rattle.router_world.specs.{declared.seat.Seat.Seat, Tables.Tables, Tables.without_seat}
-use Rattle.router_world.specs.World.{goes_on, on_seat, on_client, sent_on, wrote_on}
+use Rattle.router_world.specs.World.{goes_on, on_seat, on_client, wrote_on}
 use Rattle.session_core.specs.{declared.known.Known.Known, declared.router.Core.Core, Known.tables_of, Tidy.Tidy, Stands.Stands, Stands.due_in}
-use Rattle.session_core.specs.Says.{taken_at, settled, client_sends, client_took, took_by, took_in, or_sent, sends_in, sends, asks}
+use Rattle.session_core.specs.Says.{stepped_at, settled, client_took, took_by, took_in, sends_in, sends, asks}
 use Rattle.session_core.specs.Carrying.{carried, tidy-of, sends-same, calm-sends, acted-after}
 use Rattle.mx_wire.specs.declared.entry.Entry.TheVariants as entry
 use Rattle.router_world.specs.Acts as acts
 
-seat-took : (client : ClientNo) (link : LinkId) (seat : Seat) (n : ℕ) (tables : Tables) → tables.seats client.0 ≡ Some seat → seat.link ≡ link
+seat-took : (client : ClientNo) (seat : Seat) (n : ℕ) (tables : Tables) → tables.seats client.0 ≡ Some seat
     → (is_ending seat.session.phase ≡ true → gone client tables.lends ≡ tables.lends)
-    → settled client link (taken_at client n tables) ≡ goes_on client seat.link (still (taken n seat.session)) (without_seat client tables)
-seat-took client link seat n tables is same ended = grind (arith, common_steps)
+    → settled client (stepped_at client (taken n) tables) ≡ goes_on client seat.link (still (taken n seat.session)) (without_seat client tables)
+seat-took client seat n tables is ended = grind (arith, common_steps)
 
 client-took : (client : ClientNo) (link : LinkId) (n : ℕ) (tables : Tables) (log : Log) → Tidy tables log → tables.numbers link.0 ≡ Some client
-    → settled client link (taken_at client n tables) ≡ on_client (λ session. still (taken n session)) client tables
+    → settled client (stepped_at client (taken n) tables) ≡ on_client (λ session. still (taken n session)) client tables
 client-took client link n tables log tidy at = (let seated = tidy.seated link client at in
-    seat-took client link seated.seat n tables seated.is seated.same (tidy.ended client seated.seat seated.is)
+    seat-took client seated.seat n tables seated.is (tidy.ended client seated.seat seated.is)
     ∙ sym (ap (λ (o : Option Seat). on_seat (λ session. still (taken n session)) client o (without_seat client tables)) seated.is))
 
 -- what is taken of a link that has something is what the world says of it
-nothing : (sent : Sent) → ◌≡◌ {A = Option Sent} None (Some sent) → ⊥
-nothing sent is = cc
-
 pub took-wrote : (link : LinkId) (n : ℕ) (tables : Tables) (log : Log) (sent : Sent) → Tidy tables log → sends_in tables link ≡ Some sent
     → took_in link n tables ≡ wrote_on link n (tables.numbers link.0) tables
 took-wrote link n tables log sent tidy some = by (tables.numbers link.0) refl where
-  server : (o : Option Lent) → or_sent (left_in o) None ≡ Some sent → took_by (left_in o) link n tables ≡ sent_on link n o tables
-  server None is = absurd (nothing sent is)
-  server (Some lent) is = left (left_in (Some lent)) is where
-    left : (l : Option Sent) → or_sent l None ≡ Some sent → took_by l link n tables ≡ sent_on link n (Some lent) tables
-    left None is = absurd (nothing sent is)
-    left (Some l) is = refl
-
   by : (o : Option ClientNo) → tables.numbers link.0 ≡ o → took_in link n tables ≡ wrote_on link n o tables
   by (Some client) at = ap (λ (l : Option Lent). took_by (left_in l) link n tables) (tidy.seated link client at).unlent
-      ∙ ap (λ (o : Option ClientNo). client_took link n o tables) at ∙ client-took client link n tables log tidy at
-  by None at = server (tables.lends.links link.0) (sym
-      (ap (λ (o : Option ClientNo). or_sent (left_in (tables.lends.links link.0)) (client_sends link tables.seats o)) at) ∙ some)
+      ∙ ap (λ (o : Option ClientNo). client_took n o tables) at ∙ client-took client link n tables log tidy at
+  by None at = grind (arith, common_steps)
 
 pub taken-carries : (old : Core) (known : Known) (link : LinkId) (n : ℕ) (sent : Sent) → asks old ≡ false → MayTake (sends old link) n
     → sends old link ≡ Some sent → tables_of known ≡ took_in link n (tables_of old.known)

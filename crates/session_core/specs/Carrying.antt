@@ -1,15 +1,16 @@
 -- The core is carried over an entry.
-use Rattle.std.specs.Prelude.{◌≡◌, ◌<◌, ℕ, ◌+◌, Bool, true, false, is_some, nat_eq, ◌||◌, cond, [], ◌∷◌, ◌++◌, length, Option, Some, None, IsSome, refl}
+use Rattle.std.specs.Prelude.{◌≡◌, ◌<◌, ◌+◌, false, [], ◌∷◌, ◌++◌, length, Option, Some, None, IsSome, refl}
 use Rattle.std.proofs.Common.{sym, ◌∙◌, ap, subst, arith, length-append}
 use Rattle.std.proofs.lemmas.{List.Sums.fold-append, Grind.common_steps}
 use Rattle.mx_base.specs.{declared.names.ClientNo.ClientNo, declared.names.LinkId.LinkId, Sent.Sent}
 use Rattle.mx_wire.specs.{Log.Log, Tells.MayFollow, Moments.lawful-more, declared.entry.Entry.Entry}
 use Rattle.ready_loop.specs.{Drained.MayWait, Machine.CarriesOver, Machine.Target}
-use Rattle.{client_session.specs.Setups.Setup, lend_core.specs.declared.lent.Lent.Lent, lend_core.specs.Events.left_in, client_talk.specs.Sessions.is_read}
-use Rattle.router_world.specs.{declared.seat.Seat.Seat, Tables.Tables, Tables.no_tables, World.step, World.tables_after}
-use Rattle.session_core.specs.{declared.known.Known.Known, declared.known.Leaver.Leaver, declared.router.Core.Core, Known.tables_of, Says.seat_reads}
-use Rattle.session_core.specs.{Says.seat_sends, Says.client_reads, Says.client_sends, Says.or_sent, Says.farewell, Says.reads_in, Says.sends_in, Says.reads}
-use Rattle.session_core.specs.{Says.sends, Says.asks, Says.awaits, Says.awaited_unless, Tidy.Tidy, Tidying.tidy-after, Stands.Stands, Stands.due_in}
+use Rattle.{client_session.specs.Setups.Setup}
+use Rattle.router_world.specs.{Tables.Tables, Tables.no_tables, World.step, World.tables_after}
+use Rattle.session_core.specs.{declared.known.Known.Known, declared.known.Leaver.Leaver, declared.router.Core.Core, Known.tables_of}
+use Rattle.session_core.specs.{Says.or_sent, Says.farewell, Says.reads_in, Says.sends_in, Says.reads}
+use Rattle.session_core.specs.{Says.sends, Says.asks, Says.awaits}
+use Rattle.session_core.specs.{Tidy.IsSeated, Tidy.Tidy, Tidying.tidy-after, Stands.Stands, Stands.due_in}
 use Rattle.router_world.specs.Acts as acts
 
 pub tables-more : (setup : Setup) (log : Log) (e : Entry) → tables_after setup (log ++ e ∷ []) ≡ step setup (tables_after setup log) e
@@ -36,43 +37,21 @@ carried old known e goes = record { carried = λ log may is_due held. stands-mor
 pub tidy-of : (core : Core) (log : Log) → Stands core log → Tidy (tables_of core.known) log
 tidy-of core log held = subst (λ (t : Tables). Tidy t log) (sym held.tables) (tidy-after core.setup log held.short held.few held.fits held.ours)
 
-same-key : (k : ℕ) → nat_eq k k ≡ true
-same-key k = grind arith
-
-or-none : (a : Bool) → (a || false) ≡ a
-or-none h0 = grind (arith, common_steps)
-
-or-nothing : (o : Option Sent) → or_sent o None ≡ o
-or-nothing h0 = grind (arith, common_steps)
-
-here : (seat link : LinkId) → seat ≡ link → nat_eq seat.0 link.0 ≡ true
-here seat link same = ap (λ (l : LinkId). nat_eq l.0 link.0) same ∙ same-key link.0
-
 pub reads-same : (tables : Tables) (log : Log) (link : LinkId) → Tidy tables log → reads_in tables link ≡ acts.reads tables link
 reads-same tables log link tidy = by (tables.numbers link.0) refl where
-  by : (o : Option ClientNo) → tables.numbers link.0 ≡ o
-      → (is_some (tables.lends.links link.0) || client_reads link tables.seats o) ≡ acts.reads_by tables link o
-  by None at = or-none (is_some (tables.lends.links link.0))
-  by (Some client) at = (let seated = tidy.seated link client at in ap (λ (o : Option Lent). is_some o || seat_reads link (tables.seats client.0)) seated.unlent
-      ∙ ap (λ (o : Option Seat). seat_reads link o) seated.is ∙ ap (λ (b : Bool). cond b (is_read seated.seat.session.phase) false)
-      (here seated.seat.link link seated.same) ∙ sym (ap (λ (o : Option Seat). acts.seat_reads o) seated.is))
+  by : (o : Option ClientNo) → tables.numbers link.0 ≡ o → reads_in tables link ≡ acts.reads tables link
+  by None at = grind (arith, common_steps)
+  by (Some client) at = (let seated : IsSeated tables client link = tidy.seated link client at in grind (arith, common_steps))
 
 pub sends-same : (tables : Tables) (log : Log) (link : LinkId) → Tidy tables log → sends_in tables link ≡ acts.sends tables link
 sends-same tables log link tidy = by (tables.numbers link.0) refl where
-  by : (o : Option ClientNo) → tables.numbers link.0 ≡ o
-      → or_sent (left_in (tables.lends.links link.0)) (client_sends link tables.seats o) ≡ acts.sends_by tables link o
-  by None at = or-nothing (left_in (tables.lends.links link.0))
-  by (Some client) at = (let seated = tidy.seated link client at in
-      ap (λ (o : Option Lent). or_sent (left_in o) (seat_sends link (tables.seats client.0))) seated.unlent
-      ∙ ap (λ (o : Option Seat). seat_sends link o) seated.is ∙ ap (λ (b : Bool). cond b (acts.reply_sent seated.seat.session.client.outgoing) None)
-      (here seated.seat.link link seated.same) ∙ sym (ap (λ (o : Option Seat). acts.seat_sends o) seated.is))
-
-none-asked : (o : Option Leaver) (b : Bool) → (is_some o || b) ≡ false → (o ≡ None) × (b ≡ false)
-none-asked h0 b is = grind (arith, common_steps)
+  by : (o : Option ClientNo) → tables.numbers link.0 ≡ o → sends_in tables link ≡ acts.sends tables link
+  by None at = grind (arith, common_steps)
+  by (Some client) at = (let seated : IsSeated tables client link = tidy.seated link client at in grind (arith, common_steps))
 
 -- no act is asked for
 pub unasked : (core : Core) → asks core ≡ false → (core.known.leaver ≡ None) × (acts.asks core.setup (tables_of core.known) ≡ false)
-unasked core acted = none-asked core.known.leaver (acts.asks core.setup (tables_of core.known)) acted
+unasked core acted = grind (arith, common_steps)
 
 pub calm-sends : (core : Core) (link : LinkId) → asks core ≡ false → sends core link ≡ sends_in (tables_of core.known) link
 calm-sends core link acted = ap (λ (l : Option Leaver). or_sent (farewell link l) (sends_in (tables_of core.known) link)) (unasked core acted).0
@@ -95,10 +74,8 @@ waits-after core log held may = subst (λ (t : Tables). MayWait (acts.reads t) (
   tidy : Tidy (tables_of core.known) log
   tidy = tidy-of core log held
 
-awaited-so : (o : Option Leaver) (target : Option Target) (t : Target) → awaited_unless o target ≡ Some t → target ≡ Some t
-awaited-so h0 target t is = grind (arith, common_steps)
-
 pub awaited-after : (core : Core) (log : Log) (target : Target) → awaits core ≡ Some target → Stands core log
     → acts.awaits core.setup (tables_after core.setup log) ≡ Some target
-awaited-after core log target is held = sym (ap (λ (t : Tables). acts.awaits core.setup t) held.tables)
-    ∙ awaited-so core.known.leaver (acts.awaits core.setup (tables_of core.known)) target is
+awaited-after core log target is held = sym (ap (λ (t : Tables). acts.awaits core.setup t) held.tables) ∙ now where
+  now : acts.awaits core.setup (tables_of core.known) ≡ Some target
+  now = grind (arith, common_steps)

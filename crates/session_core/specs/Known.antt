@@ -1,5 +1,5 @@
 -- What the router knows, as the tables of its world.
-use Rattle.std.specs.Prelude.{Bool, false, nat_eq, ◌||◌, if◌then◌else◌, List, [], ◌∷◌, Option, Some, None}
+use Rattle.std.specs.Prelude.{◌≡◌, Bool, false, nat_eq, ◌||◌, if◌then◌else◌, List, [], ◌∷◌, ◌++◌, Option, Some, None}
 use Rattle.{std.specs.HashMap.get, mx_base.specs.declared.names.LinkId.LinkId, lend_core.specs.Lends.lends_of, router_world.specs.declared.seat.Parting.Parting}
 use Rattle.{router_world.specs.Tables.Tables, session_core.specs.declared.known.Known.Known, session_core.specs.declared.known.Leaver.Leaver}
 
@@ -29,3 +29,9 @@ is_changed known link = is_among link known.changed.items
 abbrev pub listed : Option LinkId → List LinkId
 listed None = []
 listed (Some link) = link ∷ []
+
+-- these may have something new too, and nothing else changed
+pub record Marked (links : List LinkId) (old new : Known) : Type 0 where
+  pub tables : tables_of new ≡ tables_of old
+  pub leaver : new.leaver ≡ old.leaver
+  pub changed : new.changed.items ≡ old.changed.items ++ links

@@ -2,6 +2,8 @@ pub mod Cores
 pub mod Settings
 pub mod Known
 pub mod Says
+pub mod Turning
+pub mod Telling
 pub mod Acting
 pub mod Tidy
 pub mod Tidying

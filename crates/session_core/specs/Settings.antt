@@ -1,28 +1,20 @@
 -- What a lawful configuration has for the sessions.
-use Rattle.std.specs.Prelude.{◌≡◌, ◌≢◌, ℕ, ◌≤◌, Bool, true, false, not, ◌==◌, ◌&&◌, ◌||◌, List, [], ◌∷◌, ◌++◌, length, nat_le, refl}
-use Rattle.std.{specs.List.list_any, proofs.Common.arith, proofs.lemmas.List.Elements.All-nil, proofs.lemmas.List.Elements.All-cons}
+use Rattle.std.specs.Prelude.{◌≡◌, ◌≢◌, ℕ, ◌≤◌, Bool, true, not, ◌==◌, ◌&&◌, List, [], ◌∷◌, ◌++◌, length, nat_le}
+use Rattle.std.{specs.List.list_any, proofs.Common.arith}
+use Rattle.std.proofs.lemmas.{Grind.common_steps, List.Elements.All-nil, List.Elements.All-cons}
 use Rattle.{handshake.specs.Spelling.IsText, client_session.specs.Setups.most_message, session_core.specs.Cores.AreTexts}
 use Rattle.mx_config.specs.{Lawful.IsLawful, Lawful.IsLawfulUser, Lawful.EachBehind, declared.config.Config.Config, declared.config.UserRow.UserRow}
 
-both-true : (a b : Bool) → (a && b) ≡ true → (a ≡ true) × (b ≡ true)
-both-true true b is = (refl, is)
-both-true false b is = cc
-
 none-zero : (bytes : List ℕ) → not (list_any (λ b. b == 0) bytes) ≡ true → IsText bytes
 none-zero [] is = All-nil (λ (b : ℕ). b ≢ 0)
-none-zero (byte ∷ bytes) is = by (byte == 0) refl is (λ none. none-zero bytes none) where
-  by : (zero : Bool) → (byte == 0) ≡ zero → not (zero || list_any (λ b. b == 0) bytes) ≡ true → (not (list_any (λ b. b == 0) bytes) ≡ true → IsText bytes)
-      → IsText (byte ∷ bytes)
-  by true at none later = cc
-  by false at none later = All-cons (λ (b : ℕ). b ≢ 0) byte bytes (λ same. (let no : true ≡ false = rw same at at in absurd (cc))) (later none)
+none-zero (byte ∷ bytes) is = grind (arith, common_steps, none-zero bytes)
 
 -- a text that fits has no NUL
 fitting-text : (bytes : List ℕ) (fits : Bool) → (not (list_any (λ b. b == 0) bytes) && fits) ≡ true → IsText bytes
-fitting-text bytes fits is = none-zero bytes (both-true (not (list_any (λ b. b == 0) bytes)) fits is).0
+fitting-text bytes fits is = grind (arith, common_steps, none-zero bytes)
 
 short-length : (bytes : List ℕ) → (not (list_any (λ b. b == 0) bytes) && nat_le (length bytes) 255) ≡ true → length bytes ≤ 255
-short-length bytes is = (let short : nat_le (length bytes) 255 ≡ true = (both-true (not (list_any (λ b. b == 0) bytes)) (nat_le (length bytes) 255) is).1 in
-    search arith)
+short-length bytes is = grind (arith, common_steps)
 
 texts-behind : (before rows : List UserRow) → EachBehind IsLawfulUser before rows → AreTexts rows
 texts-behind before [] each = All-nil (λ (row : UserRow). IsText row.name)

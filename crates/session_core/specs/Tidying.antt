@@ -1,30 +1,24 @@
 -- What stands for a log is tidy.
-use Rattle.std.specs.Prelude.{◌≡◌, ◌⊎◌, ◌≤◌, ◌<◌, ◌+◌, ℕ, Bool, true, false, not, nat_eq, cond, List, [], ◌∷◌, ◌++◌, filter, length, Option, Some, None, refl}
+use Rattle.std.specs.Prelude.{◌≡◌, ◌⊎◌, ◌≤◌, ◌<◌, ℕ, true, not, nat_eq, List, [], ◌∷◌, ◌++◌, filter, length, Option, Some, None, refl}
 use Rattle.std.proofs.Common.{sym, ◌∙◌, ap, subst, inl, inr, arith, append_assoc, length-append}
 use Rattle.{mx_base.specs.declared.names.ClientNo.ClientNo, mx_base.specs.declared.names.LinkId.LinkId, client_session.specs.Setups.most_message}
 use Rattle.{client_session.specs.Setups.Setup, packet_frame.specs.PacketLaws.nat_eq-true, promises.specs.Service.Service, session_core.specs.Tidy.IsApart}
 use Rattle.{session_core.specs.Tidy.IsSeated, session_core.specs.Tidy.Tidy, std.proofs.lemmas.Grind.common_steps}
 use Rattle.mx_wire.specs.{Log.Log, Tells.Fits, Tells.MayFollow, Moments.AllLawful, Moments.LawfulAfter}
 use Rattle.client_talk.specs.{declared.session.Phase.Phase, Sessions.is_ending}
-use Rattle.lend_core.specs.{declared.ask.Ask.Ask, Lends.Lends, Lends.set, Events.gone, Events.left_by}
+use Rattle.lend_core.specs.{Lends.Lends, Lends.set, Events.gone, Events.left_by}
 use Rattle.lend_core.specs.Changes.{without_ask, waits_no_more, owns_none}
 use Rattle.router_world.specs.{declared.seat.Parting.Parting, declared.seat.Seat.Seat, Tables.Tables, World.tables_after}
 use Rattle.router_world.specs.Acts.{IsOurs, next_close, close_of, first_closing}
 use Rattle.router_world.proofs.{Promises.sound-after, Sound.Sound, Sound.LendsSound, Sound.Serves, Sound.Gone, Sound.AtMostOne}
 
-same-link : (a b : LinkId) → ◌≡◌ {A = Option LinkId} (Some a) (Some b) → a ≡ b
-same-link a b is = grind (arith, common_steps)
-
 -- a link that is to be closed
-none-next : (link : LinkId) → ◌≡◌ {A = Option LinkId} None (Some link) → ⊥
-none-next link is = cc
-
 closing-apart : (service : Service) (log : Log) (tables : Tables) (link : LinkId) → Sound service log None tables
     → first_closing tables.lends.closing ≡ Some link → IsApart tables log link
 closing-apart service log tables link sound is = by tables.lends.closing refl sound.lends.one_closes is where
   by : (xs : List LinkId) → tables.lends.closing ≡ xs → AtMostOne xs → first_closing xs ≡ Some link → IsApart tables log link
-  by [] at one is = absurd (none-next link is)
-  by (x ∷ []) at one is = (let at_link : tables.lends.closing ≡ link ∷ [] = at ∙ ap (λ (l : LinkId). l ∷ []) (same-link x link is) in
+  by [] at one is = absurd (cc)
+  by (x ∷ []) at one is = (let at_link : tables.lends.closing ≡ link ∷ [] = cc in
       record
       { opened = (sound.lends.closes link at_link).opened; unnumbered = sound.unclosing link at_link; unlent = (sound.lends.closes link at_link).unlent })
   by (x ∷ y ∷ xs) at one is = elim one [ ]
@@ -34,8 +28,8 @@ next-apart : (service : Service) (log : Log) (tables : Tables) (link : LinkId) �
 next-apart service log tables link sound is = by tables.parting refl sound.one_parts is where
   by : (xs : List Parting) → tables.parting ≡ xs → AtMostOne xs → close_of xs tables.lends.closing ≡ Some link → IsApart tables log link
   by [] at one is = closing-apart service log tables link sound is
-  by (p ∷ []) at one is = subst (λ (l : LinkId). IsApart tables log l) (same-link p.link link is) (let parts = sound.parts p at in
-      record { opened = parts.opened; unnumbered = parts.unnumbered; unlent = parts.unlent })
+  by (p ∷ []) at one is = (let parts = sound.parts p at in let same : p.link ≡ link = cc in subst (λ (l : LinkId). IsApart tables log l) same
+      (record { opened = parts.opened; unnumbered = parts.unnumbered; unlent = parts.unlent }))
   by (p ∷ q ∷ xs) at one is = elim one [ ]
 
 -- a link of a client that is served
@@ -50,19 +44,12 @@ link-seated service log tables link client sound is = by (sound.numbers link cli
 set-none : {X : Type 0} (f : ℕ → Option X) (key : ℕ) → f key ≡ None → (k : ℕ) → set f key None k ≡ f k
 set-none f key none k = grind (arith, common_steps)
 
-some-none : (lends : Lends) (k : ℕ) (ask : Ask) → lends.asks k ≡ Some ask → lends.asks k ≡ None → ⊥
-some-none lends k ask some none = (let no : ◌≡◌ {A = Option Ask} (Some ask) None = sym some ∙ none in cc)
-
 none-waits : (service : Service) (log : Log) (lends : Lends) (client : ClientNo) → LendsSound service log lends → lends.asks client.0 ≡ None
     → filter (λ (other : ClientNo). not (nat_eq other.0 client.0)) lends.waiting ≡ lends.waiting
 none-waits service log lends client sound none = by lends.waiting refl sound.one_waits where
   by : (xs : List ClientNo) → lends.waiting ≡ xs → AtMostOne xs → filter (λ (other : ClientNo). not (nat_eq other.0 client.0)) xs ≡ xs
   by [] at one = refl
-  by (x ∷ []) at one = of (nat_eq x.0 client.0) refl where
-    of : (b : Bool) → nat_eq x.0 client.0 ≡ b → cond (not b) (x ∷ []) [] ≡ x ∷ []
-    of true same = (let waits = sound.waits x at in absurd (some-none lends client.0 waits.ask (sym (ap lends.asks (nat_eq-true x.0 client.0 same))
-        ∙ waits.asks) none))
-    of false same = refl
+  by (x ∷ []) at one = (let waits = sound.waits x at in grind (arith, common_steps, nat_eq-true))
   by (x ∷ y ∷ xs) at one = elim one [ ]
 
 gone-still : (service : Service) (log : Log) (lends : Lends) (client : ClientNo) → LendsSound service log lends → Gone lends client.0
@@ -92,7 +79,7 @@ follow-behind : (before log : Log) → LawfulAfter Fits before log → length (b
 follow-behind before [] all few = tt
 follow-behind before (e ∷ later) all few = (
   record
-      { bounded = (let long : length (before ++ e ∷ later) ≡ length before + length (e ∷ later) = length-append before (e ∷ later) in omega arith); fits = all.0 },
+      { bounded = omega (arith, length-append before (e ∷ later)); fits = all.0 },
   follow-behind (before ++ e ∷ []) later all.1 (subst (λ (l : Log). length l < 281474976710656) (sym (append_assoc before (e ∷ []) later)) few),
 )
 

@@ -2,7 +2,7 @@
 ghost use Rattle.std.specs.Prelude.{◌≡◌};
 ghost use Rattle.router_world.specs.World.{fewer};
 
-use crate::known::{Known, Leaver};
+use crate::known::Known;
 use crate::router::Core;
 use mx_base::LinkId;
 use ready_loop::Act;
@@ -25,20 +25,6 @@ impl Known {
     ghost use Rattle.session_core.specs.Known.{tables_of};
     ghost use Rattle.session_core.specs.Acting.{next_leaver, first_parting, parted};
 
-    // The close of the client's link that is to be closed is asked for.
-    fn part_asked(&mut self, leaver: Leaver) -> LinkId
-        ensures link { result ≡ leaver.parting.link }
-        ensures is { self.new ≡ record self.old { here = fewer leaver.parting.is_client self.old.here; leaver = Some (record leaver { is_asked = true }) } }
-    {
-        let link = leaver.parting.link;
-        self.here = fewer(leaver.parting.is_client, self.here);
-        self.leaver = Some(Leaver {
-            parting: leaver.parting,
-            is_asked: true,
-        });
-        link
-    }
-
     // The client's link that is to be closed, if its close wasn't asked for before.
     fn next_leaver(&mut self) -> Option<LinkId>
         ensures link { result ≡ first_parting (tables_of self.old).parting }
@@ -46,13 +32,16 @@ impl Known {
         ensures leaver { self.new.leaver ≡ next_leaver self.old.leaver }
         ensures changed { self.new.changed ≡ self.old.changed }
     {
-        match self.leaver.take() {
+        match &mut self.leaver {
             Some(leaver) => {
                 if leaver.is_asked {
-                    None
-                } else {
-                    Some(self.part_asked(leaver))
+                    self.leaver = None;
+                    return None;
                 }
+                leaver.is_asked = true;
+                let link = leaver.parting.link;
+                self.here = fewer(leaver.parting.is_client, self.here);
+                Some(link)
             }
             None => None,
         }

@@ -1,6 +1,8 @@
 // What the router knows.
-ghost use Rattle.std.specs.Prelude.{◌≡◌};
+ghost use Rattle.std.specs.Prelude.{◌≡◌, ℕ, None, Some, OnOk, nat_eq};
+ghost use Rattle.std.specs.HashMap.{get};
 ghost use Rattle.client_side.specs.Client.{counted};
+ghost use Rattle.lend_core.specs.Lends.{set};
 
 use lend_core::Lender;
 use mx_base::{Bytes, ClientNo, LinkId, OutOfMemory};
@@ -43,13 +45,27 @@ pub fn counted(count: u64) -> u64
     if count < u64::MAX { count + 1 } else { count }
 }
 
+// A row is put into a table, whatever its rows are.
+fn put<Row: Drop>(rows: &mut HashMap<u64, Row>, key: u64, row: Row) -> Result<(), OutOfMemory>
+    ensures { OnOk result ((k : ℕ) → get nat_eq rows.new k ≡ set (get nat_eq rows.old) key (Some row) k) }
+{
+    rows.insert(key, row)?;
+    Ok(())
+}
+
+// A row is no more.
+fn remove<Row: Drop>(rows: &mut HashMap<u64, Row>, key: u64)
+    ensures { (k : ℕ) → get nat_eq rows.new k ≡ set (get nat_eq rows.old) key None k }
+{
+    let _ = rows.remove(&key);
+}
+
 // One change of one table at a time.
 impl Known {
-    ghost use Rattle.std.specs.Prelude.{◌≡◌, ◌∷◌, ◌++◌, [], Some, None, OnOk, true};
-    ghost use Rattle.ready_loop.specs.Changes.{ChangesOnly};
+    ghost use Rattle.std.specs.Prelude.{◌≡◌, ◌∷◌, [], Some, None, OnOk, true, false};
     ghost use Rattle.router_world.specs.Tables.{no_tables, without_seat, with_seat, with_number, without_number, to_part};
-    ghost use Rattle.session_core.specs.Known.{tables_of, is_changed, listed};
-    ghost use Rattle.session_core.specs.Says.{known_reads, known_sends};
+    ghost use Rattle.session_core.specs.Known.{tables_of, listed, Marked};
+    ghost use Rattle.session_core.specs.Says.{Becomes};
 
     /// Nothing, before any client.
     #[tactic(auto, using(crate::proofs::Alike::one))]
@@ -69,62 +85,43 @@ impl Known {
         }
     }
 
-    /// The client's seat is taken out.
+    /// The client's seat is no more.
     #[tactic(auto, using(crate::proofs::Alike::one))]
-    pub(crate) fn take_seat(&mut self, client: ClientNo) -> Option<Seat>
-        ensures seat { result ≡ (tables_of self.old).seats client.0 }
-        ensures tables { tables_of self.new ≡ without_seat client (tables_of self.old) }
-        ensures changes { ChangesOnly is_changed known_reads known_sends self.old self.new }
-    {
-        self.seats.remove(&client.0)
-    }
-
-    /// The client's seat is taken out, and is no more.
     pub(crate) fn drop_seat(&mut self, client: ClientNo)
-        ensures tables { tables_of self.new ≡ without_seat client (tables_of self.old) }
-        ensures changes { ChangesOnly is_changed known_reads known_sends self.old self.new }
+        ensures { Becomes (without_seat client (tables_of self.old)) self.old self.new }
     {
-        let _ = self.take_seat(client);
+        remove(&mut self.seats, client.0);
     }
 
     /// The client's seat is put in, and its link may have something new.
-    #[tactic(auto, using(crate::proofs::Alike::one))]
     pub(crate) fn put_seat(&mut self, client: ClientNo, seat: Seat) -> Result<(), OutOfMemory>
-        ensures tables { OnOk result (tables_of self.new ≡ with_seat client seat (tables_of self.old)) }
-        ensures changes { OnOk result (ChangesOnly is_changed known_reads known_sends self.old self.new) }
+        ensures { OnOk result (Becomes (with_seat client seat (tables_of self.old)) self.old self.new) }
     {
         let link = seat.link;
-        self.seats.insert(client.0, seat)?;
-        self.changed.push(link)?;
-        Ok(())
+        put(&mut self.seats, client.0, seat)?;
+        self.mark(link)
     }
 
     /// The link is the client's, and may have something new.
-    #[tactic(auto, using(crate::proofs::Alike::one))]
     pub(crate) fn put_number(&mut self, link: LinkId, client: ClientNo) -> Result<(), OutOfMemory>
-        ensures tables { OnOk result (tables_of self.new ≡ with_number link client (tables_of self.old)) }
-        ensures changes { OnOk result (ChangesOnly is_changed known_reads known_sends self.old self.new) }
+        ensures { OnOk result (Becomes (with_number link client (tables_of self.old)) self.old self.new) }
     {
-        self.changed.push(link)?;
-        self.numbers.insert(link.0, client)?;
-        Ok(())
+        put(&mut self.numbers, link.0, client)?;
+        self.mark(link)
     }
 
     /// The link isn't a served client's any more.
     #[tactic(auto, using(crate::proofs::Alike::one))]
     pub(crate) fn take_number(&mut self, link: LinkId)
-        ensures tables { tables_of self.new ≡ without_number link (tables_of self.old) }
-        ensures changes { ChangesOnly is_changed known_reads known_sends self.old self.new }
+        ensures { Becomes (without_number link (tables_of self.old)) self.old self.new }
     {
-        let _ = self.numbers.remove(&link.0);
+        remove(&mut self.numbers, link.0);
     }
 
     /// A client comes, which has the next number, and is connected.
     pub(crate) fn count_client(&mut self) -> ClientNo
         ensures number { result ≡ record { 0 = counted (tables_of self.old).came } }
-        ensures tables { tables_of self.new ≡ record (tables_of self.old) { came = counted (tables_of self.old).came; here = counted (tables_of self.old).here } }
-        ensures leaver { self.new.leaver ≡ self.old.leaver }
-        ensures changed { self.new.changed ≡ self.old.changed }
+        ensures is { Becomes (record (tables_of self.old) { came = counted (tables_of self.old).came; here = counted (tables_of self.old).here }) self.old self.new }
     {
         self.came = counted(self.came);
         self.here = counted(self.here);
@@ -133,55 +130,50 @@ impl Known {
 
     /// One more came, which isn't a client.
     pub(crate) fn count_stranger(&mut self)
-        ensures tables { tables_of self.new ≡ record (tables_of self.old) { came = counted (tables_of self.old).came } }
-        ensures leaver { self.new.leaver ≡ self.old.leaver }
-        ensures changed { self.new.changed ≡ self.old.changed }
+        ensures { Becomes (record (tables_of self.old) { came = counted (tables_of self.old).came }) self.old self.new }
     {
         self.came = counted(self.came);
+    }
+
+    // The link of a client's that is to be closed, which no other is yet.
+    fn put_leaver(&mut self, parting: Parting)
+        ensures { self.new ≡ record self.old { leaver = Some (record { parting = parting; is_asked = false }) } }
+    {
+        self.leaver = Some(Leaver {
+            parting,
+            is_asked: false,
+        });
     }
 
     /// A link is to be closed, and no other of a client's is yet. Nothing is offered to it.
     pub(crate) fn part(&mut self, link: LinkId, is_client: bool)
         requires { (tables_of self.old).parting ≡ [] }
-        ensures tables { tables_of self.new ≡ to_part (record { link = link; bytes = []; is_client = is_client }) (tables_of self.old) }
-        ensures changes { ChangesOnly is_changed known_reads known_sends self.old self.new }
+        ensures { Becomes (to_part (record { link = link; bytes = []; is_client = is_client }) (tables_of self.old)) self.old self.new }
     {
         let bytes = Bytes::new(self.alloc);
-        let parting = Parting {
+        self.put_leaver(Parting {
             link,
             bytes,
             is_client,
-        };
-        self.leaver = Some(Leaver {
-            parting,
-            is_asked: false,
         });
     }
 
     /// A client's link is to be closed, and no other is yet. These bytes are offered to it before.
     pub(crate) fn send_off(&mut self, link: LinkId, bytes: Bytes) -> Result<(), OutOfMemory>
         requires { (tables_of self.old).parting ≡ [] }
-        ensures tables { OnOk result (tables_of self.new ≡ to_part (record { link = link; bytes = bytes; is_client = true }) (tables_of self.old)) }
-        ensures changes { OnOk result (ChangesOnly is_changed known_reads known_sends self.old self.new) }
+        ensures { OnOk result (Becomes (to_part (record { link = link; bytes = bytes; is_client = true }) (tables_of self.old)) self.old self.new) }
     {
-        self.changed.push(link)?;
-        let parting = Parting {
+        self.put_leaver(Parting {
             link,
             bytes,
             is_client: true,
-        };
-        self.leaver = Some(Leaver {
-            parting,
-            is_asked: false,
         });
-        Ok(())
+        self.mark(link)
     }
 
     /// The link may have something new.
     pub(crate) fn mark(&mut self, link: LinkId) -> Result<(), OutOfMemory>
-        ensures tables { OnOk result (tables_of self.new ≡ tables_of self.old) }
-        ensures leaver { OnOk result (self.new.leaver ≡ self.old.leaver) }
-        ensures changed { OnOk result (self.new.changed.items ≡ self.old.changed.items ++ link ∷ []) }
+        ensures { OnOk result (Marked (link ∷ []) self.old self.new) }
     {
         self.changed.push(link)?;
         Ok(())
@@ -189,9 +181,7 @@ impl Known {
 
     /// So may the client's link to a server.
     pub(crate) fn mark_own(&mut self, client: ClientNo) -> Result<(), OutOfMemory>
-        ensures tables { OnOk result (tables_of self.new ≡ tables_of self.old) }
-        ensures leaver { OnOk result (self.new.leaver ≡ self.old.leaver) }
-        ensures changed { OnOk result (self.new.changed.items ≡ self.old.changed.items ++ listed ((tables_of self.old).lends.owned client.0)) }
+        ensures { OnOk result (Marked (listed ((tables_of self.old).lends.owned client.0)) self.old self.new) }
     {
         match self.lender.link_of(client) {
             Some(link) => self.mark(link),

@@ -7,6 +7,7 @@ mod acting;
 mod events;
 mod known;
 mod machine;
+mod news;
 mod router;
 mod saying;
 mod sitting;

@@ -22,43 +22,6 @@ use ready_loop::{Act, Event, Machine};
 /// being refused.
 const OTHER_LINKS: u32 = 10_018;
 
-// The event changes what is known. What is told of it is carried over its entry.
-fn handle(core: &mut Core, event: Event, bytes: &mut [u8]) -> Result<(), OutOfMemory>
-    requires heard { IsHeard (awaits core.old) event }
-    requires acted { HasActed (asks core.old) event }
-    ensures carries { OnOk result ((e : Entry) → IsToldOf 18446744073709551615 (awaits core.old) event bytes.old e → CarriesOver Stands due_in core.old core.new e) }
-    ensures changes { OnOk result (ChangesOnly changed reads sends core.old core.new) }
-    ensures setup { core.new.setup ≡ core.old.setup }
-{
-    match event {
-        Event::Accepted { port, link, salt } => {
-            core.known.come(port, link, salt, &core.setup)?;
-            Ok(())
-        }
-        Event::Opened { link, .. } => {
-            core.known.open(link)?;
-            Ok(())
-        }
-        Event::OpenFailed { .. } => {
-            core.known.fail_open(&core.setup)?;
-            Ok(())
-        }
-        Event::Got { link } => {
-            core.known.hear(link, bytes, &core.setup)?;
-            Ok(())
-        }
-        Event::Ended { link } => {
-            core.known.end(link, &core.setup)?;
-            Ok(())
-        }
-        Event::Failed { link } => {
-            core.known.fail(link, &core.setup)?;
-            Ok(())
-        }
-        Event::Woke { .. } => Ok(()),
-    }
-}
-
 impl Machine for Core {
     ghost stands = { Stands };
 
@@ -93,8 +56,7 @@ impl Machine for Core {
     ghost quiet = { quiet };
 
     fn take(&mut self, event: Event, bytes: &mut [u8]) -> Result<(), OutOfMemory> {
-        handle(self, event, bytes)?;
-        Ok(())
+        self.known.take(event, bytes, &self.setup)
     }
 
     fn next_act(&mut self) -> Option<Act> {

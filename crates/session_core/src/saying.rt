@@ -4,8 +4,9 @@ ghost use Rattle.mx_base.specs.Sent.{IsLent};
 ghost use Rattle.router_world.specs.Acts.{reply_sent};
 
 use crate::known::Known;
-use client_talk::{is_finished, is_read, left, taken};
+use client_talk::{is_read, left, taken};
 use mx_base::{ClientNo, LinkId, Piece, Tag};
+use router_world::Seat;
 
 // Bytes for a client's link, if there are any.
 fn reply(bytes: &[u8]) -> Option<Piece<'_>>
@@ -22,28 +23,39 @@ fn reply(bytes: &[u8]) -> Option<Piece<'_>>
 
 impl Known {
     ghost use Rattle.std.specs.Prelude.{◌≡◌, ◌≤◌, [], length};
-    ghost use Rattle.ready_loop.specs.Changes.{ChangesOnly};
     ghost use Rattle.mx_base.specs.Sent.{IsLent, MayTake};
+    ghost use Rattle.client_talk.specs.Events.{taken};
     ghost use Rattle.lend_core.specs.Events.{left_in};
-    ghost use Rattle.session_core.specs.Known.{tables_of, is_changed};
-    ghost use Rattle.session_core.specs.Says.{seat_reads, client_reads, seat_sends, client_sends, sends_in, farewell, known_reads, known_sends, taken_at, is_done, settled, parts_if, client_took, took_in, MayTakeOf};
+    ghost use Rattle.std.specs.Option.{option_copied};
+    ghost use Rattle.session_core.specs.Known.{tables_of};
+    ghost use Rattle.session_core.specs.Says.{seat_on, client_reads, client_sends, sends_in, farewell, known_reads, known_sends, Becomes, stepped_at, settled, client_took, took_in, MayTakeOf};
     ghost use Rattle.lend_core.specs.Changes.{taken_on};
     ghost use Rattle.router_world.specs.Tables.{with_lends};
 
-    fn reads_seat(&self, client: ClientNo, link: LinkId) -> bool
-        ensures { result ≡ seat_reads link ((tables_of self.now).seats client.0) }
+    // The seat of the client whose link it is.
+    fn seat_on(&self, link: LinkId) -> Option<&Seat>
+        ensures { option_copied result ≡ seat_on link (tables_of self.now).seats ((tables_of self.now).numbers link.0) }
     {
-        match self.seats.get(&client.0) {
-            Some(seat) => seat.link.0 == link.0 && is_read(&seat.session),
-            None => false,
+        match self.number_of(link) {
+            Some(client) => match self.seats.get(&client.0) {
+                Some(seat) => {
+                    if seat.link.0 == link.0 {
+                        Some(seat)
+                    } else {
+                        None
+                    }
+                }
+                None => None,
+            },
+            None => None,
         }
     }
 
     fn reads_client(&self, link: LinkId) -> bool
         ensures { result ≡ client_reads link (tables_of self.now).seats ((tables_of self.now).numbers link.0) }
     {
-        match self.numbers.get(&link.0) {
-            Some(client) => self.reads_seat(*client, link),
+        match self.seat_on(link) {
+            Some(seat) => is_read(&seat.session),
             None => false,
         }
     }
@@ -55,26 +67,11 @@ impl Known {
         self.lender.is_open(link) || self.reads_client(link)
     }
 
-    fn left_for_seat(&self, client: ClientNo, link: LinkId) -> Option<Piece<'_>>
-        ensures { IsLent result (seat_sends link ((tables_of self.now).seats client.0)) }
-    {
-        match self.seats.get(&client.0) {
-            Some(seat) => {
-                if seat.link.0 == link.0 {
-                    reply(left(&seat.session))
-                } else {
-                    None
-                }
-            }
-            None => None,
-        }
-    }
-
     fn left_for_client(&self, link: LinkId) -> Option<Piece<'_>>
         ensures { IsLent result (client_sends link (tables_of self.now).seats ((tables_of self.now).numbers link.0)) }
     {
-        match self.numbers.get(&link.0) {
-            Some(client) => self.left_for_seat(*client, link),
+        match self.seat_on(link) {
+            Some(seat) => reply(left(&seat.session)),
             None => None,
         }
     }
@@ -121,65 +118,38 @@ impl Known {
     }
 
     // So many bytes were written to the client.
-    #[tactic(auto, using(crate::proofs::Alike::one))]
     fn take_bytes(&mut self, client: ClientNo, n: usize)
         requires { MayTakeOf ((tables_of self.old).seats client.0) n }
-        ensures tables { tables_of self.new ≡ taken_at client n (tables_of self.old) }
-        ensures changed { self.new.changed ≡ self.old.changed }
-        ensures leaver { self.new.leaver ≡ self.old.leaver }
+        ensures { Becomes (stepped_at client (taken n) (tables_of self.old)) self.old self.new }
     {
         if let Some(seat) = self.seats.get_mut(&client.0) {
             taken(&mut seat.session, n);
         }
     }
 
-    // Whether the client ends and was told all.
-    fn is_done(&self, client: ClientNo) -> bool
-        ensures { result ≡ is_done ((tables_of self.now).seats client.0) }
-    {
-        match self.seats.get(&client.0) {
-            Some(seat) => is_finished(&seat.session),
-            None => false,
-        }
-    }
-
-    fn part_if_done(&mut self, client: ClientNo, link: LinkId)
-        requires { (tables_of self.old).parting ≡ [] }
-        ensures tables { tables_of self.new ≡ settled client link (tables_of self.old) }
-        ensures changes { ChangesOnly is_changed known_reads known_sends self.old self.new }
-    {
-        if self.is_done(client) {
-            self.drop_seat(client);
-            self.leave(link);
-        }
-    }
-
-    fn write_client(&mut self, client: ClientNo, link: LinkId, n: usize)
+    fn write_client(&mut self, client: ClientNo, n: usize)
         requires parting { (tables_of self.old).parting ≡ [] }
         requires lent { MayTakeOf ((tables_of self.old).seats client.0) n }
-        ensures tables { tables_of self.new ≡ settled client link (taken_at client n (tables_of self.old)) }
-        ensures changes { ChangesOnly is_changed known_reads known_sends self.old self.new }
+        ensures { Becomes (settled client (stepped_at client (taken n) (tables_of self.old))) self.old self.new }
     {
         self.take_bytes(client, n);
-        self.part_if_done(client, link);
+        let _ = self.part_if_done(client);
     }
 
     fn wrote_client(&mut self, link: LinkId, n: usize)
         requires parting { (tables_of self.old).parting ≡ [] }
         requires lent { MayTake (client_sends link (tables_of self.old).seats ((tables_of self.old).numbers link.0)) n }
-        ensures tables { tables_of self.new ≡ client_took link n ((tables_of self.old).numbers link.0) (tables_of self.old) }
-        ensures changes { ChangesOnly is_changed known_reads known_sends self.old self.new }
+        ensures { Becomes (client_took n ((tables_of self.old).numbers link.0) (tables_of self.old)) self.old self.new }
     {
-        match self.numbers.get(&link.0).copied() {
-            Some(client) => self.write_client(client, link, n),
+        match self.number_of(link) {
+            Some(client) => self.write_client(client, n),
             None => {}
         }
     }
 
     fn wrote_server(&mut self, link: LinkId, n: usize)
         requires { MayTake (left_in ((tables_of self.old).lends.links link.0)) n }
-        ensures tables { tables_of self.new ≡ with_lends (taken_on link n (tables_of self.old).lends) (tables_of self.old) }
-        ensures changes { ChangesOnly is_changed known_reads known_sends self.old self.new }
+        ensures { Becomes (with_lends (taken_on link n (tables_of self.old).lends) (tables_of self.old)) self.old self.new }
     {
         self.lender.taken(link, n);
     }
@@ -188,8 +158,7 @@ impl Known {
     pub(crate) fn wrote(&mut self, link: LinkId, n: usize)
         requires parting { (tables_of self.old).parting ≡ [] }
         requires lent { MayTake (sends_in (tables_of self.old) link) n }
-        ensures tables { tables_of self.new ≡ took_in link n (tables_of self.old) }
-        ensures changes { ChangesOnly is_changed known_reads known_sends self.old self.new }
+        ensures { Becomes (took_in link n (tables_of self.old)) self.old self.new }
     {
         if self.lender.outgoing(link).is_some() {
             self.wrote_server(link, n);

@@ -1,238 +1,133 @@
 // A client's seat goes on.
-ghost use Rattle.std.specs.Prelude.{◌≡◌, IfOk};
-ghost use Rattle.client_talk.specs.Sessions.{account_in, is_ending};
-
 use crate::known::Known;
+use crate::news::{News, tell};
 use client_session::Setup;
-use client_talk::{Phase, Query, Session, account, answered, ended, is_finished, said};
+use client_talk::{Phase, is_finished};
 use lend_core::{Answered, Ask};
-use mx_base::{Bytes, ClientNo, LinkId, OutOfMemory};
-use router_world::Seat;
-use server_side::Account;
-use std::alloc::Global;
-
-// The account again.
-fn same_account(alloc: Global, account: &Account) -> Result<Account, OutOfMemory>
-    ensures { IfOk result (λ other. other ≡ account.now) }
-{
-    let user = Bytes::from_slice(alloc, account.user())?;
-    let password = Bytes::from_slice(alloc, account.password())?;
-    Ok(Account::new(user, password, account.found_rows()))
-}
-
-// The query as a command that is to go to a server.
-fn ask_of(query: Query, account: Account) -> Ask
-    ensures { result ≡ record { ordinal = query.ordinal; first = query.first; packets = query.packets; account = account } }
-{
-    let Query {
-        ordinal,
-        first,
-        packets,
-    } = query;
-    Ask {
-        ordinal,
-        first,
-        packets: Bytes::from_vec(packets),
-        account,
-    }
-}
-
-// Whether the client's session ends.
-fn is_ending(session: &Session) -> bool
-    ensures { result ≡ is_ending session.now.phase }
-{
-    matches!(session.phase, Phase::Ending)
-}
+use mx_base::{ClientNo, LinkId, OutOfMemory};
 
 impl Known {
-    ghost use Rattle.std.specs.Prelude.{◌≡◌, ◌≤◌, length, [], None, Some, OnOk};
-    ghost use Rattle.ready_loop.specs.Changes.{ChangesOnly};
-    ghost use Rattle.client_talk.specs.Sessions.{account_in, is_ending, is_finished};
-    ghost use Rattle.client_talk.specs.Steps.{ended};
-    ghost use Rattle.client_talk.specs.Going.{still};
-    ghost use Rattle.client_talk.specs.Events.{said, answered};
+    ghost use Rattle.std.specs.Prelude.{◌≡◌, [], OnOk, IfOk};
     ghost use Rattle.lend_core.specs.Events.{asked, gone};
-    ghost use Rattle.router_world.specs.Tables.{with_lends, without_seat, without_number};
-    ghost use Rattle.router_world.specs.World.{asking, leaving, parts, seated_or_parts, goes_on, on_seat, on_client, breaks_off, answering};
-    ghost use Rattle.session_core.specs.Known.{tables_of, is_changed};
-    ghost use Rattle.session_core.specs.Says.{known_reads, known_sends};
+    ghost use Rattle.router_world.specs.Tables.{with_lends};
+    ghost use Rattle.router_world.specs.World.{leaving, parts, on_client, breaks_off, answering};
+    ghost use Rattle.session_core.specs.Known.{tables_of};
+    ghost use Rattle.session_core.specs.Says.{Becomes, settled, stays_at};
+    ghost use Rattle.session_core.specs.Turning.{turned_by, asks, ends_at, IsTurned};
 
     // A command comes up.
     fn ask(&mut self, client: ClientNo, ask: Ask) -> Result<(), OutOfMemory>
-        ensures tables { OnOk result (tables_of self.new ≡ with_lends (asked client ask (tables_of self.old).lends) (tables_of self.old)) }
-        ensures changes { OnOk result (ChangesOnly is_changed known_reads known_sends self.old self.new) }
+        ensures { OnOk result (Becomes (with_lends (asked client ask (tables_of self.old).lends) (tables_of self.old)) self.old self.new) }
     {
         self.mark_own(client)?;
-        self.lender.asked(client, ask)?;
-        Ok(())
+        self.lender.asked(client, ask)
     }
 
-    // A query comes up of the one who is logged in.
-    fn ask_if(
-        &mut self,
-        client: ClientNo,
-        seat: &Seat,
-        query: Option<Query>,
-    ) -> Result<(), OutOfMemory>
-        ensures tables { OnOk result (tables_of self.new ≡ with_lends (asking client (account_in seat.now.session.phase) query (tables_of self.old).lends) (tables_of self.old)) }
-        ensures changes { OnOk result (ChangesOnly is_changed known_reads known_sends self.old self.new) }
+    fn ask_if(&mut self, client: ClientNo, ask: Option<Ask>) -> Result<(), OutOfMemory>
+        ensures { OnOk result (Becomes (with_lends (asks client ask (tables_of self.old).lends) (tables_of self.old)) self.old self.new) }
     {
-        match (account(&seat.session), query) {
-            (Some(account), Some(query)) => {
-                let account = same_account(self.alloc, account)?;
-                self.ask(client, ask_of(query, account))?;
-                Ok(())
-            }
-            _ => Ok(()),
+        match ask {
+            Some(ask) => self.ask(client, ask),
+            None => Ok(()),
         }
     }
 
     // The client asks for nothing any more.
     fn go(&mut self, client: ClientNo) -> Result<(), OutOfMemory>
-        ensures tables { OnOk result (tables_of self.new ≡ with_lends (gone client (tables_of self.old).lends) (tables_of self.old)) }
-        ensures changes { OnOk result (ChangesOnly is_changed known_reads known_sends self.old self.new) }
+        ensures { OnOk result (Becomes (with_lends (gone client (tables_of self.old).lends) (tables_of self.old)) self.old self.new) }
     {
         self.mark_own(client)?;
-        self.lender.left(client)?;
-        Ok(())
+        self.lender.left(client)
     }
 
-    fn go_if(&mut self, ends: bool, client: ClientNo) -> Result<(), OutOfMemory>
-        ensures tables { OnOk result (tables_of self.new ≡ with_lends (leaving ends client (tables_of self.old).lends) (tables_of self.old)) }
-        ensures changes { OnOk result (ChangesOnly is_changed known_reads known_sends self.old self.new) }
+    // Whether the client's session ends.
+    fn is_ending(&self, client: ClientNo) -> bool
+        ensures { result ≡ ends_at ((tables_of self.now).seats client.0) }
     {
-        if ends {
-            self.go(client)?;
+        match self.seats.get(&client.0) {
+            Some(seat) => matches!(seat.session.phase, Phase::Ending),
+            None => false,
         }
-        Ok(())
+    }
+
+    fn go_if(&mut self, client: ClientNo) -> Result<(), OutOfMemory>
+        ensures { OnOk result (Becomes (with_lends (leaving (ends_at ((tables_of self.old).seats client.0)) client (tables_of self.old).lends) (tables_of self.old)) self.old self.new) }
+    {
+        if self.is_ending(client) {
+            self.go(client)
+        } else {
+            Ok(())
+        }
+    }
+
+    // What the client's session asks for: a command that came up, and nothing more where it ends.
+    fn ask_for(&mut self, client: ClientNo, ask: Option<Ask>) -> Result<(), OutOfMemory>
+        ensures { OnOk result (Becomes (with_lends (leaving (ends_at ((tables_of self.old).seats client.0)) client (asks client ask (tables_of self.old).lends)) (tables_of self.old)) self.old self.new) }
+    {
+        self.ask_if(client, ask)?;
+        self.go_if(client)
     }
 
     /// A client's link is no more one that is served, and is to be closed, as no other of a client's is yet.
     pub(crate) fn leave(&mut self, link: LinkId)
         requires { (tables_of self.old).parting ≡ [] }
-        ensures tables { tables_of self.new ≡ parts link (tables_of self.old) }
-        ensures changes { ChangesOnly is_changed known_reads known_sends self.old self.new }
+        ensures { Becomes (parts link (tables_of self.old)) self.old self.new }
     {
         self.take_number(link);
         self.part(link, true);
     }
 
-    // The seat is put back, unless the client ends and was told all.
-    fn settle(&mut self, client: ClientNo, seat: Seat) -> Result<(), OutOfMemory>
+    /// The client's link is to be closed, where it ends and was told all. Else its link stays.
+    pub(crate) fn part_if_done(&mut self, client: ClientNo) -> Option<LinkId>
         requires { (tables_of self.old).parting ≡ [] }
-        ensures tables { OnOk result (tables_of self.new ≡ seated_or_parts (is_finished seat.session) client seat (tables_of self.old)) }
-        ensures changes { OnOk result (ChangesOnly is_changed known_reads known_sends self.old self.new) }
+        ensures link { result ≡ stays_at ((tables_of self.old).seats client.0) }
+        ensures is { Becomes (settled client (tables_of self.old)) self.old self.new }
     {
-        if is_finished(&seat.session) {
-            self.leave(seat.link);
-        } else {
-            self.put_seat(client, seat)?;
-        }
-        Ok(())
-    }
-
-    // What the client's session asks for: a query that came up, and nothing more where it ends.
-    fn ask_for(
-        &mut self,
-        client: ClientNo,
-        seat: &Seat,
-        query: Option<Query>,
-    ) -> Result<(), OutOfMemory>
-        ensures tables { OnOk result (tables_of self.new ≡ with_lends (leaving (is_ending seat.now.session.phase) client (asking client (account_in seat.now.session.phase) query (tables_of self.old).lends)) (tables_of self.old)) }
-        ensures changes { OnOk result (ChangesOnly is_changed known_reads known_sends self.old self.new) }
-    {
-        self.ask_if(client, seat, query)?;
-        self.go_if(is_ending(&seat.session), client)?;
-        Ok(())
-    }
-
-    // The client's session went on, and this query came up.
-    fn go_on(
-        &mut self,
-        client: ClientNo,
-        seat: Seat,
-        query: Option<Query>,
-    ) -> Result<(), OutOfMemory>
-        requires { (tables_of self.old).parting ≡ [] }
-        ensures tables { OnOk result (tables_of self.new ≡ goes_on client seat.link (record { session = seat.session; query = query }) (tables_of self.old)) }
-        ensures changes { OnOk result (ChangesOnly is_changed known_reads known_sends self.old self.new) }
-    {
-        self.ask_for(client, &seat, query)?;
-        self.settle(client, seat)?;
-        Ok(())
-    }
-
-    // Each step of a client's session: bytes of it come, its query is answered, or its end was read.
-
-    fn hear_seat(
-        &mut self,
-        client: ClientNo,
-        seat: Seat,
-        bytes: &[u8],
-        setup: &Setup,
-    ) -> Result<(), OutOfMemory>
-        requires { (tables_of self.old).parting ≡ [] }
-        ensures tables { OnOk result (tables_of self.new ≡ on_seat (said setup.now bytes.now) client (Some seat) (tables_of self.old)) }
-        ensures changes { OnOk result (ChangesOnly is_changed known_reads known_sends self.old self.new) }
-    {
-        let mut seat = seat;
-        let query = said(self.alloc, &mut seat.session, bytes, setup)?;
-        self.go_on(client, seat, query)?;
-        Ok(())
-    }
-
-    /// Bytes of the client come.
-    pub(crate) fn hear_client(
-        &mut self,
-        client: ClientNo,
-        bytes: &[u8],
-        setup: &Setup,
-    ) -> Result<(), OutOfMemory>
-        requires { (tables_of self.old).parting ≡ [] }
-        ensures tables { OnOk result (tables_of self.new ≡ on_client (said setup.now bytes.now) client (tables_of self.old)) }
-        ensures changes { OnOk result (ChangesOnly is_changed known_reads known_sends self.old self.new) }
-    {
-        match self.take_seat(client) {
+        match self.seats.get(&client.0) {
             Some(seat) => {
-                self.hear_seat(client, seat, bytes, setup)?;
-                Ok(())
+                let link = seat.link;
+                if is_finished(&seat.session) {
+                    self.drop_seat(client);
+                    self.leave(link);
+                    None
+                } else {
+                    Some(link)
+                }
             }
-            None => Ok(()),
+            None => None,
         }
     }
 
-    fn answer_seat(
+    // The client's session is told the news. A command may come up.
+    #[tactic(auto, using(crate::proofs::Alike::one))]
+    fn turn_session(
         &mut self,
         client: ClientNo,
-        seat: Seat,
-        packets: &[u8],
+        news: News<'_>,
         setup: &Setup,
-    ) -> Result<(), OutOfMemory>
-        requires { (tables_of self.old).parting ≡ [] }
-        ensures tables { OnOk result (tables_of self.new ≡ on_seat (answered setup.now packets.now) client (Some seat) (tables_of self.old)) }
-        ensures changes { OnOk result (ChangesOnly is_changed known_reads known_sends self.old self.new) }
+    ) -> Result<Option<Ask>, OutOfMemory>
+        ensures { IfOk result (λ ask. IsTurned client (turned_by setup.now news.entry) ask self.old self.new) }
     {
-        let mut seat = seat;
-        let query = answered(self.alloc, &mut seat.session, packets, setup)?;
-        self.go_on(client, seat, query)?;
-        Ok(())
+        match self.seats.get_mut(&client.0) {
+            Some(seat) => tell(self.alloc, &mut seat.session, news, setup),
+            None => Ok(None),
+        }
     }
 
-    fn answer_client(
+    /// A step of the client's session, which stays in its seat or parts.
+    pub(crate) fn turn(
         &mut self,
         client: ClientNo,
-        packets: &[u8],
+        news: News<'_>,
         setup: &Setup,
     ) -> Result<(), OutOfMemory>
         requires { (tables_of self.old).parting ≡ [] }
-        ensures tables { OnOk result (tables_of self.new ≡ on_client (answered setup.now packets.now) client (tables_of self.old)) }
-        ensures changes { OnOk result (ChangesOnly is_changed known_reads known_sends self.old self.new) }
+        ensures { OnOk result (Becomes (on_client (turned_by setup.now news.entry) client (tables_of self.old)) self.old self.new) }
     {
-        match self.take_seat(client) {
-            Some(seat) => {
-                self.answer_seat(client, seat, packets, setup)?;
-                Ok(())
-            }
+        let ask = self.turn_session(client, news, setup)?;
+        self.ask_for(client, ask)?;
+        match self.part_if_done(client) {
+            Some(link) => self.mark(link),
             None => Ok(()),
         }
     }
@@ -244,39 +139,12 @@ impl Known {
         setup: &Setup,
     ) -> Result<(), OutOfMemory>
         requires { (tables_of self.old).parting ≡ [] }
-        ensures tables { OnOk result (tables_of self.new ≡ answering setup.now answer (tables_of self.old)) }
-        ensures changes { OnOk result (ChangesOnly is_changed known_reads known_sends self.old self.new) }
+        ensures { OnOk result (Becomes (answering setup.now answer (tables_of self.old)) self.old self.new) }
     {
         match answer {
             Some(answer) => {
-                self.answer_client(answer.client, answer.packets.as_slice(), setup)?;
-                Ok(())
-            }
-            None => Ok(()),
-        }
-    }
-
-    fn end_seat(&mut self, client: ClientNo, seat: Seat) -> Result<(), OutOfMemory>
-        requires { (tables_of self.old).parting ≡ [] }
-        ensures tables { OnOk result (tables_of self.new ≡ on_seat (λ session. still (ended session)) client (Some seat) (tables_of self.old)) }
-        ensures changes { OnOk result (ChangesOnly is_changed known_reads known_sends self.old self.new) }
-    {
-        let mut seat = seat;
-        ended(&mut seat.session);
-        self.go_on(client, seat, None)?;
-        Ok(())
-    }
-
-    /// The end of the client's bytes was read.
-    pub(crate) fn end_client(&mut self, client: ClientNo) -> Result<(), OutOfMemory>
-        requires { (tables_of self.old).parting ≡ [] }
-        ensures tables { OnOk result (tables_of self.new ≡ on_client (λ session. still (ended session)) client (tables_of self.old)) }
-        ensures changes { OnOk result (ChangesOnly is_changed known_reads known_sends self.old self.new) }
-    {
-        match self.take_seat(client) {
-            Some(seat) => {
-                self.end_seat(client, seat)?;
-                Ok(())
+                let packets = News::Answered(answer.packets.as_slice());
+                self.turn(answer.client, packets, setup)
             }
             None => Ok(()),
         }
@@ -285,8 +153,7 @@ impl Known {
     /// The client's link is broken.
     pub(crate) fn break_off(&mut self, client: ClientNo, link: LinkId) -> Result<(), OutOfMemory>
         requires { (tables_of self.old).parting ≡ [] }
-        ensures tables { OnOk result (tables_of self.new ≡ breaks_off client link (tables_of self.old)) }
-        ensures changes { OnOk result (ChangesOnly is_changed known_reads known_sends self.old self.new) }
+        ensures { OnOk result (Becomes (breaks_off client link (tables_of self.old)) self.old self.new) }
     {
         self.drop_seat(client);
         self.go(client)?;

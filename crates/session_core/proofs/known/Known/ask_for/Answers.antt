@@ -1,6 +1,7 @@
-use Rattle.{std.proofs.Common.refl, client_talk.specs.Sessions.account_in, session_core.proofs.Telling.asked-for}
+use Rattle.{router_world.specs.Tables.Tables, router_world.specs.Tables.with_lends, router_world.specs.World.leaving}
+use Rattle.session_core.{specs.Turning.ends_at, proofs.Changing.onward, proofs.Telling.on-ok}
 use Rattle.session_core.proofs.known.Known.ask_for.Goals as goal
 
-pub returns-clause-tables : goal.returns-clause-tables
-returns-clause-tables c = asked-for c.args.client c.args.seat.now c.args.query (account_in c.args.seat.now.session.phase) c.is_ending.result _ _ _
-    refl c.in_ok-ask_if.ensures.tables c.is_ending.ensures c.in_ok-go_if.ensures.tables
+pub returns : goal.returns
+returns c = on-ok c.go_if.result c.go_if.ensures (λ later. onward
+    (λ (t : Tables). with_lends (leaving (ends_at (t.seats c.args.client.0)) c.args.client t.lends) t) _ _ _ _ c.in_ok-ask_if.ensures later)
