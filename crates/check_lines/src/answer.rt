@@ -4,6 +4,7 @@ use crate::field::bytes_of;
 use mx_base::OutOfMemory;
 use std::alloc::Global;
 use std::fmt;
+use std::str::FromStr;
 
 /// The most bytes that are shown whole.
 const MOST_SHOWN: usize = 1_024;
@@ -131,6 +132,60 @@ impl Answer {
             Err(fault) => {
                 self.fail(fault);
                 Vec::new(self.alloc)
+            }
+        }
+    }
+
+    /// The value that a text spells, or the default and the fault.
+    pub fn parsed<T: FromStr + Default + Drop>(&mut self, text: &str) -> T
+    where
+        T::Err: Drop,
+    {
+        match text.parse() {
+            Ok(value) => value,
+            Err(_) => {
+                self.bad();
+                T::default()
+            }
+        }
+    }
+
+    /// A text in which each such part is replaced, or none and the fault.
+    pub fn replaced(&mut self, text: &str, part: &str, by: &str) -> String {
+        match text.replace(self.alloc, part, by) {
+            Ok(text) => text,
+            Err(_) => {
+                self.refused();
+                String::new(self.alloc)
+            }
+        }
+    }
+
+    /// A value so many times, or not at all and the fault.
+    pub fn repeated<T: Copy>(&mut self, value: T, count: usize) -> Vec<T> {
+        match vec![in self.alloc; value; count] {
+            Ok(values) => values,
+            Err(_) => {
+                self.refused();
+                Vec::new(self.alloc)
+            }
+        }
+    }
+
+    /// Appends a value to a list, unless memory is refused.
+    pub fn keep<T: Drop>(&mut self, list: &mut Vec<T>, value: T) {
+        if list.push(value).is_err() {
+            self.refused();
+        }
+    }
+
+    /// What another answer says, or nothing and its fault.
+    pub fn told(&mut self, other: Answer) -> String {
+        match other.finished() {
+            Ok(text) => text,
+            Err(fault) => {
+                self.fail(fault);
+                String::new(self.alloc)
             }
         }
     }

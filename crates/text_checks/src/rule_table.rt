@@ -50,16 +50,23 @@ fn set_flag(row: &mut RuleRow, key: &str, value: bool) -> bool {
     true
 }
 
-fn set_text(answer: &mut Answer, row: &mut RuleRow, key: &str, value: Option<Bytes>) {
+fn text_named<'a>(row: &'a mut RuleRow, key: &str) -> Option<&'a mut Option<Bytes>> {
     match key {
-        "username" => row.username = value,
-        "schemaname" => row.schemaname = value,
-        "match_digest" => row.match_digest = value,
-        "match_pattern" => row.match_pattern = value,
-        "replace_pattern" => row.replace_pattern = value,
-        "error_msg" => row.error_msg = value,
-        "OK_msg" => row.OK_msg = value,
-        _ => answer.bad(),
+        "username" => Some(&mut row.username),
+        "schemaname" => Some(&mut row.schemaname),
+        "match_digest" => Some(&mut row.match_digest),
+        "match_pattern" => Some(&mut row.match_pattern),
+        "replace_pattern" => Some(&mut row.replace_pattern),
+        "error_msg" => Some(&mut row.error_msg),
+        "OK_msg" => Some(&mut row.OK_msg),
+        _ => None,
+    }
+}
+
+fn set_text(answer: &mut Answer, row: &mut RuleRow, key: &str, value: &str) {
+    match text_named(row, key) {
+        Some(text) => *text = Some(Bytes::from_vec(answer.spelled(value))),
+        None => answer.bad(),
     }
 }
 
@@ -68,8 +75,7 @@ fn set_field(answer: &mut Answer, row: &mut RuleRow, key: &str, value: &str) {
     if key == "digest" {
         row.digest = u64::from_str_radix(value, 16).ok();
     } else if !set_flag(row, key, value == "1") && !set_counted(row, key, value) {
-        let text = Bytes::from_vec(answer.spelled(value));
-        set_text(answer, row, key, Some(text));
+        set_text(answer, row, key, value);
     }
 }
 
@@ -101,7 +107,5 @@ pub fn read_rows(answer: &mut Answer, text: &str) -> Vec<RuleRow> {
 fn read_row(answer: &mut Answer, rows: &mut Vec<RuleRow>, text: &str) {
     let mut row = blank_row();
     set_fields(answer, &mut row, text);
-    if rows.push(row).is_err() {
-        answer.refused();
-    }
+    answer.keep(rows, row);
 }

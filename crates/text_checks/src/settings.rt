@@ -245,9 +245,10 @@ fn hear_statement(answer: &mut Answer, settings: &mut Settings, statement: &[u8]
 }
 
 fn push_same(answer: &mut Answer, a: &Settings, b: &Settings) {
-    let is_same = Slot::ALL
-        .iter()
-        .all(|slot| same_value(a.value(*slot), b.value(*slot)));
+    let mut is_same = true;
+    for slot in Slot::ALL {
+        is_same = is_same && same_value(a.value(slot), b.value(slot));
+    }
     answer.text(if is_same { " | same" } else { " | other" });
 }
 

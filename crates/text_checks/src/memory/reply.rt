@@ -1,7 +1,5 @@
 // Replies as a case shows them.
-use crate::memory::fields::{
-    Done, column_name, done_of, eof_status, err_parts, prepared_counts, take_text,
-};
+use crate::memory::payload::Payload;
 use crate::memory::verb::Verb;
 use check_lines::Answer;
 use mx_base::Bytes;
@@ -24,43 +22,62 @@ fn put_flags(answer: &mut Answer, status: u16) {
     }
 }
 
-fn put_done(answer: &mut Answer, done: Done) {
-    answer.text("ok");
-    put_flags(answer, done.status);
-    if done.rows != 0 || done.id != 0 {
-        answer.text(" rows=");
-        answer.display(done.rows);
-        answer.text(" id=");
-        answer.display(done.id);
-    }
-}
-
+// An OK without info and warnings (client/server protocol, "OK_Packet").
 fn put_ok(answer: &mut Answer, payload: &[u8]) {
-    match done_of(payload) {
-        Some(done) => put_done(answer, done),
-        None => answer.bad(),
+    let mut left = Payload { rest: payload };
+    left.bytes(answer, 1);
+    let rows = left.number(answer);
+    let id = left.number(answer);
+    let status = left.short(answer);
+    answer.text("ok");
+    put_flags(answer, status);
+    if left.short(answer) != 0 {
+        answer.bad();
+    }
+    left.end(answer);
+    if rows != 0 || id != 0 {
+        answer.text(" rows=");
+        answer.display(rows);
+        answer.text(" id=");
+        answer.display(id);
     }
 }
 
+// The code, the SQL state and the message of an ERR (client/server protocol, "ERR_Packet").
 fn put_err(answer: &mut Answer, payload: &[u8]) {
-    match err_parts(payload) {
-        Some((code, state, message)) => {
-            answer.text("err ");
-            answer.display(code);
-            answer.text(" ");
-            put_text(answer, state);
-            answer.text(" ");
-            put_text(answer, message);
+    let mut left = Payload { rest: payload };
+    left.bytes(answer, 1);
+    let code = left.short(answer);
+    left.bytes(answer, 1);
+    let state = left.bytes(answer, 5);
+    answer.text("err ");
+    answer.display(code);
+    answer.text(" ");
+    put_text(answer, state);
+    answer.text(" ");
+    put_text(answer, left.rest);
+}
+
+// The status flags of an EOF without warnings (client/server protocol, "EOF_Packet").
+fn eof_status(answer: &mut Answer, payload: &[u8]) -> u16 {
+    match payload {
+        [0xFE, 0, 0, low, high] => u16::from_le_bytes([*low, *high]),
+        _ => {
+            answer.bad();
+            0
         }
-        None => answer.bad(),
     }
 }
 
+// The name of a column, behind its catalog, schema, table and the table's own name (client/server protocol,
+// "Protocol::ColumnDefinition41").
 fn put_name(answer: &mut Answer, definition: &[u8]) {
-    match column_name(definition) {
-        Some(name) => put_text(answer, name),
-        None => answer.bad(),
+    let mut left = Payload { rest: definition };
+    for _ in 0..4 {
+        left.text(answer);
     }
+    let name = left.text(answer);
+    put_text(answer, name);
 }
 
 // The name in each definition.
@@ -74,17 +91,10 @@ fn put_names(answer: &mut Answer, definitions: &[Bytes]) {
     answer.text("]");
 }
 
-// So many definitions and an EOF, and what stands behind.
-fn split_definitions(count: usize, payloads: &[Bytes]) -> Option<(&[Bytes], &Bytes, &[Bytes])> {
-    let (definitions, rest) = payloads.split_at_checked(count)?;
-    let (eof, rest) = rest.split_first()?;
-    Some((definitions, eof, rest))
-}
-
 // So many definitions and an EOF with these flags, and gives what stands behind; nothing where there are none.
 fn put_definitions<'a>(
     answer: &mut Answer,
-    status: Option<u16>,
+    status: u16,
     count: usize,
     payloads: &'a [Bytes],
 ) -> &'a [Bytes] {
@@ -92,45 +102,42 @@ fn put_definitions<'a>(
         answer.text(" []");
         return payloads;
     }
-    let Some((definitions, eof, rest)) = split_definitions(count, payloads) else {
-        answer.bad();
-        return payloads;
-    };
+    let (definitions, behind) = payloads.split_at_checked(count).unwrap_or((&[], payloads));
     put_names(answer, definitions);
-    if status.is_none() || eof_status(eof.as_slice()) != status {
-        answer.bad();
-    }
-    rest
-}
-
-// A cell, and what stands behind it.
-fn take_cell(row: &[u8], is_null: bool) -> Option<(&[u8], &[u8])> {
-    match row {
-        [0xFB, rest @ ..] => Some((b"NULL", rest)),
-        _ if is_null => Some((b"NULL", row)),
-        _ => take_text(row),
+    match behind.split_first() {
+        Some((eof, rest)) if eof_status(answer, eof.as_slice()) == status => rest,
+        _ => {
+            answer.bad();
+            payloads
+        }
     }
 }
 
-// So many cells of a row. Those whose bit is set are NULL and have no bytes.
+// A cell. One that is NULL has no bytes in a row of a prepared statement, and its own in a row of texts.
+fn put_cell(answer: &mut Answer, left: &mut Payload<'_>, is_null: bool) {
+    if is_null {
+        answer.text("NULL");
+    } else if left.rest.first() == Some(&0xFB) {
+        left.bytes(answer, 1);
+        answer.text("NULL");
+    } else {
+        let text = left.text(answer);
+        put_text(answer, text);
+    }
+}
+
+// So many cells of a row. Those whose bit is set are NULL.
 fn put_cells(answer: &mut Answer, count: usize, nulls: u8, row: &[u8]) {
     answer.text(" (");
     let start = answer.len();
     let mut nulls = nulls;
-    let mut left = row;
+    let mut left = Payload { rest: row };
     for _ in 0..count {
-        let Some((cell, rest)) = take_cell(left, nulls % 2 == 1) else {
-            answer.bad();
-            return;
-        };
         answer.separate(start, ", ");
-        put_text(answer, cell);
+        put_cell(answer, &mut left, nulls % 2 == 1);
         nulls /= 2;
-        left = rest;
     }
-    if !left.is_empty() {
-        answer.bad();
-    }
+    left.end(answer);
     answer.text(")");
 }
 
@@ -152,36 +159,35 @@ fn put_rows(answer: &mut Answer, is_binary: bool, count: usize, rows: &[Bytes]) 
     }
 }
 
-// The flags of the EOF that ends a reply.
-fn last_status(payloads: &[Bytes]) -> Option<u16> {
-    eof_status(payloads.last()?.as_slice())
-}
-
-fn put_head(answer: &mut Answer, head: &str, status: Option<u16>) {
-    answer.text(head);
-    if let Some(status) = status {
-        put_flags(answer, status);
-    }
+// A word, and the flags of the EOF that ends a reply.
+fn put_head(answer: &mut Answer, word: &str, payloads: &[Bytes]) -> u16 {
+    answer.text(word);
+    let Some(last) = payloads.last() else {
+        return 0;
+    };
+    let status = eof_status(answer, last.as_slice());
+    put_flags(answer, status);
+    status
 }
 
 // A result set.
 fn put_table(answer: &mut Answer, is_binary: bool, count: usize, payloads: &[Bytes]) {
-    let status = last_status(payloads);
-    put_head(answer, "rows", status);
+    let status = put_head(answer, "rows", payloads);
     match put_definitions(answer, status, count, payloads).split_last() {
         Some((_, rows)) => put_rows(answer, is_binary, count, rows),
         None => answer.bad(),
     }
 }
 
-// Parameters first, then columns.
+// Parameters first, then columns (client/server protocol, "COM_STMT_PREPARE_OK").
 fn put_prepared(answer: &mut Answer, first: &[u8], payloads: &[Bytes]) {
-    let Some((columns, parameters)) = prepared_counts(first) else {
-        answer.bad();
-        return;
-    };
-    let status = last_status(payloads);
-    put_head(answer, "prepared", status);
+    let mut left = Payload { rest: first };
+    left.bytes(answer, 5);
+    let columns = usize::from(left.short(answer));
+    let parameters = usize::from(left.short(answer));
+    left.bytes(answer, 3);
+    left.end(answer);
+    let status = put_head(answer, "prepared", payloads);
     let rest = put_definitions(answer, status, parameters, payloads);
     let rest = put_definitions(answer, status, columns, rest);
     if !rest.is_empty() {
@@ -191,13 +197,11 @@ fn put_prepared(answer: &mut Answer, first: &[u8], payloads: &[Bytes]) {
 
 // The definitions of a table's columns, and an EOF.
 fn put_fields(answer: &mut Answer, payloads: &[Bytes]) {
-    let Some((_, definitions)) = payloads.split_last() else {
-        answer.bad();
-        return;
-    };
-    let status = last_status(payloads);
-    put_head(answer, "fields", status);
-    put_definitions(answer, status, definitions.len(), payloads);
+    put_head(answer, "fields", payloads);
+    match payloads.split_last() {
+        Some((_, definitions)) => put_names(answer, definitions),
+        None => answer.bad(),
+    }
 }
 
 fn put_result(answer: &mut Answer, verb: Verb, first: &[u8], rest: &[Bytes]) {

@@ -1,7 +1,7 @@
 // A session at a server.
 use crate::memory::bound::Bound;
 use crate::memory::reply::put_reply;
-use crate::memory::verb::{Step, Verb};
+use crate::memory::verb::Verb;
 use check_lines::Answer;
 use mem_server::MemServer;
 use mx_base::{Bytes, OutOfMemory};
@@ -79,36 +79,51 @@ impl Seat {
         self.schema = copied(answer, self.session.schema.as_slice());
     }
 
-    fn execute(&self, answer: &mut Answer, values: &str) -> Result<Cmd, OutOfMemory> {
-        let settings = Settings::defaults(answer.alloc())?;
+    fn execute(&mut self, answer: &mut Answer, server: &mut MemServer, values: &str) {
+        match Settings::defaults(answer.alloc()) {
+            Ok(settings) => self.execute_under(answer, server, settings, values),
+            Err(OutOfMemory) => answer.refused(),
+        }
+    }
+
+    fn execute_under(
+        &mut self,
+        answer: &mut Answer,
+        server: &mut MemServer,
+        settings: Settings,
+        values: &str,
+    ) {
         let text = copied(answer, self.text.as_slice());
         let schema = copied(answer, self.schema.as_slice());
-        Ok(execute(text, schema, settings, Bound::of(answer, values)))
+        let cmd = execute(text, schema, settings, Bound::of(answer, values));
+        self.ask(answer, server, Verb::Execute, cmd);
     }
 
-    fn command(&mut self, answer: &mut Answer, step: &Step<'_>) -> Result<Cmd, OutOfMemory> {
-        if matches!(step.verb, Verb::Execute) {
-            return self.execute(answer, step.rest);
-        }
-        if matches!(step.verb, Verb::Prepare) {
-            self.keep(answer, step.rest);
-        }
-        let rest = copied(answer, step.rest.as_bytes());
-        Ok(other(step.verb, rest))
+    // The one place where a command ends.
+    fn ask(&mut self, answer: &mut Answer, server: &mut MemServer, verb: Verb, cmd: Cmd) {
+        self.ask_lent(answer, server, verb, &cmd);
     }
 
-    fn ask(&mut self, answer: &mut Answer, server: &mut MemServer, verb: Verb, cmd: &Cmd) {
+    fn ask_lent(&mut self, answer: &mut Answer, server: &mut MemServer, verb: Verb, cmd: &Cmd) {
         match server.run(answer.alloc(), &mut self.session, cmd) {
             Ok(reply) => put_reply(answer, verb, reply.as_slice()),
             Err(OutOfMemory) => answer.refused(),
         }
     }
 
+    fn command(&mut self, answer: &mut Answer, server: &mut MemServer, verb: Verb, text: &str) {
+        let cmd = other(verb, copied(answer, text.as_bytes()));
+        self.ask(answer, server, verb, cmd);
+    }
+
     /// Runs a step, and shows its reply.
-    pub fn run(&mut self, answer: &mut Answer, server: &mut MemServer, step: &Step<'_>) {
-        match self.command(answer, step) {
-            Ok(cmd) => self.ask(answer, server, step.verb, &cmd),
-            Err(OutOfMemory) => answer.refused(),
+    pub fn run(&mut self, answer: &mut Answer, server: &mut MemServer, verb: Verb, text: &str) {
+        if matches!(verb, Verb::Execute) {
+            return self.execute(answer, server, text);
         }
+        if matches!(verb, Verb::Prepare) {
+            self.keep(answer, text);
+        }
+        self.command(answer, server, verb, text);
     }
 }

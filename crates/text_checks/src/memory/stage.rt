@@ -1,8 +1,8 @@
 // A server, and two sessions at it.
-use crate::memory::answers::{Answering, answers};
+use crate::memory::parts::{Answering, follow};
 use crate::memory::seat::Seat;
-use crate::memory::verb::Step;
-use check_lines::Answer;
+use crate::memory::verb::Verb;
+use check_lines::Fields;
 use mem_server::MemServer;
 use mx_base::OutOfMemory;
 use std::alloc::Global;
@@ -10,36 +10,45 @@ use std::alloc::Global;
 #[derive(Drop)]
 struct Stage {
     server: MemServer,
-    a: Seat,
-    b: Seat,
+    seats: Vec<Seat>,
 }
 
+// `<who> <text>` is a query, `<who>:<verb> <rest>` any other command.
 impl Answering for Stage {
-    fn answer(&mut self, answer: &mut Answer, part: &str) {
-        let Some(step) = Step::of(part) else {
-            answer.bad();
-            return;
+    fn answer(&mut self, fields: &mut Fields<'_>) {
+        let (who, name) = match fields.case.reader.split_once(':') {
+            Some(parts) => parts,
+            None => (fields.case.reader, ""),
         };
-        match step.who {
-            "a" => self.a.run(answer, &mut self.server, &step),
-            "b" => self.b.run(answer, &mut self.server, &step),
-            _ => answer.bad(),
+        let text = fields.rest_text();
+        let answer = &mut fields.answer;
+        let verb = Verb::named(answer, name);
+        let at = match who {
+            "a" => 0,
+            "b" => 1,
+            _ => return answer.bad(),
+        };
+        if let Some(seat) = self.seats.get_mut(at) {
+            seat.run(answer, &mut self.server, verb, text);
         }
     }
 }
 
 // A server without tables, and two fresh sessions.
 fn first_stage(alloc: Global) -> Result<Stage, OutOfMemory> {
-    let a = Seat::new(alloc)?;
-    let b = Seat::new(alloc)?;
+    let mut seats = Vec::new(alloc);
+    for _ in 0..2 {
+        seats.push(Seat::new(alloc)?)?;
+    }
     let server = MemServer::new(alloc);
-    Ok(Stage { server, a, b })
+    Ok(Stage { server, seats })
 }
 
-/// The replies to these steps, which stand between ` | `, of a server without tables and of two fresh sessions.
-pub fn follow(answer: &mut Answer, text: &str) {
-    match first_stage(answer.alloc()) {
-        Ok(mut stage) => answers(answer, &mut stage, text),
-        Err(OutOfMemory) => answer.refused(),
+/// `run <step> | <step> ..`: the replies to these steps of a server without tables and of two fresh sessions.
+pub fn run_steps(fields: &mut Fields<'_>) {
+    let text = fields.rest_text();
+    match first_stage(fields.answer.alloc()) {
+        Ok(mut stage) => follow(fields, &mut stage, text),
+        Err(OutOfMemory) => fields.answer.refused(),
     }
 }

@@ -1,44 +1,16 @@
 // Turns of a private world over a server that refuses.
-use crate::memory::answers::{Answering, answers};
-use check_lines::{Answer, Case, CaseFault};
+use crate::memory::parts::{Answering, follow};
+use check_lines::{Answer, Fields};
 use mx_base::{Bytes, ClientNo, Hostgroup, OutOfMemory};
 use oracle::{Statement, Who, World};
 use server_rule::Cmd;
 use small_server::Refuser;
-use std::alloc::Global;
 use story_view::{MessageKey, Party, SessionKey};
 
 #[derive(Drop)]
 struct Private {
     world: World,
     server: Refuser,
-}
-
-// A turn as it is written: its name, whose it is, the ordinal or key, and what stands behind.
-#[derive(Clone, Copy)]
-struct Turn<'a> {
-    name: &'a str,
-    client: u64,
-    number: u64,
-    text: &'a str,
-}
-
-impl<'a> Turn<'a> {
-    fn of(part: &'a str) -> Result<Self, CaseFault> {
-        let mut case = Case::of(part);
-        let client = case.number()?;
-        let number = match case.reader {
-            "statement" | "prepare" | "answer" => case.number()?,
-            "step" | "end" | "close" => 0,
-            _ => return Err(CaseFault::Bad),
-        };
-        Ok(Turn {
-            name: case.reader,
-            client,
-            number,
-            text: case.rest_text(),
-        })
-    }
 }
 
 fn who(client: u64) -> Who<'static> {
@@ -53,63 +25,67 @@ fn who(client: u64) -> Who<'static> {
     }
 }
 
-fn bytes_of(alloc: Global, text: &str) -> Result<Bytes, OutOfMemory> {
-    Bytes::from_slice(alloc, text.as_bytes())
+// The text of a turn, as a query.
+fn query(fields: &mut Fields<'_>) -> Cmd {
+    Cmd::Query {
+        text: Bytes::from_vec(fields.rest_bytes()),
+    }
 }
 
-fn query(alloc: Global, text: &str) -> Result<Cmd, OutOfMemory> {
-    Ok(Cmd::Query {
-        text: bytes_of(alloc, text)?,
-    })
-}
-
-fn asked(alloc: Global, turn: Turn<'_>) -> Result<Statement<'static>, OutOfMemory> {
-    Ok(Statement {
-        ordinal: turn.number,
-        place: None,
-        key: 0,
-        command: query(alloc, turn.text)?,
-    })
+// A turn is done, unless memory was refused.
+fn done(answer: &mut Answer, done: Result<(), OutOfMemory>) {
+    answer.done(done);
+    answer.text("done");
 }
 
 impl Private {
-    fn take(&mut self, alloc: Global, turn: Turn<'_>) -> Result<(), OutOfMemory> {
-        let who = who(turn.client);
-        match turn.name {
-            "statement" => self.ask(alloc, &who, turn),
-            "prepare" => self.prepare(alloc, &who, turn),
-            "step" => self.step(alloc, &who, turn.text),
-            "end" => self.world.end(alloc, &mut self.server, &who),
-            _ => self.world.close(alloc, &mut self.server, &who),
-        }
+    fn ask(&mut self, fields: &mut Fields<'_>, who: &Who<'_>) {
+        let asked = Statement {
+            ordinal: fields.number(),
+            place: None,
+            key: 0,
+            command: query(fields),
+        };
+        let alloc = fields.answer.alloc();
+        let said = self.world.statement(alloc, &mut self.server, who, asked);
+        done(&mut fields.answer, said);
     }
 
-    fn ask(&mut self, alloc: Global, who: &Who<'_>, turn: Turn<'_>) -> Result<(), OutOfMemory> {
-        let asked = asked(alloc, turn)?;
-        self.world.statement(alloc, &mut self.server, who, asked)
+    fn prepare(&mut self, fields: &mut Fields<'_>, who: &Who<'_>) {
+        let key = fields.number();
+        let text = Bytes::from_vec(fields.rest_bytes());
+        let alloc = fields.answer.alloc();
+        let said = self.world.prepare(alloc, &mut self.server, who, key, text);
+        done(&mut fields.answer, said);
     }
 
-    fn prepare(&mut self, alloc: Global, who: &Who<'_>, turn: Turn<'_>) -> Result<(), OutOfMemory> {
-        let text = bytes_of(alloc, turn.text)?;
-        self.world
-            .prepare(alloc, &mut self.server, who, turn.number, text)
+    fn step(&mut self, fields: &mut Fields<'_>, who: &Who<'_>) {
+        let command = query(fields);
+        let alloc = fields.answer.alloc();
+        let said = self.world.step(alloc, &mut self.server, who, &command);
+        done(&mut fields.answer, said);
     }
 
-    fn step(&mut self, alloc: Global, who: &Who<'_>, text: &str) -> Result<(), OutOfMemory> {
-        let command = query(alloc, text)?;
-        self.world.step(alloc, &mut self.server, who, &command)
+    fn end(&mut self, answer: &mut Answer, who: &Who<'_>) {
+        let said = self.world.end(answer.alloc(), &mut self.server, who);
+        done(answer, said);
+    }
+
+    fn close(&mut self, answer: &mut Answer, who: &Who<'_>) {
+        let said = self.world.close(answer.alloc(), &mut self.server, who);
+        done(answer, said);
     }
 }
 
 // The first payload of the answer to a message.
-fn put_answered(answer: &mut Answer, world: &World, turn: Turn<'_>) {
+fn put_answered(fields: &mut Fields<'_>, world: &World, client: u64) {
     let name = MessageKey {
-        party: Party::accepted(ClientNo(turn.client)),
-        ordinal: turn.number,
+        party: Party::accepted(ClientNo(client)),
+        ordinal: fields.number(),
     };
     match world.answered(name) {
-        Some(answered) => put_first(answer, answered.payloads.as_slice()),
-        None => answer.text("none"),
+        Some(answered) => put_first(&mut fields.answer, answered.payloads.as_slice()),
+        None => fields.answer.text("none"),
     }
 }
 
@@ -120,30 +96,30 @@ fn put_first(answer: &mut Answer, payloads: &[Bytes]) {
     }
 }
 
-impl Private {
-    fn turns(&mut self, answer: &mut Answer, turn: Turn<'_>) {
-        if turn.name == "answer" {
-            put_answered(answer, &self.world, turn);
-            return;
-        }
-        answer.done(self.take(answer.alloc(), turn));
-        answer.text("done");
-    }
-}
-
+// A turn is its name, whose it is, the ordinal or key where it has one, and what stands behind.
 impl Answering for Private {
-    fn answer(&mut self, answer: &mut Answer, part: &str) {
-        match Turn::of(part) {
-            Ok(turn) => self.turns(answer, turn),
-            Err(fault) => answer.fail(fault),
+    fn answer(&mut self, fields: &mut Fields<'_>) {
+        let client = fields.number();
+        let who = who(client);
+        match fields.case.reader {
+            "answer" => put_answered(fields, &self.world, client),
+            "statement" => self.ask(fields, &who),
+            "prepare" => self.prepare(fields, &who),
+            "step" => self.step(fields, &who),
+            "end" => self.end(&mut fields.answer, &who),
+            "close" => self.close(&mut fields.answer, &who),
+            _ => fields.answer.bad(),
         }
     }
 }
 
-/// What each of these turns leaves, which stand between ` | `.
-pub fn follow(answer: &mut Answer, text: &str) {
-    let world = World::new(answer.alloc());
-    let server = Refuser::new(answer.alloc());
-    let mut private = Private { world, server };
-    answers(answer, &mut private, text);
+/// `turns <turn> | <turn> ..`: what each of these turns leaves.
+pub fn take_turns(fields: &mut Fields<'_>) {
+    let text = fields.rest_text();
+    let alloc = fields.answer.alloc();
+    let mut private = Private {
+        world: World::new(alloc),
+        server: Refuser::new(alloc),
+    };
+    follow(fields, &mut private, text);
 }

@@ -1,6 +1,0 @@
-use Rattle.std.proofs.Common.{◌≡◌, take}
-use Rattle.mx_wire.specs.Log.{is_open}
-use Rattle.file_checks.proofs.calls.is_open.Given as goal
-
-abbrev pub invariant-loop-entry : goal.invariant-loop-entry
-invariant-loop-entry l = l.open ≡ is_open l.link (take l.entry-index l.log)
