@@ -1,10 +1,10 @@
-// A client that sends much at once, over a machine and a wire of the case's own.
+// A client that sends much at once, over a machine of the case's own.
 ghost use Rattle.std.specs.Prelude.{None, Some, [], ◌∷◌, replicate, true, false};
 ghost use Rattle.mx_base.specs.declared.tag.Tag.TheVariants as tag;
 
+use crate::bare_wire::BareWire;
 use check_lines::Fields;
-use mx_base::{Address, LinkId, OutOfMemory, Piece, Port, ServerId, Tag};
-use mx_wire::{Accepted, Got, Listened, Opened, Took, Wire, Woke};
+use mx_base::{Address, LinkId, OutOfMemory, Piece, Port, Tag};
 use ready_loop::{Act, Event, Machine, ServeEnd, serve};
 
 const GREETING: &[u8] = &[7];
@@ -89,103 +89,15 @@ impl Machine for Reader {
     ghost quiet = { λ machine e q. record { carried = λ log may due held. tt } };
 }
 
-// One client, with so many bytes, at one wake. The sizes of the reads are kept, and whether a write was offered.
-#[derive(Drop)]
-struct Flood {
-    left: usize,
-    came: bool,
-    woke: bool,
-    sizes: [usize; 4],
-    reads: usize,
-    offered: bool,
-}
-
-impl Wire for Flood {
-    ghost told = { λ _. None };
-
-    ghost port_faults = { λ _. 0 };
-
-    ghost faults = { λ _. 0 };
-
-    ghost Rules = { Unit {0} };
-
-    ghost ruled_by = { λ _. tt };
-
-    ghost takes = { λ _ _ _ _ _. Unit {0} };
-
-    fn reserve(&mut self, _: u32) -> Result<(), OutOfMemory> {
-        Ok(())
-    }
-
-    fn listen(&mut self, _: Port, _: Address) -> Listened {
-        Listened::Done
-    }
-
-    fn wait(&mut self, _: u64) -> Woke {
-        if self.woke {
-            return Woke::Over;
-        }
-        self.woke = true;
-        Woke::Woke { now_ms: 1 }
-    }
-
-    fn next_ready(&mut self) -> Option<LinkId> {
-        None
-    }
-
-    fn accept(&mut self, port: Port) -> Accepted {
-        if self.came || port == Port::Admin {
-            return Accepted::NotReady;
-        }
-        self.came = true;
-        Accepted::Link {
-            id: LinkId(1),
-            salt: [1; 20],
-        }
-    }
-
-    fn open(&mut self, _: ServerId, _: Address) -> Opened {
-        Opened::Link { id: LinkId(2) }
-    }
-
-    fn read(&mut self, _: LinkId, into: &mut [u8]) -> Got {
-        let n = self.left.min(into.len());
-        if self.reads < 4 {
-            self.sizes[self.reads] = n;
-            self.reads += 1;
-        }
-        self.left -= n;
-        if n == 0 {
-            Got::NotReady
-        } else {
-            Got::Got { n }
-        }
-    }
-
-    fn write(&mut self, _: LinkId, _: Tag, _: &[u8]) -> Took {
-        self.offered = true;
-        Took::NotReady
-    }
-
-    fn close(&mut self, _: LinkId) {}
-}
-
 /// `flood <bytes>` lets one client send so many bytes at one wake. The answer is the sizes of the first four reads, 7 for one that isn't
 /// made, and whether a write was offered.
 pub fn answer(fields: &mut Fields<'_>) {
-    let mut wire = Flood {
-        left: fields.number(),
-        came: false,
-        woke: false,
-        sizes: [7; 4],
-        reads: 0,
-        offered: false,
-    };
+    let mut wire = BareWire::with_bytes(fields.number());
     match serve(fields.answer.alloc(), &mut Reader, &mut wire, 5) {
         ServeEnd::Over => {
             fields.answer.debug(wire.sizes);
             fields.answer.text(" ");
-            fields.answer.display(wire.offered);
+            fields.answer.display(wire.is_offered);
         }
         _ => fields.answer.bad(),
     }

@@ -3,45 +3,99 @@
 //! shows how the serving loop calls a wire, and what real sockets answer.
 #![tactic(auto)]
 
+mod bare_wire;
 mod configs;
 mod due;
 mod flood;
+mod fronts;
 mod given;
 mod names;
+mod plays;
 mod runs;
-mod scripted;
+mod scripts;
+mod shown;
 mod sockets;
-mod taken;
+mod tables;
+mod tapes;
+mod user;
 
 use check_lines::Fields;
+use due::Walk;
+use names::{Names, named};
 use std::io;
 use std::thread::Threads;
+use tables::found;
 
-fn read<R: Threads + Sync>(rt: &R, fields: &mut Fields<'_>) {
-    match fields.case.reader {
-        "replay" => runs::replay(rt, fields),
-        "serve" => runs::serve(rt, fields),
-        "run" => runs::words(rt, fields),
-        "taken" => runs::taken(rt, fields),
-        "flood" => flood::answer(fields),
-        "scripted" => scripted::one(rt, fields),
-        "fails" => scripted::each_failing(rt, fields),
-        "due_growth" => due::growth(rt, fields),
-        "due_whole" => due::whole(rt, fields),
-        "due" => due::one(rt, fields),
-        "due_fails" => due::each_failing(rt, fields),
-        _ => fields.answer.bad(),
+// Who reads a case.
+#[derive(Clone, Copy)]
+enum Reader {
+    Replay,
+    Words { are_taken: bool },
+    Serve,
+    Tape(Walk),
+    Flood,
+    One { is_due: bool },
+    Failing { is_due: bool },
+}
+
+// Readers by their words, with the names that stand in their answers.
+const READERS: [(&str, (Reader, Names)); 11] = [
+    ("replay", (Reader::Replay, Names::Recorded)),
+    ("run", (Reader::Words { are_taken: false }, Names::Recorded)),
+    (
+        "taken",
+        (Reader::Words { are_taken: true }, Names::Recorded),
+    ),
+    ("serve", (Reader::Serve, Names::Recorded)),
+    ("due_growth", (Reader::Tape(Walk::Growth), Names::Recorded)),
+    ("due_whole", (Reader::Tape(Walk::Whole), Names::Recorded)),
+    ("flood", (Reader::Flood, Names::Recorded)),
+    ("scripted", (Reader::One { is_due: false }, Names::Scripted)),
+    ("due", (Reader::One { is_due: true }, Names::Scripted)),
+    (
+        "fails",
+        (Reader::Failing { is_due: false }, Names::Scripted),
+    ),
+    (
+        "due_fails",
+        (Reader::Failing { is_due: true }, Names::Scripted),
+    ),
+];
+
+fn read_by<R: Threads + Sync>(rt: &R, fields: &mut Fields<'_>, reader: Reader) {
+    match reader {
+        Reader::Replay => runs::replay(rt, fields),
+        Reader::Words { are_taken } => runs::words(rt, fields, are_taken),
+        Reader::Serve => tapes::serve(rt, fields),
+        Reader::Tape(walk) => tapes::due(rt, fields, walk),
+        Reader::Flood => flood::answer(fields),
+        Reader::One { is_due } => plays::one(rt, fields, is_due),
+        Reader::Failing { is_due } => plays::each_failing(rt, fields, is_due),
+    }
+}
+
+// Reads a case, and says which names stand in its answer.
+fn read<R: Threads + Sync>(rt: &R, fields: &mut Fields<'_>) -> Names {
+    match found(&READERS, fields.case.reader) {
+        Some((reader, names)) => {
+            read_by(rt, fields, reader);
+            names
+        }
+        None => {
+            fields.answer.bad();
+            Names::Recorded
+        }
     }
 }
 
 fn main(rt: HostRuntime) -> io::Result<()> {
     check_lines::run(&rt, |alloc, case| {
         let mut fields = Fields::of(alloc, *case);
-        match case.reader {
+        let names = match case.reader {
             "sockets" => sockets::answer(&rt, &mut fields),
             _ => read(&rt, &mut fields),
-        }
+        };
         *case = fields.case;
-        fields.answer.finished()
+        named(alloc, fields.answer, names)
     })
 }

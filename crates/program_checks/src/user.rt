@@ -1,6 +1,8 @@
 // Who clients are.
 ghost use Rattle.handshake.specs.Spelling.{IsText};
 
+use crate::tables::found;
+
 /// Who a client is: a user of the configuration, or one who isn't let in.
 #[derive(Clone, Copy)]
 pub enum User {
@@ -14,16 +16,17 @@ pub enum User {
     Stranger,
 }
 
+const WORDS: [(&str, User); 4] = [
+    ("u", User::U),
+    ("p", User::P),
+    ("liar", User::Liar),
+    ("stranger", User::Stranger),
+];
+
 impl User {
     /// That of a word.
     pub fn of(word: &str) -> Option<User> {
-        match word {
-            "u" => Some(User::U),
-            "p" => Some(User::P),
-            "liar" => Some(User::Liar),
-            "stranger" => Some(User::Stranger),
-            _ => None,
-        }
+        found(&WORDS, word)
     }
 
     /// The name.
@@ -32,19 +35,17 @@ impl User {
     {
         match self {
             User::U => b"u",
-            User::P => b"p",
-            User::Liar => b"p",
             User::Stranger => b"x",
+            _ => b"p",
         }
     }
 
     /// The password that it knows.
     pub fn password(self) -> &'static [u8] {
         match self {
-            User::U => b"",
             User::P => b"secret",
             User::Liar => b"guess",
-            User::Stranger => b"",
+            _ => b"",
         }
     }
 }
