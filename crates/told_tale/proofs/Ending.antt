@@ -29,8 +29,10 @@ ends_more plan old new count last kept ends n moment inside at = by (nat_eq n co
     by false other = kept moment n (ends n moment (grind (arith, inside, other)) at)
 
 -- who isn't known to end now stays
-module _ (plan : Plan) (endings : Endings) (clients : Clients) (tale : Tale) (are : AreClients plan.service clients tale.clients) (ends : DoEnd plan endings (length tale.clients)) where
-  pub not-ended : (n : ℕ) (client : Client) → slice_get tale.clients n ≡ Some client → ends_there endings tale.moment n ≡ false → ended_if_now plan tale client ≡ tale
+module _ (plan : Plan) (endings : Endings) (clients : Clients) (tale : Tale) (are : AreClients plan.service clients tale.clients)
+    (ends : DoEnd plan endings (length tale.clients)) where
+  pub not-ended : (n : ℕ) (client : Client) → slice_get tale.clients n ≡ Some client → ends_there endings tale.moment n ≡ false
+      → ended_if_now plan tale client ≡ tale
   not-ended n client here isnt = by (plan.ends client.number) refl
     where
       ends_by : Bool → Tale
@@ -41,7 +43,8 @@ module _ (plan : Plan) (endings : Endings) (clients : Clients) (tale : Tale) (ar
 
       now : (moment : ℕ) → plan.ends client.number ≡ Some moment → (b : Bool) → nat_eq moment tale.moment ≡ b → nat_eq moment tale.moment ≡ false
       now moment at true same =
-          apart (ends n moment (slice_get_within tale.clients n client here) (sym number ∙ at)) (ap (λ m. ends_there endings m n) (number_of moment tale.moment same) ∙ isnt)
+          apart (ends n moment (slice_get_within tale.clients n client here) (sym number ∙ at))
+          (ap (λ m. ends_there endings m n) (number_of moment tale.moment same) ∙ isnt)
       now moment at false other = other
 
       by : (o : Option ℕ) → plan.ends client.number ≡ o → ended_if_now plan tale client ≡ tale

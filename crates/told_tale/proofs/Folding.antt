@@ -44,19 +44,23 @@ module _ {S X : Type 0} (f : S → X → S) (all : List X) (now : S) where
       ends : (i : ℕ) → i ≡ i + 0
       ends i = omega arith
   skip (suc d) i stays =
-      skip_one i (λ x here. stays i x (omega arith) (omega arith) here) ∙ skip d (i + 1) (λ n x from below. stays n x (omega (arith, from)) (omega (arith, below))) ∙ ap (λ k. fold f now (drop k all)) (later i d)
+      skip_one i (λ x here. stays i x (omega arith) (omega arith) here)
+      ∙ skip d (i + 1) (λ n x from below. stays n x (omega (arith, from)) (omega (arith, below))) ∙ ap (λ k. fold f now (drop k all)) (later i d)
     where
       later : (i d : ℕ) → i + 1 + d ≡ i + suc d
       later i d = omega arith
 
-  pub skip_to : (i k : ℕ) → i ≤ k → ((n : ℕ) (x : X) → i ≤ n → n < k → slice_get all n ≡ Some x → f now x ≡ now) → fold f now (drop i all) ≡ fold f now (drop k all)
-  skip_to i k below stays = skip (k - i) i (λ n x from inside. stays n x from (omega (arith, below, inside))) ∙ ap (λ j. fold f now (drop j all)) (omega (arith, below))
+  pub skip_to : (i k : ℕ) → i ≤ k → ((n : ℕ) (x : X) → i ≤ n → n < k → slice_get all n ≡ Some x → f now x ≡ now)
+      → fold f now (drop i all) ≡ fold f now (drop k all)
+  skip_to i k below stays = skip (k - i) i (λ n x from inside. stays n x from (omega (arith, below, inside)))
+      ∙ ap (λ j. fold f now (drop j all)) (omega (arith, below))
 
   pub skip_rest : (i : ℕ) → ((n : ℕ) (x : X) → i ≤ n → slice_get all n ≡ Some x → f now x ≡ now) → fold f now (drop i all) ≡ now
   skip_rest i stays = skip (length all) i (λ n x from inside. stays n x from) ∙ ap (fold f now) (drop_all (i + length all) all (omega arith))
 
 -- Something is done with what stands at each place, one after the other.
-module _ {R X : Type 0} (stored : R → List ℕ) (step : Step) (setup : Setup) (plan : Plan) (of : Tale → List X) (f : Tale → X → Tale) (stays : (t : Tale) (x : X) → of (f t x) ≡ of t) (tale : Tale) where
+module _ {R X : Type 0} (stored : R → List ℕ) (step : Step) (setup : Setup) (plan : Plan) (of : Tale → List X) (f : Tale → X → Tale)
+    (stays : (t : Tale) (x : X) → of (f t x) ≡ of t) (tale : Tale) where
   pub folded_first : (code : ToldTale R) → IsTale stored step setup plan code tale → IsFolded stored step setup plan code of f 0 tale
   folded_first code is = record { now = tale; stands = is; same = refl; rest = refl }
 
@@ -76,7 +80,8 @@ module _ {R X : Type 0} (stored : R → List ℕ) (step : Step) (setup : Setup) 
       now = at_place of f at now;
       stands = stands;
       same = kept (slice_get (of now) at) ∙ so_far.same;
-      rest = so_far.rest ∙ skip_to f (of tale) now i at later (λ n x from inside here. passes n x from inside (is_now n (Some x) here)) ∙ by (slice_get (of tale) at) refl;
+      rest = so_far.rest ∙ skip_to f (of tale) now i at later (λ n x from inside here. passes n x from inside (is_now n (Some x) here))
+          ∙ by (slice_get (of tale) at) refl;
     }
       where
         kept : (o : Option X) → of (by_place o) ≡ of now
@@ -86,11 +91,14 @@ module _ {R X : Type 0} (stored : R → List ℕ) (step : Step) (setup : Setup) 
         by : (o : Option X) → slice_get (of tale) at ≡ o → fold f now (drop at (of tale)) ≡ fold f (at_place of f at now) (drop (at + 1) (of tale))
         by None none =
             let past = past_at (of tale) at none in
-            ap (fold f now) (drop_all at (of tale) past) ∙ sym (ap by_place (is_now at None none)) ∙ sym (ap (fold f (at_place of f at now)) (drop_all (at + 1) (of tale) (omega (arith, past))))
-        by (Some x) here = ap (fold f now) (drop_at (of tale) at x here) ∙ ap (λ t. fold f t (drop (at + 1) (of tale))) (sym (ap by_place (is_now at (Some x) here)))
+            ap (fold f now) (drop_all at (of tale) past) ∙ sym (ap by_place (is_now at None none))
+            ∙ sym (ap (fold f (at_place of f at now)) (drop_all (at + 1) (of tale) (omega (arith, past))))
+        by (Some x) here = ap (fold f now) (drop_at (of tale) at x here)
+            ∙ ap (λ t. fold f t (drop (at + 1) (of tale))) (sym (ap by_place (is_now at (Some x) here)))
 
     pub folded_done : ((n : ℕ) (x : X) → i ≤ n → slice_get (of now) n ≡ Some x → f now x ≡ now) → IsTale stored step setup plan old (fold f tale (of tale))
-    folded_done passes = subst (IsTale stored step setup plan old) (sym (so_far.rest ∙ skip_rest f (of tale) now i (λ n x from here. passes n x from (is_now n (Some x) here)))) so_far.stands
+    folded_done passes = subst (IsTale stored step setup plan old)
+        (sym (so_far.rest ∙ skip_rest f (of tale) now i (λ n x from here. passes n x from (is_now n (Some x) here)))) so_far.stands
 
 pub apart : {A : Type 0} {b : Bool} → b ≡ true → b ≡ false → A
 apart is isnt = absurd (cc)

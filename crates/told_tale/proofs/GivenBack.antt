@@ -14,7 +14,8 @@ use Rattle.told_tale.specs.Marks.{IsFound, is_done_in}
 use Rattle.told_tale.proofs.Marking.{nobody-stays}
 
 -- what isn't to be given back stays
-pub not-freed : (setup : Setup) (plan : Plan) (tale : Tale) (link : LinkId) → is_done_in setup plan tale link ≡ false → freed_if_done setup plan tale link ≡ tale
+pub not-freed : (setup : Setup) (plan : Plan) (tale : Tale) (link : LinkId) → is_done_in setup plan tale link ≡ false
+    → freed_if_done setup plan tale link ≡ tale
 not-freed setup plan tale link isnt = ap (λ b. if b then tell (Freed link) tale else tale) isnt
 
 module _ (setup : Setup) (plan : Plan) (tale : Tale) (link : LinkId) where

@@ -35,10 +35,12 @@ use Rattle.told_tale.specs.declared.counts.Counts.{Counts}
 use Rattle.told_tale.specs.declared.endings.Endings.{Endings}
 use Rattle.told_tale.specs.declared.tale.ToldTale.{ToldTale}
 
-module _ {R : Type 0} (stored : R → List ℕ) (step : Step) (setup : Setup) (plan : Plan) (touched : LinkId → Bool) (whose : ClientNo → Bool) (code : ToldTale R) (tale : Tale)
+module _ {R : Type 0} (stored : R → List ℕ) (step : Step) (setup : Setup) (plan : Plan) (touched : LinkId → Bool) (whose : ClientNo → Bool) (code : ToldTale R)
+    (tale : Tale)
     (is : IsTaleBut stored step setup plan touched whose code tale) where
   -- the story alone goes on, and where to look is known of what became of it
-  pub tale_led : (touched' : LinkId → Bool) (whose' : ClientNo → Bool) (told : Told R) (new : Tale) → IsLed stored step setup told tale new → HasMarks setup plan touched' whose' code.links code.clients new
+  pub tale_led : (touched' : LinkId → Bool) (whose' : ClientNo → Bool) (told : Told R) (new : Tale) → IsLed stored step setup told tale new
+      → HasMarks setup plan touched' whose' code.links code.clients new
       → IsTaleBut stored step setup plan touched' whose' (record code { told = told }) new
   tale_led touched' whose' told new led marks =
       subst (IsTaleBut stored step setup plan touched' whose' (record code { told = told })) (sym led.same) (record {
@@ -49,11 +51,13 @@ module _ {R : Type 0} (stored : R → List ℕ) (step : Step) (setup : Setup) (p
         ending = is.ending;
         bound = is.bound;
         wires = record { are = is.wires.are; there = is.wires.there };
-        counted = subst (λ (replies : MessageName → Option Reply). AreCounted (record { plan = plan; moment = tale.moment; replies = replies }) code.counts) (sym led.keeps) is.counted;
+        counted = subst (λ (replies : MessageName → Option Reply). AreCounted (record { plan = plan; moment = tale.moment; replies = replies }) code.counts)
+            (sym led.keeps) is.counted;
       })
 
   -- what was counted alone goes on, or what messages bound, or what is known of where to look
-  pub tale_with : (counts : Counts) (bindings : Bindings) (links : Links) (clients : Clients) (touched' : LinkId → Bool) (whose' : ClientNo → Bool) → AreCounted (known_in setup plan tale) counts
+  pub tale_with : (counts : Counts) (bindings : Bindings) (links : Links) (clients : Clients) (touched' : LinkId → Bool) (whose' : ClientNo → Bool)
+      → AreCounted (known_in setup plan tale) counts
       → AreBound plan tale.moment bindings tale.clients → HasMarks setup plan touched' whose' links clients tale
       → IsTaleBut stored step setup plan touched' whose' (record code { counts = counts; bindings = bindings; links = links; clients = clients }) tale
   tale_with counts bindings links clients touched' whose' counted bound marks = record {
@@ -69,7 +73,8 @@ module _ {R : Type 0} (stored : R → List ℕ) (step : Step) (setup : Setup) (p
 
   -- clients alone go on
   pub tale_of_clients : (clients : Clients) (endings : Endings) (these : List Client) (touched' : LinkId → Bool) (whose' : ClientNo → Bool)
-      → HasMarks setup plan touched' whose' code.links clients (record tale { clients = these }) → DoEnd plan endings (length these) → AreBound plan tale.moment code.bindings these
+      → HasMarks setup plan touched' whose' code.links clients (record tale { clients = these }) → DoEnd plan endings (length these)
+      → AreBound plan tale.moment code.bindings these
       → IsTaleBut stored step setup plan touched' whose' (record code { clients = clients; ending = endings }) (record tale { clients = these })
   tale_of_clients clients endings these touched' whose' marks ends bound = record {
     by = is.by;
@@ -103,7 +108,8 @@ module _ {R : Type 0} (stored : R → List ℕ) (step : Step) (setup : Setup) (p
             ∙ sym (ap is_some (back l ∙ ap (λ b. if b then Some there else wire_at code.wires l) same))
         go false other = sym (ap is_some (back l ∙ ap (λ b. if b then Some there else wire_at code.wires l) other))
 
-    pub tale_led_on : (touched' : LinkId → Bool) (whose' : ClientNo → Bool) (told : Told R) (asked : Option MessageName) (after : Tale) → IsLedOn stored step setup told link there asked tale after
+    pub tale_led_on : (touched' : LinkId → Bool) (whose' : ClientNo → Bool) (told : Told R) (asked : Option MessageName) (after : Tale)
+        → IsLedOn stored step setup told link there asked tale after
         → IsReady asked (view_of setup tale).replies code.counts → HasMarks setup plan touched' whose' code.links code.clients after
         → IsTaleBut stored step setup plan touched' whose' (record code { told = told; wires = new }) after
     tale_led_on touched' whose' told asked after led ready marks =
@@ -119,7 +125,8 @@ module _ {R : Type 0} (stored : R → List ℕ) (step : Step) (setup : Setup) (p
         })
 
   -- a link is opened
-  module _ (link : LinkId) (server : ServerId) (fresh : ToldLink) (new : Wires) (put_there : (l : LinkId) → wire_at new l ≡ put is_link_id (wire_at code.wires) link (Some fresh) l)
+  module _ (link : LinkId) (server : ServerId) (fresh : ToldLink) (new : Wires)
+      (put_there : (l : LinkId) → wire_at new l ≡ put is_link_id (wire_at code.wires) link (Some fresh) l)
       (knows : IsWire fresh (new_wire server)) where
     pub opened_wires : AreWires new (put is_link_id tale.wires link (new_wire server))
     opened_wires = wires_on code.wires new link fresh put_there tale.wires (new_wire server) is.wires.are knows
@@ -136,18 +143,24 @@ module _ {R : Type 0} (stored : R → List ℕ) (step : Step) (setup : Setup) (p
         or_false false = refl
 
         go : (b : Bool) → is_link_id l link ≡ b → list_any (is_link_id l) (tale.links ++ link ∷ []) ≡ is_some (wire_at new l)
-        go true same = list_any-append (is_link_id l) tale.links (link ∷ []) ∙ ap (λ b. is_to_server tale l || (b || false)) same ∙ or_true (is_to_server tale l)
+        go true same = list_any-append (is_link_id l) tale.links (link ∷ []) ∙ ap (λ b. is_to_server tale l || (b || false)) same
+            ∙ or_true (is_to_server tale l)
             ∙ sym (ap is_some (put_there l ∙ ap (λ b. if b then Some fresh else wire_at code.wires l) same))
-        go false other = list_any-append (is_link_id l) tale.links (link ∷ []) ∙ ap (λ b. is_to_server tale l || (b || false)) other ∙ or_false (is_to_server tale l) ∙ is.wires.there l
+        go false other = list_any-append (is_link_id l) tale.links (link ∷ []) ∙ ap (λ b. is_to_server tale l || (b || false)) other
+            ∙ or_false (is_to_server tale l) ∙ is.wires.there l
             ∙ sym (ap is_some (put_there l ∙ ap (λ b. if b then Some fresh else wire_at code.wires l) other))
 
 -- it is enough to lead it by its own plan
 module _ {R : Type 0} (stored : R → List ℕ) (step : Step) (old new : ToldTale R) (f : Setup → Plan → Tale → Tale) where
-  pub by_plan : ((setup : Setup) (tale : Tale) → IsTale stored step setup (plan_of old.plan) old tale → IsTale stored step setup (plan_of old.plan) new (f setup (plan_of old.plan) tale)) → Leads stored step old new f
+  pub by_plan : ((setup : Setup) (tale : Tale) → IsTale stored step setup (plan_of old.plan) old tale
+      → IsTale stored step setup (plan_of old.plan) new (f setup (plan_of old.plan) tale)) → Leads stored step old new f
   by_plan leads setup plan tale is =
-      subst (λ p. IsTale stored step setup p new (f setup p tale)) is.by.planned (leads setup tale (subst (λ p. IsTale stored step setup p old tale) (sym is.by.planned) is))
+      subst (λ p. IsTale stored step setup p new (f setup p tale)) is.by.planned
+      (leads setup tale (subst (λ p. IsTale stored step setup p old tale) (sym is.by.planned) is))
 
 -- what an entry tells
 module _ {R : Type 0} (stored : R → List ℕ) (step : Step) (old new : ToldTale R) where
-  pub by_entry : (e it : Entry) → e ≡ it → Leads stored step old new (λ setup plan tale. told_by setup plan tale it) → Leads stored step old new (λ setup plan tale. told_by setup plan tale e)
-  by_entry e it is leads setup plan tale stands = subst (λ x. IsTale stored step setup plan new (told_by setup plan tale x)) (sym is) (leads setup plan tale stands)
+  pub by_entry : (e it : Entry) → e ≡ it → Leads stored step old new (λ setup plan tale. told_by setup plan tale it)
+      → Leads stored step old new (λ setup plan tale. told_by setup plan tale e)
+  by_entry e it is leads setup plan tale stands = subst (λ x. IsTale stored step setup plan new (told_by setup plan tale x)) (sym is)
+      (leads setup plan tale stands)

@@ -32,16 +32,13 @@ pub wasnt : (was is : Bool) → (was ≡ true → is ≡ true) → is ≡ false 
 wasnt true is kept isnt = apart (kept refl) isnt
 wasnt false is kept isnt = refl
 
-pub either : (a b : Bool) → (a || b) ≡ false → b ≡ false
-either true b is = absurd (cc)
-either false b is = is
-
 pub of-nobody : (carries : Carried) → is_of nobody carries ≡ false
 of-nobody Nobody = refl
 of-nobody (Lent n) = refl
 of-nobody (Joined n) = refl
 
-of-less : (whose whose' : ClientNo → Bool) → ((c : ClientNo) → whose' c ≡ false → whose c ≡ false) → (carries : Carried) → is_of whose' carries ≡ false → is_of whose carries ≡ false
+of-less : (whose whose' : ClientNo → Bool) → ((c : ClientNo) → whose' c ≡ false → whose c ≡ false) → (carries : Carried) → is_of whose' carries ≡ false
+    → is_of whose carries ≡ false
 of-less whose whose' less Nobody isnt = refl
 of-less whose whose' less (Lent n) isnt = less n.client isnt
 of-less whose whose' less (Joined n) isnt = less n.client isnt
@@ -51,7 +48,8 @@ unused : (u q r d : Bool) → u ≡ false → (u && (q && (r && d))) ≡ false
 unused true q r d is = absurd (cc)
 unused false q r d is = refl
 
-none-carried : (setup : Setup) (plan : Plan) (tale : Tale) (carries : Carried) → session_in carries ≡ None → is_done_by plan tale.moment (view_of setup tale) carries ≡ false
+none-carried : (setup : Setup) (plan : Plan) (tale : Tale) (carries : Carried) → session_in carries ≡ None
+    → is_done_by plan tale.moment (view_of setup tale) carries ≡ false
 none-carried setup plan tale Nobody is = refl
 none-carried setup plan tale (Lent n) is = absurd (none-some n (sym is))
 none-carried setup plan tale (Joined n) is = absurd (none-some n (sym is))
@@ -77,25 +75,33 @@ module _ (setup : Setup) (plan : Plan) (tale : Tale) (l : LinkId) where
       ∙ nothing there.usable (is_quiet there.stage) fresh
 
 -- a party whose number is that of a session's client
-pub party-is : (party : Option Party) (session : Option SessionName) → option_map number_of party ≡ option_map (λ (n : SessionName). n.client) session → (c : ClientNo) → is_party party c ≡ is_whose session c
-party-is party session same c = fused number_of party ∙ ap (λ o. option_map_or (λ n. is_client n c) o false) same ∙ sym (fused (λ (n : SessionName). n.client) session)
+pub party-is : (party : Option Party) (session : Option SessionName) → option_map number_of party ≡ option_map (λ (n : SessionName). n.client) session
+    → (c : ClientNo) → is_party party c ≡ is_whose session c
+party-is party session same c = fused number_of party ∙ ap (λ o. option_map_or (λ n. is_client n c) o false) same
+    ∙ sym (fused (λ (n : SessionName). n.client) session)
   where
-    fused : {A : Type 0} (f : A → ClientNo) (o : Option A) → option_map_or (λ a. is_client (f a) c) o false ≡ option_map_or (λ n. is_client n c) (option_map f o) false
+    fused : {A : Type 0} (f : A → ClientNo) (o : Option A)
+        → option_map_or (λ a. is_client (f a) c) o false ≡ option_map_or (λ n. is_client n c) (option_map f o) false
     fused f None = refl
     fused f (Some a) = refl
 
 -- what stands on a link touches no more than these
-pub on-parties : (asked carried : Option Party) (there : Link) → option_map number_of asked ≡ option_map (λ (n : SessionName). n.client) (session_at there.stage)
-    → option_map number_of carried ≡ option_map (λ (n : SessionName). n.client) (session_in there.carries) → (c : ClientNo) → (is_party asked c || (is_party carried c || nobody c)) ≡ false → is_on there c ≡ false
-on-parties asked carried there is its c isnt = by (is_party asked c) (is_party carried c) (party-is asked (session_at there.stage) is c) (party-is carried (session_in there.carries) its c) isnt
+pub on-parties : (asked carried : Option Party) (there : Link)
+    → option_map number_of asked ≡ option_map (λ (n : SessionName). n.client) (session_at there.stage)
+    → option_map number_of carried ≡ option_map (λ (n : SessionName). n.client) (session_in there.carries) → (c : ClientNo)
+    → (is_party asked c || (is_party carried c || nobody c)) ≡ false → is_on there c ≡ false
+on-parties asked carried there is its c isnt = by (is_party asked c) (is_party carried c) (party-is asked (session_at there.stage) is c)
+    (party-is carried (session_in there.carries) its c) isnt
   where
-    by : (a b : Bool) → a ≡ is_whose (session_at there.stage) c → b ≡ is_whose (session_in there.carries) c → (a || (b || false)) ≡ false → is_on there c ≡ false
+    by : (a b : Bool) → a ≡ is_whose (session_at there.stage) c → b ≡ is_whose (session_in there.carries) c → (a || (b || false)) ≡ false
+        → is_on there c ≡ false
     by true b is its isnt = absurd (cc)
     by false true is its isnt = absurd (cc)
     by false false is its isnt = λ i. sym is i || sym its i
 
 -- So it is of more links and clients too.
-pub marks-of-more : (setup : Setup) (plan : Plan) (touched touched' : LinkId → Bool) (whose whose' : ClientNo → Bool) (places : Links) (seats : Clients) (tale : Tale)
+pub marks-of-more : (setup : Setup) (plan : Plan) (touched touched' : LinkId → Bool) (whose whose' : ClientNo → Bool) (places : Links) (seats : Clients)
+    (tale : Tale)
     → ((l : LinkId) → touched' l ≡ false → touched l ≡ false) → ((c : ClientNo) → whose' c ≡ false → whose c ≡ false)
     → HasMarks setup plan touched whose places seats tale → HasMarks setup plan touched' whose' places seats tale
 marks-of-more setup plan touched touched' whose whose' places seats tale fewer less has = record {
@@ -110,7 +116,8 @@ marks-of-more setup plan touched touched' whose whose' places seats tale fewer l
 
 -- A tale goes on, but for what it touches.
 module _ (setup : Setup) (plan : Plan) (places : Links) (seats : Clients) where
-  pub marks-moved : (touched : LinkId → Bool) (whose : ClientNo → Bool) (old new : Tale) → Moved setup touched whose old new → HasMarks setup plan no_link_at nobody places seats old
+  pub marks-moved : (touched : LinkId → Bool) (whose : ClientNo → Bool) (old new : Tale) → Moved setup touched whose old new
+      → HasMarks setup plan no_link_at nobody places seats old
       → HasMarks setup plan touched whose places seats new
   marks-moved touched whose old new moved has = record {
     clients = subst (AreClients plan.service seats) (sym moved.clients) has.clients;
@@ -120,9 +127,11 @@ module _ (setup : Setup) (plan : Plan) (places : Links) (seats : Clients) where
           (sym (ap (λ (k : Link). session_in k.carries) (moved.view.link l free)) ∙ its);
       lent = λ n l at isnt free others.
           let strange : is_of whose (link_in setup old l).carries ≡ false = sym (ap (λ (k : Link). is_of whose k.carries) (moved.view.link l free)) ∙ others in
-          done-moved setup plan touched whose old new moved l free strange ∙ has.marked.lent n l (was n l at) isnt refl (of-nobody (link_in setup old l).carries);
+          done-moved setup plan touched whose old new moved l free strange
+          ∙ has.marked.lent n l (was n l at) isnt refl (of-nobody (link_in setup old l).carries);
       waiting = λ n client at isnt other.
-          resting-goes-on setup plan touched whose old new moved client other (has.marked.waiting n client (sym (ap (λ all. slice_get all n) moved.clients) ∙ at) isnt refl);
+          resting-goes-on setup plan touched whose old new moved client other
+          (has.marked.waiting n client (sym (ap (λ all. slice_get all n) moved.clients) ∙ at) isnt refl);
     };
   }
     where
@@ -130,36 +139,45 @@ module _ (setup : Setup) (plan : Plan) (places : Links) (seats : Clients) where
       was n l at = sym (ap (λ all. slice_get all n) moved.places) ∙ at
 
   -- an entry more is counted
-  pub marks-counted : (whose : ClientNo → Bool) (tale : Tale) → ((m : MessageName) → whose m.client ≡ false → own_at plan (suc tale.moment) m ≡ own_at plan tale.moment m)
+  pub marks-counted : (whose : ClientNo → Bool) (tale : Tale)
+      → ((m : MessageName) → whose m.client ≡ false → own_at plan (suc tale.moment) m ≡ own_at plan tale.moment m)
       → HasMarks setup plan no_link_at nobody places seats tale → HasMarks setup plan no_link_at whose places seats (counted tale)
   marks-counted whose tale same has = record {
     clients = has.clients;
     links = has.links;
     marked = record {
       carried = has.marked.carried;
-      lent = λ n l at isnt free others. done-later plan tale.moment (suc tale.moment) whose same (view_of setup tale) (tale.wires l) (link_in setup tale l) others
+      lent = λ n l at isnt free others. done-later plan tale.moment (suc tale.moment) whose same (view_of setup tale) (tale.wires l)
+          (link_in setup tale l) others
           ∙ has.marked.lent n l at isnt free (of-nobody (link_in setup tale l).carries);
-      waiting = λ n client at isnt other. resting-later setup plan client tale (suc tale.moment) (λ ordinal. same (name_of client ordinal) other) (omega arith) (has.marked.waiting n client at isnt refl);
+      waiting = λ n client at isnt other. resting-later setup plan client tale (suc tale.moment) (λ ordinal. same (name_of client ordinal) other) (omega arith)
+          (has.marked.waiting n client at isnt refl);
     };
   }
 
 -- A party is touched: the links that carry its sessions are looked at, and its client.
-module _ (setup : Setup) (plan : Plan) (touched : LinkId → Bool) (whose : ClientNo → Bool) (places new : Links) (seats woken : Clients) (party : Party) (tale : Tale)
+module _ (setup : Setup) (plan : Plan) (touched : LinkId → Bool) (whose : ClientNo → Bool) (places new : Links) (seats woken : Clients) (party : Party)
+    (tale : Tale)
     (are : AreLinks new tale.links) (sit : AreClients plan.service woken tale.clients)
-    (carried : (c : ClientNo) (n : ℕ) → is_carried places c n ≡ true → is_carried new c n ≡ true) (lent : (n : ℕ) → is_lent places n ≡ true → is_lent new n ≡ true)
-    (all : (n : ℕ) → is_carried places (number_of party) n ≡ true → is_lent new n ≡ true) (waits : (n : ℕ) → is_waiting seats n ≡ true → is_waiting woken n ≡ true)
-    (here : (n : ℕ) (client : Client) → slice_get tale.clients n ≡ Some client → is_client (number_of party) client.number ≡ true → is_waiting woken n ≡ false → IsIdle plan.service client)
+    (carried : (c : ClientNo) (n : ℕ) → is_carried places c n ≡ true → is_carried new c n ≡ true)
+    (lent : (n : ℕ) → is_lent places n ≡ true → is_lent new n ≡ true)
+    (all : (n : ℕ) → is_carried places (number_of party) n ≡ true → is_lent new n ≡ true)
+    (waits : (n : ℕ) → is_waiting seats n ≡ true → is_waiting woken n ≡ true)
+    (here : (n : ℕ) (client : Client) → slice_get tale.clients n ≡ Some client → is_client (number_of party) client.number ≡ true → is_waiting woken n ≡ false
+    → IsIdle plan.service client)
     (has : HasMarks setup plan touched (λ c. is_party (Some party) c || whose c) places seats tale) where
   abbrev either_of : Bool → Bool → Bool
   either_of a b = a || b
 
-  link-looked : (n : ℕ) (l : LinkId) → slice_get tale.links n ≡ Some l → is_lent new n ≡ false → touched l ≡ false → (carries : Carried) → (link_in setup tale l).carries ≡ carries
+  link-looked : (n : ℕ) (l : LinkId) → slice_get tale.links n ≡ Some l → is_lent new n ≡ false → touched l ≡ false → (carries : Carried)
+      → (link_in setup tale l).carries ≡ carries
       → is_of whose carries ≡ false → (u : Bool) → (link_in setup tale l).usable ≡ u → is_done_in setup plan tale l ≡ false
   link-looked n l at isnt free carries is others false used = unused-stays setup plan tale l used
   link-looked n l at isnt free carries is others true used = by (session_in carries) refl
     where
       rest : is_of (λ c. is_party (Some party) c || whose c) carries ≡ false → is_done_in setup plan tale l ≡ false
-      rest isnt_of = has.marked.lent n l at (wasnt (is_lent places n) (is_lent new n) (lent n) isnt) free (ap (is_of (λ c. is_party (Some party) c || whose c)) is ∙ isnt_of)
+      rest isnt_of = has.marked.lent n l at (wasnt (is_lent places n) (is_lent new n) (lent n) isnt) free
+          (ap (is_of (λ c. is_party (Some party) c || whose c)) is ∙ isnt_of)
 
       whose_is : (s : SessionName) → session_in carries ≡ Some s → whose s.client ≡ false
       whose_is s its = sym (ap (λ o. option_map_or (λ (n : SessionName). whose n.client) o false) its) ∙ others
@@ -169,7 +187,8 @@ module _ (setup : Setup) (plan : Plan) (touched : LinkId → Bool) (whose : Clie
           let same_client : number_of party ≡ s.client = (let e = number_at (number_of party).0 s.client.0 same in λ i. record { 0 = e i }) in
           apart (all n (subst (λ c. is_carried places c n ≡ true) (sym same_client) (has.marked.carried l free n s at used (ap session_in is ∙ its)))) isnt
       go s its false other =
-          rest (ap (λ o. option_map_or (λ (n : SessionName). is_client (number_of party) n.client || whose n.client) o false) its ∙ ap (λ b. either_of b (whose s.client)) other ∙ whose_is s its)
+          rest (ap (λ o. option_map_or (λ (n : SessionName). is_client (number_of party) n.client || whose n.client) o false) its
+          ∙ ap (λ b. either_of b (whose s.client)) other ∙ whose_is s its)
 
       by : (o : Option SessionName) → session_in carries ≡ o → is_done_in setup plan tale l ≡ false
       by None none = nobody-stays setup plan tale l (ap session_in is ∙ none)
@@ -193,10 +212,13 @@ module _ (setup : Setup) (plan : Plan) (touched : LinkId → Bool) (whose : Clie
   }
 
 -- A link is looked at, and found by whose session it carries.
-module _ (setup : Setup) (plan : Plan) (whose : ClientNo → Bool) (places new : Links) (seats : Clients) (link : LinkId) (tale : Tale) (are : AreLinks new tale.links)
-    (carried : (c : ClientNo) (n : ℕ) → is_carried places c n ≡ true → is_carried new c n ≡ true) (lent : (n : ℕ) → is_lent places n ≡ true → is_lent new n ≡ true)
+module _ (setup : Setup) (plan : Plan) (whose : ClientNo → Bool) (places new : Links) (seats : Clients) (link : LinkId) (tale : Tale)
+    (are : AreLinks new tale.links)
+    (carried : (c : ClientNo) (n : ℕ) → is_carried places c n ≡ true → is_carried new c n ≡ true)
+    (lent : (n : ℕ) → is_lent places n ≡ true → is_lent new n ≡ true)
     (looked : (n : ℕ) → slice_get tale.links n ≡ Some link → is_lent new n ≡ true)
-    (found : (n : ℕ) (s : SessionName) → slice_get tale.links n ≡ Some link → session_in (link_in setup tale link).carries ≡ Some s → is_carried new s.client n ≡ true)
+    (found : (n : ℕ) (s : SessionName) → slice_get tale.links n ≡ Some link → session_in (link_in setup tale link).carries ≡ Some s
+    → is_carried new s.client n ≡ true)
     (has : HasMarks setup plan (only_link link) whose places seats tale) where
   is-found : (l : LinkId) (b : Bool) → is_link_id l link ≡ b → IsFound setup new tale l
   is-found l true same n s at used its =
@@ -204,7 +226,8 @@ module _ (setup : Setup) (plan : Plan) (whose : ClientNo → Bool) (places new :
       found n s (at ∙ ap (λ k. Some k) is) (sym (ap (λ k. session_in (link_in setup tale k).carries) is) ∙ its)
   is-found l false other n s at used its = carried s.client n (has.marked.carried l other n s at used its)
 
-  is-looked : (n : ℕ) (l : LinkId) → slice_get tale.links n ≡ Some l → is_lent new n ≡ false → is_of whose (link_in setup tale l).carries ≡ false → (b : Bool) → is_link_id l link ≡ b
+  is-looked : (n : ℕ) (l : LinkId) → slice_get tale.links n ≡ Some l → is_lent new n ≡ false → is_of whose (link_in setup tale l).carries ≡ false → (b : Bool)
+      → is_link_id l link ≡ b
       → is_done_in setup plan tale l ≡ false
   is-looked n l at isnt others true same = apart (looked n (at ∙ ap (λ k. Some k) (same_link l link same))) isnt
   is-looked n l at isnt others false other = has.marked.lent n l at (wasnt (is_lent places n) (is_lent new n) (lent n) isnt) other others
@@ -221,9 +244,11 @@ module _ (setup : Setup) (plan : Plan) (whose : ClientNo → Bool) (places new :
   }
 
 -- A link that isn't given back isn't looked at.
-module _ (setup : Setup) (plan : Plan) (places new : Links) (seats : Clients) (link : LinkId) (at : ℕ) (tale : Tale) (stands : slice_get tale.links at ≡ Some link) (are : AreLinks new tale.links)
+module _ (setup : Setup) (plan : Plan) (places new : Links) (seats : Clients) (link : LinkId) (at : ℕ) (tale : Tale)
+    (stands : slice_get tale.links at ≡ Some link) (are : AreLinks new tale.links)
     (carried : (c : ClientNo) (n : ℕ) → nat_eq at n ≡ false → is_carried places c n ≡ true → is_carried new c n ≡ true)
-    (lent : (n : ℕ) → is_lent new n ≡ (is_lent places n && not (nat_eq at n))) (done : is_done_in setup plan tale link ≡ false) (found : IsFound setup new tale link)
+    (lent : (n : ℕ) → is_lent new n ≡ (is_lent places n && not (nat_eq at n))) (done : is_done_in setup plan tale link ≡ false)
+    (found : IsFound setup new tale link)
     (has : HasMarks setup plan (only_link link) nobody places seats tale) where
   here : (n : ℕ) (l : LinkId) → slice_get tale.links n ≡ Some l → nat_eq at n ≡ true → l ≡ link
   here n l there same = same_Some l link (sym there ∙ ap (slice_get tale.links) (sym (number_at at n same)) ∙ stands)
@@ -241,13 +266,15 @@ module _ (setup : Setup) (plan : Plan) (places new : Links) (seats : Clients) (l
   left true false isnt is = absurd (cc)
   left false eq isnt is = refl
 
-  is-past : (n : ℕ) (l : LinkId) → slice_get tale.links n ≡ Some l → is_lent new n ≡ false → (b : Bool) → is_link_id l link ≡ b → is_done_in setup plan tale l ≡ false
+  is-past : (n : ℕ) (l : LinkId) → slice_get tale.links n ≡ Some l → is_lent new n ≡ false → (b : Bool) → is_link_id l link ≡ b
+      → is_done_in setup plan tale l ≡ false
   is-past n l there isnt true same = ap (is_done_in setup plan tale) (same_link l link same) ∙ done
   is-past n l there isnt false other = by (nat_eq at n) refl
     where
       by : (b : Bool) → nat_eq at n ≡ b → is_done_in setup plan tale l ≡ false
       by true same = ap (is_done_in setup plan tale) (here n l there same) ∙ done
-      by false apart_from = has.marked.lent n l there (left (is_lent places n) (nat_eq at n) (sym (lent n) ∙ isnt) apart_from) other (of-nobody (link_in setup tale l).carries)
+      by false apart_from = has.marked.lent n l there (left (is_lent places n) (nat_eq at n) (sym (lent n) ∙ isnt) apart_from) other
+          (of-nobody (link_in setup tale l).carries)
 
   pub marks-let-go : HasMarks setup plan no_link_at nobody new seats tale
   marks-let-go = record {
@@ -261,7 +288,8 @@ module _ (setup : Setup) (plan : Plan) (places new : Links) (seats : Clients) (l
   }
 
 -- A link more is opened.
-module _ (setup : Setup) (plan : Plan) (places new : Links) (seats : Clients) (whose : ClientNo → Bool) (link : LinkId) (wire : Wire) (tale : Tale) (are : AreLinks new (tale.links ++ link ∷ []))
+module _ (setup : Setup) (plan : Plan) (places new : Links) (seats : Clients) (whose : ClientNo → Bool) (link : LinkId) (wire : Wire) (tale : Tale)
+    (are : AreLinks new (tale.links ++ link ∷ []))
     (carried : (c : ClientNo) (n : ℕ) → is_carried new c n ≡ is_carried places c n) (lent : (n : ℕ) → is_lent places n ≡ true → is_lent new n ≡ true)
     (last : (n : ℕ) (l : LinkId) → slice_get (tale.links ++ link ∷ []) n ≡ Some l → is_lent new n ≡ false → slice_get tale.links n ≡ Some l)
     (has : HasMarks setup plan no_link_at nobody places seats tale) where
@@ -279,12 +307,14 @@ module _ (setup : Setup) (plan : Plan) (places new : Links) (seats : Clients) (w
     };
   }
     where
-      found : (l : LinkId) → is_link_id l link ≡ false → (n : ℕ) (s : SessionName) → (link_in setup tale l).usable ≡ true → session_in (link_in setup tale l).carries ≡ Some s
+      found : (l : LinkId) → is_link_id l link ≡ false → (n : ℕ) (s : SessionName) → (link_in setup tale l).usable ≡ true
+          → session_in (link_in setup tale l).carries ≡ Some s
           → (slice_get tale.links n ≡ Some l) ⊎ ((n ≡ length tale.links) × (link ≡ l)) → is_carried new s.client n ≡ true
       found l free n s used its (inl at) = carried s.client n ∙ has.marked.carried l refl n s at used its
       found l free n s used its (inr at) = apart (sym (ap (is_link_id l) (sym at.1)) ∙ same_number l.0) free
 
-      stays : (n : ℕ) (l : LinkId) → is_link_id l link ≡ false → slice_get tale.links n ≡ Some l → is_lent new n ≡ false → is_done_in setup plan opened l ≡ false
+      stays : (n : ℕ) (l : LinkId) → is_link_id l link ≡ false → slice_get tale.links n ≡ Some l → is_lent new n ≡ false
+          → is_done_in setup plan opened l ≡ false
       stays n l free at isnt =
           ap (λ w. is_done plan tale.moment (view_of setup tale) w (link_in setup tale l)) (ap (λ b. if b then wire else tale.wires l) free)
           ∙ has.marked.lent n l at (wasnt (is_lent places n) (is_lent new n) (lent n) isnt) refl (of-nobody (link_in setup tale l).carries)

@@ -25,9 +25,11 @@ use Rattle.told_tale.proofs.Marking.{marks-moved, wasnt}
 use Rattle.told_tale.proofs.Resting.{idle-rests, resting-told}
 
 -- Who was replaced, and who stayed
-module _ (setup : Service) (code : Clients) (clients : List Client) (are : AreClients setup code clients) (at : ℕ) (it : Client) (here : slice_get clients at ≡ Some it) where
+module _ (setup : Service) (code : Clients) (clients : List Client) (are : AreClients setup code clients) (at : ℕ) (it : Client)
+    (here : slice_get clients at ≡ Some it) where
   pub replaced_here : slice_get (replaced (behind it) clients) at ≡ Some (behind it)
-  replaced_here = slice_get-map _ clients at ∙ ap (option_map _) here ∙ ap (λ (c : Client). Some c) (replaces setup code clients are at it (behind it) here refl it here)
+  replaced_here = slice_get-map _ clients at ∙ ap (option_map _) here
+      ∙ ap (λ (c : Client). Some c) (replaces setup code clients are at it (behind it) here refl it here)
 
   pub behind-number : (other : Client) → slice_get (replaced (behind it) clients) at ≡ Some other → other.number ≡ it.number
   behind-number other there = ap (λ (c : Client). c.number) (same_Some other (behind it) (sym there ∙ replaced_here))
@@ -44,17 +46,21 @@ pub own-number : (client : Client) (ordinal : ℕ) → client_and_job client ord
 own-number client ordinal = ap (λ b. b || is_client client.number (job_of (name_of client ordinal))) (same_number client.number.0)
 
 -- Bytes pass on a client's link: that client is looked at, and the others stay.
-module _ (setup : Setup) (plan : Plan) (places : Links) (seats new : Clients) (link : LinkId) (f : Client → Client) (tale : Tale) (sit : AreClients plan.service new (map f tale.clients))
+module _ (setup : Setup) (plan : Plan) (places : Links) (seats new : Clients) (link : LinkId) (f : Client → Client) (tale : Tale)
+    (sit : AreClients plan.service new (map f tale.clients))
     (kept : (n : ℕ) → is_waiting seats n ≡ true → is_waiting new n ≡ true)
-    (here : (n : ℕ) (client : Client) → slice_get (map f tale.clients) n ≡ Some client → is_link_id client.link link ≡ true → is_waiting new n ≡ false → IsIdle plan.service client)
+    (here : (n : ℕ) (client : Client) → slice_get (map f tale.clients) n ≡ Some client → is_link_id client.link link ≡ true → is_waiting new n ≡ false
+    → IsIdle plan.service client)
     (stays : (client : Client) → is_link_id client.link link ≡ false → f client ≡ client) (keeps : (client : Client) → (f client).link ≡ client.link)
     (has : HasMarks setup plan no_link_at nobody places seats tale) where
   abbrev after : Tale
   after = record tale { clients = map f tale.clients }
 
-  rests : (n : ℕ) (old : Client) → slice_get tale.clients n ≡ Some old → is_waiting new n ≡ false → (b : Bool) → is_link_id old.link link ≡ b → IsResting setup plan (f old) after
+  rests : (n : ℕ) (old : Client) → slice_get tale.clients n ≡ Some old → is_waiting new n ≡ false → (b : Bool) → is_link_id old.link link ≡ b
+      → IsResting setup plan (f old) after
   rests n old was isnt true its =
-      idle-rests setup plan (f old) after (here n (f old) (slice_get-map f tale.clients n ∙ ap (option_map f) was) (ap (λ l. is_link_id l link) (keeps old) ∙ its) isnt plan refl)
+      idle-rests setup plan (f old) after
+      (here n (f old) (slice_get-map f tale.clients n ∙ ap (option_map f) was) (ap (λ l. is_link_id l link) (keeps old) ∙ its) isnt plan refl)
   rests n old was isnt false other = subst (λ (c : Client). IsResting setup plan c after) (sym (stays old other))
       (resting-told setup plan old tale after refl refl (has.marked.waiting n old was (wasnt (is_waiting seats n) (is_waiting new n) (kept n) isnt) refl))
 
@@ -69,9 +75,11 @@ module _ (setup : Setup) (plan : Plan) (places : Links) (seats new : Clients) (l
     };
   }
     where
-      by : (n : ℕ) (client : Client) → slice_get (map f tale.clients) n ≡ Some client → is_waiting new n ≡ false → (o : Option Client) → slice_get tale.clients n ≡ o → IsResting setup plan client after
+      by : (n : ℕ) (client : Client) → slice_get (map f tale.clients) n ≡ Some client → is_waiting new n ≡ false → (o : Option Client)
+          → slice_get tale.clients n ≡ o → IsResting setup plan client after
       by n client at isnt None none = absurd (none-some client (sym (ap (option_map f) none) ∙ sym (slice_get-map f tale.clients n) ∙ at))
-      by n client at isnt (Some old) was = subst (λ (c : Client). IsResting setup plan c after) (same_Some (f old) client (sym (ap (option_map f) was) ∙ sym (slice_get-map f tale.clients n) ∙ at))
+      by n client at isnt (Some old) was = subst (λ (c : Client). IsResting setup plan c after)
+          (same_Some (f old) client (sym (ap (option_map f) was) ∙ sym (slice_get-map f tale.clients n) ∙ at))
           (rests n old was isnt (is_link_id old.link link) refl)
 
 -- Bytes that pass change nothing else.
@@ -97,7 +105,8 @@ gets-keeps link count client = by (is_link_id client.link link)
     by false = refl
 
 -- A client more comes.
-module _ (setup : Setup) (plan : Plan) (places : Links) (seats new : Clients) (client : Client) (tale : Tale) (sit : AreClients plan.service new (tale.clients ++ client ∷ []))
+module _ (setup : Setup) (plan : Plan) (places : Links) (seats new : Clients) (client : Client) (tale : Tale)
+    (sit : AreClients plan.service new (tale.clients ++ client ∷ []))
     (kept : (n : ℕ) → is_waiting seats n ≡ true → is_waiting new n ≡ true) (here : is_waiting new (length tale.clients) ≡ false → IsIdle plan.service client)
     (has : HasMarks setup plan no_link_at nobody places seats tale) where
   abbrev with_more : Tale
@@ -114,16 +123,19 @@ module _ (setup : Setup) (plan : Plan) (places : Links) (seats new : Clients) (c
     };
   }
     where
-      by : (n : ℕ) (it : Client) → is_waiting new n ≡ false → (slice_get tale.clients n ≡ Some it) ⊎ ((n ≡ length tale.clients) × (client ≡ it)) → IsResting setup plan it with_more
+      by : (n : ℕ) (it : Client) → is_waiting new n ≡ false → (slice_get tale.clients n ≡ Some it) ⊎ ((n ≡ length tale.clients) × (client ≡ it))
+          → IsResting setup plan it with_more
       by n it isnt (inl first) =
           resting-told setup plan it tale with_more refl refl (has.marked.waiting n it first (wasnt (is_waiting seats n) (is_waiting new n) (kept n) isnt) refl)
       by n it isnt (inr last) = subst (λ (c : Client). IsResting setup plan c with_more) last.1
           (idle-rests setup plan client with_more (here (ap (is_waiting new) (sym last.0) ∙ isnt) plan refl))
 
 -- A message of a client is taken up: that client is touched, and the others stay.
-module _ (setup : Setup) (plan : Plan) (places : Links) (seats new : Clients) (whose : ClientNo → Bool) (at : ℕ) (client : Client) (tale other : Tale) (moved : Moved setup no_link_at whose tale other)
+module _ (setup : Setup) (plan : Plan) (places : Links) (seats new : Clients) (whose : ClientNo → Bool) (at : ℕ) (client : Client) (tale other : Tale)
+    (moved : Moved setup no_link_at whose tale other)
     (stands : slice_get tale.clients at ≡ Some client) (its : whose client.number ≡ true) (same : (n : ℕ) → is_waiting new n ≡ is_waiting seats n)
-    (sit : AreClients plan.service new (replaced (record client { taken = suc client.taken }) other.clients)) (has : HasMarks setup plan no_link_at nobody places seats tale) where
+    (sit : AreClients plan.service new (replaced (record client { taken = suc client.taken }) other.clients))
+    (has : HasMarks setup plan no_link_at nobody places seats tale) where
   abbrev went_on : Client
   went_on = record client { taken = suc client.taken }
 
@@ -144,7 +156,8 @@ module _ (setup : Setup) (plan : Plan) (places : Links) (seats new : Clients) (w
       there : slice_get other.clients at ≡ Some client
       there = ap (λ all. slice_get all at) moved.clients ∙ stands
 
-      by : (n : ℕ) (it : Client) → slice_get (replaced went_on other.clients) n ≡ Some it → is_waiting new n ≡ false → whose it.number ≡ false → (b : Bool) → nat_eq at n ≡ b
+      by : (n : ℕ) (it : Client) → slice_get (replaced went_on other.clients) n ≡ Some it → is_waiting new n ≡ false → whose it.number ≡ false → (b : Bool)
+          → nat_eq at n ≡ b
           → IsResting setup plan it (with_client went_on other)
       by n it at_n isnt strange true same_place = absurd (apart_true (whose client.number) its (ap whose (sym (number-there n it at_n same_place)) ∙ strange))
         where
@@ -153,13 +166,16 @@ module _ (setup : Setup) (plan : Plan) (places : Links) (seats new : Clients) (w
           apart_true false is isnt = absurd (cc)
 
           number-there : (n : ℕ) (it : Client) → slice_get (replaced went_on other.clients) n ≡ Some it → nat_eq at n ≡ true → it.number ≡ client.number
-          number-there n it at_n same_place = behind-number plan.service seats other.clients went.clients at client there it (ap (slice_get (replaced went_on other.clients)) (number_of at n same_place) ∙ at_n)
+          number-there n it at_n same_place = behind-number plan.service seats other.clients went.clients at client there it
+              (ap (slice_get (replaced went_on other.clients)) (number_of at n same_place) ∙ at_n)
       by n it at_n isnt strange false apart = resting-told setup plan it other (with_client went_on other) refl refl
-          (went.marked.waiting n it (sym (replaced_others plan.service seats other.clients went.clients at client there n apart) ∙ at_n) (sym (same n) ∙ isnt) strange)
+          (went.marked.waiting n it (sym (replaced_others plan.service seats other.clients went.clients at client there n apart) ∙ at_n)
+          (sym (same n) ∙ isnt) strange)
 
 -- A client that rests is looked at no more.
 module _ (setup : Setup) (plan : Plan) (places : Links) (seats new : Clients) (at : ℕ) (tale : Tale) (sit : AreClients plan.service new tale.clients)
-    (waiting : (n : ℕ) → is_waiting new n ≡ (is_waiting seats n && not (nat_eq at n))) (rested : (client : Client) → slice_get tale.clients at ≡ Some client → IsResting setup plan client tale)
+    (waiting : (n : ℕ) → is_waiting new n ≡ (is_waiting seats n && not (nat_eq at n)))
+    (rested : (client : Client) → slice_get tale.clients at ≡ Some client → IsResting setup plan client tale)
     (has : HasMarks setup plan no_link_at nobody places seats tale) where
   pub marks-forgotten : HasMarks setup plan no_link_at nobody places new tale
   marks-forgotten = record {
@@ -172,14 +188,16 @@ module _ (setup : Setup) (plan : Plan) (places : Links) (seats new : Clients) (a
     };
   }
     where
-      by : (n : ℕ) (client : Client) → slice_get tale.clients n ≡ Some client → (w b : Bool) → is_waiting seats n ≡ w → nat_eq at n ≡ b → (is_waiting seats n && not (nat_eq at n)) ≡ false
+      by : (n : ℕ) (client : Client) → slice_get tale.clients n ≡ Some client → (w b : Bool) → is_waiting seats n ≡ w → nat_eq at n ≡ b
+          → (is_waiting seats n && not (nat_eq at n)) ≡ false
           → IsResting setup plan client tale
       by n client there w true is same isnt = rested client (ap (slice_get tale.clients) (number_of at n same) ∙ there)
       by n client there false false is same isnt = has.marked.waiting n client there is refl
       by n client there true false is same isnt = absurd (cc)
 
 -- none was passed over that waits
-pub passed : (code : Clients) (from n : ℕ) (next : Option ℕ) → IfSome next (λ at. (k : ℕ) → from ≤ k → is_waiting code k ≡ true → at ≤ k) → IfNone next ((k : ℕ) → from ≤ k → is_waiting code k ≡ false)
+pub passed : (code : Clients) (from n : ℕ) (next : Option ℕ) → IfSome next (λ at. (k : ℕ) → from ≤ k → is_waiting code k ≡ true → at ≤ k)
+    → IfNone next ((k : ℕ) → from ≤ k → is_waiting code k ≡ false)
     → from ≤ n → IsBefore n next → is_waiting code n ≡ false
 passed code from n None least none later before = none n later
 passed code from n (Some at) least none later before = not_before at n (is_waiting code n) (least n later) before

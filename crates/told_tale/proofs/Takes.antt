@@ -70,7 +70,8 @@ same_count n m is below = omega (arith, is, below)
 
 -- What becomes due.
 
-copies : (message : MessageName) (command : Command) (mirror : Option Hostgroup) (tale : Tale) → copied message command mirror tale ≡ tell_all (copy_told message command mirror) tale
+copies : (message : MessageName) (command : Command) (mirror : Option Hostgroup) (tale : Tale)
+    → copied message command mirror tale ≡ tell_all (copy_told message command mirror) tale
 copies message command None tale = refl
 copies message command (Some hostgroup) tale = refl
 
@@ -79,20 +80,30 @@ module _ (setup : Setup) (client : Client) (ordinal : ℕ) (route : Route) (requ
   captures = captures_first ((view_of setup tale).held (present (view_of setup tale) client.number route.hostgroup))
 
   append_told : (mirror : Option Hostgroup)
-      → tell_all (copy_told (name_of client ordinal) request.command mirror) (tell (BecameDue client.number route.hostgroup ordinal request.key request.command route.multiplex) tale)
-      ≡ tell_all (copy_told (name_of client ordinal) request.command mirror ++ (BecameDue client.number route.hostgroup ordinal request.key request.command route.multiplex ∷ [])) tale
+      → tell_all (copy_told (name_of client ordinal) request.command mirror)
+      (tell (BecameDue client.number route.hostgroup ordinal request.key request.command route.multiplex) tale)
+      ≡ tell_all (copy_told (name_of client ordinal) request.command mirror ++
+      (BecameDue client.number route.hostgroup ordinal request.key request.command route.multiplex ∷ [])) tale
   append_told None = refl
   append_told (Some hostgroup) = refl
 
   pub due_there : captures ≡ false → due_by setup client ordinal route request tale ≡ Some (tell_all (due_told client.number ordinal route request) tale)
-  due_there isnt = ap (λ b. if b then None else Some (copied (name_of client ordinal) request.command route.mirror (tell (BecameDue client.number route.hostgroup ordinal request.key request.command route.multiplex) tale))) isnt
-      ∙ ap (λ t. Some t) (copies (name_of client ordinal) request.command route.mirror (tell (BecameDue client.number route.hostgroup ordinal request.key request.command route.multiplex) tale) ∙ append_told route.mirror)
+  due_there isnt = ap (λ b. if b then None else Some
+      (copied (name_of client ordinal) request.command route.mirror
+      (tell (BecameDue client.number route.hostgroup ordinal request.key request.command route.multiplex) tale))) isnt
+      ∙ ap (λ t. Some t) (copies (name_of client ordinal) request.command route.mirror
+      (tell (BecameDue client.number route.hostgroup ordinal request.key request.command route.multiplex) tale) ∙ append_told route.mirror)
 
   pub due_waits : captures ≡ true → due_by setup client ordinal route request tale ≡ None
-  due_waits is = ap (λ b. if b then None else Some (copied (name_of client ordinal) request.command route.mirror (tell (BecameDue client.number route.hostgroup ordinal request.key request.command route.multiplex) tale))) is
+  due_waits is = ap (λ b. if b then None else Some
+      (copied (name_of client ordinal) request.command route.mirror
+      (tell (BecameDue client.number route.hostgroup ordinal request.key request.command route.multiplex) tale))) is
 
-due-keeps : (setup : Setup) (message : MessageName) (client : ClientNo) (hostgroup : Hostgroup) (ordinal : ℕ) (request : Request) (multiplex : Option Bool) (tale : Tale) (mirror : Option Hostgroup)
-    → (view_of setup (tell_all (copy_told message request.command mirror ++ (BecameDue client hostgroup ordinal request.key request.command multiplex ∷ [])) tale)).replies ≡ (view_of setup tale).replies
+due-keeps : (setup : Setup) (message : MessageName) (client : ClientNo) (hostgroup : Hostgroup) (ordinal : ℕ) (request : Request) (multiplex : Option Bool)
+    (tale : Tale) (mirror : Option Hostgroup)
+    → (view_of setup (tell_all
+    (copy_told message request.command mirror ++ (BecameDue client hostgroup ordinal request.key request.command multiplex ∷ [])) tale)).replies ≡
+    (view_of setup tale).replies
 due-keeps setup message client hostgroup ordinal request multiplex tale None = refl
 due-keeps setup message client hostgroup ordinal request multiplex tale (Some other) = refl
 
@@ -105,9 +116,12 @@ flipped_back true is = refl
 flipped_back false is = is
 
 -- a message becomes due, or a capture is due first
-module _ {R : Type 0} (stored : R → List ℕ) (step : Step) (setup : Setup) (client : Client) (ordinal : ℕ) (route : Route) (request : Request) (tale : Tale) (old new : Told R) where
-  pub due_taken : (more : Bool) → (more ≡ true → IsTold stored step setup new (due_told client.number ordinal route request ++ tale.story)) → more ≡ not (captures setup client ordinal route request tale)
-      → (more ≡ false → new ≡ old) → IsTold stored step setup old tale.story → IsTaken stored step setup new more tale (due_by setup client ordinal route request tale)
+module _ {R : Type 0} (stored : R → List ℕ) (step : Step) (setup : Setup) (client : Client) (ordinal : ℕ) (route : Route) (request : Request) (tale : Tale)
+    (old new : Told R) where
+  pub due_taken : (more : Bool) → (more ≡ true → IsTold stored step setup new (due_told client.number ordinal route request ++ tale.story))
+      → more ≡ not (captures setup client ordinal route request tale)
+      → (more ≡ false → new ≡ old) → IsTold stored step setup old tale.story
+      → IsTaken stored step setup new more tale (due_by setup client ordinal route request tale)
   due_taken true tells isnt same told = record {
     new = tell_all (due_told client.number ordinal route request) tale;
     is = due_there setup client ordinal route request tale (flipped (captures setup client ordinal route request tale) isnt);
@@ -117,8 +131,11 @@ module _ {R : Type 0} (stored : R → List ℕ) (step : Step) (setup : Setup) (c
       keeps = due-keeps setup (name_of client ordinal) client.number route.hostgroup ordinal request route.multiplex tale route.mirror;
     };
   }
-  due_taken false tells is same told =
-      (due_waits setup client ordinal route request tale (flipped_back (captures setup client ordinal route request tale) is), subst (λ (code : Told R). IsTold stored step setup code tale.story) (sym (same refl)) told)
+  due_taken false tells is same told = (
+    due_waits setup client ordinal route request tale (flipped_back (captures setup client ordinal route request tale) is),
+    subst
+        (λ (code : Told R). IsTold stored step setup code tale.story) (sym (same refl)) told,
+  )
 
 -- The next message.
 
@@ -132,7 +149,8 @@ module _ (setup : Setup) (plan : Plan) (client : Client) (tale : Tale) where
   pub next_waits : (message : Framed) → slice_get (messages plan client) client.taken ≡ Some message → may ≡ false → next_of setup plan client tale ≡ None
   next_waits message there isnt = ap (λ o. next_taken setup plan client o tale) there ∙ ap (λ b. if b then taken message else None) isnt
 
-  pub next_goes : (message : Framed) → slice_get (messages plan client) client.taken ≡ Some message → may ≡ true → next_of setup plan client tale ≡ taken message
+  pub next_goes : (message : Framed) → slice_get (messages plan client) client.taken ≡ Some message → may ≡ true
+      → next_of setup plan client tale ≡ taken message
   next_goes message there is = ap (λ o. next_taken setup plan client o tale) there ∙ ap (λ b. if b then taken message else None) is
 
 -- Messages are taken up one after the other.
@@ -158,23 +176,27 @@ module _ (code plan : Plan) (planned : code ≡ plan) (told : ClientCode) (it : 
       (subst (λ c. AreBindings plan moment c told.heard.messages bindings) (sym its.1)
       (subst (λ all. AreBindings plan moment it.number all bindings) its.0 are)))
 
-  pub binds_of : (at : ℕ) (old new : Bindings) → BindsOn code at told.heard.side.number told.heard.messages old new → BindsOn plan at it.number (messages plan it) old new
+  pub binds_of : (at : ℕ) (old new : Bindings) → BindsOn code at told.heard.side.number told.heard.messages old new
+      → BindsOn plan at it.number (messages plan it) old new
   binds_of at old new binds =
       subst (λ (p : Plan). BindsOn p at it.number (messages plan it) old new) planned
       (subst (λ c. BindsOn code at c (messages plan it) old new) its.1
       (subst (λ all. BindsOn code at told.heard.side.number all old new) (sym its.0) binds))
 
 -- who takes a message more has its messages still
-takes-on : (plan : Plan) (code : Clients) (clients : List Client) (are : AreClients plan.service code clients) (at : ℕ) (it : Client) → slice_get clients at ≡ Some it
+takes-on : (plan : Plan) (code : Clients) (clients : List Client) (are : AreClients plan.service code clients) (at : ℕ) (it : Client)
+    → slice_get clients at ≡ Some it
     → (n : ℕ) (other : Client) → slice_get clients n ≡ Some other
-    → ((if is_client other.number it.number then behind it else other).number ≡ other.number) × Grows (messages plan other) (messages plan (if is_client other.number it.number then behind it else other))
+    → ((if is_client other.number it.number then behind it else other).number ≡ other.number) × Grows (messages plan other)
+    (messages plan (if is_client other.number it.number then behind it else other))
 takes-on plan code clients are at it here n other there = by (nat_eq at n) refl
   where
     stays : {c : Client} → c ≡ other → (c.number ≡ other.number) × Grows (messages plan other) (messages plan c)
     stays same = (ap (λ (x : Client). x.number) same, record { later = []; is = ap (messages plan) same ∙ sym (append-nil (messages plan other)) })
 
     by : (b : Bool) → nat_eq at n ≡ b
-        → ((if is_client other.number it.number then behind it else other).number ≡ other.number) × Grows (messages plan other) (messages plan (if is_client other.number it.number then behind it else other))
+        → ((if is_client other.number it.number then behind it else other).number ≡ other.number) × Grows (messages plan other)
+        (messages plan (if is_client other.number it.number then behind it else other))
     by true same =
         let its : other ≡ it = same_Some other it (sym there ∙ ap (slice_get clients) (sym (number_of at n same)) ∙ here) in
         let now = replaces plan.service code clients are at it (behind it) here refl other (ap (slice_get clients) (number_of at n same) ∙ there) in
@@ -184,7 +206,8 @@ takes-on plan code clients are at it here n other there = by (nat_eq at n) refl
 
 module _ {R : Type 0} (stored : R → List ℕ) (step : Step) (setup : Setup) (plan : Plan) where
   -- a message is taken up, and counted, and what that touched is looked at
-  pub next_taken_up : (code : ToldTale R) (told : Told R) (seats : Clients) (counts : Counts) (bindings : Bindings) (at : ℕ) (tale : Tale) (client : Client) (message : Framed)
+  pub next_taken_up : (code : ToldTale R) (told : Told R) (seats : Clients) (counts : Counts) (bindings : Bindings) (at : ℕ) (tale : Tale) (client : Client)
+      (message : Framed)
       → (is : IsTale stored step setup plan code tale) → slice_get tale.clients at ≡ Some client
       → slice_get (messages plan client) client.taken ≡ Some message → may setup plan client tale ≡ true
       → (up : IsTakenUp stored step setup told tale (taken setup plan client tale message))
@@ -200,10 +223,13 @@ module _ {R : Type 0} (stored : R → List ℕ) (step : Step) (setup : Setup) (p
       let these = replaced (behind client) up.new.clients in
       let sit = subst (λ all. AreClients plan.service seats (replaced (behind client) all)) (sym same) are in
       let counting = tale_with stored step setup plan no_link_at nobody code tale is counts bindings code.links code.clients no_link_at nobody counted bound is.marks in
-      let led = tale_led stored step setup plan no_link_at nobody (record code { counts = counts; bindings = bindings }) tale counting no_link_at whose told up.new up.led
+      let led = tale_led stored step setup plan no_link_at nobody
+      (record code { counts = counts; bindings = bindings }) tale counting no_link_at whose told up.new up.led
       (marks-moved setup plan code.links code.clients no_link_at whose tale up.new moved is.marks) in
-      let marks = marks-taken setup plan code.links code.clients seats whose at client tale up.new moved here (own-number client (suc client.taken)) same_waiting sit is.marks in
-      let taken = tale_of_clients stored step setup plan no_link_at whose (record code { told = told; counts = counts; bindings = bindings }) up.new led seats code.ending these no_link_at whose marks
+      let marks = marks-taken setup plan code.links code.clients seats whose at client tale up.new moved here
+      (own-number client (suc client.taken)) same_waiting sit is.marks in
+      let taken = tale_of_clients stored step setup plan no_link_at whose
+      (record code { told = told; counts = counts; bindings = bindings }) up.new led seats code.ending these no_link_at whose marks
       (subst (DoEnd plan code.ending) (sym (length-map up.new.clients _ ∙ ap length same)) is.ending)
       (subst (λ (t : Tale). AreBound plan t.moment bindings (replaced (behind client) t.clients)) (sym up.led.same)
       (bound-on plan tale.moment bindings tale.clients bound (λ (other : Client). if is_client other.number client.number then behind client else other)
@@ -212,15 +238,18 @@ module _ {R : Type 0} (stored : R → List ℕ) (step : Step) (setup : Setup) (p
         other = up.new;
         is = next_goes setup plan client tale message there may_be ∙ up.is;
         same = same;
-        stands = tale_with stored step setup plan no_link_at whose (record code { told = told; counts = counts; bindings = bindings; clients = seats }) (with_client (behind client) up.new) taken
+        stands = tale_with stored step setup plan no_link_at whose (record code { told = told; counts = counts; bindings = bindings; clients = seats })
+            (with_client (behind client) up.new) taken
             counts bindings links clients no_link_at nobody taken.counted taken.bound (touched marks);
       }
 
-  pub taking_first : (code : ToldTale R) (at most : ℕ) (client : Client) (tale : Tale) → IsTale stored step setup plan code tale → slice_get tale.clients at ≡ Some client
+  pub taking_first : (code : ToldTale R) (at most : ℕ) (client : Client) (tale : Tale) → IsTale stored step setup plan code tale
+      → slice_get tale.clients at ≡ Some client
       → IsTaking stored step setup plan code at most most client tale
   taking_first code at most client tale is here = record { now = tale; it = client; stands = is; here = here; rest = refl; others = λ j other. refl }
 
-  pub taking_more : (old new : ToldTale R) (at most left k : ℕ) (client : Client) (tale : Tale) → left ≡ suc k → (so_far : IsTaking stored step setup plan old at most left client tale)
+  pub taking_more : (old new : ToldTale R) (at most left k : ℕ) (client : Client) (tale : Tale) → left ≡ suc k
+      → (so_far : IsTaking stored step setup plan old at most left client tale)
       → IsNextTaken stored step setup plan new so_far.it so_far.now → IsTaking stored step setup plan new at most k client tale
   taking_more old new at most left k client tale one so_far next =
       let are = so_far.stands.marks.clients in
@@ -228,14 +257,17 @@ module _ {R : Type 0} (stored : R → List ℕ) (step : Step) (setup : Setup) (p
         now = with_client (behind so_far.it) next.other;
         it = behind so_far.it;
         stands = next.stands;
-        here = ap (λ all. slice_get (replaced (behind so_far.it) all) at) next.same ∙ replaced_here plan.service old.clients so_far.now.clients are at so_far.it so_far.here;
+        here = ap (λ all. slice_get (replaced (behind so_far.it) all) at) next.same
+            ∙ replaced_here plan.service old.clients so_far.now.clients are at so_far.it so_far.here;
         rest = so_far.rest ∙ ap (λ n. taken_up n setup plan so_far.it so_far.now) one ∙ take_one setup plan k so_far.it so_far.now next.other next.is;
         others = λ j other. ap (λ all. slice_get (replaced (behind so_far.it) all) j) next.same
             ∙ replaced_others plan.service old.clients so_far.now.clients are at so_far.it so_far.here j other ∙ so_far.others j other;
       }
 
-  pub taking_stops : (old new : ToldTale R) (at most left : ℕ) (client : Client) (tale : Tale) (so_far : IsTaking stored step setup plan old at most left client tale)
-      → next_of setup plan so_far.it so_far.now ≡ None → IsTale stored step setup plan new so_far.now → GoesAt stored step setup plan new true at tale (taken_up most setup plan client tale)
+  pub taking_stops : (old new : ToldTale R) (at most left : ℕ) (client : Client) (tale : Tale)
+      (so_far : IsTaking stored step setup plan old at most left client tale)
+      → next_of setup plan so_far.it so_far.now ≡ None → IsTale stored step setup plan new so_far.now
+      → GoesAt stored step setup plan new true at tale (taken_up most setup plan client tale)
   taking_stops old new at most left client tale so_far none stands =
       subst (GoesAt stored step setup plan new true at tale) (sym (so_far.rest ∙ take_none setup plan left so_far.it so_far.now none)) (record {
         stands = stands;
@@ -243,7 +275,8 @@ module _ {R : Type 0} (stored : R → List ℕ) (step : Step) (setup : Setup) (p
         others = so_far.others;
       })
 
-  pub taking_done : (code : ToldTale R) (at most left : ℕ) (client : Client) (tale : Tale) → left ≡ 0 → (so_far : IsTaking stored step setup plan code at most left client tale)
+  pub taking_done : (code : ToldTale R) (at most left : ℕ) (client : Client) (tale : Tale) → left ≡ 0
+      → (so_far : IsTaking stored step setup plan code at most left client tale)
       → GoesAt stored step setup plan code false at tale (taken_up most setup plan client tale)
   taking_done code at most left client tale none so_far =
       subst (GoesAt stored step setup plan code false at tale) (sym (so_far.rest ∙ ap (λ n. taken_up n setup plan so_far.it so_far.now) none)) (record {
@@ -272,7 +305,8 @@ module _ {R : Type 0} (stored : R → List ℕ) (step : Step) (setup : Setup) (p
   }
 
   pub going_done : (code : ToldTale R) (i : ℕ) (so_far : IsGoing stored step setup plan code f i tale)
-      → ((n : ℕ) (c : Client) → i ≤ n → slice_get tale.clients n ≡ Some c → f so_far.now c ≡ so_far.now) → IsTale stored step setup plan code (fold f tale tale.clients)
+      → ((n : ℕ) (c : Client) → i ≤ n → slice_get tale.clients n ≡ Some c → f so_far.now c ≡ so_far.now)
+      → IsTale stored step setup plan code (fold f tale tale.clients)
   going_done code i so_far stays = subst (IsTale stored step setup plan code) (sym (so_far.rest ∙ skip_rest f tale.clients so_far.now i stays)) so_far.stands
 
 pub record IsElement {X : Type 0} (xs : List X) (i : ℕ) : Type 0 where
@@ -285,7 +319,8 @@ element (x ∷ xs) zero inside = record { it = x; here = refl }
 element (x ∷ xs) (suc i) inside = let rest = element xs i (omega (arith, inside)) in record { it = rest.it; here = rest.here }
 
 -- A client goes on by nothing that it isn't concerned by, and where it rests.
-module _ (setup : Setup) (plan : Plan) (view : View) (e : Entry) (concern : Concern) (now : Tale) (client : Client) (concerns : is_event_of view client e ≡ concerns_by concern client)
+module _ (setup : Setup) (plan : Plan) (view : View) (e : Entry) (concern : Concern) (now : Tale) (client : Client)
+    (concerns : is_event_of view client e ≡ concerns_by concern client)
     (rests : concerns_by concern client ≡ true → IsResting setup plan client now) where
   pub rests_on : client_goes_on setup plan view e now client ≡ now
   rests_on = by (concerns_by concern client) refl

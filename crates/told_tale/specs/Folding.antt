@@ -8,7 +8,8 @@ use Rattle.told_tale.specs.Standing.{IsTale}
 use Rattle.told_tale.specs.declared.tale.ToldTale.{ToldTale}
 
 -- so it was with what stands at the first places, and all of it stays
-pub record IsFolded {R X : Type 0} (stored : R → List ℕ) (step : Step) (setup : Setup) (plan : Plan) (code : ToldTale R) (of : Tale → List X) (f : Tale → X → Tale) (i : ℕ) (tale : Tale)
+pub record IsFolded {R X : Type 0} (stored : R → List ℕ) (step : Step) (setup : Setup) (plan : Plan) (code : ToldTale R) (of : Tale → List X)
+    (f : Tale → X → Tale) (i : ℕ) (tale : Tale)
     : Type 0 where
   pub now : Tale
   pub stands : IsTale stored step setup plan code now

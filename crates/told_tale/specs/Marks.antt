@@ -36,19 +36,24 @@ is_done_in setup plan tale l = is_done plan tale.moment (view_of setup tale) (ta
 
 -- a link that carries a client's session and is in use is known by that client
 abbrev pub IsFound : Setup → Links → Tale → LinkId → Type 0
-IsFound setup places tale l = (n : ℕ) (s : SessionName) → slice_get tale.links n ≡ Some l → (link_in setup tale l).usable ≡ true → session_in (link_in setup tale l).carries ≡ Some s
+IsFound setup places tale l = (n : ℕ) (s : SessionName) → slice_get tale.links n ≡ Some l → (link_in setup tale l).usable ≡ true
+    → session_in (link_in setup tale l).carries ≡ Some s
     → is_carried places s.client n ≡ true
 
 -- But for these links, and those that carry sessions of these clients, a link that isn't to be looked at isn't given back; and but for
 -- these clients, one that isn't to be looked at rests.
-pub record AreMarked (setup : Setup) (plan : Plan) (touched : LinkId → Bool) (whose : ClientNo → Bool) (places : Links) (seats : Clients) (tale : Tale) : Type 0 where
+pub record AreMarked (setup : Setup) (plan : Plan) (touched : LinkId → Bool) (whose : ClientNo → Bool) (places : Links) (seats : Clients)
+    (tale : Tale) : Type 0 where
   pub carried : (l : LinkId) → touched l ≡ false → IsFound setup places tale l
-  pub lent : (n : ℕ) (l : LinkId) → slice_get tale.links n ≡ Some l → is_lent places n ≡ false → touched l ≡ false → is_of whose (link_in setup tale l).carries ≡ false
+  pub lent : (n : ℕ) (l : LinkId) → slice_get tale.links n ≡ Some l → is_lent places n ≡ false → touched l ≡ false
+      → is_of whose (link_in setup tale l).carries ≡ false
       → is_done_in setup plan tale l ≡ false
-  pub waiting : (n : ℕ) (client : Client) → slice_get tale.clients n ≡ Some client → is_waiting seats n ≡ false → whose client.number ≡ false → IsResting setup plan client tale
+  pub waiting : (n : ℕ) (client : Client) → slice_get tale.clients n ≡ Some client → is_waiting seats n ≡ false → whose client.number ≡ false
+      → IsResting setup plan client tale
 
 -- the code's tables have the links and clients of a tale, and know where to look
-pub record HasMarks (setup : Setup) (plan : Plan) (touched : LinkId → Bool) (whose : ClientNo → Bool) (places : Links) (seats : Clients) (tale : Tale) : Type 0 where
+pub record HasMarks (setup : Setup) (plan : Plan) (touched : LinkId → Bool) (whose : ClientNo → Bool) (places : Links) (seats : Clients)
+    (tale : Tale) : Type 0 where
   pub clients : AreClients plan.service seats tale.clients
   pub links : AreLinks places tale.links
   pub marked : AreMarked setup plan touched whose places seats tale

@@ -45,7 +45,8 @@ pub record HasWires (code : Wires) (tale : Tale) : Type 0 where
   pub there : (l : LinkId) → is_to_server tale l ≡ is_some (wire_at code l)
 
 -- The code stands for a tale, by a plan, but for where to look for what these links and clients touch.
-pub record IsTaleBut {R : Type 0} (stored : R → List ℕ) (step : Step) (setup : Setup) (plan : Plan) (touched : LinkId → Bool) (whose : ClientNo → Bool) (code : ToldTale R) (tale : Tale)
+pub record IsTaleBut {R : Type 0} (stored : R → List ℕ) (step : Step) (setup : Setup) (plan : Plan) (touched : LinkId → Bool) (whose : ClientNo → Bool)
+    (code : ToldTale R) (tale : Tale)
     : Type 0 where
   pub by : HasPlan setup plan code.plan code.keys
   pub moment : tale.moment ≡ code.moment
@@ -62,11 +63,13 @@ IsTale stored step setup plan code tale = IsTaleBut stored step setup plan no_li
 
 -- of each tale that the old code stands for, the new one stands for what the step makes of it
 abbrev pub Leads : {R : Type 0} → (stored : R → List ℕ) → Step → (old new : ToldTale R) → (Setup → Plan → Tale → Tale) → Type 0
-Leads stored step old new f = (setup : Setup) (plan : Plan) (tale : Tale) → IsTale stored step setup plan old tale → IsTale stored step setup plan new (f setup plan tale)
+Leads stored step old new f = (setup : Setup) (plan : Plan) (tale : Tale) → IsTale stored step setup plan old tale
+    → IsTale stored step setup plan new (f setup plan tale)
 
 -- What a setup has: texts are read as the router reads them, these are the texts of its keys, so clients begin, with these
 -- accounts, and servers have at least the data that these bring.
-pub record IsSetUp {R : Type 0} (stored : R → List ℕ) (setup : Setup) (keys : Keys) (openings : Openings) (accounts : Accounts) (servers : Servers R) : Type 0 where
+pub record IsSetUp {R : Type 0} (stored : R → List ℕ) (setup : Setup) (keys : Keys) (openings : Openings) (accounts : Accounts)
+    (servers : Servers R) : Type 0 where
   pub reads : setup.reads ≡ router_reads
   pub texts : AreKeys setup keys
   pub places : (c : ClientNo) → setup.places c ≡ opening_at openings c

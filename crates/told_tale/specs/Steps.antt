@@ -30,7 +30,8 @@ pub record IsLed {R : Type 0} (stored : R → List ℕ) (step : Step) (setup : S
   pub keeps : (view_of setup new).replies ≡ (view_of setup old).replies
 
 -- so it is, but for what is known of one link, and the reply to the message that is asked there
-pub record IsLedOn {R : Type 0} (stored : R → List ℕ) (step : Step) (setup : Setup) (code : Told R) (link : LinkId) (there : ToldLink) (asked : Option MessageName) (old new : Tale) : Type 0 where
+pub record IsLedOn {R : Type 0} (stored : R → List ℕ) (step : Step) (setup : Setup) (code : Told R) (link : LinkId) (there : ToldLink)
+    (asked : Option MessageName) (old new : Tale) : Type 0 where
   pub wire : Wire
   pub same : new ≡ record (with_wire link wire old) { story = new.story }
   pub knows : IsWire there wire

@@ -30,7 +30,8 @@ next_of setup plan client tale = next_taken setup plan client (slice_get (messag
 abbrev pub behind : Client → Client
 behind client = record client { taken = suc client.taken }
 
-pub record IsNextTaken {R : Type 0} (stored : R → List ℕ) (step : Step) (setup : Setup) (plan : Plan) (code : ToldTale R) (client : Client) (tale : Tale) : Type 0 where
+pub record IsNextTaken {R : Type 0} (stored : R → List ℕ) (step : Step) (setup : Setup) (plan : Plan) (code : ToldTale R) (client : Client)
+    (tale : Tale) : Type 0 where
   pub other : Tale
   pub is : next_of setup plan client tale ≡ Some other
   pub same : other.clients ≡ tale.clients
@@ -41,7 +42,8 @@ IsNext stored step setup plan code true client tale = IsNextTaken stored step se
 IsNext stored step setup plan code false client tale = (next_of setup plan client tale ≡ None) × IsTale stored step setup plan code tale
 
 -- one client's messages are taken up so far, by `left` more at most, and other clients stay
-pub record IsTaking {R : Type 0} (stored : R → List ℕ) (step : Step) (setup : Setup) (plan : Plan) (code : ToldTale R) (at most left : ℕ) (client : Client) (tale : Tale) : Type 0 where
+pub record IsTaking {R : Type 0} (stored : R → List ℕ) (step : Step) (setup : Setup) (plan : Plan) (code : ToldTale R) (at most left : ℕ) (client : Client)
+    (tale : Tale) : Type 0 where
   pub now : Tale
   pub it : Client
   pub stands : IsTale stored step setup plan code now
@@ -50,13 +52,15 @@ pub record IsTaking {R : Type 0} (stored : R → List ℕ) (step : Step) (setup 
   pub others : (j : ℕ) → nat_eq at j ≡ false → slice_get now.clients j ≡ slice_get tale.clients j
 
 -- the code stands for what became of a tale, in which the others of its clients stayed; where it is seen that this one rests, it does
-pub record GoesAt {R : Type 0} (stored : R → List ℕ) (step : Step) (setup : Setup) (plan : Plan) (code : ToldTale R) (seen : Bool) (at : ℕ) (old new : Tale) : Type 0 where
+pub record GoesAt {R : Type 0} (stored : R → List ℕ) (step : Step) (setup : Setup) (plan : Plan) (code : ToldTale R) (seen : Bool) (at : ℕ)
+    (old new : Tale) : Type 0 where
   pub stands : IsTale stored step setup plan code new
   pub rests : seen ≡ true → (client : Client) → slice_get new.clients at ≡ Some client → IsResting setup plan client new
   pub others : (j : ℕ) → nat_eq at j ≡ false → slice_get new.clients j ≡ slice_get old.clients j
 
 -- clients go on one after the other, and so far the others stayed
-pub record IsGoing {R : Type 0} (stored : R → List ℕ) (step : Step) (setup : Setup) (plan : Plan) (code : ToldTale R) (f : Tale → Client → Tale) (i : ℕ) (tale : Tale) : Type 0 where
+pub record IsGoing {R : Type 0} (stored : R → List ℕ) (step : Step) (setup : Setup) (plan : Plan) (code : ToldTale R) (f : Tale → Client → Tale) (i : ℕ)
+    (tale : Tale) : Type 0 where
   pub now : Tale
   pub stands : IsTale stored step setup plan code now
   pub rest : fold f tale tale.clients ≡ fold f now (drop i tale.clients)
