@@ -26,7 +26,8 @@ pub struct Clients {
 
 // The number of a client behind so many.
 fn number_behind(count: usize) -> Option<u64>
-    ensures { IfSome result (λ number. number ≡ count + 1) }
+    ensures is { IfSome result (λ number. number ≡ count + 1) }
+    ensures past { IfNone result (18446744073709551615 ≤ count) }
 {
     (count as u64).checked_add(1)
 }
@@ -73,7 +74,8 @@ impl Clients {
     }
 
     /// A client comes on a link, with this salt (client/server protocol, "Connection Phase"); its number. It waits, unless it is idle.
-    /// LinkTwice where the link stands for another client. After an error nothing more is promised.
+    /// LinkTwice where the link stands for another client, TooMany behind as many clients as 64 bits count. After an error nothing more is
+    /// promised.
     pub fn accept(
         &mut self,
         alloc: Global,

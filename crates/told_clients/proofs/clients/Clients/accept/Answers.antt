@@ -12,7 +12,7 @@ returns-clause-clients c = λ clients are.
     let setup = c.args.setup.now in
     let old : Clients = c.args.self.now in
     let place : c.len-at.result ≡ length clients = c.len-at.ensures ∙ search rules ∙ sym (same_count setup 0 old.clients.items clients are.told) in
-    let number : c.in-Some.number ≡ length clients + 1 = c.in-Some.ensures ∙ ap (λ n. n + 1) place in
+    let number : c.in-Some.number ≡ length clients + 1 = c.in-Some.ensures.is ∙ ap (λ n. n + 1) place in
     let client : Client = new_client (length clients + 1) c.args.link c.args.salt in
     let told : IsTold setup c.in_ok-client.client client = subst (λ n. IsTold setup c.in_ok-client.client
     (new_client n c.args.link c.args.salt)) number c.in_ok-client.ensures in
@@ -22,14 +22,14 @@ returns-clause-clients c = λ clients are.
 
 pub returns-clause-number : goal.returns-clause-number
 returns-clause-number c = λ clients are.
-    c.in-Some.ensures ∙ ap (λ n. n + 1) (c.len-at.ensures ∙ search rules ∙ sym (same_count c.args.setup.now 0 c.args.self.now.clients.items clients are.told))
+    c.in-Some.ensures.is ∙ ap (λ n. n + 1) (c.len-at.ensures ∙ search rules ∙ sym (same_count c.args.setup.now 0 c.args.self.now.clients.items clients are.told))
 
 pub returns-clause-here : goal.returns-clause-here
 returns-clause-here c = λ clients are.
     let setup = c.args.setup.now in
     let old : Clients = c.args.self.now in
     let place : c.len-at.result ≡ length clients = c.len-at.ensures ∙ search rules ∙ sym (same_count setup 0 old.clients.items clients are.told) in
-    let number : c.in-Some.number ≡ length clients + 1 = c.in-Some.ensures ∙ ap (λ n. n + 1) place in
+    let number : c.in-Some.number ≡ length clients + 1 = c.in-Some.ensures.is ∙ ap (λ n. n + 1) place in
     let client : Client = new_client (length clients + 1) c.args.link c.args.salt in
     let told : IsTold setup c.in_ok-client.client client = subst (λ n. IsTold setup c.in_ok-client.client
     (new_client n c.args.link c.args.salt)) number c.in_ok-client.ensures in
