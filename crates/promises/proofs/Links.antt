@@ -169,10 +169,6 @@ pub came-new : (link : LinkId) (log : Log) (e : Entry) → Fits log e → came_a
 came-new link log (Accepted port other salt) fits is = subst (λ (l : LinkId). IsNew l log) (sym (same-link link other is)) fits.fresh
 came-new link log _ fits is = absurd (let no : false ≡ true = is in cc)
 
-pub came-unopened : (link : LinkId) (e : Entry) → came_as link e ≡ true → opened_as link e ≡ false
-came-unopened link (Accepted port other salt) is = refl
-came-unopened link _ is = absurd (let no : false ≡ true = is in cc)
-
 pub new-unowned : (service : Service) (link : LinkId) (log : Log) (owner : Owner) → IsNew link log → owner_of service link log ≡ Some owner → ⊥
 new-unowned service link log owner new is = (let parts = owner-turn (turn_of service link log) owner is in named-none link (opened_as link) log (opened-names link) new (turn-opened service link log parts.0 parts.1))
 

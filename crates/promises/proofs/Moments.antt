@@ -1,7 +1,10 @@
 -- When messages become due.
-use Rattle.std.specs.Prelude.{◌≡◌, ℕ, zero, suc, Bool, true, false, ◌&&◌, is_some, cond, List, [], ◌∷◌, ◌++◌, Option, Some, None, refl}
-use Rattle.std.proofs.Common.{sym, ◌∙◌, ap, subst, append-nil, append_assoc, arith}
+use Rattle.std.specs.Prelude.{◌≡◌, ◌+◌, ◌<◌, ℕ, zero, suc, Bool, true, false, ◌&&◌, is_some, length, cond, List, [], ◌∷◌, ◌++◌, Option, Some, None, refl}
+use Rattle.std.proofs.Common.{sym, ◌∙◌, ap, subst, append-nil, append_assoc, arith, length-append}
 use Rattle.mx_wire.specs.Log.{Log}
+use Rattle.mx_wire.specs.Moments.{AllLawful, LawfulAfter}
+use Rattle.mx_wire.specs.Tells.{Fits, MayFollow}
+use Rattle.mx_wire.specs.declared.entry.Entry.{Entry}
 use Rattle.packet_frame.specs.Packets.{Framed}
 use Rattle.client_session.specs.Answers.{Talk, messages_of}
 use Rattle.exchange.specs.Replies.{Answer}
@@ -87,3 +90,38 @@ work-due service n log work is = by (work-talk service n log (talk_of service n 
 
     first : (due : Log) × (first_behind (becomes service n b.before) [] log ≡ Some due)
     first = first-some (becomes service n b.before) [] log (both _ _ there (done b.before refl))
+
+within : (Rule Other : Log → Entry → Type 0) (P : Log → Type 0) (all log more : Log) → ((l m : Log) (e : Entry) → (l ++ e ∷ []) ++ m ≡ all → Rule l e
+    → Other l e → P l → P (l ++ e ∷ [])) → log ++ more ≡ all → P log → LawfulAfter Rule log more → LawfulAfter Other log more
+    → LawfulAfter (λ l e. P l) log more × P all
+within Rule Other P all log [] step is stands one two = (tt, subst P (sym (append-nil log) ∙ is) stands)
+within Rule Other P all log (e ∷ more) step is stands one two = (let so : (log ++ e ∷ []) ++ more ≡ all = append_assoc log (e ∷ []) more ∙ is in
+    let rest = within Rule Other P all (log ++ e ∷ []) more step so (step log more e so one.0 two.0 stands) one.1 two.1 in ((stands, rest.0), rest.1))
+
+-- What each entry leaves so that keeps both rules, in a log that goes on to be this one, is so at each moment of that, and of all of it.
+pub lawful-within : (Rule Other : Log → Entry → Type 0) (P : Log → Type 0) (all : Log) → ((l m : Log) (e : Entry) → (l ++ e ∷ []) ++ m ≡ all → Rule l e
+    → Other l e → P l → P (l ++ e ∷ [])) → P [] → AllLawful Rule all → AllLawful Other all → AllLawful (λ l e. P l) all × P all
+lawful-within Rule Other P all step start one two = within Rule Other P all [] all step refl start one two
+
+-- what three rules make of each entry
+pub lawful-three : {P Q R S : Log → Entry → Type 0} → ((l : Log) (e : Entry) → P l e → Q l e → R l e → S l e) → (before log : Log)
+    → LawfulAfter P before log → LawfulAfter Q before log → LawfulAfter R before log → LawfulAfter S before log
+lawful-three each before [] p q r = tt
+lawful-three each before (e ∷ log) p q r = (each before e p.0 q.0 r.0, lawful-three each (before ++ e ∷ []) log p.1 q.1 r.1)
+
+-- Logs that are short enough.
+
+-- each entry of one may follow
+follow-behind : (before log : Log) → LawfulAfter Fits before log → length (before ++ log) < 281474976710656 → LawfulAfter MayFollow before log
+follow-behind before [] all few = tt
+follow-behind before (e ∷ later) all few = (
+  record { bounded = omega (arith, length-append before (e ∷ later)); fits = all.0 },
+  follow-behind (before ++ e ∷ []) later all.1 (subst (λ (l : Log). length l < 281474976710656) (sym (append_assoc before (e ∷ []) later)) few),
+)
+
+pub all-follow : (log : Log) → AllLawful Fits log → length log < 281474976710656 → AllLawful MayFollow log
+all-follow log all few = follow-behind [] log all few
+
+-- and one more entry may
+pub one-more : (log : Log) (e : Entry) → length log + 1 < 281474976710656 → length (log ++ e ∷ []) < 281474976710656
+one-more log e few = (let long : length (log ++ e ∷ []) ≡ length log + 1 = length-append log (e ∷ []) in omega arith)

@@ -31,7 +31,7 @@ use Rattle.exchange.specs.Logins.{IsPrefix}
 use Rattle.exchange.specs.Replies.{Clean, Enters, Runs, Spoilt, standing_on}
 use Rattle.promises.specs.Service.{Turn, Service}
 use Rattle.promises.specs.Owners.{Owner, owner_of, user_on}
-use Rattle.promises.specs.Due.{Work, work_of, due, due_at}
+use Rattle.promises.specs.Due.{Work, work_of, due}
 use Rattle.exchange.specs.Commands.{carrier_of}
 use Rattle.mx_wire.specs.declared.entry.Entry.TheVariants.{ReadNothing}
 use Rattle.std.specs.Option.{option_map}
@@ -114,10 +114,6 @@ served n = serves-is service (take n whole) (each-is (serves_all service) [] who
 
 abbrev query_message : Framed
 query_message = record { first = 0; last = 0; payload = query }
-
-reached-early : due_at service 1 1 early ≡ Some early
-unfolding client_opening server_opening payloads_in first_message split spelling account_of response_fields head_fields response_of greeting_fields protocol_field offer_fields back_field greeting_of switch_of number_field bytes_field text_field counted_field optional_text last_text own_ok connection_refused bad_server_bytes connection_lost response_said answer_said
-reached-early = refl
 
 opens-first : MayOpen service at (early ++ ReadNothing (link 1) ∷ [])
 unfolding client_opening server_opening payloads_in first_message split spelling account_of response_fields head_fields response_of greeting_fields protocol_field offer_fields back_field greeting_of switch_of number_field bytes_field text_field counted_field optional_text last_text own_ok connection_refused bad_server_bytes connection_lost response_said answer_said

@@ -9,3 +9,4 @@ pub mod Sends
 pub mod Service
 pub mod Sizes
 pub mod Worked
+pub mod Replied
