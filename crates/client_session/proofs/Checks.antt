@@ -1,5 +1,5 @@
 -- What a check decides.
-use Rattle.std.proofs.Common.{◌≡◌, ◌↔◌, IsTrue, Bool, true, false, bytes_eq, List, ℕ, refl, sym}
+use Rattle.std.proofs.Common.{Bool, IsTrue, List, bytes_eq, false, refl, sym, true, ℕ, ◌↔◌, ◌≡◌}
 use Rattle.std.proofs.lemmas.Slice.Eq.{bytes_eq-Decides}
 
 pub decided : (b : Bool) (given wanted : List ℕ) → (IsTrue b ↔ (given ≡ wanted)) → b ≡ bytes_eq given wanted

@@ -1,9 +1,7 @@
 -- Who a client is.
-use Rattle.std.specs.Prelude.{ℕ, Bool, not, nat_eq, bit_and, bytes_eq, List, [], ◌∷◌, Option, Some, None, if◌then◌else◌}
-use Rattle.handshake.specs.declared.response.Response.{Response}
 use Rattle.native_auth.specs.Native.{answer_of, bytes_of}
-use Rattle.server_side.specs.Account.{Account}
-use Rattle.client_session.specs.Setups.{User}
+use Rattle.std.specs.Prelude.{Bool, List, None, Option, Some, [], bit_and, bytes_eq, if◌then◌else◌, nat_eq, not, ℕ, ◌∷◌}
+use Rattle.{client_session.specs.Setups.User, handshake.specs.declared.response.Response.Response, server_side.specs.Account.Account}
 
 -- the user of this name
 abbrev pub find_user : (name : List ℕ) → List User → Option User

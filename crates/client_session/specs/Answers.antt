@@ -1,20 +1,14 @@
 -- What a client says, the answer to its login, and the answer to a message that can't be. What it is due in all stands in promises.
-use Rattle.std.specs.Prelude.{ℕ, Bool, true, false, List, [], ◌++◌, Option, Some, None, Result, Ok}
-use Rattle.packet_frame.specs.declared.fault.FrameFault.{FrameFault}
-use Rattle.packet_frame.specs.declared.fault.FrameFault.TheVariants.{OutOfOrder, TooLarge}
-use Rattle.packet_frame.specs.Packets.{Split, split, spelling}
-use Rattle.command_parse.specs.Meaning.{Meaning, parsed}
-use Rattle.command_parse.specs.Meaning.Meaning.{Query, InitDb, FieldList, Quit}
-use Rattle.command_parse.specs.declared.fault.CommandFault.{CommandFault}
-use Rattle.handshake.specs.declared.response.Response.{Response}
-use Rattle.client_side.specs.declared.step.ClientFault.{ClientFault}
-use Rattle.client_side.specs.declared.step.ClientFault.TheVariants.{Hand, Frame}
-use Rattle.client_side.specs.Login.{fault_id, Opening, Waits, Says, Fails, opening}
-use Rattle.client_side.specs.Reading.{said}
-use Rattle.server_side.specs.Account.{Account}
-use Rattle.client_session.specs.Setups.{Setup}
-use Rattle.client_session.specs.Accounts.{account_of}
-use Rattle.client_session.specs.Errors.{own_ok, bad_handshake, access_denied, packet_too_large, packet_out_of_order}
+use Rattle.std.specs.Prelude.{Bool, List, None, Ok, Option, Result, Some, [], false, true, ℕ, ◌++◌}
+use Rattle.client_session.specs.{Accounts.account_of, Errors.access_denied, Errors.bad_handshake, Errors.own_ok, Errors.packet_out_of_order}
+use Rattle.client_session.specs.{Errors.packet_too_large, Setups.Setup}
+use Rattle.client_side.specs.{Login.Fails, Login.Opening, Login.Says, Login.Waits, Login.fault_id, Login.opening, Reading.said}
+use Rattle.client_side.specs.{declared.step.ClientFault.ClientFault, declared.step.ClientFault.TheVariants.Frame, declared.step.ClientFault.TheVariants.Hand}
+use Rattle.command_parse.specs.{Meaning.Meaning, Meaning.parsed, Meaning.Meaning.FieldList, Meaning.Meaning.InitDb, Meaning.Meaning.Query, Meaning.Meaning.Quit}
+use Rattle.command_parse.specs.{declared.fault.CommandFault.CommandFault}
+use Rattle.packet_frame.specs.{Packets.Split, Packets.spelling, Packets.split, declared.fault.FrameFault.FrameFault}
+use Rattle.packet_frame.specs.{declared.fault.FrameFault.TheVariants.OutOfOrder, declared.fault.FrameFault.TheVariants.TooLarge}
+use Rattle.{handshake.specs.declared.response.Response.Response, server_side.specs.Account.Account}
 
 -- What a client says.
 

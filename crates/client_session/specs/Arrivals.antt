@@ -1,13 +1,8 @@
 -- How clients come.
-use Rattle.std.specs.Prelude.{ℕ, zero, suc, Bool, true, false, nat_eq, nat_lt, not, ◌&&◌, List, [], ◌∷◌, ◌++◌, length, filter, fold, slice_get, Option, Some, None}
-use Rattle.std.specs.List.{cons_option}
-use Rattle.mx_base.specs.declared.names.LinkId.{LinkId}
-use Rattle.mx_base.specs.declared.names.Port.{Port}
-use Rattle.mx_base.specs.declared.names.Port.TheVariants.{Traffic, Admin}
-use Rattle.mx_wire.specs.Log.{Log}
-use Rattle.mx_wire.specs.declared.entry.Entry.{Entry}
-use Rattle.mx_wire.specs.declared.entry.Entry.TheVariants.{Accepted, Closed}
-use Rattle.client_session.specs.Setups.{Setup}
+use Rattle.std.specs.Prelude.{Bool, List, None, Option, Some, [], false, filter, fold, length, nat_eq, nat_lt, not, slice_get, suc, true, zero, ℕ, ◌&&◌, ◌++◌}
+use Rattle.mx_base.specs.declared.names.{LinkId.LinkId, Port.Port, Port.TheVariants.Admin, Port.TheVariants.Traffic}
+use Rattle.mx_wire.specs.{Log.Log, declared.entry.Entry.Entry, declared.entry.Entry.TheVariants.Accepted, declared.entry.Entry.TheVariants.Closed}
+use Rattle.{client_session.specs.Setups.Setup, std.specs.List.cons_option, std.specs.Prelude.◌∷◌}
 
 -- The clients that are connected: each from its Accepted entry at the port of clients to its Closed entry.
 

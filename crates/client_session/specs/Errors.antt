@@ -1,7 +1,6 @@
 -- The payloads of the errors that the proxy itself answers.
-use Rattle.std.specs.Prelude.{ℕ, List, [], ◌++◌, nat_lt, if◌then◌else◌, length, codes, take}
-use Rattle.std.specs.Fmt.{decimal}
-use Rattle.reply_text.specs.Replies.{ok_payload, err_payload}
+use Rattle.std.specs.Prelude.{List, [], codes, if◌then◌else◌, length, nat_lt, take, ℕ, ◌++◌}
+use Rattle.{reply_text.specs.Replies.err_payload, reply_text.specs.Replies.ok_payload, std.specs.Fmt.decimal}
 
 -- the proxy's own OK: AUTOCOMMIT, and no info
 unfoldable pub own_ok : List ℕ

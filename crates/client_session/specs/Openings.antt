@@ -1,13 +1,10 @@
 -- How much of a client's bytes its login takes.
-use Rattle.std.specs.Prelude.{◌≡◌, ◌≤◌, refl, Bool, true, false, ℕ, List, cond, length, Result, Ok, Err}
+use Rattle.client_side.specs.Login.{Says, answer_in, by_answer, by_message, by_response, needs_switch, opening}
+use Rattle.packet_frame.specs.Packets.{Found, Framed, first_message, next_id}
+use Rattle.std.specs.Prelude.{Bool, Err, List, Ok, Result, cond, false, length, refl, true, ℕ, ◌≡◌, ◌≤◌}
+use Rattle.handshake.specs.{Response.response_of, declared.fault.HandFault.HandFault, declared.response.Response.Response}
+use Rattle.packet_frame.specs.{Laws.first_message-shorter, Packets.Found.Faulty, Packets.Found.Nothing, Packets.Found.Whole}
 use Rattle.std.proofs.Common.{ap, arith}
-use Rattle.packet_frame.specs.Packets.{Framed, Found, next_id, first_message}
-use Rattle.packet_frame.specs.Packets.Found.{Nothing, Whole, Faulty}
-use Rattle.packet_frame.specs.Laws.{first_message-shorter}
-use Rattle.handshake.specs.declared.fault.HandFault.{HandFault}
-use Rattle.handshake.specs.declared.response.Response.{Response}
-use Rattle.handshake.specs.Response.{response_of}
-use Rattle.client_side.specs.Login.{needs_switch, Says, by_answer, answer_in, by_response, by_message, opening}
 
 answer-shorter : (limit : ℕ) (response said : Response) (bytes : List ℕ) (switched : Bool) (id : ℕ) (rest : List ℕ) → answer_in limit response bytes ≡ Says switched said id rest → length rest ≤ length bytes
 answer-shorter limit response said bytes switched id rest is = by (first_message limit 3 bytes) refl is where

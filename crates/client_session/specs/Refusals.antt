@@ -1,9 +1,9 @@
 -- The payload of each error that the router itself answers.
-use Rattle.std.specs.Prelude.{ℕ, List}
+use Rattle.client_session.specs.Errors.{bad_handshake, bad_server_bytes, connection_lost, connection_refused, malformed_command, no_server, packet_out_of_order}
 use Rattle.packet_frame.specs.declared.fault.FrameFault.TheVariants.{OutOfOrder, TooLarge}
-use Rattle.client_session.specs.declared.refusal.Refusal.{Refusal}
+use Rattle.std.specs.Prelude.{List, ℕ}
+use Rattle.client_session.specs.{Errors.packet_too_large, Errors.too_many_connections, Errors.unknown_command, declared.refusal.Refusal.Refusal}
 use Rattle.client_session.specs.declared.refusal.Refusal.TheVariants as refusal
-use Rattle.client_session.specs.Errors.{too_many_connections, unknown_command, malformed_command, bad_handshake, no_server, connection_lost, connection_refused, bad_server_bytes, packet_too_large, packet_out_of_order}
 
 abbrev pub payload_of : Refusal → List ℕ
 payload_of refusal.TooManyConnections = too_many_connections

@@ -1,7 +1,6 @@
 -- What sessions go by.
-use Rattle.std.specs.Prelude.{ℕ, ◌≤◌, Bool, is_some, List, length, Option}
-use Rattle.handshake.specs.Spelling.{IsText}
-use Rattle.client_session.specs.declared.setup.ServerAt.{ServerAt}
+use Rattle.std.specs.Prelude.{Bool, List, Option, is_some, length, ℕ, ◌≤◌}
+use Rattle.{client_session.specs.declared.setup.ServerAt.ServerAt, handshake.specs.Spelling.IsText}
 
 -- who may log in
 pub record User : Type 0 where

@@ -1,2 +1,1 @@
-pub mod Shrinking
 pub mod Stepping

@@ -1,50 +1,52 @@
 -- What is whole is taken step by step, and a greater number of steps gives the same.
-use Rattle.std.specs.Prelude.{◌≡◌, ℕ, zero, suc, ◌<◌, Some, refl}
-use Rattle.std.proofs.Common.{sym, ◌∙◌, ap, subst, arith}
-use Rattle.client_session.specs.Setups.{Setup}
-use Rattle.client_talk.specs.declared.session.Session.{Session}
-use Rattle.client_talk.specs.declared.step.Turn.{Turn}
-use Rattle.client_talk.specs.declared.step.Turn.TheVariants.{More, Work, Rests}
-use Rattle.client_talk.specs.Queries.{Query}
-use Rattle.client_talk.specs.Steps.{Step, step}
-use Rattle.client_talk.specs.Going.{still, turned_by, goes_on, left_to_say, turned}
-use Rattle.client_talk.proofs.Shrinking.{shrinks}
+use Rattle.client_talk.specs.Going.{Turned, goes_on, left_to_say, still, turned, turned_by}
+use Rattle.client_talk.specs.declared.step.Turn.TheVariants.{More, Rests, Work}
+use Rattle.client_talk.{specs.Steps.Step, specs.Steps.step, specs.declared.session.Session.Session, specs.declared.step.Turn.Turn}
+use Rattle.packet_frame.specs.{Laws.first_message-shorter, MessageLaws.first_message-goes, Packets.Framed, Packets.first_message, Packets.message_size}
+use Rattle.std.proofs.Common.{List, ap, arith, drop, length, length-drop, suc, zero, ℕ, ◌<◌, ◌≡◌}
+use Rattle.{client_session.specs.Setups.Setup, packet_frame.specs.Packets.Found.Whole, std.specs.Prelude.Some}
 
-same_by : (m n : ℕ) (setup : Setup) (turn : Turn) (session : Session) → (turn ≡ More → goes_on m setup session ≡ goes_on n setup session) → turned_by turn session (goes_on m setup) ≡ turned_by turn session (goes_on n setup)
-same_by m n setup More session same = same refl
-same_by m n setup (Work query) session same = refl
-same_by m n setup Rests session same = refl
+-- Where a client's next message may be taken, it has less left to say.
 
--- any two numbers that suffice
-pub goes_on-enough : (m n : ℕ) (setup : Setup) (session : Session) → left_to_say session < m → left_to_say session < n → goes_on m setup session ≡ goes_on n setup session
+message-less : (limit : ℕ) (kept : List ℕ) (message : Framed) (rest : List ℕ) → first_message limit 0 kept ≡ Whole message rest
+    → length (drop (message_size kept) kept) < length kept
+message-less limit kept message rest whole = omega
+    (arith, first_message-shorter limit 0 kept message rest whole, ap length (first_message-goes limit 0 kept message rest whole))
+
+pub shrinks : (setup : Setup) (session : Session) → (step setup session).turn ≡ More → left_to_say (step setup session).session < left_to_say session
+shrinks setup session more = grind (arith, length-drop, message-less)
+
+-- any two numbers of steps that suffice
+pub goes_on-enough : (m n : ℕ) (setup : Setup) (session : Session) → left_to_say session < m → left_to_say session < n
+    → goes_on m setup session ≡ goes_on n setup session
 unfolding goes_on
 goes_on-enough zero n setup session few less = absurd (omega arith)
 goes_on-enough (suc m) zero setup session few less = absurd (omega arith)
-goes_on-enough (suc m) (suc n) setup session few less = same_by m n setup (step setup session).turn (step setup session).session (λ more.
-    let smaller = shrinks setup session more in
-    goes_on-enough m n setup (step setup session).session (omega arith) (omega arith))
+goes_on-enough (suc m) (suc n) setup session few less =
+    grind (arith, (shrinks setup session), (goes_on-enough m n setup (step setup session).session))
 
--- One step.
-
-from_step : (setup : Setup) (old : Session) (s : Step) → s ≡ step setup old → turned setup old ≡ turned_by s.turn s.session (goes_on (left_to_say old) setup)
+-- one step of them
+pub turned_step : (setup : Setup) (session : Session)
+    → turned setup session ≡ turned_by (step setup session).turn (step setup session).session (turned setup)
 unfolding goes_on
-from_step setup old s is = ap (λ (t : Step). turned_by t.turn t.session (goes_on (left_to_say old) setup)) (sym is)
+turned_step setup session = (let next = (step setup session).session in
+    grind (arith, (shrinks setup session), (goes_on-enough (left_to_say session) (suc (left_to_say next)) setup next)))
 
-pub turned_smaller : (setup : Setup) (old new : Session) → record { session = new; turn = More } ≡ step setup old → left_to_say new < left_to_say old
-turned_smaller setup old new is =
-    subst (λ (s : Session). left_to_say s < left_to_say old) (ap (λ (s : Step). s.session) (sym is)) (shrinks setup old (ap (λ (s : Step). s.turn) (sym is)))
+-- What is so before each step, and of what each last step leaves, is so of what is left.
+module _ (setup : Setup) (Goes : Session → Type 0) (Left : Turned → Type 0) where
+  abbrev pub Leads : Step → Type 0
+  Leads s = by s.turn where
+    by : Turn → Type 0
+    by More = Goes s.session
+    by (Work query) = Left (record { session = s.session; query = Some query })
+    by Rests = Left (still s.session)
 
-turned_more : (setup : Setup) (old new : Session) → record { session = new; turn = More } ≡ step setup old → turned setup old ≡ turned setup new
-turned_more setup old new is =
-    let smaller = turned_smaller setup old new is in
-    from_step setup old (record { session = new; turn = More }) is ∙ goes_on-enough (left_to_say old) (suc (left_to_say new)) setup new smaller (omega arith)
+  goes-leads : ((session : Session) → Goes session → Leads (step setup session)) → (n : ℕ) (session : Session) → left_to_say session < n → Goes session
+      → Left (goes_on n setup session)
+  unfolding goes_on
+  goes-leads steps zero session less goes = absurd (omega arith)
+  goes-leads steps (suc n) session less goes =
+      grind (arith, (shrinks setup session), (steps session goes), (goes-leads steps n (step setup session).session))
 
--- so far as the session `first` was taken
-pub takes_on : (setup : Setup) (first old new : Session) → turned setup first ≡ turned setup old → record { session = new; turn = More } ≡ step setup old → turned setup first ≡ turned setup new
-takes_on setup first old new so_far is = so_far ∙ turned_more setup old new is
-
-pub takes_work : (setup : Setup) (first old new : Session) (query : Query) → turned setup first ≡ turned setup old → record { session = new; turn = Work query } ≡ step setup old → record { session = new; query = Some query } ≡ turned setup first
-takes_work setup first old new query so_far is = sym (so_far ∙ from_step setup old (record { session = new; turn = Work query }) is)
-
-pub takes_all : (setup : Setup) (first old new : Session) → turned setup first ≡ turned setup old → record { session = new; turn = Rests } ≡ step setup old → still new ≡ turned setup first
-takes_all setup first old new so_far is = sym (so_far ∙ from_step setup old (record { session = new; turn = Rests }) is)
+  pub turned-leads : ((session : Session) → Goes session → Leads (step setup session)) → (session : Session) → Goes session → Left (turned setup session)
+  turned-leads steps session goes = goes-leads steps (suc (left_to_say session)) session (omega arith) goes

@@ -1,13 +1,8 @@
 -- What each event makes of a client's session.
-use Rattle.std.specs.Prelude.{ℕ, List, drop}
-use Rattle.server_side.specs.Account.{Account}
-use Rattle.client_side.specs.Client.{fed}
-use Rattle.client_session.specs.Setups.{Setup}
-use Rattle.client_talk.specs.declared.session.Phase.{Phase}
+use Rattle.client_talk.specs.{Going.Turned, Going.still, Going.turned, Steps.told, declared.session.Phase.Phase, declared.session.Session.Session}
+use Rattle.{client_session.specs.Setups.Setup, client_side.specs.Client.fed, server_side.specs.Account.Account, std.specs.Prelude.List, std.specs.Prelude.drop}
+use Rattle.{std.specs.Prelude.ℕ}
 use Rattle.client_talk.specs.declared.session.Phase.TheVariants as phase
-use Rattle.client_talk.specs.declared.session.Session.{Session}
-use Rattle.client_talk.specs.Steps.{told}
-use Rattle.client_talk.specs.Going.{Turned, still, turned}
 
 -- Bytes of the client come: they are kept, and are taken where no query is in work.
 

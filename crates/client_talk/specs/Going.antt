@@ -1,13 +1,9 @@
 -- What is whole of what a client said, taken in order.
-use Rattle.std.specs.Prelude.{ℕ, zero, suc, ◌+◌, length, Option, Some, None}
-use Rattle.client_side.specs.declared.stage.Stage.{Stage}
+use Rattle.client_talk.specs.declared.step.Turn.TheVariants.{More, Rests, Work}
+use Rattle.std.specs.Prelude.{None, Option, Some, length, suc, zero, ℕ, ◌+◌}
+use Rattle.client_talk.specs.{Queries.Query, Steps.step, declared.session.Session.Session, declared.step.Turn.Turn}
+use Rattle.{client_session.specs.Setups.Setup, client_side.specs.declared.stage.Stage.Stage}
 use Rattle.client_side.specs.declared.stage.Stage.TheVariants as stage
-use Rattle.client_session.specs.Setups.{Setup}
-use Rattle.client_talk.specs.declared.session.Session.{Session}
-use Rattle.client_talk.specs.declared.step.Turn.{Turn}
-use Rattle.client_talk.specs.declared.step.Turn.TheVariants.{More, Work, Rests}
-use Rattle.client_talk.specs.Queries.{Query}
-use Rattle.client_talk.specs.Steps.{step}
 
 -- the session that is left, and the query that came up for work
 pub record Turned : Type 0 where

@@ -1,14 +1,9 @@
 -- A client's session, and what is asked of it.
-use Rattle.std.specs.Prelude.{ℕ, nat_eq, Bool, true, false, ◌&&◌, List, length, Option, Some, None}
-use Rattle.mx_base.specs.declared.names.ClientNo.{ClientNo}
-use Rattle.packet_frame.specs.Packets.{spelling}
-use Rattle.server_side.specs.Account.{Account}
-use Rattle.client_side.specs.Client.{told_first, new_client}
-use Rattle.client_session.specs.Setups.{Setup}
-use Rattle.client_session.specs.Errors.{too_many_connections}
-use Rattle.client_talk.specs.declared.session.Phase.{Phase}
+use Rattle.std.specs.Prelude.{Bool, List, None, Option, Some, false, length, nat_eq, true, ℕ, ◌&&◌}
+use Rattle.{client_session.specs.Errors.too_many_connections, client_session.specs.Setups.Setup, client_side.specs.Client.new_client}
+use Rattle.{client_side.specs.Client.told_first, client_talk.specs.declared.session.Phase.Phase, client_talk.specs.declared.session.Session.Session}
+use Rattle.{mx_base.specs.declared.names.ClientNo.ClientNo, packet_frame.specs.Packets.spelling, server_side.specs.Account.Account}
 use Rattle.client_talk.specs.declared.session.Phase.TheVariants as phase
-use Rattle.client_talk.specs.declared.session.Session.{Session}
 
 -- a client that comes is greeted, or is told that there is no room for it
 abbrev pub new_session : ClientNo → (salt : List ℕ) → Setup → (has_room : Bool) → Session

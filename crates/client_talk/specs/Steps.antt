@@ -1,27 +1,39 @@
 -- What the next thing that a client says makes of its session.
-use Rattle.std.specs.Prelude.{ℕ, List, ◌++◌, Option, Some, None}
+use Rattle.client_session.specs.declared.refusal.Refusal.TheVariants.{MalformedCommand, NoServer, UnknownCommand}
+use Rattle.client_session.specs.{Answers.fault_error, Errors.access_denied, Errors.own_ok, Refusals.payload_of, Setups.Setup, Setups.has_server}
+use Rattle.client_side.specs.Client.{counted, login_of, past_message}
+use Rattle.client_side.specs.{Steps.Next, Steps.next_of, declared.step.ClientFault.ClientFault, declared.step.ClientStep.ClientStep}
+use Rattle.client_talk.specs.declared.asked.Asked.TheVariants.{Ping, Query, Quit, Refused}
+use Rattle.client_talk.specs.declared.step.Turn.TheVariants.{More, Rests, Work}
+use Rattle.client_talk.specs.{declared.asked.Asked.Asked, declared.session.Phase.Phase, declared.session.Session.Session, declared.step.Turn.Turn}
+use Rattle.command_parse.specs.Meaning.Meaning.{FieldList as Lists, InitDb as Chooses, Ping as Pings, Query as Queries, Quit as Quits}
+use Rattle.command_parse.specs.{Meaning.Meaning, Meaning.parsed, declared.fault.CommandFault.CommandFault}
 use Rattle.packet_frame.specs.Packets.{Framed, spelling}
-use Rattle.handshake.specs.declared.response.Response.{Response}
-use Rattle.server_side.specs.Account.{Account}
+use Rattle.std.specs.Prelude.{Bool, Err, List, None, Ok, Option, Result, Some, if◌then◌else◌, ℕ, ◌++◌}
+use Rattle.{client_session.specs.Accounts.account_of, handshake.specs.declared.response.Response.Response, server_side.specs.Account.Account}
 use Rattle.client_side.specs.declared.stage.Stage.TheVariants as stage
-use Rattle.client_side.specs.declared.step.ClientFault.{ClientFault}
-use Rattle.client_side.specs.declared.step.ClientStep.{ClientStep}
 use Rattle.client_side.specs.declared.step.ClientStep.TheVariants as says
-use Rattle.client_side.specs.Client.{counted, past_message, login_of}
-use Rattle.client_side.specs.Steps.{Next, next_of}
-use Rattle.client_session.specs.Setups.{Setup, has_server}
-use Rattle.client_session.specs.Accounts.{account_of}
-use Rattle.client_session.specs.Answers.{fault_error}
-use Rattle.client_session.specs.Errors.{own_ok, access_denied}
-use Rattle.client_session.specs.Refusals.{payload_of}
-use Rattle.client_talk.specs.declared.asked.Asked.{Asked}
-use Rattle.client_talk.specs.declared.asked.Asked.TheVariants.{Query, Ping, Quit, Refused}
-use Rattle.client_talk.specs.declared.session.Phase.{Phase}
 use Rattle.client_talk.specs.declared.session.Phase.TheVariants as phase
-use Rattle.client_talk.specs.declared.session.Session.{Session}
-use Rattle.client_talk.specs.declared.step.Turn.{Turn}
-use Rattle.client_talk.specs.declared.step.Turn.TheVariants.{More, Work, Rests}
-use Rattle.client_talk.specs.Asked.{asked_of}
+
+-- What a message asks for.
+
+-- a query, where there is a server for it
+abbrev pub query_if : (has_server : Bool) → Asked
+query_if has_server = if has_server then Query else Refused NoServer
+
+abbrev pub asked_by : (has_server : Bool) → Result Meaning CommandFault → Asked
+asked_by has_server (Err fault) = Refused MalformedCommand
+asked_by has_server (Ok (Queries text)) = query_if has_server
+asked_by has_server (Ok (Chooses schema)) = query_if has_server
+asked_by has_server (Ok (Lists rest)) = query_if has_server
+asked_by has_server (Ok Pings) = Ping
+asked_by has_server (Ok Quits) = Quit
+asked_by has_server (Ok _) = Refused UnknownCommand
+
+abbrev pub asked_of : (has_server : Bool) → (payload : List ℕ) → Asked
+asked_of has_server payload = asked_by has_server (parsed payload)
+
+-- What becomes of the session.
 
 -- the session that is left, and whether the client's next message may be taken: it may, or a query is in work, or nothing is left
 pub record Step : Type 0 where

@@ -1,6 +1,6 @@
 // What a client's message asks for.
 ghost use Rattle.std.specs.Prelude.{◌≡◌};
-ghost use Rattle.client_talk.specs.Asked.{query_if, asked_of};
+ghost use Rattle.client_talk.specs.Steps.{query_if, asked_of};
 
 use client_session::Refusal;
 use command_parse::{Command, parse};

@@ -10,7 +10,7 @@ use mx_base::OutOfMemory;
 use std::alloc::Global;
 
 /// What is whole of what was kept is taken, until a query is in work, or nothing whole is left, or the session ends.
-#[tactic(auto, using(crate::proofs::Stepping::takes_on, crate::proofs::Stepping::turned_smaller))]
+#[tactic(auto, using(crate::proofs::Stepping::turned_step, crate::proofs::Stepping::shrinks))]
 pub fn go_on(
     alloc: Global,
     session: &mut Session,

@@ -1,12 +1,8 @@
 -- What changes, one table at a time.
-use Rattle.std.specs.Prelude.{ℕ, not, nat_eq, filter, [], ◌∷◌, ◌++◌, Some, None}
-use Rattle.std.specs.Option.{option_map}
-use Rattle.mx_base.specs.declared.names.ClientNo.{ClientNo}
-use Rattle.mx_base.specs.declared.names.LinkId.{LinkId}
-use Rattle.server_side.specs.Backend.{taken}
-use Rattle.lend_core.specs.declared.ask.Ask.{Ask}
-use Rattle.lend_core.specs.declared.lent.Lent.{Lent}
-use Rattle.lend_core.specs.Lends.{Lends, set, others}
+use Rattle.std.specs.Prelude.{None, Some, [], filter, nat_eq, not, ℕ, ◌++◌, ◌∷◌}
+use Rattle.lend_core.specs.{Lends.Lends, Lends.others, Lends.set, declared.ask.Ask.Ask, declared.lent.Lent.Lent}
+use Rattle.mx_base.specs.declared.names.{ClientNo.ClientNo, LinkId.LinkId}
+use Rattle.{server_side.specs.Backend.taken, std.specs.Option.option_map}
 
 -- Links.
 

@@ -1,32 +1,19 @@
 -- What is decided for one link and one client.
-use Rattle.std.specs.Prelude.{ℕ, Bool, true, false, not, is_some, nat_eq, ◌&&◌, List, Option, Some, None}
-use Rattle.std.specs.Option.{option_map}
-use Rattle.mx_base.specs.declared.names.ClientNo.{ClientNo}
-use Rattle.mx_base.specs.declared.names.LinkId.{LinkId}
-use Rattle.mx_base.specs.declared.tag.Tag.{Tag}
-use Rattle.mx_base.specs.declared.tag.Tag.TheVariants.{For}
-use Rattle.packet_frame.specs.Packets.{spelling}
-use Rattle.server_side.specs.Backend.{BackendState, is_sent}
-use Rattle.server_side.specs.Handing.{handed, without_reply, unsent, reply_id}
-use Rattle.server_side.specs.Hearing.{Got, Hears, Fails}
-use Rattle.server_side.specs.declared.command.Command.{Command}
-use Rattle.server_side.specs.declared.fault.BackendFault.{BackendFault}
-use Rattle.server_side.specs.declared.fault.BackendFault.TheVariants.{BadBytes, Plugin, Denied, OutOfMemory}
-use Rattle.server_side.specs.declared.handing.Unsent.{Unsent}
-use Rattle.server_side.specs.declared.hear.Heard.{Heard}
-use Rattle.server_side.specs.declared.hear.Heard.TheVariants.{Quiet, LoggedIn, Part, Whole}
-use Rattle.server_side.specs.declared.stage.Stage.{Stage}
+use Rattle.client_session.specs.declared.refusal.Refusal.TheVariants.{BadServerBytes, ConnectionRefused}
+use Rattle.client_session.specs.{Refusals.payload_of, declared.refusal.Refusal.Refusal}
+use Rattle.lend_core.specs.Changes.{owns_none, to_close, waits, with_ask, with_link, without_ask}
+use Rattle.lend_core.specs.declared.lent.Due.TheVariants.{Login, Nothing, Reply}
+use Rattle.lend_core.specs.{Lends.Lends, Lends.Told, declared.ask.Ask.Ask, declared.lent.Due.Due, declared.lent.Lent.Lent, declared.lent.News.News}
+use Rattle.mx_base.specs.{declared.names.ClientNo.ClientNo, declared.names.LinkId.LinkId, declared.tag.Tag.Tag, declared.tag.Tag.TheVariants.For}
+use Rattle.server_side.specs.declared.fault.BackendFault.TheVariants.{BadBytes, Denied, OutOfMemory, Plugin}
+use Rattle.server_side.specs.declared.hear.Heard.TheVariants.{LoggedIn, Part, Quiet, Whole}
+use Rattle.server_side.specs.{Backend.BackendState, Backend.is_sent, Handing.handed, Handing.reply_id, Handing.unsent, Handing.without_reply, Hearing.Fails}
+use Rattle.server_side.specs.{Hearing.Got, Hearing.Hears, declared.command.Command.Command, declared.handing.Unsent.Unsent, declared.stage.Stage.Stage}
+use Rattle.server_side.{specs.declared.fault.BackendFault.BackendFault, specs.declared.hear.Heard.Heard}
+use Rattle.std.specs.Prelude.{Bool, List, None, Option, Some, false, is_some, nat_eq, not, true, ℕ, ◌&&◌, ◌≡◌}
+use Rattle.{lend_core.specs.declared.ask.Answered.Answered, packet_frame.specs.Packets.spelling, std.specs.Option.option_map}
+use Rattle.lend_core.specs.declared.lent.News.TheVariants as news
 use Rattle.server_side.specs.declared.stage.Stage.TheVariants as stage
-use Rattle.client_session.specs.Refusals.{payload_of}
-use Rattle.client_session.specs.declared.refusal.Refusal.{Refusal}
-use Rattle.client_session.specs.declared.refusal.Refusal.TheVariants.{ConnectionRefused, BadServerBytes}
-use Rattle.lend_core.specs.declared.ask.Ask.{Ask}
-use Rattle.lend_core.specs.declared.ask.Answered.{Answered}
-use Rattle.lend_core.specs.declared.lent.Lent.{Lent}
-use Rattle.lend_core.specs.declared.lent.Due.{Due}
-use Rattle.lend_core.specs.declared.lent.Due.TheVariants.{Login, Reply, Nothing}
-use Rattle.lend_core.specs.Lends.{Lends, Told}
-use Rattle.lend_core.specs.Changes.{with_link, owns_none, with_ask, without_ask, waits, to_close}
 
 -- Answers.
 
@@ -113,7 +100,8 @@ closed link owner lends = to_close link (disowned owner lends)
 
 -- a command of which no byte was written waits for another link
 abbrev pub again : ClientNo → Unsent → Tag → Lends → Lends
-again client command (For owner ordinal) lends = queued client (record { ordinal = ordinal; first = command.first; packets = command.packets; account = command.account }) lends
+again client command (For owner ordinal) lends =
+    queued client (record { ordinal = ordinal; first = command.first; packets = command.packets; account = command.account }) lends
 again client command _ lends = lends
 
 abbrev pub again_for : Option ClientNo → Option Unsent → Lends → Lends
@@ -173,3 +161,25 @@ heard_by link lent size (Whole used) backend lends = replied link (due_on lent.b
 abbrev pub told_by : LinkId → Lent → (size : ℕ) → Got → Lends → Told
 told_by link lent size (Hears what backend) lends = heard_by link lent size what backend lends
 told_by link lent size (Fails fault) lends = failed link lent (BadServerBytes (place_of fault)) lends
+
+-- What a piece that was heard on a link is to the router.
+
+-- the news of a piece of so many bytes, and the link behind it where it is of use
+abbrev pub IsNews : News → (size : ℕ) → (left : BackendState) → Got → Type 0
+IsNews news.GoesOn size left (Hears Quiet backend) = left ≡ backend
+IsNews news.GoesOn size left (Hears (Part used) backend) = left ≡ backend
+IsNews news.LoggedIn size left (Hears LoggedIn backend) = left ≡ backend
+IsNews (news.Replied is_last) size left (Hears (Whole used) backend) = (left ≡ backend) × (is_last ≡ nat_eq used size)
+IsNews (news.Failed at) size left (Fails fault) = at ≡ place_of fault
+IsNews _ size left got = ⊥
+
+-- a piece can be a part of a login or of a reply
+abbrev pub IsDue : Due → Type 0
+IsDue Nothing = ⊥
+IsDue _ = Unit {0}
+
+abbrev pub by_news : LinkId → Due → News → Lent → Lends → Told
+by_news link due news.GoesOn lent lends = quietly (with_link link lent lends)
+by_news link due news.LoggedIn lent lends = quietly (logged_in link lent lent.owner lends)
+by_news link due (news.Replied is_last) lent lends = replied link due is_last lent.owner lent.backend lends
+by_news link due (news.Failed at) lent lends = failed_by due lent.owner lent.backend (BadServerBytes at) (closed link lent.owner lends)

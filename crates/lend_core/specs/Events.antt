@@ -1,16 +1,11 @@
 -- What each event makes of the links and of the commands.
-use Rattle.std.specs.Prelude.{ℕ, Bool, true, false, List, [], ◌∷◌, length, Option, Some, None}
-use Rattle.mx_base.specs.declared.names.ClientNo.{ClientNo}
-use Rattle.mx_base.specs.declared.names.LinkId.{LinkId}
-use Rattle.mx_base.specs.Sent.{Sent}
-use Rattle.server_side.specs.Backend.{new_backend, is_begun, left}
-use Rattle.server_side.specs.Hearing.{got_of}
+use Rattle.lend_core.specs.Changes.{owns, owns_none, to_close, waits_no_more, with_link, without_ask, without_first, without_link}
+use Rattle.lend_core.specs.Decisions.{failed, offered, queued, quietly, refused_owner, told_by}
+use Rattle.std.specs.Prelude.{Bool, List, None, Option, Some, [], false, length, true, ℕ, ◌∷◌}
 use Rattle.client_session.specs.declared.refusal.Refusal.TheVariants.{ConnectionLost}
-use Rattle.lend_core.specs.declared.ask.Ask.{Ask}
-use Rattle.lend_core.specs.declared.lent.Lent.{Lent}
-use Rattle.lend_core.specs.Lends.{Lends, Told, oldest}
-use Rattle.lend_core.specs.Changes.{with_link, without_link, owns, owns_none, without_ask, waits_no_more, without_first, to_close}
-use Rattle.lend_core.specs.Decisions.{quietly, refused_owner, offered, queued, failed, told_by}
+use Rattle.lend_core.specs.{Lends.Lends, Lends.Told, Lends.oldest, declared.ask.Ask.Ask, declared.lent.Lent.Lent}
+use Rattle.mx_base.specs.{Sent.Sent, declared.names.ClientNo.ClientNo, declared.names.LinkId.LinkId}
+use Rattle.server_side.specs.{Backend.is_begun, Backend.left, Backend.new_backend, Hearing.got_of}
 
 -- A command comes up.
 

@@ -1,12 +1,7 @@
 -- What the router knows of its links to servers, and of the commands that aren't on a link yet.
-use Rattle.std.specs.Prelude.{ℕ, nat_eq, if◌then◌else◌, List, [], ◌∷◌, Option, Some, None}
-use Rattle.std.specs.HashMap.{get}
-use Rattle.mx_base.specs.declared.names.ClientNo.{ClientNo}
-use Rattle.mx_base.specs.declared.names.LinkId.{LinkId}
-use Rattle.lend_core.specs.declared.ask.Ask.{Ask}
-use Rattle.lend_core.specs.declared.ask.Answered.{Answered}
-use Rattle.lend_core.specs.declared.lender.Lender.{Lender}
-use Rattle.lend_core.specs.declared.lent.Lent.{Lent}
+use Rattle.std.specs.Prelude.{List, None, Option, Some, [], if◌then◌else◌, nat_eq, ℕ, ◌∷◌}
+use Rattle.lend_core.specs.declared.{ask.Answered.Answered, ask.Ask.Ask, lender.Lender.Lender, lent.Lent.Lent}
+use Rattle.{mx_base.specs.declared.names.ClientNo.ClientNo, mx_base.specs.declared.names.LinkId.LinkId, std.specs.HashMap.get}
 
 -- Of each open link to a server its owner and how it stands; of each client its link, and its command that isn't on a link yet; the clients for
 -- which a link has to be opened, and the links that are to be closed, each in order, the oldest first.
@@ -18,7 +13,7 @@ pub record Lends : Type 0 where
   pub closing : List LinkId
 
 -- the router's tables, seen so
-abbrev pub lends_of : Lender → Lends
+unfoldable pub lends_of : Lender → Lends
 lends_of lender = record {
   links = λ link. get nat_eq lender.links link;
   owned = λ client. get nat_eq lender.owned client;

@@ -2,4 +2,3 @@ pub mod Lends
 pub mod Changes
 pub mod Decisions
 pub mod Events
-pub mod Telling

@@ -56,7 +56,7 @@ impl Lender {
     ghost use Rattle.lend_core.specs.Lends.{lends_of};
     ghost use Rattle.lend_core.specs.Decisions.{refused, refused_owner, queued, disowned, closed, again, again_for, failed_by, logged_in, kept_or_closed, replied, told_by, due_on, offered};
     ghost use Rattle.lend_core.specs.Events.{asked_on, asked, opened_for, opened, open_failed, heard_on, heard, lost_on, lost, left_on, left_by, left_own, gone};
-    ghost use Rattle.lend_core.specs.Telling.{IsDue, by_news};
+    ghost use Rattle.lend_core.specs.Decisions.{IsDue, by_news};
 
     // The client's command that isn't on a link is answered: no link can be had.
     fn refuse(&mut self, client: ClientNo) -> Result<Option<Answered>, OutOfMemory>
@@ -350,6 +350,7 @@ impl Lender {
     }
 
     // A piece of a login or of a reply comes.
+    #[tactic(auto, using(crate::proofs::Told::news_told))]
     fn hear_due(
         &mut self,
         link: LinkId,

@@ -1,6 +1,7 @@
 // The links to servers, and the commands that go there.
-ghost use Rattle.std.specs.Prelude.{◌≡◌, nat_eq, not, filter};
-ghost use Rattle.lend_core.specs.Lends.{oldest, others};
+ghost use Rattle.std.specs.Prelude.{◌≡◌, ℕ, Some, OnOk, nat_eq, not, filter};
+ghost use Rattle.std.specs.HashMap.{get};
+ghost use Rattle.lend_core.specs.Lends.{oldest, others, set};
 
 use crate::ask::Ask;
 use crate::lent::Lent;
@@ -35,7 +36,6 @@ impl Lender {
     ghost use Rattle.lend_core.specs.Events.{left_in, is_waiting};
 
     /// No links, and no commands. Takes no memory.
-    #[tactic(auto, using(crate::proofs::Alike::one))]
     pub fn new(alloc: Global) -> Self
         ensures { lends_of result ≡ nothing_lent }
     {
@@ -49,15 +49,14 @@ impl Lender {
         }
     }
 
-    #[tactic(auto, using(crate::proofs::Alike::one))]
+    #[tactic(auto, using(crate::proofs::Told::one), unfolding(crate::specs::Lends::lends_of))]
     pub(crate) fn put_link(&mut self, link: LinkId, lent: Lent) -> Result<(), OutOfMemory>
         ensures { OnOk result (lends_of self.new ≡ with_link link lent (lends_of self.old)) }
     {
-        self.links.insert(link.0, lent)?;
-        Ok(())
+        put(&mut self.links, link.0, lent)
     }
 
-    #[tactic(auto, using(crate::proofs::Alike::one))]
+    #[tactic(auto, using(crate::proofs::Told::one), unfolding(crate::specs::Lends::lends_of))]
     pub(crate) fn take_link(&mut self, link: LinkId) -> Option<Lent>
         ensures lent { result ≡ (lends_of self.old).links link.0 }
         ensures rest { lends_of self.new ≡ without_link link (lends_of self.old) }
@@ -65,7 +64,7 @@ impl Lender {
         self.links.remove(&link.0)
     }
 
-    #[tactic(auto, using(crate::proofs::Alike::one))]
+    #[tactic(auto, using(crate::proofs::Told::one), unfolding(crate::specs::Lends::lends_of))]
     pub(crate) fn own(&mut self, client: ClientNo, link: LinkId) -> Result<(), OutOfMemory>
         ensures { OnOk result (lends_of self.new ≡ owns client link (lends_of self.old)) }
     {
@@ -73,7 +72,7 @@ impl Lender {
         Ok(())
     }
 
-    #[tactic(auto, using(crate::proofs::Alike::one))]
+    #[tactic(auto, using(crate::proofs::Told::one), unfolding(crate::specs::Lends::lends_of))]
     pub(crate) fn own_none(&mut self, client: ClientNo) -> Option<LinkId>
         ensures link { result ≡ (lends_of self.old).owned client.0 }
         ensures rest { lends_of self.new ≡ owns_none client (lends_of self.old) }
@@ -81,13 +80,14 @@ impl Lender {
         self.owned.remove(&client.0)
     }
 
+    #[tactic(auto, unfolding(crate::specs::Lends::lends_of))]
     pub fn link_of(&self, client: ClientNo) -> Option<LinkId>
         ensures { result ≡ (lends_of self.now).owned client.0 }
     {
         self.owned.get(&client.0).copied()
     }
 
-    #[tactic(auto, using(crate::proofs::Alike::one))]
+    #[tactic(auto, using(crate::proofs::Told::one), unfolding(crate::specs::Lends::lends_of))]
     pub(crate) fn put_ask(&mut self, client: ClientNo, ask: Ask) -> Result<(), OutOfMemory>
         ensures { OnOk result (lends_of self.new ≡ with_ask client ask (lends_of self.old)) }
     {
@@ -95,7 +95,7 @@ impl Lender {
         Ok(())
     }
 
-    #[tactic(auto, using(crate::proofs::Alike::one))]
+    #[tactic(auto, using(crate::proofs::Told::one), unfolding(crate::specs::Lends::lends_of))]
     pub(crate) fn take_ask(&mut self, client: ClientNo) -> Option<Ask>
         ensures ask { result ≡ (lends_of self.old).asks client.0 }
         ensures rest { lends_of self.new ≡ without_ask client (lends_of self.old) }
@@ -103,13 +103,14 @@ impl Lender {
         self.asks.remove(&client.0)
     }
 
+    #[tactic(auto, unfolding(crate::specs::Lends::lends_of))]
     pub(crate) fn ask_of(&self, client: ClientNo) -> Option<&Ask>
         ensures { option_copied result ≡ (lends_of self.now).asks client.0 }
     {
         self.asks.get(&client.0)
     }
 
-    #[tactic(auto, using(crate::proofs::Alike::one))]
+    #[tactic(auto, using(crate::proofs::Told::one), unfolding(crate::specs::Lends::lends_of))]
     pub(crate) fn wait(&mut self, client: ClientNo) -> Result<(), OutOfMemory>
         ensures { OnOk result (lends_of self.new ≡ waits client (lends_of self.old)) }
     {
@@ -117,14 +118,14 @@ impl Lender {
         Ok(())
     }
 
-    #[tactic(auto, using(crate::proofs::Alike::one))]
+    #[tactic(auto, using(crate::proofs::Told::one), unfolding(crate::specs::Lends::lends_of))]
     pub(crate) fn wait_no_more(&mut self, client: ClientNo)
         ensures { lends_of self.new ≡ waits_no_more client (lends_of self.old) }
     {
         without_client(&mut self.waiting, client);
     }
 
-    #[tactic(auto, using(crate::proofs::Alike::one))]
+    #[tactic(auto, using(crate::proofs::Told::one), unfolding(crate::specs::Lends::lends_of))]
     pub(crate) fn take_first(&mut self) -> Option<ClientNo>
         ensures first { result ≡ oldest (lends_of self.old).waiting }
         ensures rest { lends_of self.new ≡ without_first (lends_of self.old) }
@@ -132,7 +133,7 @@ impl Lender {
         take_oldest(&mut self.waiting)
     }
 
-    #[tactic(auto, using(crate::proofs::Alike::one))]
+    #[tactic(auto, using(crate::proofs::Told::one), unfolding(crate::specs::Lends::lends_of))]
     pub(crate) fn close(&mut self, link: LinkId) -> Result<(), OutOfMemory>
         ensures { OnOk result (lends_of self.new ≡ to_close link (lends_of self.old)) }
     {
@@ -142,7 +143,7 @@ impl Lender {
 
     /// The link that is to be closed first, once: the next call names the next one. A client's link is closed before another is
     /// opened for it.
-    #[tactic(auto, using(crate::proofs::Alike::one))]
+    #[tactic(auto, using(crate::proofs::Told::one), unfolding(crate::specs::Lends::lends_of))]
     pub fn next_close(&mut self) -> Option<LinkId>
         ensures first { result ≡ oldest (lends_of self.old).closing }
         ensures rest { lends_of self.new ≡ without_close (lends_of self.old) }
@@ -151,6 +152,7 @@ impl Lender {
     }
 
     /// Whether a link has to be opened, for the client that waits first. `opened` or `open_failed` says what came of it.
+    #[tactic(auto, unfolding(crate::specs::Lends::lends_of))]
     pub fn next_open(&self) -> bool
         ensures { result ≡ is_waiting (lends_of self.now).waiting }
     {
@@ -158,6 +160,7 @@ impl Lender {
     }
 
     /// Whether a link to a server is open, and isn't to be closed.
+    #[tactic(auto, unfolding(crate::specs::Lends::lends_of))]
     pub fn is_open(&self, link: LinkId) -> bool
         ensures { result ≡ is_some ((lends_of self.now).links link.0) }
     {
@@ -165,6 +168,7 @@ impl Lender {
     }
 
     /// What is to be written on a link, with its tag: the router's login, and behind it a command.
+    #[tactic(auto, unfolding(crate::specs::Lends::lends_of))]
     pub fn outgoing(&self, link: LinkId) -> Option<Piece<'_>>
         ensures { IsLent result (left_in ((lends_of self.now).links link.0)) }
     {
@@ -175,7 +179,7 @@ impl Lender {
     }
 
     /// So many of these bytes were written. Takes no memory.
-    #[tactic(auto, using(crate::proofs::Alike::one))]
+    #[tactic(auto, using(crate::proofs::Told::one), unfolding(crate::specs::Lends::lends_of))]
     pub fn taken(&mut self, link: LinkId, n: usize)
         requires { MayTake (left_in ((lends_of self.old).links link.0)) n }
         ensures { lends_of self.new ≡ taken_on link n (lends_of self.old) }
@@ -184,6 +188,14 @@ impl Lender {
             lent.backend.taken(n);
         }
     }
+}
+
+// A row is put into a table, whatever its rows are.
+fn put<Row: Drop>(rows: &mut HashMap<u64, Row>, key: u64, row: Row) -> Result<(), OutOfMemory>
+    ensures { OnOk result ((k : ℕ) → get nat_eq rows.new k ≡ set (get nat_eq rows.old) key (Some row) k) }
+{
+    rows.insert(key, row)?;
+    Ok(())
 }
 
 fn without_client(waiting: &mut VecDeque<ClientNo>, client: ClientNo)

@@ -2,7 +2,7 @@
 ghost use Rattle.std.specs.Prelude.{◌≡◌, true, length, IfOk};
 ghost use Rattle.server_side.specs.Hearing.{got_of};
 ghost use Rattle.lend_core.specs.Decisions.{takes_command, due_by, due_on, may_stay, commanded};
-ghost use Rattle.lend_core.specs.Telling.{IsNews};
+ghost use Rattle.lend_core.specs.Decisions.{IsNews};
 
 use crate::ask::Ask;
 use mx_base::{ClientNo, OutOfMemory, Tag};

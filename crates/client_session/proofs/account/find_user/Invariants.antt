@@ -1,5 +1,4 @@
-use Rattle.std.proofs.Common.{◌≡◌, drop}
-use Rattle.client_session.specs.Accounts.{find_user}
+use Rattle.{client_session.specs.Accounts.find_user, std.proofs.Common.drop, std.proofs.Common.◌≡◌}
 use Rattle.client_session.proofs.account.find_user.Given as goal
 
 abbrev pub invariant-loop-user : goal.invariant-loop-user

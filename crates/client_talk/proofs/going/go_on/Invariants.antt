@@ -1,5 +1,4 @@
-use Rattle.std.proofs.Common.{◌≡◌}
-use Rattle.client_talk.specs.Going.{left_to_say, turned}
+use Rattle.{client_talk.specs.Going.left_to_say, client_talk.specs.Going.turned, std.proofs.Common.◌≡◌}
 use Rattle.client_talk.proofs.going.go_on.Given as goal
 
 abbrev pub invariant-taking : goal.invariant-taking

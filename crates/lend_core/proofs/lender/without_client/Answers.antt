@@ -1,7 +1,5 @@
-use Rattle.std.specs.Prelude.{not, nat_eq}
-use Rattle.std.proofs.Common.{rules}
-use Rattle.std.proofs.lemmas.Fn.{filter_same}
-use Rattle.mx_base.specs.declared.names.ClientNo.{ClientNo}
+use Rattle.std.specs.Prelude.{nat_eq, not}
+use Rattle.{mx_base.specs.declared.names.ClientNo.ClientNo, std.proofs.Common.rules, std.proofs.lemmas.Fn.filter_same}
 use Rattle.lend_core.proofs.lender.without_client.Goals as goal
 
 pub returns : goal.returns
