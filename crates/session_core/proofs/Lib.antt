@@ -1,11 +1,2 @@
-pub mod Alike
-pub mod Rows
 pub mod Changing
-pub mod Written
-pub mod Telling
-pub mod Turning
-pub mod Coming
-pub mod Naming
-pub mod Taking
-pub mod Closing
-pub mod Shrinking
+pub mod Carrying

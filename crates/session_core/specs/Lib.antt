@@ -1,14 +1,5 @@
 pub mod Cores
-pub mod Settings
 pub mod Known
 pub mod Says
-pub mod Turning
-pub mod Telling
-pub mod Acting
-pub mod Tidy
 pub mod Tidying
 pub mod Stands
-pub mod Addresses
-pub mod Carrying
-pub mod Quiet
-pub mod Lending

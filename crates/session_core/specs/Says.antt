@@ -1,12 +1,21 @@
--- What is to be read and written, and what is asked for, by what the router knows.
-use Rattle.std.specs.Prelude.{◌≡◌, ℕ, ◌≤◌, length, Bool, is_some, nat_eq, ◌||◌, if◌then◌else◌, Option, Some, None}
-use Rattle.{std.specs.Option.option_map, ready_loop.specs.Changes.ChangesOnly, ready_loop.specs.Machine.Target}
-use Rattle.client_talk.specs.{declared.session.Session.Session, Sessions.is_finished, Events.taken}
-use Rattle.lend_core.specs.{Changes.taken_on, Lends.set, Events.left_in}
-use Rattle.mx_base.specs.{declared.names.ClientNo.ClientNo, declared.names.LinkId.LinkId, Sent.Sent}
-use Rattle.router_world.specs.{declared.seat.Seat.Seat, Tables.Tables, Tables.with_lends, Tables.without_seat, World.parts}
-use Rattle.session_core.specs.{declared.known.Known.Known, declared.known.Leaver.Leaver, declared.router.Core.Core, Known.tables_of, Known.is_changed}
+-- What is to be read and written, and what is asked for, by what the router knows; and what the core makes of what it is told.
+use Rattle.client_session.{specs.Setups.Setup, specs.declared.setup.ServerAt.ServerAt}
+use Rattle.client_talk.specs.{Events.answered, Events.said, Events.taken, Queries.Query, Sessions.account_in, Sessions.is_ending, Sessions.is_finished}
+use Rattle.lend_core.specs.Events.{asked, is_waiting, left_in, open_failed, opened}
+use Rattle.lend_core.specs.{Changes.taken_on, Lends.Lends, Lends.Told, Lends.set, declared.ask.Answered.Answered, declared.ask.Ask.Ask}
+use Rattle.mx_base.specs.declared.names.Port.TheVariants.{Admin, Traffic}
+use Rattle.mx_base.specs.{Sent.Sent, declared.names.Address.Address, declared.names.ClientNo.ClientNo, declared.names.LinkId.LinkId, declared.names.Port.Port}
+use Rattle.ready_loop.specs.{Changes.ChangesOnly, Machine.Target, declared.machines.Act.Act, declared.machines.Event.Event}
+use Rattle.router_world.specs.World.{closed_by, comes, ended_on, failed_on, fewer, got_on, parts, told}
+use Rattle.router_world.specs.{Acts.next_close, Tables.Tables, Tables.with_lends, Tables.without_seat, declared.seat.Parting.Parting, declared.seat.Seat.Seat}
+use Rattle.session_core.specs.{declared.known.Known.Known, declared.known.Leaver.Leaver, declared.news.News.News, declared.router.Core.Core}
+use Rattle.std.specs.Prelude.{Bool, List, None, Option, Some, [], false, if◌then◌else◌, is_some, length, nat_eq, nat_lt, true, ℕ, ◌+◌, ◌||◌, ◌∷◌, ◌≡◌, ◌≤◌}
+use Rattle.{client_talk.specs.Going.Turned, client_talk.specs.Going.still, client_talk.specs.Steps.ended, client_talk.specs.declared.session.Session.Session}
+use Rattle.{server_side.specs.Account.Account, session_core.specs.Known.is_changed, session_core.specs.Known.tables_of, std.specs.Option.option_map}
+use Rattle.ready_loop.specs.declared.machines.Act.TheVariants as act
+use Rattle.ready_loop.specs.declared.machines.Event.TheVariants as event
 use Rattle.router_world.specs.Acts as acts
+use Rattle.session_core.specs.declared.news.News.TheVariants as news
 
 -- A client's link is read and written by its seat.
 
@@ -52,6 +61,11 @@ known_sends known link = or_sent (farewell link known.leaver) (sends_in (tables_
 pub record Becomes (next : Tables) (old new : Known) : Type 0 where
   pub tables : tables_of new ≡ next
   pub changes : ChangesOnly is_changed known_reads known_sends old new
+
+-- so do the links to servers, and this may be answered
+pub record Tells (news : Told) (answer : Option Answered) (old new : Known) : Type 0 where
+  pub answer_is : answer ≡ news.answer
+  pub becomes : Becomes (with_lends news.lends (tables_of old)) old new
 
 -- The core.
 
@@ -107,3 +121,101 @@ took_by (Some left) link n tables = with_lends (taken_on link n tables.lends) ta
 
 abbrev pub took_in : LinkId → ℕ → Tables → Tables
 took_in link n tables = took_by (left_in (tables.lends.links link.0)) link n tables
+
+-- What a client's session makes of what it is told.
+
+abbrev pub turned_by : Setup → News → Session → Turned
+turned_by setup (news.Said bytes) = said setup bytes.now
+turned_by setup (news.Answered packets) = answered setup packets.now
+turned_by setup news.Ended = λ session. still (ended session)
+
+-- the command that comes up of one who is logged in
+
+abbrev pub ask_of : Option Account → Option Query → Option Ask
+ask_of (Some account) (Some query) = Some (record { ordinal = query.ordinal; first = query.first; packets = query.packets; account = account })
+ask_of _ _ = None
+
+abbrev pub asked_by : Turned → Option Ask
+asked_by turned = ask_of (account_in turned.session.phase) turned.query
+
+abbrev pub asked_at : (Session → Turned) → Option Seat → Option Ask
+asked_at step None = None
+asked_at step (Some seat) = asked_by (step seat.session)
+
+abbrev pub asks_for : ClientNo → Option Ask → Lends → Lends
+asks_for client None lends = lends
+asks_for client (Some ask) lends = asked client ask lends
+
+abbrev pub ends_at : Option Seat → Bool
+ends_at None = false
+ends_at (Some seat) = is_ending seat.session.phase
+
+-- the session in the client's seat took a step
+pub record IsTurned (client : ClientNo) (step : Session → Turned) (ask : Option Ask) (old new : Known) : Type 0 where
+  pub tables : tables_of new ≡ stepped_at client (λ session. (step session).session) (tables_of old)
+  pub ask_is : ask ≡ asked_at step ((tables_of old).seats client.0)
+  pub leaver : new.leaver ≡ old.leaver
+  pub changed : new.changed ≡ old.changed
+
+-- What the core makes of what it is told of.
+
+abbrev pub on_event : Setup → Event → (bytes : List ℕ) → Tables → Tables
+on_event setup (event.Woke now_ms) bytes tables = tables
+on_event setup (event.Accepted port link salt) bytes tables = comes port setup link salt tables
+on_event setup (event.Opened server link) bytes tables = with_lends (opened link tables.lends) tables
+on_event setup (event.OpenFailed server) bytes tables = told setup (open_failed tables.lends) tables
+on_event setup (event.Got link) bytes tables = got_on setup link bytes (tables.numbers link.0) tables
+on_event setup (event.Ended link) bytes tables = ended_on setup link (tables.numbers link.0) tables
+on_event setup (event.Failed link) bytes tables = failed_on setup link (tables.numbers link.0) tables
+
+-- What the core asks for.
+
+abbrev pub changed : Core → LinkId → Bool
+changed core link = is_changed core.known link
+
+-- A close is asked for once.
+
+abbrev pub next_leaver : Option Leaver → Option Leaver
+next_leaver None = None
+next_leaver (Some leaver) = if leaver.is_asked then None else Some (record leaver { is_asked = true })
+
+abbrev pub first_parting : List Parting → Option LinkId
+first_parting [] = None
+first_parting (parting ∷ later) = Some parting.link
+
+abbrev pub parted : List Parting → Tables → Tables
+parted [] tables = tables
+parted (parting ∷ later) tables = record tables { here = fewer parting.is_client tables.here; parting = later }
+
+-- A link is opened where a client waits for it and a server is configured.
+
+abbrev pub opening_if : Option ServerAt → (waits : Bool) → Option Act
+opening_if None waits = None
+opening_if (Some at) true = Some (act.Open at.server at.address)
+opening_if (Some at) false = None
+
+abbrev pub opening : Option ServerAt → List ClientNo → Option Act
+opening target waiting = opening_if target (is_waiting waiting)
+
+-- Links are closed before others are opened.
+
+abbrev pub acting : Option LinkId → Option ServerAt → List ClientNo → Option Act
+acting (Some link) target waiting = Some (act.Close link)
+acting None target waiting = opening target waiting
+
+pub record Asked (old new : Core) (result : Option Act) : Type 0 where
+  pub is : result ≡ acting (next_close (tables_of old.known)) old.setup.target (tables_of old.known).lends.waiting
+  pub tables : tables_of new.known ≡ closed_by (tables_of old.known).parting (tables_of old.known)
+  pub leaver : new.known.leaver ≡ next_leaver old.known.leaver
+  pub changed : new.known.changed ≡ old.known.changed
+  pub same : new ≡ record old { known = new.known }
+
+-- Where the core listens, and how many links it may have open.
+
+abbrev pub address_of : Core → Port → Address
+address_of core Traffic = core.listen
+address_of core Admin = core.admin_listen
+
+-- a sum stands still at its type's end
+abbrev pub most_of : Core → ℕ
+most_of core = if nat_lt (core.setup.max_clients + 10018) 4294967296 then core.setup.max_clients + 10018 else 4294967295

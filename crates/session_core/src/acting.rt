@@ -23,9 +23,10 @@ impl Known {
     ghost use Rattle.router_world.specs.World.{closed_by};
     ghost use Rattle.router_world.specs.Acts.{next_close};
     ghost use Rattle.session_core.specs.Known.{tables_of};
-    ghost use Rattle.session_core.specs.Acting.{next_leaver, first_parting, parted};
+    ghost use Rattle.session_core.specs.Says.{next_leaver, first_parting, parted};
 
     // The client's link that is to be closed, if its close wasn't asked for before.
+    #[tactic(auto, unfolding(crate::specs::Known::tables_of))]
     fn next_leaver(&mut self) -> Option<LinkId>
         ensures link { result ≡ first_parting (tables_of self.old).parting }
         ensures tables { tables_of self.new ≡ parted (tables_of self.old).parting (tables_of self.old) }
@@ -48,6 +49,7 @@ impl Known {
     }
 
     /// The link that is to be closed next, a client's first. The close is asked for once.
+    #[tactic(auto, using(crate::proofs::Changing::lent_of, crate::proofs::Changing::own_lends))]
     pub(crate) fn next_close(&mut self) -> Option<LinkId>
         ensures link { result ≡ next_close (tables_of self.old) }
         ensures tables { tables_of self.new ≡ closed_by (tables_of self.old).parting (tables_of self.old) }
@@ -64,9 +66,10 @@ impl Known {
 impl Core {
     ghost use Rattle.std.specs.Prelude.{◌≡◌};
     ghost use Rattle.session_core.specs.Known.{tables_of};
-    ghost use Rattle.session_core.specs.Acting.{Asked, opening};
+    ghost use Rattle.session_core.specs.Says.{Asked, opening};
 
     // A server is configured, and a client waits for a link to it.
+    #[tactic(auto, unfolding(crate::specs::Known::tables_of))]
     fn next_open(&self) -> Option<Act>
         ensures { result ≡ opening self.now.setup.target (tables_of self.now.known).lends.waiting }
     {

@@ -3,19 +3,20 @@ use crate::known::Known;
 use crate::news::News;
 use client_session::{Refusal, Setup, write_refusal};
 use client_talk::new_session;
+use lend_core::Answered;
 use mx_base::{Bytes, ClientNo, LinkId, OutOfMemory, Port};
 use ready_loop::Event;
 use router_world::Seat;
 
 impl Known {
-    ghost use Rattle.std.specs.Prelude.{◌≡◌, [], None, OnOk};
+    ghost use Rattle.std.specs.Prelude.{◌≡◌, [], None, OnOk, IfOk};
     ghost use Rattle.mx_base.specs.declared.names.Port.TheVariants.{Traffic, Admin};
     ghost use Rattle.lend_core.specs.Events.{opened, open_failed, heard, lost};
     ghost use Rattle.router_world.specs.Tables.{with_lends};
     ghost use Rattle.router_world.specs.World.{admitted, refused, admitted_if, comes, told, heard_on, got_on, lost_on, ended_on, failed_on};
     ghost use Rattle.mx_base.specs.Fields.{AreBytes};
     ghost use Rattle.session_core.specs.Known.{tables_of};
-    ghost use Rattle.session_core.specs.{Says.Becomes, Telling.on_event};
+    ghost use Rattle.session_core.specs.Says.{Becomes, Tells, on_event};
 
     fn admit(
         &mut self,
@@ -60,6 +61,7 @@ impl Known {
     }
 
     // A client comes to the port of clients.
+    #[tactic(auto, unfolding(crate::specs::Known::tables_of))]
     fn come_client(
         &mut self,
         link: LinkId,
@@ -105,6 +107,7 @@ impl Known {
     }
 
     /// A link to the server is open for the client that waits longest.
+    #[tactic(auto, using(crate::proofs::Changing::opened_lends))]
     fn open(&mut self, link: LinkId) -> Result<(), OutOfMemory>
         ensures { OnOk result (Becomes (with_lends (opened link (tables_of self.old).lends) (tables_of self.old)) self.old self.new) }
     {
@@ -112,19 +115,34 @@ impl Known {
         self.lender.opened(link)
     }
 
+    // The command of the client that waits longest may be answered: no link can be had.
+    #[tactic(auto, using(crate::proofs::Changing::failed_tells))]
+    fn refuse_first(&mut self) -> Result<Option<Answered>, OutOfMemory>
+        ensures { IfOk result (λ answer. Tells (open_failed (tables_of self.old).lends) answer self.old self.new) }
+    {
+        self.lender.open_failed()
+    }
+
     /// No link to the server could be opened for the client that waits longest.
     fn fail_open(&mut self, setup: &Setup) -> Result<(), OutOfMemory>
         requires { (tables_of self.old).parting ≡ [] }
         ensures { OnOk result (Becomes (told setup.now (open_failed (tables_of self.old).lends) (tables_of self.old)) self.old self.new) }
     {
-        let answer = self.lender.open_failed()?;
+        let answer = self.refuse_first()?;
         self.tell(answer, setup)
     }
 
-    pub(crate) fn number_of(&self, link: LinkId) -> Option<ClientNo>
-        ensures { result ≡ (tables_of self.now).numbers link.0 }
+    // Bytes come on a link to a server, which may answer a command.
+    #[tactic(auto, using(crate::proofs::Changing::heard_tells))]
+    fn take_piece(
+        &mut self,
+        link: LinkId,
+        bytes: &mut [u8],
+    ) -> Result<Option<Answered>, OutOfMemory>
+        ensures { IfOk result (λ answer. Tells (heard link bytes.old (tables_of self.old).lends) answer self.old self.new) }
     {
-        self.numbers.get(&link.0).copied()
+        self.mark(link)?;
+        self.lender.heard(link, bytes)
     }
 
     // Bytes come on a link to a server.
@@ -137,8 +155,7 @@ impl Known {
         requires { (tables_of self.old).parting ≡ [] }
         ensures { OnOk result (Becomes (told setup.now (heard link bytes.old (tables_of self.old).lends) (tables_of self.old)) self.old self.new) }
     {
-        self.mark(link)?;
-        let answer = self.lender.heard(link, bytes)?;
+        let answer = self.take_piece(link, bytes)?;
         self.tell(answer, setup)
     }
 
@@ -146,7 +163,7 @@ impl Known {
         requires { (tables_of self.old).parting ≡ [] }
         ensures { OnOk result (Becomes (heard_on setup.now link bytes.old ((tables_of self.old).lends.links link.0) (tables_of self.old)) self.old self.new) }
     {
-        if self.lender.is_open(link) {
+        if self.has_link(link) {
             self.hear_server(link, bytes, setup)
         } else {
             Ok(())
@@ -164,13 +181,21 @@ impl Known {
         }
     }
 
+    // A link to a server is lost, which may answer a command.
+    #[tactic(auto, using(crate::proofs::Changing::lost_tells))]
+    fn take_loss(&mut self, link: LinkId) -> Result<Option<Answered>, OutOfMemory>
+        ensures { IfOk result (λ answer. Tells (lost link (tables_of self.old).lends) answer self.old self.new) }
+    {
+        self.mark(link)?;
+        self.lender.lost(link)
+    }
+
     // A link to a server is lost.
     fn lose_server(&mut self, link: LinkId, setup: &Setup) -> Result<(), OutOfMemory>
         requires { (tables_of self.old).parting ≡ [] }
         ensures { OnOk result (Becomes (told setup.now (lost link (tables_of self.old).lends) (tables_of self.old)) self.old self.new) }
     {
-        self.mark(link)?;
-        let answer = self.lender.lost(link)?;
+        let answer = self.take_loss(link)?;
         self.tell(answer, setup)
     }
 
@@ -178,7 +203,7 @@ impl Known {
         requires { (tables_of self.old).parting ≡ [] }
         ensures { OnOk result (Becomes (lost_on setup.now link ((tables_of self.old).lends.links link.0) (tables_of self.old)) self.old self.new) }
     {
-        if self.lender.is_open(link) {
+        if self.has_link(link) {
             self.lose_server(link, setup)
         } else {
             Ok(())

@@ -62,13 +62,14 @@ fn remove<Row: Drop>(rows: &mut HashMap<u64, Row>, key: u64)
 
 // One change of one table at a time.
 impl Known {
-    ghost use Rattle.std.specs.Prelude.{◌≡◌, ◌∷◌, [], Some, None, OnOk, true, false};
+    ghost use Rattle.std.specs.Prelude.{◌≡◌, ◌∷◌, [], Some, None, OnOk, true, false, is_some};
+    ghost use Rattle.std.specs.Option.{option_copied};
     ghost use Rattle.router_world.specs.Tables.{no_tables, without_seat, with_seat, with_number, without_number, to_part};
-    ghost use Rattle.session_core.specs.Known.{tables_of, listed, Marked};
+    ghost use Rattle.session_core.specs.Known.{tables_of, Marked};
     ghost use Rattle.session_core.specs.Says.{Becomes};
 
     /// Nothing, before any client.
-    #[tactic(auto, using(crate::proofs::Alike::one))]
+    #[tactic(auto, using(crate::proofs::Changing::one), unfolding(crate::specs::Known::tables_of))]
     pub fn new(alloc: Global) -> Self
         ensures tables { tables_of result ≡ no_tables }
         ensures leaver { result.leaver ≡ None }
@@ -86,7 +87,7 @@ impl Known {
     }
 
     /// The client's seat is no more.
-    #[tactic(auto, using(crate::proofs::Alike::one))]
+    #[tactic(auto, using(crate::proofs::Changing::one), unfolding(crate::specs::Known::tables_of))]
     pub(crate) fn drop_seat(&mut self, client: ClientNo)
         ensures { Becomes (without_seat client (tables_of self.old)) self.old self.new }
     {
@@ -111,7 +112,7 @@ impl Known {
     }
 
     /// The link isn't a served client's any more.
-    #[tactic(auto, using(crate::proofs::Alike::one))]
+    #[tactic(auto, using(crate::proofs::Changing::one), unfolding(crate::specs::Known::tables_of))]
     pub(crate) fn take_number(&mut self, link: LinkId)
         ensures { Becomes (without_number link (tables_of self.old)) self.old self.new }
     {
@@ -119,6 +120,7 @@ impl Known {
     }
 
     /// A client comes, which has the next number, and is connected.
+    #[tactic(auto, unfolding(crate::specs::Known::tables_of))]
     pub(crate) fn count_client(&mut self) -> ClientNo
         ensures number { result ≡ record { 0 = counted (tables_of self.old).came } }
         ensures is { Becomes (record (tables_of self.old) { came = counted (tables_of self.old).came; here = counted (tables_of self.old).here }) self.old self.new }
@@ -129,6 +131,7 @@ impl Known {
     }
 
     /// One more came, which isn't a client.
+    #[tactic(auto, unfolding(crate::specs::Known::tables_of))]
     pub(crate) fn count_stranger(&mut self)
         ensures { Becomes (record (tables_of self.old) { came = counted (tables_of self.old).came }) self.old self.new }
     {
@@ -146,6 +149,7 @@ impl Known {
     }
 
     /// A link is to be closed, and no other of a client's is yet. Nothing is offered to it.
+    #[tactic(auto, unfolding(crate::specs::Known::tables_of))]
     pub(crate) fn part(&mut self, link: LinkId, is_client: bool)
         requires { (tables_of self.old).parting ≡ [] }
         ensures { Becomes (to_part (record { link = link; bytes = []; is_client = is_client }) (tables_of self.old)) self.old self.new }
@@ -163,29 +167,71 @@ impl Known {
         requires { (tables_of self.old).parting ≡ [] }
         ensures { OnOk result (Becomes (to_part (record { link = link; bytes = bytes; is_client = true }) (tables_of self.old)) self.old self.new) }
     {
-        self.put_leaver(Parting {
-            link,
-            bytes,
-            is_client: true,
+        self.mark(link)?;
+        self.leaver = Some(Leaver {
+            parting: Parting {
+                link,
+                bytes,
+                is_client: true,
+            },
+            is_asked: false,
         });
-        self.mark(link)
+        Ok(())
     }
 
     /// The link may have something new.
+    #[tactic(auto, using(crate::proofs::Changing::among_end), unfolding(crate::specs::Known::tables_of))]
     pub(crate) fn mark(&mut self, link: LinkId) -> Result<(), OutOfMemory>
-        ensures { OnOk result (Marked (link ∷ []) self.old self.new) }
+        ensures { OnOk result (Marked (Some link) self.old self.new) }
     {
         self.changed.push(link)?;
         Ok(())
     }
 
-    /// So may the client's link to a server.
-    pub(crate) fn mark_own(&mut self, client: ClientNo) -> Result<(), OutOfMemory>
-        ensures { OnOk result (Marked (listed ((tables_of self.old).lends.owned client.0)) self.old self.new) }
+    /// Whether it is an open link to a server.
+    #[tactic(auto, unfolding(crate::specs::Known::tables_of))]
+    pub(crate) fn has_link(&self, link: LinkId) -> bool
+        ensures { result ≡ is_some ((tables_of self.now).lends.links link.0) }
     {
-        match self.lender.link_of(client) {
+        self.lender.is_open(link)
+    }
+
+    #[tactic(auto, unfolding(crate::specs::Known::tables_of))]
+    pub(crate) fn number_of(&self, link: LinkId) -> Option<ClientNo>
+        ensures { result ≡ (tables_of self.now).numbers link.0 }
+    {
+        self.numbers.get(&link.0).copied()
+    }
+
+    #[tactic(auto, unfolding(crate::specs::Known::tables_of))]
+    pub(crate) fn seat_of(&self, client: ClientNo) -> Option<&Seat>
+        ensures { option_copied result ≡ (tables_of self.now).seats client.0 }
+    {
+        self.seats.get(&client.0)
+    }
+
+    #[tactic(auto, unfolding(crate::specs::Known::tables_of))]
+    pub(crate) fn own_link(&self, client: ClientNo) -> Option<LinkId>
+        ensures { result ≡ (tables_of self.now).lends.owned client.0 }
+    {
+        self.lender.link_of(client)
+    }
+
+    // The link may have something new, where there is one.
+    pub(crate) fn mark_if(&mut self, link: Option<LinkId>) -> Result<(), OutOfMemory>
+        ensures { OnOk result (Marked link self.old self.new) }
+    {
+        match link {
             Some(link) => self.mark(link),
             None => Ok(()),
         }
+    }
+
+    /// So may the client's link to a server.
+    pub(crate) fn mark_own(&mut self, client: ClientNo) -> Result<(), OutOfMemory>
+        ensures { OnOk result (Marked ((tables_of self.old).lends.owned client.0) self.old self.new) }
+    {
+        let link = self.own_link(client);
+        self.mark_if(link)
     }
 }

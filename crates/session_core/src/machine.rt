@@ -6,12 +6,8 @@ ghost use Rattle.mx_wire.specs.declared.entry.Entry.{Entry};
 ghost use Rattle.ready_loop.specs.Changes.{ChangesOnly};
 ghost use Rattle.ready_loop.specs.Machine.{CarriesOver, IsHeard, HasActed, IsToldOf};
 ghost use Rattle.client_session.specs.Setups.{Setup};
-ghost use Rattle.session_core.specs.Stands.{Stands, due_in};
-ghost use Rattle.session_core.specs.Says.{reads, sends, asks, awaits};
-ghost use Rattle.session_core.specs.Acting.{changed};
-ghost use Rattle.session_core.specs.Addresses.{address_of, most_of};
-ghost use Rattle.session_core.specs.Quiet.{quiet};
-ghost use Rattle.session_core.specs.Lending.{lent-whole};
+ghost use Rattle.session_core.specs.Stands.{Stands, due_in, quiet, lent-whole};
+ghost use Rattle.session_core.specs.Says.{reads, sends, asks, awaits, changed, address_of, most_of};
 ghost use Rattle.router_world.specs.Owed.{lends};
 
 use crate::router::Core;
@@ -55,14 +51,17 @@ impl Machine for Core {
 
     ghost quiet = { quiet };
 
+    #[tactic(auto, using(crate::proofs::Carrying::none_parts))]
     fn take(&mut self, event: Event, bytes: &mut [u8]) -> Result<(), OutOfMemory> {
         self.known.take(event, bytes, &self.setup)
     }
 
+    #[tactic(auto, using(crate::proofs::Carrying::acts_carry, crate::proofs::Carrying::acts_owe), unfolding(crate::specs::Known::tables_of))]
     fn next_act(&mut self) -> Option<Act> {
         self.act()
     }
 
+    #[tactic(auto, using(crate::proofs::Carrying::names_popped), unfolding(crate::specs::Known::tables_of))]
     fn next_changed(&mut self) -> Option<LinkId> {
         self.known.changed.pop()
     }

@@ -22,7 +22,7 @@ fn reply(bytes: &[u8]) -> Option<Piece<'_>>
 }
 
 impl Known {
-    ghost use Rattle.std.specs.Prelude.{◌≡◌, ◌≤◌, [], length};
+    ghost use Rattle.std.specs.Prelude.{◌≡◌, ◌≤◌, [], length, is_some};
     ghost use Rattle.mx_base.specs.Sent.{IsLent, MayTake};
     ghost use Rattle.client_talk.specs.Events.{taken};
     ghost use Rattle.lend_core.specs.Events.{left_in};
@@ -33,11 +33,12 @@ impl Known {
     ghost use Rattle.router_world.specs.Tables.{with_lends};
 
     // The seat of the client whose link it is.
+    #[tactic(auto, unfolding(crate::specs::Known::tables_of))]
     fn seat_on(&self, link: LinkId) -> Option<&Seat>
         ensures { option_copied result ≡ seat_on link (tables_of self.now).seats ((tables_of self.now).numbers link.0) }
     {
         match self.number_of(link) {
-            Some(client) => match self.seats.get(&client.0) {
+            Some(client) => match self.seat_of(client) {
                 Some(seat) => {
                     if seat.link.0 == link.0 {
                         Some(seat)
@@ -64,7 +65,7 @@ impl Known {
     pub(crate) fn reads(&self, link: LinkId) -> bool
         ensures { result ≡ known_reads self.now link }
     {
-        self.lender.is_open(link) || self.reads_client(link)
+        self.has_link(link) || self.reads_client(link)
     }
 
     fn left_for_client(&self, link: LinkId) -> Option<Piece<'_>>
@@ -76,10 +77,18 @@ impl Known {
         }
     }
 
+    #[tactic(auto, unfolding(crate::specs::Known::tables_of))]
     fn left_for_server(&self, link: LinkId) -> Option<Piece<'_>>
         ensures { IsLent result (left_in ((tables_of self.now).lends.links link.0)) }
     {
         self.lender.outgoing(link)
+    }
+
+    // Whether something is left for the server there.
+    fn owes_server(&self, link: LinkId) -> bool
+        ensures { result ≡ is_some (left_in ((tables_of self.now).lends.links link.0)) }
+    {
+        self.left_for_server(link).is_some()
     }
 
     fn left_for(&self, link: LinkId) -> Option<Piece<'_>>
@@ -118,6 +127,7 @@ impl Known {
     }
 
     // So many bytes were written to the client.
+    #[tactic(auto, unfolding(crate::specs::Known::tables_of))]
     fn take_bytes(&mut self, client: ClientNo, n: usize)
         requires { MayTakeOf ((tables_of self.old).seats client.0) n }
         ensures { Becomes (stepped_at client (taken n) (tables_of self.old)) self.old self.new }
@@ -147,6 +157,7 @@ impl Known {
         }
     }
 
+    #[tactic(auto, using(crate::proofs::Changing::server_took, crate::proofs::Changing::own_lends))]
     fn wrote_server(&mut self, link: LinkId, n: usize)
         requires { MayTake (left_in ((tables_of self.old).lends.links link.0)) n }
         ensures { Becomes (with_lends (taken_on link n (tables_of self.old).lends) (tables_of self.old)) self.old self.new }
@@ -160,7 +171,7 @@ impl Known {
         requires lent { MayTake (sends_in (tables_of self.old) link) n }
         ensures { Becomes (took_in link n (tables_of self.old)) self.old self.new }
     {
-        if self.lender.outgoing(link).is_some() {
+        if self.owes_server(link) {
             self.wrote_server(link, n);
         } else {
             self.wrote_client(link, n);

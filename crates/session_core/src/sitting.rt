@@ -12,10 +12,10 @@ impl Known {
     ghost use Rattle.router_world.specs.Tables.{with_lends};
     ghost use Rattle.router_world.specs.World.{leaving, parts, on_client, breaks_off, answering};
     ghost use Rattle.session_core.specs.Known.{tables_of};
-    ghost use Rattle.session_core.specs.Says.{Becomes, settled, stays_at};
-    ghost use Rattle.session_core.specs.Turning.{turned_by, asks, ends_at, IsTurned};
+    ghost use Rattle.session_core.specs.Says.{Becomes, settled, stays_at, turned_by, asks_for, ends_at, IsTurned};
 
     // A command comes up.
+    #[tactic(auto, using(crate::proofs::Changing::asked_lends))]
     fn ask(&mut self, client: ClientNo, ask: Ask) -> Result<(), OutOfMemory>
         ensures { OnOk result (Becomes (with_lends (asked client ask (tables_of self.old).lends) (tables_of self.old)) self.old self.new) }
     {
@@ -24,7 +24,7 @@ impl Known {
     }
 
     fn ask_if(&mut self, client: ClientNo, ask: Option<Ask>) -> Result<(), OutOfMemory>
-        ensures { OnOk result (Becomes (with_lends (asks client ask (tables_of self.old).lends) (tables_of self.old)) self.old self.new) }
+        ensures { OnOk result (Becomes (with_lends (asks_for client ask (tables_of self.old).lends) (tables_of self.old)) self.old self.new) }
     {
         match ask {
             Some(ask) => self.ask(client, ask),
@@ -33,6 +33,7 @@ impl Known {
     }
 
     // The client asks for nothing any more.
+    #[tactic(auto, using(crate::proofs::Changing::gone_lends))]
     fn go(&mut self, client: ClientNo) -> Result<(), OutOfMemory>
         ensures { OnOk result (Becomes (with_lends (gone client (tables_of self.old).lends) (tables_of self.old)) self.old self.new) }
     {
@@ -44,7 +45,7 @@ impl Known {
     fn is_ending(&self, client: ClientNo) -> bool
         ensures { result ≡ ends_at ((tables_of self.now).seats client.0) }
     {
-        match self.seats.get(&client.0) {
+        match self.seat_of(client) {
             Some(seat) => matches!(seat.session.phase, Phase::Ending),
             None => false,
         }
@@ -62,7 +63,7 @@ impl Known {
 
     // What the client's session asks for: a command that came up, and nothing more where it ends.
     fn ask_for(&mut self, client: ClientNo, ask: Option<Ask>) -> Result<(), OutOfMemory>
-        ensures { OnOk result (Becomes (with_lends (leaving (ends_at ((tables_of self.old).seats client.0)) client (asks client ask (tables_of self.old).lends)) (tables_of self.old)) self.old self.new) }
+        ensures { OnOk result (Becomes (with_lends (leaving (ends_at ((tables_of self.old).seats client.0)) client (asks_for client ask (tables_of self.old).lends)) (tables_of self.old)) self.old self.new) }
     {
         self.ask_if(client, ask)?;
         self.go_if(client)
@@ -83,7 +84,7 @@ impl Known {
         ensures link { result ≡ stays_at ((tables_of self.old).seats client.0) }
         ensures is { Becomes (settled client (tables_of self.old)) self.old self.new }
     {
-        match self.seats.get(&client.0) {
+        match self.seat_of(client) {
             Some(seat) => {
                 let link = seat.link;
                 if is_finished(&seat.session) {
@@ -99,7 +100,7 @@ impl Known {
     }
 
     // The client's session is told the news. A command may come up.
-    #[tactic(auto, using(crate::proofs::Alike::one))]
+    #[tactic(auto, using(crate::proofs::Changing::one), unfolding(crate::specs::Known::tables_of))]
     fn turn_session(
         &mut self,
         client: ClientNo,
@@ -126,10 +127,8 @@ impl Known {
     {
         let ask = self.turn_session(client, news, setup)?;
         self.ask_for(client, ask)?;
-        match self.part_if_done(client) {
-            Some(link) => self.mark(link),
-            None => Ok(()),
-        }
+        let link = self.part_if_done(client);
+        self.mark_if(link)
     }
 
     /// What came of a client's command is told to the client.

@@ -1,4 +1,4 @@
-use Rattle.{std.proofs.Common.◌≡◌, std.proofs.Common.take, session_core.specs.Cores.users_of}
+use Rattle.{session_core.specs.Cores.users_of, std.proofs.Common.take, std.proofs.Common.◌≡◌}
 use Rattle.session_core.proofs.router.users_of.Given as goal
 
 abbrev pub invariant-loop-row : goal.invariant-loop-row

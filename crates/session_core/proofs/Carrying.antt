@@ -1,0 +1,189 @@
+-- The core is carried over what it is told of and what it asks for.
+use Rattle.lend_core.specs.Events.{gone}
+use Rattle.mx_base.specs.{Fields.AreBytes, Sent.MayTake, Sent.Sent, declared.names.ClientNo.ClientNo, declared.names.LinkId.LinkId}
+use Rattle.mx_wire.specs.{Log.AreMarks, Log.Log, Log.is_link, Log.link_of, Moments.AllLawful, Moments.lawful-more, Tells.Fits, declared.entry.Entry.Entry}
+use Rattle.ready_loop.specs.Machine.{Acts, CarriesOver, Closes, HasActed, IsFarewell, IsHeard, IsToldOf, OwesFarewell}
+use Rattle.ready_loop.specs.{Changes.ChangesOnly, Changes.TakesChange, declared.machines.Act.Act, declared.machines.Event.Event}
+use Rattle.router_world.specs.{World.closed_by, World.step, World.tables_after, World.wrote_on, declared.seat.Parting.Parting, declared.seat.Seat.Seat}
+use Rattle.session_core.specs.Says.{Asked, Becomes, asks, awaits, changed, farewell, next_leaver, on_event, or_sent, reads, sends, sends_in, took_in}
+use Rattle.session_core.specs.Stands.{Stands, acted-after, awaited-after, calm-sends, carried, due_in, sends-after, tables-more, tidy-of, waits-after}
+use Rattle.session_core.specs.{Known.tables_of, Tidying.IsApart, Tidying.Tidy, declared.known.Known.Known, declared.router.Core.Core}
+use Rattle.std.proofs.Common.{ap, append-nil, append_assoc, arith, inl, inr, subst, sym, ◌∙◌}
+use Rattle.std.proofs.lemmas.Result.{on_ok_weaker}
+use Rattle.std.specs.Prelude.{IsSome, List, None, OnOk, Option, Result, Some, [], false, is_some, refl, take, true, ℕ, ◌++◌, ◌∷◌, ◌≡◌}
+use Rattle.{client_session.specs.Setups.Setup, mx_wire.specs.Growth.bool_cases, promises.proofs.Moments.one-more, promises.specs.Closes.is_write}
+use Rattle.session_core.proofs.Changing.{among_end}
+use Rattle.{client_talk.specs.Sessions.is_ending, std.proofs.lemmas.Grind.common_steps, std.proofs.lemmas.List.length-take-le, std.specs.Option.option_to_list}
+use Rattle.{packet_frame.specs.PacketLaws.nat_eq-true, router_world.specs.Owed.IsWhole, router_world.specs.Owed.lends, router_world.specs.Tables.Tables}
+use Rattle.mx_wire.specs.declared.entry.Entry.TheVariants as entry
+use Rattle.router_world.specs.Acts as acts
+
+-- an event is told of an entry of the world's, which is the router's
+pub told_carries : {T E : Type 0} (r : Result T E) (old : Core) (known : Known) (event : Event) (bytes : List ℕ) → AreBytes bytes
+    → HasActed (asks old) event → OnOk r (Becomes (on_event old.setup event bytes (tables_of old.known)) old.known known)
+    → OnOk r ((e : Entry) → IsToldOf 18446744073709551615 (awaits old) event bytes e → CarriesOver Stands due_in old (record old { known = known }) e)
+told_carries r old known event bytes are acted is = on_ok_weaker r (λ becomes e told. carried old known e (λ log is_due held.
+    grind (arith, common_steps, acted-after, awaited-after, waits-after))) is
+
+-- no link of a client's is to be closed by then
+pub none_parts : (old : Core) (event : Event) → IsHeard (awaits old) event → HasActed (asks old) event → (tables_of old.known).parting ≡ []
+none_parts old h1 heard acted = grind (arith, common_steps)
+
+-- One of the links that may have something new is named.
+
+pub names_popped : (old new : Core) (named : Option LinkId) → old.known.changed.items ≡ new.known.changed.items ++ option_to_list named → (named ≡ None
+    → new.known.changed.items ≡ []) → TakesChange changed old new named
+names_popped old new h2 listed none = grind (arith, common_steps, bool_cases, nat_eq-true, among_end)
+
+-- The core is carried over what was written.
+
+client-took : (client : ClientNo) (link : LinkId) (seat : Seat) (n : ℕ) (tables : Tables) → tables.numbers link.0 ≡ Some client
+    → tables.seats client.0 ≡ Some seat → tables.lends.links link.0 ≡ None → (is_ending seat.session.phase ≡ true → gone client tables.lends ≡ tables.lends)
+    → took_in link n tables ≡ wrote_on link n (Some client) tables
+client-took client link seat n tables number is unlent ended = grind (arith, common_steps)
+
+-- what is taken of a link that has something is what the world says of it
+took-wrote : (link : LinkId) (n : ℕ) (tables : Tables) (log : Log) (sent : Sent) → Tidy tables log → sends_in tables link ≡ Some sent
+    → took_in link n tables ≡ wrote_on link n (tables.numbers link.0) tables
+took-wrote link n tables log sent tidy some = by (tables.numbers link.0) refl where
+  by : (o : Option ClientNo) → tables.numbers link.0 ≡ o → took_in link n tables ≡ wrote_on link n o tables
+  by (Some client) at = (let seated = tidy.seated link client at in
+      client-took client link seated.seat n tables at seated.is seated.unlent (tidy.ended client seated.seat seated.is))
+  by None at = grind (arith, common_steps)
+
+pub taken_carries : (old : Core) (known : Known) (link : LinkId) (n : ℕ) (sent : Sent) → asks old ≡ false → MayTake (sends old link) n
+    → sends old link ≡ Some sent → Becomes (took_in link n (tables_of old.known)) old.known known
+    → CarriesOver Stands due_in old (record old { known = known }) (entry.Wrote link sent.tag (take n sent.bytes))
+taken_carries old known link n sent acted may some is = carried old known (entry.Wrote link sent.tag (take n sent.bytes)) (λ log is_due held. record {
+  is = is.tables ∙ took-wrote link n (tables_of old.known) log sent (tidy-of old log held) (sym (calm-sends old link acted) ∙ some)
+      ∙ ap (λ (m : ℕ). wrote_on link m ((tables_of old.known).numbers link.0) (tables_of old.known))
+      (sym (length-take-le n sent.bytes (subst (λ (o : Option Sent). MayTake o n) some may)));
+  ours = inl (
+    acted-after old log acted held,
+    record {
+      sent = sent;
+      is = sends-after old log link acted held ∙ some;
+      same_tag = refl;
+      n = n;
+      front = refl;
+    },
+  );
+})
+
+-- The core is carried over what it asks for.
+
+-- The tables of a log, whether the core has them or not.
+
+record Runs (setup : Setup) (tables : Tables) (log : Log) : Type 0 where
+  is : tables ≡ tables_after setup log
+  ours : AllLawful (acts.IsOurs setup) log
+  fits : AllLawful Fits log
+
+runs-more : (setup : Setup) (tables : Tables) (log : Log) (e : Entry) → Fits log e → acts.IsOurs setup log e → Runs setup tables log
+    → Runs setup (step setup tables e) (log ++ e ∷ [])
+runs-more setup tables log e fits ours runs = grind (arith, common_steps, tables-more, lawful-more)
+
+runs-marks : (setup : Setup) (tables : Tables) (log marks : Log) → AreMarks marks → Runs setup tables log → Runs setup tables (log ++ marks)
+runs-marks setup tables log [] all runs = subst (λ (l : Log). Runs setup tables l) (sym (append-nil log)) runs
+runs-marks setup tables log (entry.Exec link ∷ marks) all runs = subst (λ (l : Log). Runs setup tables l) (append_assoc log (entry.Exec link ∷ []) marks)
+    (runs-marks setup tables (log ++ entry.Exec link ∷ []) marks all.1 (runs-more setup tables log (entry.Exec link) tt tt runs))
+runs-marks setup tables log (entry.Drop link ∷ marks) all runs = subst (λ (l : Log). Runs setup tables l) (append_assoc log (entry.Drop link ∷ []) marks)
+    (runs-marks setup tables (log ++ entry.Drop link ∷ []) marks all.1 (runs-more setup tables log (entry.Drop link) tt tt runs))
+runs-marks setup tables log (_ ∷ marks) all runs = absurd all.0
+
+-- A link that is to be closed has nothing else to be written, and what is offered to it changes nothing else.
+
+none-said : (tables : Tables) (log : Log) (link : LinkId) → IsApart tables log link → sends_in tables link ≡ None
+none-said tables log link apart = grind (arith, common_steps)
+
+closed-says : (parting : List Parting) (tables : Tables) (link : LinkId) → sends_in (closed_by parting tables) link ≡ sends_in tables link
+closed-says h0 tables link = grind (arith, common_steps)
+
+-- what an entry of the offer makes of the tables
+record Offered (setup : Setup) (tables : Tables) (log : Log) (link : LinkId) (e : Entry) : Type 0 where
+  closes : closed_by (step setup tables e).parting (step setup tables e) ≡ closed_by tables.parting tables
+  next : acts.next_close (step setup tables e) ≡ acts.next_close tables
+  ours : acts.IsOurs setup log e
+  here : is_link link (link_of e) ≡ true
+  write : is_write e ≡ true
+
+farewell-ours : (setup : Setup) (tables : Tables) (log : Log) (link : LinkId) (sent : Option Sent) (e : Entry) → tables ≡ tables_after setup log
+    → acts.next_close tables ≡ Some link → IsApart tables log link → acts.farewell_of tables.parting ≡ sent → IsSome sent → IsFarewell sent link e
+    → Offered setup tables log link e
+farewell-ours setup tables log link h4 h5 is next apart says some told = grind (arith, common_steps)
+
+lent-of : (known : Known) (link : LinkId) → acts.next_close (tables_of known) ≡ Some link
+    → farewell link (next_leaver known.leaver) ≡ acts.farewell_of (tables_of known).parting
+unfolding tables_of
+lent-of known link next = grind (arith, common_steps)
+
+or-nothing : (o : Option Sent) → or_sent o None ≡ o
+or-nothing h0 = grind (arith, common_steps)
+
+none-some : (o : Option Sent) → o ≡ None → is_some o ≡ true → ⊥
+none-some h0 none some = grind (arith, common_steps)
+
+-- The link that is to be closed, once its close is asked for.
+module _ (old : Core) (known : Known) (link : LinkId) (next : acts.next_close (tables_of old.known) ≡ Some link)
+    (is : tables_of known ≡ closed_by (tables_of old.known).parting (tables_of old.known)) (leaver : known.leaver ≡ next_leaver old.known.leaver) where
+  apart : (log : Log) → Stands old log → IsApart (tables_of old.known) log link
+  apart log held = (tidy-of old log held).closes link next
+
+  -- what is lent of it is the farewell alone
+  said-last : (log : Log) → Stands old log → sends (record old { known = known }) link ≡ acts.farewell_of (tables_of old.known).parting
+  said-last log held = ap (λ (o : Option Sent). or_sent (farewell link known.leaver) o) (ap (λ (t : Tables). sends_in t link) is
+      ∙ closed-says (tables_of old.known).parting (tables_of old.known) link ∙ none-said (tables_of old.known) log link (apart log held))
+      ∙ or-nothing (farewell link known.leaver) ∙ ap (farewell link) leaver ∙ lent-of old.known link next
+
+  -- and is the whole of it
+  farewell-whole : (log : Log) (sent : Sent) → Stands old log → sends (record old { known = known }) link ≡ Some sent → lends old.setup log link sent.bytes
+  farewell-whole log sent held some = (let says : acts.farewell_of (tables_of old.known).parting ≡ Some sent = sym (said-last log held) ∙ some in inr
+      (subst (λ (t : Tables). acts.IsFarewell t link × IsWhole (acts.farewell_of t.parting) sent.bytes) held.tables
+      (record { is_next = next; some = ap (λ (o : Option Sent). is_some o) says }, record { sent = sent; is = says; bytes = refl })))
+
+  closes : Closes Stands due_in old (record old { known = known }) (sends (record old { known = known }) link) link
+  closes = record {
+    opened = λ log held. (apart log held).opened;
+    plain = λ none. carried old known (entry.Closed link) (λ log is_due held. record {
+      is = is;
+      ours = record {
+        is_next = sym (ap (λ (t : Tables). acts.next_close t) held.tables) ∙ next;
+        offered = λ some. absurd (none-some (acts.farewell_of (tables_of old.known).parting) (sym (said-last log held) ∙ none)
+            (ap (λ (t : Tables). is_some (acts.farewell_of t.parting)) held.tables ∙ some));
+      };
+    });
+    offered = λ some log e marks told are may closing held. (
+        let at : Tables = tables_of old.known in
+        let step_by : Offered old.setup at log link e = farewell-ours old.setup at log link (sends (record old { known = known }) link) e held.tables next
+        (apart log held) (sym (said-last log held)) some told in
+        let first : Runs old.setup (step old.setup at e) (log ++ e ∷ []) = runs-more old.setup at log e may.fits step_by.ours
+        (record { is = held.tables; ours = held.ours; fits = held.fits }) in
+        let mid : Runs old.setup (step old.setup at e) (log ++ e ∷ [] ++ marks) = runs-marks old.setup (step old.setup at e) (log ++ e ∷ []) marks are first in
+        let last : Runs old.setup (closed_by (step old.setup at e).parting (step old.setup at e)) (log ++ e ∷ [] ++ marks ++ entry.Closed link ∷ []) =
+        runs-more old.setup (step old.setup at e) (log ++ e ∷ [] ++ marks) (entry.Closed link) closing.fits (record {
+          is_next = sym (ap (λ (t : Tables). acts.next_close t) mid.is) ∙ step_by.next ∙ next;
+          offered = λ had. grind (arith, common_steps);
+        }) mid in
+        record {
+          tables = is ∙ sym step_by.closes ∙ last.is;
+          ours = last.ours;
+          fits = last.fits;
+          few = one-more (log ++ e ∷ [] ++ marks) (entry.Closed link) closing.bounded;
+          short = held.short;
+        }
+        );
+  }
+
+-- Where no link is to be closed the core knows what it knew.
+
+pub acts_carry : (old new : Core) (result : Option Act) → Asked old new result → Acts Stands due_in sends old new result
+acts_carry old new result asked = subst (λ (c : Core). Acts Stands due_in sends old c result) (sym asked.same) (grind (arith, common_steps, closes))
+
+pub acts_owe : (old new : Core) (result : Option Act) → Asked old new result → OwesFarewell Stands (lends old.setup) sends old new result
+acts_owe old new result asked =
+    subst (λ (c : Core). OwesFarewell Stands (lends old.setup) sends old c result) (sym asked.same) (grind (arith, common_steps, farewell-whole))
+
+-- What the core asks for leaves no more to be read or written.
+
+pub acts_only : (old new : Core) (result : Option Act) → Asked old new result → ChangesOnly changed reads sends old new
+acts_only old new result asked = grind (arith, common_steps, closed-says)
