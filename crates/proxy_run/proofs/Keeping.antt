@@ -15,7 +15,7 @@ use Rattle.router_world.proofs.Promises.{keeps}
 use Rattle.router_world.proofs.Sizing.{keeps-sized}
 use Rattle.session_core.specs.declared.router.Core.{Core}
 use Rattle.session_core.specs.Stands.{Stands}
-use Rattle.session_core.specs.Tidying.{all-follow}
+use Rattle.promises.proofs.Moments.{all-follow}
 
 pub serves-so : (core : Core) (log : Log) → Stands core log → Serves core.setup log
 serves-so core log held = keeps core.setup log held.short (all-follow log held.fits held.few) held.ours

@@ -1,109 +1,57 @@
 -- An entry that concerns one client leaves all others as they were.
-use Rattle.router_world.proofs.Names.{arith, common_steps, ◌≡◌, ◌⊎◌, ℕ, Bool, true, false, nat_eq, List, [], ◌∷◌, ◌++◌, Option, Some, None, refl, sym, ◌∙◌, ap}
-use Rattle.router_world.proofs.Names.{subst, append-nil, inl, inr, fold-append, ClientNo, LinkId, Log, AllLawful, IsOpen, Entry, arrivals, arrival_in}
-use Rattle.router_world.proofs.Names.{connected, connected_step, Lent, Lends, Turn, Service, turn_of, IsLawful, IsServed, some-same, none-if, arrivals-more}
-use Rattle.router_world.proofs.Names.{Seat, Tables, is_some, option_and_then, link_of, open_step, Fits, Setup, set, refused_by, refused_on, refused_for}
-use Rattle.router_world.proofs.Names.{without_seat, closes, opens, asks}
-use Rattle.router_world.proofs.{Hands.away-gone, Hands.known-later, Hands.none-some, Connecting.Counts, Calm.Leaves, Calm.Spares}
-use Rattle.{router_world.specs.Tables.with_lends, std.proofs.lemmas.Bool.or_parts}
-use Rattle.router_world.proofs.Apart.{Traces, one-or-other, Apart, serves-apart, gone-apart, set-same, set-other}
-use Rattle.router_world.proofs.Sound.{CloseStands, Sits, Happens, LendsSound, Sound, Hand, InHand, OnHand, Gone, Known, AtMostOne, Nobody}
-use Rattle.router_world.proofs.Frames.{Calm, busy-none, seat-calm, owner-turn, ask-calm, row-calm}
+use Rattle.promises.proofs.Arrivals.{Counted, IsPlain}
+use Rattle.promises.proofs.Calm.{Leaves, leaves-other}
+use Rattle.router_world.proofs.Apart.{Apart, apart-numbers, gone-apart, none-one, one-or-other, owned-stays, owned-turn, serves-apart}
+use Rattle.router_world.proofs.Frames.{Calm, ask-calm, busy-none, holds-stays, later-calm, seat-stays}
+use Rattle.router_world.proofs.Names.{AllLawful, Bool, ClientNo, Entry, Fits, IsLawful, IsOpen, Lends, Lent, LinkId, List, Log, None, Parting, Seat, Service}
+use Rattle.router_world.proofs.Names.{Setup, Some, Tables, Turn, [], arith, asks, closes, common_steps, false, gone, is_some, link_of, nat_eq, open_step, opens}
+use Rattle.router_world.proofs.Names.{option_and_then, refl, refused_by, refused_on, sym, true, turn_of, ℕ, ◌++◌, ◌∙◌, ◌∷◌, ◌≡◌, ◌≢◌}
+use Rattle.router_world.proofs.Sound.{AtMostOne, CloseStands, Gone, Happens, Known, LendsSound, PartsStand, Seated, Sits, Sound}
+use Rattle.lend_core.{specs.Changes.owns, specs.Lends.others}
+use Rattle.{promises.proofs.ServerLinks.link-calm, std.proofs.lemmas.Bool.or_parts}
 
--- nobody comes and no client's link closes by the entry
-pub record IsPlain (e : Entry) : Type 0 where
-  pub arrives : (before : Log) → arrival_in before e ≡ None
-  pub stays : (links : List LinkId) → connected_step links e ≡ links
-
-pub arrivals-plain : (log : Log) (e : Entry) → ((before : Log) → arrival_in before e ≡ None) → arrivals (log ++ e ∷ []) ≡ arrivals log
-arrivals-plain log e arrives = grind (arith, common_steps, append-nil, arrivals-more)
-
-pub connected-plain : (log : Log) (e : Entry) → IsPlain e → connected (log ++ e ∷ []) ≡ connected log
-connected-plain log e plain = grind (arith, common_steps, fold-append)
-
--- What the entry leaves of others than client n.
+-- What an entry that concerns client n leaves of all others.
 pub record Others (service : Service) (log : Log) (e : Entry) (n : ℕ) (tables : Tables) : Type 0 where
   pub lawful : AllLawful (IsLawful service) (log ++ e ∷ [])
-  pub plain : IsPlain e
   pub calm : (k : ℕ) → nat_eq k n ≡ false → Calm service log e k
   pub seats : (k : ℕ) (seat : Seat) → nat_eq k n ≡ false → tables.seats k ≡ Some seat → Leaves seat.link log e
   pub rows : (link : LinkId) (lent : Lent) (turn : Turn) → tables.lends.links link.0 ≡ Some lent → turn_of service link log ≡ Some turn
       → nat_eq turn.client n ≡ false → Leaves link log e
-  pub served : IsServed service (log ++ e ∷ [])
-  pub unparted : tables.parting ≡ []
-  pub counts : Counts (log ++ e ∷ [])
 
--- and what stands of client n
-pub record Mine (service : Service) (log : Log) (e : Entry) (n : ℕ) (hand : Option Hand) (tables : Tables) (places : ℕ → Option Seat)
-    (links : Lends) : Type 0 where
-  pub others : (k : ℕ) → nat_eq k n ≡ false → places k ≡ tables.seats k
-  pub seat : (seat : Seat) → places n ≡ Some seat → Sits service (log ++ e ∷ []) tables.numbers links n seat
-  pub away : places n ≡ None → InHand hand n ⊎ Gone links n
-  pub numbers : (link : LinkId) (seat : Seat) → tables.seats n ≡ Some seat → seat.link ≡ link → OnHand hand n link ⊎ (places n ≡ Some seat)
-  pub known : (link : LinkId) → IsOpen link (log ++ e ∷ []) → IsOpen link log ⊎ Known tables.numbers links tables.parting link
-  pub from : (link : LinkId) (lent : Lent) → links.links link.0 ≡ Some lent
-      → ((old : Lent) × (tables.lends.links link.0 ≡ Some old)) ⊎ (tables.numbers link.0 ≡ None)
-  pub to : (link : LinkId) (lent : Lent) → tables.lends.links link.0 ≡ Some lent
-      → ((now : Lent) × (links.links link.0 ≡ Some now)) ⊎ (links.closing ≡ link ∷ [])
-  pub closed : (link : LinkId) → links.closing ≡ link ∷ [] → (tables.lends.closing ≡ link ∷ []) ⊎ ((lent : Lent) × (tables.lends.links link.0 ≡ Some lent))
-  pub closes : (link : LinkId) → tables.lends.closing ≡ link ∷ [] → links.closing ≡ link ∷ []
-  pub lends : LendsSound service (log ++ e ∷ []) links
-  pub apart : Apart n tables.lends links
+-- The tables change for client n alone,
+pub record Changes (n : ℕ) (tables other : Tables) : Type 0 where
+  pub seats : (k : ℕ) → nat_eq k n ≡ false → other.seats k ≡ tables.seats k
+  pub numbers : (link : LinkId) (client : ClientNo) → nat_eq client.0 n ≡ false → tables.numbers link.0 ≡ Some client → other.numbers link.0 ≡ Some client
+  pub back : (link : LinkId) (client : ClientNo) → nat_eq client.0 n ≡ false → other.numbers link.0 ≡ Some client → tables.numbers link.0 ≡ Some client
+  pub apart : Apart n tables.lends other.lends
 
-pub moved : (service : Service) (log : Log) (e : Entry) (n : ℕ) (hand : Option Hand) (tables : Tables) (seats : ℕ → Option Seat) (lends : Lends)
-    → Sound service log None tables → Others service log e n tables
-    → Mine service log e n hand tables seats lends → Sound service (log ++ e ∷ []) hand (record tables { seats = seats; lends = lends })
-moved service log e n hand tables seats lends sound others mine = (let unlent : (link : LinkId) (client : ClientNo) → tables.numbers link.0 ≡ Some client
-    → ((old : Lent) × (tables.lends.links link.0 ≡ Some old)) ⊎ (tables.numbers link.0 ≡ None)
-    → ⊥ = λ link client is h3. grind (arith, common_steps, none-some) in
-    let unclosing : (link : LinkId) → (tables.lends.closing ≡ link ∷ []) ⊎ ((lent : Lent) × (tables.lends.links link.0 ≡ Some lent))
-    → tables.numbers link.0 ≡ None = λ link h1. grind (arith, common_steps, none-if, none-some) in
-    record {
-      came = cc (sound.came, arrivals-plain log e others.plain.arrives);
-      here = cc (sound.here, connected-plain log e others.plain);
-      counts = others.counts;
-      seats = λ k seat is. one-or-other k n (λ m. seats m ≡ Some seat → Sits service (log ++ e ∷ []) tables.numbers lends m seat) (mine.seat seat)
-          (λ at was. sits k seat at (sym (mine.others k at) ∙ was)) is;
-      numbers = λ link client is. numbers link client (sound.numbers link client is);
-      unlent = λ link client is. grind (arith, common_steps, none-if);
-      unclosing = λ link is. unclosing link (mine.closed link is);
-      away = λ k is. grind (arith, common_steps, away-gone, gone-apart, one-or-other);
-      lends = mine.lends;
-      one_parts = subst AtMostOne (sym others.unparted) Nobody;
-      parts = λ parting is. cc (others.unparted, is);
-      known = λ link opened. elim (mine.known link opened) [
-        | inr is ↦ is
-        | inl was ↦ known-later tables.numbers tables.lends lends tables.parting link (mine.to link) (mine.closes link) (sound.known link was)
-      ];
-      served = others.served;
-    }) where
-      leaves : (k : ℕ) → nat_eq k n ≡ false → (link : LinkId) (lent : Lent) → tables.lends.owned k ≡ Some link → tables.lends.links link.0 ≡ Some lent
-          → Leaves link log e
-      leaves k apart link lent owns is = (let row = sound.lends.rows link lent is in let owner = sound.lends.owned k link owns in
-          let client = owner-turn service log tables.lends link lent k row.turn.client row.owned (cc (
-            some-same lent owner.lent (sym is ∙ owner.there),
-            owner.owner,
-          )) in others.rows link lent row.turn is row.is_turn (cc (client, apart)))
+-- and have this of it.
+pub record ClientStands (service : Service) (log : Log) (n : ℕ) (other : Tables) : Type 0 where
+  pub seat : (seat : Seat) → other.seats n ≡ Some seat → Sits service log other.numbers other.lends n seat
+  pub number : (link : LinkId) → other.numbers link.0 ≡ Some (record { 0 = n }) → (seat : Seat) × (other.seats n ≡ Some seat) × (seat.link ≡ link)
+  pub away : other.seats n ≡ None → Gone other.lends n
 
-      sits : (k : ℕ) (seat : Seat) → nat_eq k n ≡ false → tables.seats k ≡ Some seat → Sits service (log ++ e ∷ []) tables.numbers lends k seat
-      sits k seat at was = (let sits = sound.seats k seat was in record {
-        stands = seat-calm service log e k seat others.lawful sits.stands (others.calm k at) (others.seats k seat at was)
-            (λ user same. busy-none service log e tables.lends k seat.session.client.arrived others.lawful sound.lends
-            (others.calm k at) (leaves k at) (rw same at sits.serves));
-        serves = grind (arith, common_steps, serves-apart);
-        unfinished = sits.unfinished;
-        numbered = sits.numbered;
-      })
-
-      numbers : (link : LinkId) (client : ClientNo) → OnHand None client.0 link ⊎ ((seat : Seat) × (tables.seats client.0 ≡ Some seat) × (seat.link ≡ link))
-          → OnHand hand client.0 link ⊎ ((seat : Seat) × (seats client.0 ≡ Some seat) × (seat.link ≡ link))
-      numbers link client (inl none) = absurd none
-      numbers link client (inr seat) = one-or-other client.0 n
-          (λ m. tables.seats m ≡ Some seat.0 → OnHand hand m link ⊎ ((s : Seat) × (seats m ≡ Some s) × (s.link ≡ link)))
-          (λ is. elim (mine.numbers link seat.0 is seat.2) [ inl held ↦ inl held | inr put ↦ inr (seat.0, put, seat.2) ])
-          (λ at is. inr (seat.0, mine.others client.0 at ∙ is, seat.2)) seat.1
-
--- An entry on an open link.
+pub seated-moved : {service : Service} {log : Log} {e : Entry} {n : ℕ} {tables other : Tables} → Seated service log tables → LendsSound service log tables.lends
+    → Others service log e n tables → Changes n tables other → ClientStands service (log ++ e ∷ []) n other → Seated service (log ++ e ∷ []) other
+seated-moved {service} {log} {e} {n} {tables} {other} seated lends others changes mine = record {
+  seats = λ k seat is. one-or-other k n (λ m. other.seats m ≡ Some seat → Sits service (log ++ e ∷ []) other.numbers other.lends m seat) (mine.seat seat)
+      (λ at was. sits k seat at (sym (changes.seats k at) ∙ was)) is;
+  numbers = λ link client is. one-or-other client.0 n
+      (λ m. other.numbers link.0 ≡ Some (record { 0 = m }) → (seat : Seat) × (other.seats m ≡ Some seat) × (seat.link ≡ link)) (mine.number link)
+      (λ at is. (let was = seated.numbers link client (changes.back link client at is) in (was.0, changes.seats client.0 at ∙ was.1, was.2))) is;
+  away = λ k is. one-or-other k n (λ m. other.seats m ≡ None → Gone other.lends m) mine.away
+      (λ at none. gone-apart n k tables.lends other.lends changes.apart at (seated.away k (sym (changes.seats k at) ∙ none))) is;
+} where
+  sits : (k : ℕ) (seat : Seat) → nat_eq k n ≡ false → tables.seats k ≡ Some seat → Sits service (log ++ e ∷ []) other.numbers other.lends k seat
+  sits k seat at was = (let sits = seated.seats k seat was in record {
+    stands = seat-stays service log e k seat others.lawful sits (later-calm service log e k seat.session.client.arrived (others.calm k at))
+        (others.seats k seat at was) (λ i busy. busy-none service log e tables.lends k i others.lawful lends (others.calm k at)
+        (λ link lent owns there. (let row = lends.rows link lent there in
+        others.rows link lent row.turn there row.is_turn (cc (owned-turn lends owns there row.is_turn, at)))) busy);
+    serves = serves-apart seat.session.phase n k seat.session.client.arrived tables.lends other.lends changes.apart at sits.serves;
+    unfinished = sits.unfinished;
+    numbered = changes.numbers seat.link (record { 0 = k }) at sits.numbered;
+  })
 
 -- What it says that all was done that the router asked for.
 pub record IsQuiet (tables : Tables) : Type 0 where
@@ -119,30 +67,84 @@ done setup tables is = quiet-closes tables (or_parts (closes tables) (opens setu
 pub nobody-waits : (setup : Setup) (tables : Tables) → asks setup tables ≡ false → is_some setup.target ≡ true → tables.lends.waiting ≡ []
 nobody-waits setup tables is has = grind (arith, common_steps, closes, opens)
 
--- The links to servers and all commands stay, where the entry touches none.
-pub lends-framed : (service : Service) (log : Log) (e : Entry) (lends : Lends) → AllLawful (IsLawful service) (log ++ e ∷ []) → Fits log e
-    → LendsSound service log lends → ((k : ℕ) → Calm service log e k) → ((link : LinkId) (lent : Lent) → lends.links link.0 ≡ Some lent → Leaves link log e)
-    → ((link : LinkId) → lends.closing ≡ link ∷ [] → CloseStands service (log ++ e ∷ []) lends link) → LendsSound service (log ++ e ∷ []) lends
-lends-framed service log e lends lawful fits sound calm leaves closes = record {
-  rows = λ link lent is. (let stands = sound.rows link lent is in
-      row-calm service log e lends link lent lawful fits stands (calm stands.turn.client) (leaves link lent is));
-  asks = λ k ask is. ask-calm service log e k ask lawful (sound.asks k ask is) (calm k);
-  owned = sound.owned;
-  one_waits = sound.one_waits;
-  waits = sound.waits;
-  one_closes = sound.one_closes;
-  closes = closes;
-}
+-- The links to servers and all commands stay, where the entry touches none, and others may be to be closed.
+module _ (service : Service) (log : Log) (e : Entry) (lends : Lends) (lawful : AllLawful (IsLawful service) (log ++ e ∷ [])) (fits : Fits log e)
+    (sound : LendsSound service log lends) where
+  pub lends-framed : (closing : List LinkId) → ((k : ℕ) → Calm service log e k)
+      → ((link : LinkId) (lent : Lent) → lends.links link.0 ≡ Some lent → Leaves link log e) → AtMostOne closing
+      → ((link : LinkId) → closing ≡ link ∷ [] → CloseStands service (log ++ e ∷ []) lends link)
+      → LendsSound service (log ++ e ∷ []) (record lends { closing = closing })
+  lends-framed closing calm leaves one stands = record {
+    rows = λ link lent is. (let stands = sound.rows link lent is in link-calm lawful stands (calm stands.turn.client) (leaves link lent is));
+    holds = λ link lent is turn of. owned-stays refl refl (λ gone. gone) (holds-stays service log e link lent turn fits sound is of);
+    asks = λ k ask is. ask-calm service log e k ask lawful (sound.asks k ask is) (calm k);
+    owned = λ k link is. (let owns = sound.owned k link is in record { lent = owns.lent; there = owns.there; owner = owns.owner });
+    one_waits = sound.one_waits;
+    waits = λ client is. (let waits = sound.waits client is in record { ask = waits.ask; asks = waits.asks; unowned = waits.unowned });
+    one_closes = one;
+    closes = λ link is. (let at = stands link is in
+        record { opened = at.opened; unlent = at.unlent; turn = at.turn; is_turn = at.is_turn; may = at.may });
+  }
 
-pub lends-still : (service : Service) (log : Log) (e : Entry) (lends : Lends) → AllLawful (IsLawful service) (log ++ e ∷ []) → Fits log e
-    → LendsSound service log lends → lends.closing ≡ [] → ((k : ℕ) → Calm service log e k)
-    → ((link : LinkId) (lent : Lent) → lends.links link.0 ≡ Some lent → Leaves link log e) → LendsSound service (log ++ e ∷ []) lends
-lends-still service log e lends lawful fits sound none calm leaves = grind (arith, common_steps, lends-framed)
+  pub lends-still : lends.closing ≡ [] → ((k : ℕ) → Calm service log e k)
+      → ((link : LinkId) (lent : Lent) → lends.links link.0 ≡ Some lent → Leaves link log e) → LendsSound service (log ++ e ∷ []) lends
+  lends-still none calm leaves = lends-framed lends.closing calm leaves sound.one_closes (λ link is. absurd (none-one lends.closing none is))
 
--- An entry on a client's link refuses nothing.
-pub client-spares : (service : Service) (log : Log) (e : Entry) (link : LinkId)
-    → refused_by service log e ≡ option_and_then (refused_on service log e) (Some link) → turn_of service link log ≡ None → (n i : ℕ) → Spares service log e n i
-client-spares service log e link names none n i turn is = cc (names ∙ ap (option_and_then (refused_for service log e link)) none, is)
+-- An entry that leaves all seats and all links to servers, and sends and refuses nothing.
+pub record Aside (service : Service) (log : Log) (e : Entry) (tables : Tables) : Type 0 where
+  pub happens : Happens service log e tables
+  pub calm : (k : ℕ) → Calm service log e k
+  pub seats : (n : ℕ) (seat : Seat) → tables.seats n ≡ Some seat → Leaves seat.link log e
+  pub rows : (link : LinkId) (lent : Lent) → tables.lends.links link.0 ≡ Some lent → Leaves link log e
+
+-- so does one on a link that is neither a seat's nor a server's
+pub beside : {service : Service} {log : Log} {e : Entry} {tables : Tables} (link : LinkId) → Happens service log e tables → link_of e ≡ Some link
+    → tables.numbers link.0 ≡ None → tables.lends.links link.0 ≡ None → ((k : ℕ) → Calm service log e k) → Aside service log e tables
+beside {log = log} {e} {tables} link happens names unnumbered unlent calm = record {
+  happens = happens;
+  calm = calm;
+  seats = λ n seat is. left seat.link (λ same. cc (unnumbered, same, (happens.sound.seated.seats n seat is).numbered));
+  rows = λ other lent row. left other (λ same. cc (unlent, same, row));
+} where
+  left : (other : LinkId) → other.0 ≢ link.0 → Leaves other log e
+  left other apart = leaves-other other log e (cc (names, apart-numbers other.0 link.0 apart))
+
+module _ {service : Service} {log : Log} {e : Entry} {tables : Tables} (aside : Aside service log e tables) where
+  abbrev sound : Sound service log tables
+  sound = aside.happens.sound
+
+  pub aside-others : (n : ℕ) → Others service log e n tables
+  aside-others n = grind (arith, common_steps)
+
+  pub lends-aside : tables.lends.closing ≡ [] → LendsSound service (log ++ e ∷ []) tables.lends
+  lends-aside none = lends-still service log e tables.lends aside.happens.lawful aside.happens.fits sound.lends none aside.calm aside.rows
+
+  -- All stands behind it, whatever is to be closed. No client is changed: there is none with the number 0.
+  pub aside-stands : {came here : ℕ} {closing : List LinkId} {parting : List Parting} → Counted (log ++ e ∷ []) came here
+      → LendsSound service (log ++ e ∷ []) (record tables.lends { closing = closing })
+      → PartsStand service (log ++ e ∷ []) tables.numbers closing parting
+      → ((link : LinkId) → IsOpen link (log ++ e ∷ []) → Known tables.numbers (record tables.lends { closing = closing }) parting link)
+      → Sound service (log ++ e ∷ [])
+      (record tables { came = came; here = here; lends = record tables.lends { closing = closing }; parting = parting })
+  aside-stands {came} {here} {closing} {parting} counted lends parts known = record {
+    counted = counted;
+    seated = seated-moved sound.seated sound.lends (aside-others 0) (record {
+      seats = λ k differs. refl;
+      numbers = λ link client differs is. is;
+      back = λ link client differs is. is;
+      apart = record { asks = λ k differs. refl; owned = λ k differs. refl; links = λ k link differs owns. refl; waiting = λ k differs is. is };
+    }) (record {
+      seat = λ seat is. nobody seat is;
+      number = λ link is. (let it = sound.seated.numbers link (record { 0 = 0 }) is in nobody it.0 it.1);
+      away = λ is. (let gone = sound.seated.away 0 is in assumption);
+    });
+    lends = lends;
+    parts = parts;
+    known = known;
+    served = aside.happens.served;
+  } where
+    nobody : {X : Type 0} (seat : Seat) → tables.seats 0 ≡ Some seat → X
+    nobody seat is = (let came = (sound.seated.seats 0 seat is).stands.is_came in cc)
 
 -- all was done that the router asked for; the entry is on this link
 pub record OnLink (service : Service) (log : Log) (e : Entry) (link : LinkId) (tables : Tables) : Type 0 where
@@ -153,23 +155,3 @@ pub record OnLink (service : Service) (log : Log) (e : Entry) (link : LinkId) (t
   pub plain : IsPlain e
   pub stays : (was : Bool) → open_step was e ≡ was
   pub refuses : refused_by service log e ≡ option_and_then (refused_on service log e) (Some link)
-
--- A client's seat is taken out.
-pub taken-out : (service : Service) (log : Log) (e : Entry) (client : ClientNo) (seat : Seat) (tables : Tables) (lends : Lends)
-    → Sound service log None tables → Others service log e client.0 tables → tables.seats client.0 ≡ Some seat → LendsSound service (log ++ e ∷ []) lends
-    → Apart client.0 tables.lends lends → Traces tables.lends lends → ((link : LinkId) → IsOpen link (log ++ e ∷ []) → IsOpen link log)
-    → Sound service (log ++ e ∷ []) (Some (record { client = client.0; link = seat.link })) (without_seat client (with_lends lends tables))
-taken-out service log e client seat tables lends sound others is stands apart traces opens = moved service log e client.0
-    (Some (record { client = client.0; link = seat.link })) tables (set tables.seats client.0 None) lends sound others (record {
-      others = λ k differs. set-other tables.seats client.0 k None differs;
-      seat = λ other at. cc (set-same tables.seats client.0 None, at);
-      away = λ none. inl refl;
-      numbers = λ other there at of. grind (arith, common_steps, some-same);
-      known = λ other opened. inl (opens other opened);
-      from = λ other lent row. inl (traces.from other lent row);
-      to = traces.to;
-      closed = traces.closed;
-      closes = traces.closes;
-      lends = stands;
-      apart = apart;
-    })

@@ -1,5 +1,3 @@
-pub mod Replied
-pub mod Rows
 pub mod Seats
 pub mod Tables
 pub mod World

@@ -14,7 +14,8 @@ use Rattle.mx_wire.specs.declared.entry.Entry.TheVariants as entry
 -- A client comes.
 
 abbrev pub admitted : ClientNo → LinkId → (salt : List ℕ) → Setup → Tables → Tables
-admitted client link salt setup tables = with_number link client (with_seat client (record { link = link; session = new_session client salt setup true }) tables)
+admitted client link salt setup tables = with_number link client
+    (with_seat client (record { link = link; session = new_session client salt setup true }) tables)
 
 abbrev pub refused : LinkId → Tables → Tables
 refused link tables = to_part (record { link = link; bytes = spelling 0 too_many_connections; is_client = true }) tables
@@ -25,13 +26,15 @@ admitted_if false client link salt setup tables = refused link tables
 
 abbrev pub comes : Port → Setup → LinkId → (salt : List ℕ) → Tables → Tables
 comes Traffic setup link salt tables =
-    admitted_if (nat_lt tables.here setup.max_clients) (record { 0 = counted tables.came }) link salt setup (record tables { came = counted tables.came; here = counted tables.here })
+    admitted_if (nat_lt tables.here setup.max_clients) (record { 0 = counted tables.came }) link salt setup
+    (record tables { came = counted tables.came; here = counted tables.here })
 comes Admin setup link salt tables = to_part (record { link = link; bytes = []; is_client = false }) (record tables { came = counted tables.came })
 
 -- A client's session goes on: its query is asked for, and where it ends nothing more is.
 
 abbrev pub asking : ClientNo → Option Account → Option Query → Lends → Lends
-asking client (Some account) (Some query) lends = asked client (record { ordinal = query.ordinal; first = query.first; packets = query.packets; account = account }) lends
+asking client (Some account) (Some query) lends =
+    asked client (record { ordinal = query.ordinal; first = query.first; packets = query.packets; account = account }) lends
 asking client _ _ lends = lends
 
 abbrev pub leaving : (ends : Bool) → ClientNo → Lends → Lends
