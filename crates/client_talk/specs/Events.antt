@@ -20,10 +20,6 @@ said setup bytes session = said_in session.phase setup bytes session
 
 -- The query in work is answered by these packets, and what was kept is taken.
 
-abbrev pub at_rest : Phase → Phase
-at_rest (phase.Working account) = phase.Idle account
-at_rest other = other
-
 abbrev pub rested : Account → (packets : List ℕ) → Session → Session
 rested account packets session = record (told packets session) { phase = phase.Idle account }
 

@@ -1,5 +1,5 @@
 -- A client's session, and what is asked of it.
-use Rattle.std.specs.Prelude.{Bool, List, None, Option, Some, false, length, nat_eq, true, ℕ, ◌&&◌}
+use Rattle.std.specs.Prelude.{Bool, List, None, Option, Some, false, length, nat_eq, not, true, ℕ, ◌&&◌}
 use Rattle.{client_session.specs.Errors.too_many_connections, client_session.specs.Setups.Setup, client_side.specs.Client.new_client}
 use Rattle.{client_side.specs.Client.told_first, client_talk.specs.declared.session.Phase.Phase, client_talk.specs.declared.session.Session.Session}
 use Rattle.{mx_base.specs.declared.names.ClientNo.ClientNo, packet_frame.specs.Packets.spelling, server_side.specs.Account.Account}
@@ -17,18 +17,13 @@ account_in (phase.Idle account) = Some account
 account_in (phase.Working account) = Some account
 account_in _ = None
 
-abbrev pub is_working : Phase → Bool
-is_working (phase.Working account) = true
-is_working _ = false
-
--- more of it is read
-abbrev pub is_read : Phase → Bool
-is_read phase.Ending = false
-is_read _ = true
-
 abbrev pub is_ending : Phase → Bool
 is_ending phase.Ending = true
 is_ending _ = false
+
+-- more of it is read
+abbrev pub is_read : Phase → Bool
+is_read at = not (is_ending at)
 
 -- it ends, and all was written to it
 abbrev pub is_finished : Session → Bool

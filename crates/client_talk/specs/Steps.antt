@@ -2,7 +2,7 @@
 use Rattle.client_session.specs.declared.refusal.Refusal.TheVariants.{MalformedCommand, NoServer, UnknownCommand}
 use Rattle.client_session.specs.{Answers.fault_error, Errors.access_denied, Errors.own_ok, Refusals.payload_of, Setups.Setup, Setups.has_server}
 use Rattle.client_side.specs.Client.{counted, login_of, past_message}
-use Rattle.client_side.specs.{Steps.Next, Steps.next_of, declared.step.ClientFault.ClientFault, declared.step.ClientStep.ClientStep}
+use Rattle.client_side.specs.{Steps.Next, Steps.next_of, declared.step.ClientStep.ClientStep}
 use Rattle.client_talk.specs.declared.asked.Asked.TheVariants.{Ping, Query, Quit, Refused}
 use Rattle.client_talk.specs.declared.step.Turn.TheVariants.{More, Rests, Work}
 use Rattle.client_talk.specs.{declared.asked.Asked.Asked, declared.session.Phase.Phase, declared.session.Session.Session, declared.step.Turn.Turn}
@@ -17,17 +17,14 @@ use Rattle.client_talk.specs.declared.session.Phase.TheVariants as phase
 
 -- What a message asks for.
 
--- a query, where there is a server for it
-abbrev pub query_if : (has_server : Bool) → Asked
-query_if has_server = if has_server then Query else Refused NoServer
-
+-- a query is one where there is a server for it
 abbrev pub asked_by : (has_server : Bool) → Result Meaning CommandFault → Asked
 asked_by has_server (Err fault) = Refused MalformedCommand
-asked_by has_server (Ok (Queries text)) = query_if has_server
-asked_by has_server (Ok (Chooses schema)) = query_if has_server
-asked_by has_server (Ok (Lists rest)) = query_if has_server
 asked_by has_server (Ok Pings) = Ping
 asked_by has_server (Ok Quits) = Quit
+asked_by has_server (Ok (Queries text)) = if has_server then Query else Refused NoServer
+asked_by has_server (Ok (Chooses schema)) = if has_server then Query else Refused NoServer
+asked_by has_server (Ok (Lists rest)) = if has_server then Query else Refused NoServer
 asked_by has_server (Ok _) = Refused UnknownCommand
 
 abbrev pub asked_of : (has_server : Bool) → (payload : List ℕ) → Asked
@@ -60,12 +57,9 @@ abbrev pub admitted : Account → (first : ℕ) → Session → Session
 admitted account first session =
     record { client = record (told (spelling first own_ok) session).client { stage = stage.Commands }; phase = phase.Idle account }
 
-abbrev pub denied : Response → (first : ℕ) → Session → Session
-denied response first session = ended (told (spelling first (access_denied response.user)) session)
-
 abbrev pub logs_in_as : Option Account → Response → (first : ℕ) → Session → Step
 logs_in_as (Some account) response first session = goes (admitted account first session)
-logs_in_as None response first session = stops (denied response first session)
+logs_in_as None response first session = stops (ended (told (spelling first (access_denied response.user)) session))
 
 abbrev pub logs_in : Setup → Option Response → (first : ℕ) → Session → Step
 logs_in setup None first session = stops session
@@ -88,12 +82,9 @@ abbrev pub at_work : Phase → Phase
 at_work (phase.Idle account) = phase.Working account
 at_work other = other
 
-abbrev pub started : Framed → Session → Session
-started message session = record (past message session) { phase = at_work session.phase }
-
 abbrev pub works : Framed → (ordinal first : ℕ) → Session → Step
 works message ordinal first session = record {
-  session = started message session;
+  session = record (past message session) { phase = at_work session.phase };
   turn = Work (record { ordinal = ordinal; first = first; packets = spelling 0 message.payload });
 }
 
@@ -109,15 +100,12 @@ arrives setup (Some message) ordinal first session = arrives_as (asked_of (has_s
 
 -- What the client says next.
 
--- what came is nothing that may: the error is the last that the client is told
-abbrev pub refused : (limit : ℕ) → ClientFault → (first : ℕ) → Session → Session
-refused limit fault first session = ended (told (spelling first (fault_error limit fault)) session)
-
+-- where that is nothing that may come, the error is the last that the client is told
 abbrev pub step_by : Setup → ClientStep → Session → Step
 step_by setup says.Nothing session = stops session
 step_by setup (says.Login first) session = logs_in setup (login_of session.client.stage) first session
 step_by setup (says.Message ordinal first) session = arrives setup session.client.framer.found ordinal first session
-step_by setup (says.Refused first fault) session = stops (refused setup.limit fault first session)
+step_by setup (says.Refused first fault) session = stops (ended (told (spelling first (fault_error setup.limit fault)) session))
 
 abbrev pub stepped : Setup → Next → Phase → Step
 stepped setup next at = step_by setup next.step (record { client = next.client; phase = at })

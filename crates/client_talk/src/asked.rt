@@ -1,6 +1,6 @@
 // What a client's message asks for.
 ghost use Rattle.std.specs.Prelude.{◌≡◌};
-ghost use Rattle.client_talk.specs.Steps.{query_if, asked_of};
+ghost use Rattle.client_talk.specs.Steps.{asked_of};
 
 use client_session::Refusal;
 use command_parse::{Command, parse};
@@ -18,25 +18,18 @@ pub enum Asked {
     Refused(Refusal),
 }
 
-// A query, where there is a server for it.
-fn query_if(has_server: bool) -> Asked
-    ensures { result ≡ query_if has_server }
-{
-    if has_server {
-        Asked::Query
-    } else {
-        Asked::Refused(Refusal::NoServer)
-    }
-}
-
 /// What a message with this payload asks for, where there is a server or where there is none.
 pub fn asked_of(payload: &[u8], has_server: bool) -> Asked
     ensures { result ≡ asked_of has_server payload.now }
 {
     match parse(payload, None) {
-        Ok(Command::Query { .. }) => query_if(has_server),
-        Ok(Command::InitDb { .. }) => query_if(has_server),
-        Ok(Command::FieldList { .. }) => query_if(has_server),
+        Ok(Command::Query { .. } | Command::InitDb { .. } | Command::FieldList { .. }) => {
+            if has_server {
+                Asked::Query
+            } else {
+                Asked::Refused(Refusal::NoServer)
+            }
+        }
         Ok(Command::Ping) => Asked::Ping,
         Ok(Command::Quit) => Asked::Quit,
         Ok(_) => Asked::Refused(Refusal::UnknownCommand),

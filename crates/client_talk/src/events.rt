@@ -1,7 +1,7 @@
 // The events of a session.
 ghost use Rattle.std.specs.Prelude.{◌≡◌, ◌≤◌, length, IfOk};
 ghost use Rattle.client_talk.specs.Steps.{ended};
-ghost use Rattle.client_talk.specs.Events.{said, answered, at_rest, taken};
+ghost use Rattle.client_talk.specs.Events.{said, answered, taken};
 
 use crate::going::go_on;
 use crate::query::Query;
@@ -38,16 +38,6 @@ pub fn said(
     }
 }
 
-// No query is in work.
-fn at_rest(phase: &mut Phase)
-    ensures { phase.new ≡ at_rest phase.old }
-{
-    match mem::replace(phase, Phase::Ending) {
-        Phase::Working(account) => *phase = Phase::Idle(account),
-        other => *phase = other,
-    }
-}
-
 /// The query in work is answered by these packets, whose sequence ids go on from the query's `first`; and what is kept is taken, as by
 /// `said`. Where none is in work nothing changes. After OutOfMemory nothing is promised of the session.
 pub fn answered(
@@ -58,13 +48,16 @@ pub fn answered(
 ) -> Result<Option<Query>, OutOfMemory>
     ensures { IfOk result (λ query. record { session = session.new; query = query } ≡ answered setup.now packets.now session.old) }
 {
-    match session.phase {
-        Phase::Working(_) => {
+    match mem::replace(&mut session.phase, Phase::Ending) {
+        Phase::Working(account) => {
+            session.phase = Phase::Idle(account);
             tell(session, packets)?;
-            at_rest(&mut session.phase);
             go_on(alloc, session, setup)
         }
-        _ => Ok(None),
+        other => {
+            session.phase = other;
+            Ok(None)
+        }
     }
 }
 

@@ -1,7 +1,7 @@
 // How far a session is.
 ghost use Rattle.std.specs.Prelude.{◌≡◌};
 ghost use Rattle.std.specs.Option.{option_copied};
-ghost use Rattle.client_talk.specs.Sessions.{account_in, is_working, is_read, is_finished};
+ghost use Rattle.client_talk.specs.Sessions.{account_in, is_read, is_finished};
 
 use crate::session::{Phase, Session};
 use server_side::Account;
@@ -18,13 +18,6 @@ pub fn is_read(session: &Session) -> bool
     ensures { result ≡ is_read session.now.phase }
 {
     !matches!(session.phase, Phase::Ending)
-}
-
-/// Whether a query of the client is in work.
-pub fn is_working(session: &Session) -> bool
-    ensures { result ≡ is_working session.now.phase }
-{
-    matches!(session.phase, Phase::Working(_))
 }
 
 /// Whether the session ends and all was written to the client: its link is to be closed.

@@ -3,9 +3,8 @@ ghost use Rattle.std.specs.Prelude.{◌≡◌, IsSome, IfSome, OnOk, IfOk};
 ghost use Rattle.packet_frame.specs.Packets.{spelling};
 ghost use Rattle.client_side.specs.declared.stage.Stage.TheVariants.{Commands};
 ghost use Rattle.client_side.specs.Client.{login_of};
-ghost use Rattle.client_session.specs.Errors.{own_ok};
-ghost use Rattle.client_session.specs.Refusals.{payload_of};
-ghost use Rattle.client_talk.specs.Steps.{told, ended, admitted, past, answers, at_work, started, works, arrives, arrives_as, logs_in, refused, step};
+ghost use Rattle.client_session.specs.Answers.{fault_error};
+ghost use Rattle.client_talk.specs.Steps.{told, ended, admitted, past, at_work, works, arrives, logs_in, step};
 
 use crate::asked::{Asked, asked_of};
 use crate::query::Query;
@@ -101,33 +100,6 @@ fn answer(session: &mut Session, packets: &[u8]) -> Result<(), OutOfMemory>
     Ok(())
 }
 
-// The message that was found is a ping.
-fn pong(alloc: Global, session: &mut Session, first: u8) -> Result<(), OutOfMemory>
-    requires found { IsSome session.old.client.framer.found }
-    requires commands { session.old.client.stage ≡ Commands }
-    ensures { OnOk result (IfSome session.old.client.framer.found (λ message. session.new ≡ answers message first own_ok session.old)) }
-{
-    let mut packet = Vec::new(alloc);
-    write_own_ok(&mut packet, first)?;
-    answer(session, &packet)
-}
-
-// The message that was found is answered by an error.
-fn refuse(
-    alloc: Global,
-    session: &mut Session,
-    first: u8,
-    refusal: Refusal,
-) -> Result<(), OutOfMemory>
-    requires found { IsSome session.old.client.framer.found }
-    requires commands { session.old.client.stage ≡ Commands }
-    ensures { OnOk result (IfSome session.old.client.framer.found (λ message. session.new ≡ answers message first (payload_of refusal) session.old)) }
-{
-    let mut packet = Vec::new(alloc);
-    write_refusal(alloc, &mut packet, first, refusal)?;
-    answer(session, &packet)
-}
-
 // A query is in work from now on.
 fn at_work(phase: &mut Phase)
     ensures { phase.new ≡ at_work phase.old }
@@ -170,7 +142,9 @@ fn arrive(
     match asked_of(session.client.payload(), setup.has_server()) {
         Asked::Query => start(alloc, session, ordinal, first),
         Asked::Ping => {
-            pong(alloc, session, first)?;
+            let mut packet = Vec::new(alloc);
+            write_own_ok(&mut packet, first)?;
+            answer(session, &packet)?;
             Ok(Turn::More)
         }
         Asked::Quit => {
@@ -178,7 +152,9 @@ fn arrive(
             Ok(Turn::Rests)
         }
         Asked::Refused(refusal) => {
-            refuse(alloc, session, first, refusal)?;
+            let mut packet = Vec::new(alloc);
+            write_refusal(alloc, &mut packet, first, refusal)?;
+            answer(session, &packet)?;
             Ok(Turn::More)
         }
     }
@@ -192,7 +168,7 @@ fn give_up(
     fault: ClientFault,
     limit: u64,
 ) -> Result<(), OutOfMemory>
-    ensures { OnOk result (session.new ≡ refused limit fault first session.old) }
+    ensures { OnOk result (session.new ≡ ended (told (spelling first (fault_error limit fault)) session.old)) }
 {
     let refusal = match fault {
         ClientFault::Hand(_) => Refusal::BadHandshake,

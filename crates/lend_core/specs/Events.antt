@@ -1,7 +1,8 @@
 -- What each event makes of the links and of the commands.
+use Rattle.std.specs.Option.{option_map_or}
 use Rattle.lend_core.specs.Changes.{owns, owns_none, to_close, waits_no_more, with_link, without_ask, without_first, without_link}
-use Rattle.lend_core.specs.Decisions.{failed, offered, queued, quietly, refused_owner, told_by}
-use Rattle.std.specs.Prelude.{Bool, List, None, Option, Some, [], false, length, true, ℕ, ◌∷◌}
+use Rattle.lend_core.specs.Decisions.{due_on, failed, offered, queued, quietly, refused, told_by}
+use Rattle.std.specs.Prelude.{Bool, List, None, Option, Some, [], false, if◌then◌else◌, length, true, ℕ, ◌∷◌}
 use Rattle.client_session.specs.declared.refusal.Refusal.TheVariants.{ConnectionLost}
 use Rattle.lend_core.specs.{Lends.Lends, Lends.Told, Lends.oldest, declared.ask.Ask.Ask, declared.lent.Lent.Lent}
 use Rattle.mx_base.specs.{Sent.Sent, declared.names.ClientNo.ClientNo, declared.names.LinkId.LinkId}
@@ -9,13 +10,10 @@ use Rattle.server_side.specs.{Backend.is_begun, Backend.left, Backend.new_backen
 
 -- A command comes up.
 
-abbrev pub asked_on : ClientNo → Ask → LinkId → Option Lent → Lends → Lends
-asked_on client ask link None lends = queued client ask lends
-asked_on client ask link (Some lent) lends = offered client ask link lent lends
-
 abbrev pub asked_by : ClientNo → Ask → Option LinkId → Lends → Lends
 asked_by client ask None lends = queued client ask lends
-asked_by client ask (Some link) lends = asked_on client ask link (lends.links link.0) (without_link link lends)
+asked_by client ask (Some link) lends = option_map_or (λ (lent : Lent). offered client ask link lent (without_link link lends))
+    (lends.links link.0) (queued client ask (without_link link lends))
 
 -- the client's link takes it, or it is kept until the login there is done; without a link it waits for one
 abbrev pub asked : ClientNo → Ask → Lends → Lends
@@ -23,13 +21,10 @@ asked client ask lends = asked_by client ask (lends.owned client.0) lends
 
 -- A link is opened.
 
-abbrev pub opened_with : LinkId → ClientNo → Option Ask → Lends → Lends
-opened_with link client None lends = to_close link lends
-opened_with link client (Some ask) lends = owns client link (with_link link (record { owner = Some client; backend = new_backend ask.account }) lends)
-
 abbrev pub opened_for : LinkId → Option ClientNo → Lends → Lends
 opened_for link None lends = to_close link lends
-opened_for link (Some client) lends = opened_with link client (lends.asks client.0) lends
+opened_for link (Some client) lends = option_map_or (λ (ask : Ask). owns client link
+    (with_link link (record { owner = Some client; backend = new_backend ask.account }) lends)) (lends.asks client.0) (to_close link lends)
 
 -- it is the first's that waits, whose account logs in there
 abbrev pub opened : LinkId → Lends → Lends
@@ -37,45 +32,30 @@ opened link lends = opened_for link (oldest lends.waiting) (without_first lends)
 
 -- the first that waits is answered by 9103
 abbrev pub open_failed : Lends → Told
-open_failed lends = refused_owner (oldest lends.waiting) (without_first lends)
+open_failed lends = refused (oldest lends.waiting) (without_first lends)
 
 -- Bytes come on a link, or it is lost. Its row is taken out, and put back where the link stays.
 
-abbrev pub heard_on : LinkId → (piece : List ℕ) → Option Lent → Lends → Told
-heard_on link piece None lends = quietly lends
-heard_on link piece (Some lent) lends = told_by link lent (length piece) (got_of piece lent.backend) lends
-
 abbrev pub heard : LinkId → (piece : List ℕ) → Lends → Told
-heard link piece lends = heard_on link piece (lends.links link.0) (without_link link lends)
-
-abbrev pub lost_on : LinkId → Option Lent → Lends → Told
-lost_on link None lends = quietly lends
-lost_on link (Some lent) lends = failed link lent ConnectionLost lends
+heard link piece lends = option_map_or (λ (lent : Lent). told_by link (due_on lent.backend) lent (length piece) (got_of piece lent.backend)
+    (without_link link lends)) (lends.links link.0) (quietly (without_link link lends))
 
 -- a command that is begun there is answered by 9101
 abbrev pub lost : LinkId → Lends → Told
-lost link lends = lost_on link (lends.links link.0) (without_link link lends)
+lost link lends = option_map_or (λ (lent : Lent). failed link (due_on lent.backend) lent ConnectionLost (without_link link lends))
+    (lends.links link.0) (quietly (without_link link lends))
 
 -- A client has gone.
 
-abbrev pub left_at : (begun : Bool) → LinkId → Lent → Lends → Lends
-left_at true link lent lends = with_link link (record lent { owner = None }) lends
-left_at false link lent lends = to_close link lends
-
-abbrev pub left_on : LinkId → Option Lent → Lends → Lends
-left_on link None lends = lends
-left_on link (Some lent) lends = left_at (is_begun lent.backend.command) link lent lends
-
 abbrev pub left_by : Option LinkId → Lends → Lends
 left_by None lends = lends
-left_by (Some link) lends = left_on link (lends.links link.0) (without_link link lends)
-
-abbrev pub left_own : ClientNo → Lends → Lends
-left_own client lends = left_by (lends.owned client.0) (owns_none client lends)
+left_by (Some link) lends = option_map_or (λ (lent : Lent). if is_begun lent.backend.command
+    then with_link link (record lent { owner = None }) (without_link link lends) else to_close link (without_link link lends))
+    (lends.links link.0) (without_link link lends)
 
 -- its command is dropped, and its link is closed, unless a reply is due there, which is read first
 abbrev pub gone : ClientNo → Lends → Lends
-gone client lends = left_own client (waits_no_more client (without_ask client lends))
+gone client lends = left_by (lends.owned client.0) (owns_none client (waits_no_more client (without_ask client lends)))
 
 -- What the router does.
 

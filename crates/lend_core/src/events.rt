@@ -1,13 +1,13 @@
 // What happens on the links to servers.
 ghost use Rattle.std.specs.Prelude.{◌≡◌, IfOk};
-ghost use Rattle.lend_core.specs.Decisions.{error_packets, answer_for};
+ghost use Rattle.lend_core.specs.Decisions.{error_packets};
 
 use crate::ask::{Answered, Ask};
 use crate::lender::Lender;
-use crate::lent::{Due, Lent, News, command_on, due_on, hear_on, may_stay, takes_command};
+use crate::lent::{Due, Lent, command_on, due_on, may_stay, takes_command};
 use client_session::{Refusal, write_refusal};
 use mx_base::{Bytes, ClientNo, LinkId, OutOfMemory, Tag};
-use server_side::{Backend, Unsent};
+use server_side::{Backend, BackendFault, Heard, Unsent};
 use std::alloc::Global;
 
 // An error of the router's own, as packets from the sequence id `first` on.
@@ -19,63 +19,29 @@ fn error_packets(alloc: Global, first: u8, refusal: Refusal) -> Result<Bytes, Ou
     Ok(Bytes::from_vec(packets))
 }
 
-// The owner of a link is answered, unless it has gone.
-fn answer_for(owner: Option<ClientNo>, packets: Bytes) -> Option<Answered>
-    ensures { result ≡ answer_for owner packets }
-{
-    match owner {
-        Some(client) => Some(Answered { client, packets }),
-        None => None,
-    }
-}
-
-// The owner of a link is answered by an error of the router's own, unless it has gone.
-fn error_for(
-    alloc: Global,
-    owner: Option<ClientNo>,
-    first: u8,
-    refusal: Refusal,
-) -> Result<Option<Answered>, OutOfMemory>
-    ensures { IfOk result (λ answer. answer ≡ answer_for owner (error_packets first refusal)) }
-{
-    match owner {
-        Some(client) => {
-            let packets = error_packets(alloc, first, refusal)?;
-            Ok(Some(Answered { client, packets }))
-        }
-        None => Ok(None),
-    }
-}
-
 impl Lender {
-    ghost use Rattle.std.specs.Prelude.{◌≡◌, Some, length, IfOk, OnOk};
+    ghost use Rattle.std.specs.Prelude.{◌≡◌, ◌≢◌, Some, length, IfOk, OnOk};
     ghost use Rattle.std.specs.Option.{option_map};
     ghost use Rattle.server_side.specs.Backend.{new_backend};
     ghost use Rattle.server_side.specs.Hearing.{got_of};
     ghost use Rattle.lend_core.specs.declared.ask.Ask.{Ask};
     ghost use Rattle.lend_core.specs.Lends.{lends_of};
-    ghost use Rattle.lend_core.specs.Decisions.{refused, refused_owner, queued, disowned, closed, again, again_for, failed_by, logged_in, kept_or_closed, replied, told_by, due_on, offered};
-    ghost use Rattle.lend_core.specs.Events.{asked_on, asked, opened_for, opened, open_failed, heard_on, heard, lost_on, lost, left_on, left_by, left_own, gone};
-    ghost use Rattle.lend_core.specs.Decisions.{IsDue, by_news};
+    ghost use Rattle.lend_core.specs.Decisions.{refused, queued, closed, again, again_for, failed, logged_in, replied, heard_by, told_by, due_on, offered};
+    ghost use Rattle.lend_core.specs.Events.{asked, opened_for, opened, open_failed, heard, lost, left_by, gone};
+    ghost use Rattle.lend_core.specs.declared.lent.Due.TheVariants.{Nothing};
 
-    // The client's command that isn't on a link is answered: no link can be had.
-    fn refuse(&mut self, client: ClientNo) -> Result<Option<Answered>, OutOfMemory>
-        ensures { IfOk result (λ answer. record { lends = lends_of self.new; answer = answer } ≡ refused client (lends_of self.old)) }
+    // The owner's command that isn't on a link is answered: no link can be had.
+    fn refuse(&mut self, owner: Option<ClientNo>) -> Result<Option<Answered>, OutOfMemory>
+        ensures { IfOk result (λ answer. record { lends = lends_of self.new; answer = answer } ≡ refused owner (lends_of self.old)) }
     {
+        let Some(client) = owner else {
+            return Ok(None);
+        };
         match self.take_ask(client) {
             Some(ask) => {
                 let packets = error_packets(self.alloc, ask.first, Refusal::ConnectionRefused)?;
                 Ok(Some(Answered { client, packets }))
             }
-            None => Ok(None),
-        }
-    }
-
-    fn refuse_owner(&mut self, owner: Option<ClientNo>) -> Result<Option<Answered>, OutOfMemory>
-        ensures { IfOk result (λ answer. record { lends = lends_of self.new; answer = answer } ≡ refused_owner owner (lends_of self.old)) }
-    {
-        match owner {
-            Some(client) => self.refuse(client),
             None => Ok(None),
         }
     }
@@ -89,21 +55,14 @@ impl Lender {
         Ok(())
     }
 
-    // A link isn't its owner's any more.
-    fn disown(&mut self, owner: Option<ClientNo>)
-        ensures { lends_of self.new ≡ disowned owner (lends_of self.old) }
+    // The link isn't its owner's any more, and is to be closed.
+    fn drop_link(&mut self, link: LinkId, owner: Option<ClientNo>) -> Result<(), OutOfMemory>
+        ensures { OnOk result (lends_of self.new ≡ closed link owner (lends_of self.old)) }
     {
         if let Some(client) = owner {
             let _ = self.own_none(client);
         }
-    }
-
-    fn drop_link(&mut self, link: LinkId, owner: Option<ClientNo>) -> Result<(), OutOfMemory>
-        ensures { OnOk result (lends_of self.new ≡ closed link owner (lends_of self.old)) }
-    {
-        self.disown(owner);
-        self.close(link)?;
-        Ok(())
+        self.close(link)
     }
 
     // The link takes the command, or that is kept until the login there is done.
@@ -130,25 +89,10 @@ impl Lender {
     pub fn asked(&mut self, client: ClientNo, ask: Ask) -> Result<(), OutOfMemory>
         ensures { OnOk result (lends_of self.new ≡ asked client ask (lends_of self.old)) }
     {
-        match self.link_of(client) {
-            Some(link) => {
-                let lent = self.take_link(link);
-                self.ask_on(client, ask, link, lent)
-            }
-            None => self.queue(client, ask),
-        }
-    }
-
-    fn ask_on(
-        &mut self,
-        client: ClientNo,
-        ask: Ask,
-        link: LinkId,
-        lent: Option<Lent>,
-    ) -> Result<(), OutOfMemory>
-        ensures { OnOk result (lends_of self.new ≡ asked_on client ask link lent (lends_of self.old)) }
-    {
-        match lent {
+        let Some(link) = self.link_of(client) else {
+            return self.queue(client, ask);
+        };
+        match self.take_link(link) {
             Some(lent) => self.offer(client, ask, link, lent),
             None => self.queue(client, ask),
         }
@@ -173,21 +117,14 @@ impl Lender {
     fn open_for(&mut self, link: LinkId, first: Option<ClientNo>) -> Result<(), OutOfMemory>
         ensures { OnOk result (lends_of self.new ≡ opened_for link first (lends_of self.old)) }
     {
-        match first {
-            Some(client) => self.open_by(link, client),
-            None => self.close(link),
-        }
-    }
-
-    fn open_by(&mut self, link: LinkId, client: ClientNo) -> Result<(), OutOfMemory>
-        ensures { OnOk result (lends_of self.new ≡ opened_for link (Some client) (lends_of self.old)) }
-    {
+        let Some(client) = first else {
+            return self.close(link);
+        };
         match self.backend_for(client)? {
             Some(backend) => {
-                let owner = Some(client);
+                let owner = first;
                 self.put_link(link, Lent { owner, backend })?;
-                self.own(client, link)?;
-                Ok(())
+                self.own(client, link)
             }
             None => self.close(link),
         }
@@ -207,7 +144,7 @@ impl Lender {
         ensures { IfOk result (λ answer. record { lends = lends_of self.new; answer = answer } ≡ open_failed (lends_of self.old)) }
     {
         let first = self.take_first();
-        self.refuse_owner(first)
+        self.refuse(first)
     }
 
     // The command, of which no byte was written, waits for another link.
@@ -250,26 +187,20 @@ impl Lender {
         lent: Lent,
         refusal: Refusal,
     ) -> Result<Option<Answered>, OutOfMemory>
-        ensures { IfOk result (λ answer. record { lends = lends_of self.new; answer = answer } ≡ failed_by due lent.owner lent.backend refusal (closed link lent.owner (lends_of self.old))) }
+        ensures { IfOk result (λ answer. record { lends = lends_of self.new; answer = answer } ≡ failed link due lent refusal (lends_of self.old)) }
     {
         let Lent { owner, backend } = lent;
         self.drop_link(link, owner)?;
-        self.fail_by(due, owner, backend, refusal)
-    }
-
-    fn fail_by(
-        &mut self,
-        due: Due,
-        owner: Option<ClientNo>,
-        backend: Backend,
-        refusal: Refusal,
-    ) -> Result<Option<Answered>, OutOfMemory>
-        ensures { IfOk result (λ answer. record { lends = lends_of self.new; answer = answer } ≡ failed_by due owner backend refusal (lends_of self.old)) }
-    {
         let command = backend.into_unsent();
         match due {
-            Due::Login => self.refuse_owner(owner),
-            Due::Reply { first, .. } => error_for(self.alloc, owner, first, refusal),
+            Due::Login => self.refuse(owner),
+            Due::Reply { first, .. } => {
+                let Some(client) = owner else {
+                    return Ok(None);
+                };
+                let packets = error_packets(self.alloc, first, refusal)?;
+                Ok(Some(Answered { client, packets }))
+            }
             Due::Nothing => {
                 self.ask_again_for(owner, command)?;
                 Ok(None)
@@ -281,28 +212,12 @@ impl Lender {
     fn log_in(&mut self, link: LinkId, lent: Lent) -> Result<(), OutOfMemory>
         ensures { OnOk result (lends_of self.new ≡ logged_in link lent lent.owner (lends_of self.old)) }
     {
-        match lent.owner {
-            Some(client) => self.log_in_for(link, lent, client),
-            None => self.put_link(link, lent),
-        }
-    }
-
-    fn log_in_for(&mut self, link: LinkId, lent: Lent, client: ClientNo) -> Result<(), OutOfMemory>
-        ensures { OnOk result (lends_of self.new ≡ logged_in link lent (Some client) (lends_of self.old)) }
-    {
+        let Some(client) = lent.owner else {
+            return self.put_link(link, lent);
+        };
         match self.take_ask(client) {
             Some(ask) => self.offer(client, ask, link, lent),
             None => self.put_link(link, lent),
-        }
-    }
-
-    fn keep_or_drop(&mut self, stays: bool, link: LinkId, lent: Lent) -> Result<(), OutOfMemory>
-        ensures { OnOk result (lends_of self.new ≡ kept_or_closed stays link lent (lends_of self.old)) }
-    {
-        if stays {
-            self.put_link(link, lent)
-        } else {
-            self.drop_link(link, lent.owner)
         }
     }
 
@@ -314,43 +229,47 @@ impl Lender {
         ended: bool,
         lent: Lent,
     ) -> Result<Option<Answered>, OutOfMemory>
-        ensures { IfOk result (λ answer. record { lends = lends_of self.new; answer = answer } ≡ replied link due ended lent.owner lent.backend (lends_of self.old)) }
+        ensures { IfOk result (λ answer. record { lends = lends_of self.new; answer = answer } ≡ replied link due ended lent (lends_of self.old)) }
     {
         let Lent { owner, mut backend } = lent;
         let stays = may_stay(due, ended, owner);
         let packets = backend.take_reply();
-        self.keep_or_drop(stays, link, Lent { owner, backend })?;
-        Ok(answer_for(owner, packets))
+        if stays {
+            self.put_link(link, Lent { owner, backend })?;
+        } else {
+            self.drop_link(link, owner)?;
+        }
+        match owner {
+            Some(client) => Ok(Some(Answered { client, packets })),
+            None => Ok(None),
+        }
     }
 
-    // What a piece told is taken.
+    // A piece of so many bytes told this.
     fn tell(
         &mut self,
         link: LinkId,
         due: Due,
-        news: News,
+        size: usize,
+        heard: Heard,
         lent: Lent,
     ) -> Result<Option<Answered>, OutOfMemory>
-        ensures { IfOk result (λ answer. record { lends = lends_of self.new; answer = answer } ≡ by_news link due news lent (lends_of self.old)) }
+        ensures { IfOk result (λ answer. record { lends = lends_of self.new; answer = answer } ≡ heard_by link due size heard lent (lends_of self.old)) }
     {
-        match news {
-            News::GoesOn => {
+        match heard {
+            Heard::Quiet | Heard::Part { .. } => {
                 self.put_link(link, lent)?;
                 Ok(None)
             }
-            News::LoggedIn => {
+            Heard::LoggedIn => {
                 self.log_in(link, lent)?;
                 Ok(None)
             }
-            News::Replied { is_last } => self.reply(link, due, is_last, lent),
-            News::Failed { at } => {
-                self.fail(link, due, lent, Refusal::BadServerBytes { place: at })
-            }
+            Heard::Whole { used } => self.reply(link, due, used == size, lent),
         }
     }
 
     // A piece of a login or of a reply comes.
-    #[tactic(auto, using(crate::proofs::Told::news_told))]
     fn hear_due(
         &mut self,
         link: LinkId,
@@ -358,13 +277,20 @@ impl Lender {
         lent: Lent,
         bytes: &mut [u8],
     ) -> Result<Option<Answered>, OutOfMemory>
-        requires some { IsDue due }
-        requires is { due ≡ due_on lent.backend }
-        ensures { IfOk result (λ answer. record { lends = lends_of self.new; answer = answer } ≡ told_by link lent (length bytes.old) (got_of bytes.old lent.backend) (lends_of self.old)) }
+        requires { due ≢ Nothing }
+        ensures { IfOk result (λ answer. record { lends = lends_of self.new; answer = answer } ≡ told_by link due lent (length bytes.old) (got_of bytes.old lent.backend) (lends_of self.old)) }
     {
         let Lent { owner, mut backend } = lent;
-        let news = hear_on(&mut backend, bytes)?;
-        self.tell(link, due, news, Lent { owner, backend })
+        let place = match backend.got(bytes) {
+            Ok(heard) => {
+                return self.tell(link, due, bytes.len(), heard, Lent { owner, backend });
+            }
+            Err(BackendFault::OutOfMemory) => return Err(OutOfMemory),
+            Err(BackendFault::BadBytes { at }) => at,
+            Err(_) => 0,
+        };
+        let refusal = Refusal::BadServerBytes { place };
+        self.fail(link, due, Lent { owner, backend }, refusal)
     }
 
     // A piece comes. Where nothing is due it can't be a part of anything.
@@ -374,7 +300,7 @@ impl Lender {
         lent: Lent,
         bytes: &mut [u8],
     ) -> Result<Option<Answered>, OutOfMemory>
-        ensures { IfOk result (λ answer. record { lends = lends_of self.new; answer = answer } ≡ told_by link lent (length bytes.old) (got_of bytes.old lent.backend) (lends_of self.old)) }
+        ensures { IfOk result (λ answer. record { lends = lends_of self.new; answer = answer } ≡ told_by link (due_on lent.backend) lent (length bytes.old) (got_of bytes.old lent.backend) (lends_of self.old)) }
     {
         match due_on(&lent.backend) {
             Due::Nothing => {
@@ -385,37 +311,13 @@ impl Lender {
         }
     }
 
-    fn hear_in(
-        &mut self,
-        link: LinkId,
-        lent: Option<Lent>,
-        bytes: &mut [u8],
-    ) -> Result<Option<Answered>, OutOfMemory>
-        ensures { IfOk result (λ answer. record { lends = lends_of self.new; answer = answer } ≡ heard_on link bytes.old lent (lends_of self.old)) }
-    {
-        match lent {
-            Some(lent) => self.hear(link, lent, bytes),
-            None => Ok(None),
-        }
-    }
-
     /// Bytes come on a link: of the login, or of the reply to a command of which a byte was written. The reply, once it is whole, is
     /// the answer; a login that fails is answered by error 9103, and bytes that are no reply by 9110.
     pub fn heard(&mut self, link: LinkId, bytes: &mut [u8]) -> Result<Option<Answered>, OutOfMemory>
         ensures { IfOk result (λ answer. record { lends = lends_of self.new; answer = answer } ≡ heard link bytes.old (lends_of self.old)) }
     {
-        let lent = self.take_link(link);
-        self.hear_in(link, lent, bytes)
-    }
-
-    fn lose(&mut self, link: LinkId, lent: Option<Lent>) -> Result<Option<Answered>, OutOfMemory>
-        ensures { IfOk result (λ answer. record { lends = lends_of self.new; answer = answer } ≡ lost_on link lent (lends_of self.old)) }
-    {
-        match lent {
-            Some(lent) => {
-                let due = due_on(&lent.backend);
-                self.fail(link, due, lent, Refusal::ConnectionLost)
-            }
+        match self.take_link(link) {
+            Some(lent) => self.hear(link, lent, bytes),
             None => Ok(None),
         }
     }
@@ -425,49 +327,28 @@ impl Lender {
     pub fn lost(&mut self, link: LinkId) -> Result<Option<Answered>, OutOfMemory>
         ensures { IfOk result (λ answer. record { lends = lends_of self.new; answer = answer } ≡ lost link (lends_of self.old)) }
     {
-        let lent = self.take_link(link);
-        self.lose(link, lent)
+        match self.take_link(link) {
+            Some(lent) => {
+                let due = due_on(&lent.backend);
+                self.fail(link, due, lent, Refusal::ConnectionLost)
+            }
+            None => Ok(None),
+        }
     }
 
-    fn leave_at(&mut self, link: LinkId, lent: Lent) -> Result<(), OutOfMemory>
-        ensures { OnOk result (lends_of self.new ≡ left_on link (Some lent) (lends_of self.old)) }
+    // The link, which was a client's own, is to be closed, unless a reply is due there.
+    fn leave(&mut self, link: LinkId) -> Result<(), OutOfMemory>
+        ensures { OnOk result (lends_of self.new ≡ left_by (Some link) (lends_of self.old)) }
     {
-        let Lent { backend, .. } = lent;
+        let Some(Lent { backend, .. }) = self.take_link(link) else {
+            return Ok(());
+        };
         if backend.is_begun() {
             let owner = None;
             self.put_link(link, Lent { owner, backend })
         } else {
             self.close(link)
         }
-    }
-
-    fn leave_on(&mut self, link: LinkId, lent: Option<Lent>) -> Result<(), OutOfMemory>
-        ensures { OnOk result (lends_of self.new ≡ left_on link lent (lends_of self.old)) }
-    {
-        match lent {
-            Some(lent) => self.leave_at(link, lent),
-            None => Ok(()),
-        }
-    }
-
-    fn leave(&mut self, link: Option<LinkId>) -> Result<(), OutOfMemory>
-        ensures { OnOk result (lends_of self.new ≡ left_by link (lends_of self.old)) }
-    {
-        match link {
-            Some(link) => {
-                let lent = self.take_link(link);
-                self.leave_on(link, lent)
-            }
-            None => Ok(()),
-        }
-    }
-
-    // The client's link, which isn't its own any more.
-    fn leave_own(&mut self, client: ClientNo) -> Result<(), OutOfMemory>
-        ensures { OnOk result (lends_of self.new ≡ left_own client (lends_of self.old)) }
-    {
-        let link = self.own_none(client);
-        self.leave(link)
     }
 
     /// A client has gone. Its command that isn't on a link is dropped, and its link is closed, unless a byte of a command was written
@@ -477,6 +358,9 @@ impl Lender {
     {
         let _ = self.take_ask(client);
         self.wait_no_more(client);
-        self.leave_own(client)
+        match self.own_none(client) {
+            Some(link) => self.leave(link),
+            None => Ok(()),
+        }
     }
 }

@@ -1,30 +1,20 @@
 -- Why commands are refused, and whose links are whose.
-use Rattle.std.specs.Prelude.{◌≡◌, ◌⊎◌, ℕ, zero, suc, Bool, true, false, nat_eq, ◌&&◌, ◌||◌, is_some, cond, List, [], ◌∷◌, ◌++◌, length, slice_get, Option, Some, None, refl}
-use Rattle.std.specs.Option.{option_and_then}
-use Rattle.std.specs.List.{cons_option, list_any}
-use Rattle.std.proofs.Common.{sym, ◌∙◌, ap, subst, inl, inr}
+use Rattle.{command_parse.specs.Meaning.parsed, exchange.specs.Logins.login_fails, mx_base.specs.declared.names.LinkId.LinkId}
+use Rattle.{mx_base.specs.declared.names.Port.Port, mx_wire.specs.declared.entry.Entry.Entry, packet_frame.specs.PacketLaws.nat_eq-true}
+use Rattle.{packet_frame.specs.Packets.Framed, promises.proofs.InWork.query-answer, promises.proofs.InWork.refused-more, server_side.specs.Account.Account}
+use Rattle.client_session.{specs.Answers.is_query, specs.Errors.connection_refused, specs.Errors.no_server}
+use Rattle.client_session.specs.Arrivals.{Arrival, arrival_in, arrival_of, arrivals_behind, connected}
+use Rattle.mx_wire.specs.{Growth.same_number, Log.Log, Log.is_link, Log.link_of, Log.of_link, Moments.AllLawful, Moments.lawful-each, Tells.Fits, Tells.IsNew}
+use Rattle.mx_wire.specs.declared.entry.Entry.TheVariants.{Accepted, OpenFailed, Opened}
+use Rattle.promises.specs.Due.{answer, answer_by, answer_when, due_at, message_of, query_answer, reply_to, route, server_of}
+use Rattle.promises.specs.Follows.{BreaksOff, Cause, NotLoggedIn, NotOpened}
+use Rattle.promises.specs.Owners.{if_failed, is_refused, is_unsent, refused, refused_by, refused_for, refused_on, user_of}
+use Rattle.promises.specs.Service.{Service, Turn, open_tries, open_try, turn_by, turn_of}
+use Rattle.std.proofs.Common.{ap, inl, inr, subst, sym, ◌∙◌}
 use Rattle.std.proofs.lemmas.List.Folds.{list_any-append}
-use Rattle.mx_base.specs.declared.names.LinkId.{LinkId}
-use Rattle.mx_base.specs.declared.names.Port.{Port}
-use Rattle.mx_wire.specs.Log.{Log, link_of, is_link, of_link}
-use Rattle.mx_wire.specs.Tells.{IsNew, Fits}
-use Rattle.mx_wire.specs.Moments.{AllLawful, lawful-each}
-use Rattle.mx_wire.specs.Growth.{same_number}
-use Rattle.mx_wire.specs.declared.entry.Entry.{Entry}
-use Rattle.mx_wire.specs.declared.entry.Entry.TheVariants.{Opened, OpenFailed, Accepted}
-use Rattle.packet_frame.specs.PacketLaws.{nat_eq-true}
-use Rattle.packet_frame.specs.Packets.{Framed}
-use Rattle.command_parse.specs.Meaning.{parsed}
-use Rattle.server_side.specs.Account.{Account}
-use Rattle.client_session.specs.Answers.{is_query}
-use Rattle.client_session.specs.Arrivals.{Arrival, arrival_of, arrival_in, arrivals_behind, connected}
-use Rattle.client_session.specs.Errors.{connection_refused, no_server}
-use Rattle.exchange.specs.Logins.{login_fails}
-use Rattle.promises.specs.Service.{Turn, Service, open_try, open_tries, turn_by, turn_of}
-use Rattle.promises.specs.Owners.{is_unsent, user_of, if_failed, refused_for, refused_on, refused_by, refused, is_refused}
-use Rattle.promises.specs.Due.{route, server_of, query_answer, answer_by, message_of, answer_when, answer, due_at, reply_to}
-use Rattle.promises.specs.Follows.{BreaksOff, Cause, NotOpened, NotLoggedIn}
-use Rattle.promises.proofs.InWork.{refused-more, query-answer}
+use Rattle.std.specs.{List.cons_option, List.list_any, Option.option_and_then}
+use Rattle.std.specs.Prelude.{Bool, List, None, Option, Some, [], cond, false, is_some, length, nat_eq, refl, slice_get, suc, true, zero, ℕ, ◌&&◌, ◌++◌, ◌||◌}
+use Rattle.std.specs.Prelude.{◌∷◌, ◌≡◌, ◌⊎◌}
 
 pub and-true : (a b : Bool) → (a && b) ≡ true → (a ≡ true) × (b ≡ true)
 and-true true b is = (refl, is)

@@ -1,23 +1,18 @@
 -- What the definitions say of the worked log.
-use Rattle.std.specs.Prelude.{◌≡◌, true, refl, [], ◌∷◌, Some, None}
-use Rattle.mx_wire.specs.Log.{written_of}
-use Rattle.mx_base.specs.declared.tag.Tag.TheVariants.{For}
-use Rattle.packet_frame.specs.Packets.{first_message, split, spelling}
-use Rattle.reply_track.specs.Replying.{payloads_in}
-use Rattle.handshake.specs.Response.{response_fields, head_fields, response_of}
-use Rattle.handshake.specs.Greeting.{greeting_fields, greeting_of, protocol_field, offer_fields, back_field}
-use Rattle.handshake.specs.Switch.{switch_of}
-use Rattle.handshake.specs.Reading.{number_field, bytes_field, text_field, counted_field, optional_text, last_text}
-use Rattle.client_side.specs.Login.{opening as client_opening}
-use Rattle.server_side.specs.Login.{opening as server_opening, response_said, answer_said}
-use Rattle.client_session.specs.Accounts.{account_of}
-use Rattle.client_session.specs.Errors.{own_ok, connection_refused, bad_server_bytes, connection_lost}
-use Rattle.promises.specs.Worked.{link, service, second_turn, forms, ann, bob, query, reply, early, logging_in, logged_in, sending, denied, told, heard, answered, whole}
+use Rattle.{client_session.specs.Accounts.account_of, client_side.specs.Login.opening as client_opening, handshake.specs.Switch.switch_of}
+use Rattle.{mx_base.specs.declared.tag.Tag.TheVariants.For, mx_wire.specs.Log.written_of, reply_track.specs.Replying.payloads_in}
+use Rattle.client_session.specs.Errors.{bad_server_bytes, connection_lost, connection_refused, own_ok}
 use Rattle.exchange.specs.Commands.{commands_on}
-use Rattle.exchange.specs.Replies.{Enters, Clean, Runs, Spoilt, standing_on}
-use Rattle.promises.specs.Sizes.{all_takes}
-use Rattle.promises.specs.Owners.{user_of, owner_of, refused}
-use Rattle.promises.specs.Due.{reply_to, due_at, work_of, due}
+use Rattle.exchange.specs.Replies.{Clean, Enters, Runs, Spoilt, standing_on}
+use Rattle.handshake.specs.Greeting.{back_field, greeting_fields, greeting_of, offer_fields, protocol_field}
+use Rattle.handshake.specs.Reading.{bytes_field, counted_field, last_text, number_field, optional_text, text_field}
+use Rattle.handshake.specs.Response.{head_fields, response_fields, response_of}
+use Rattle.packet_frame.specs.Packets.{first_message, spelling, split}
+use Rattle.promises.specs.{Due.due, Due.due_at, Due.reply_to, Due.work_of, Owners.owner_of, Owners.refused, Owners.user_of, Sizes.all_takes}
+use Rattle.promises.specs.Worked.{ann, answered, bob, denied, early, forms, heard, link, logged_in, logging_in, query, reply, second_turn, sending, service}
+use Rattle.promises.specs.Worked.{told, whole}
+use Rattle.server_side.specs.Login.{answer_said, opening as server_opening, response_said}
+use Rattle.std.specs.Prelude.{None, Some, [], refl, true, ◌∷◌, ◌≡◌}
 
 pub ann-is : user_of service 1 answered ≡ Some ann
 unfolding client_opening server_opening payloads_in first_message split spelling account_of response_fields head_fields response_of greeting_fields protocol_field offer_fields back_field greeting_of switch_of number_field bytes_field text_field counted_field optional_text last_text own_ok connection_refused bad_server_bytes connection_lost response_said answer_said

@@ -1,27 +1,16 @@
 -- What may not be done at moments of the worked log.
-use Rattle.std.specs.Prelude.{◌≡◌, ℕ, zero, suc, true, false, List, ◌∷◌, ◌++◌, Some, None, refl}
-use Rattle.std.proofs.Common.{sym, ap}
-use Rattle.mx_base.specs.declared.names.LinkId.{LinkId}
-use Rattle.mx_base.specs.declared.names.Port.TheVariants.{Traffic}
-use Rattle.mx_wire.specs.Log.{Log}
-use Rattle.packet_frame.specs.Packets.{first_message, split, spelling}
-use Rattle.reply_track.specs.Replying.{payloads_in}
-use Rattle.handshake.specs.Response.{response_fields, head_fields, response_of}
-use Rattle.handshake.specs.Greeting.{greeting_fields, greeting_of, protocol_field, offer_fields, back_field}
-use Rattle.handshake.specs.Switch.{switch_of}
-use Rattle.handshake.specs.Reading.{number_field, bytes_field, text_field, counted_field, optional_text, last_text}
-use Rattle.client_side.specs.Login.{opening as client_opening}
-use Rattle.server_side.specs.Login.{opening as server_opening, response_said, answer_said}
-use Rattle.client_session.specs.Accounts.{account_of}
-use Rattle.client_session.specs.Arrivals.{arrival_of}
-use Rattle.client_session.specs.Errors.{own_ok, connection_refused, bad_server_bytes, connection_lost}
-use Rattle.promises.specs.Service.{Turn}
-use Rattle.promises.specs.Owners.{is_refused}
-use Rattle.promises.specs.Due.{Work, work_of}
-use Rattle.promises.specs.Sends.{MayOpen, MaySend, owner_for}
-use Rattle.promises.specs.Rest.{Waits, IsAtRest}
-use Rattle.promises.specs.Worked.{link, salt, at, setup, service, forms, first_turn, query, drained, entering, denied}
-use Rattle.promises.proofs.InWork.{refused-unsent}
+use Rattle.{client_session.specs.Arrivals.arrival_of, client_side.specs.Login.opening as client_opening, handshake.specs.Switch.switch_of}
+use Rattle.{mx_wire.specs.Log.Log, promises.proofs.InWork.refused-unsent, reply_track.specs.Replying.payloads_in, std.proofs.Common.ap, std.proofs.Common.sym}
+use Rattle.client_session.specs.{Accounts.account_of, Errors.bad_server_bytes, Errors.connection_lost, Errors.connection_refused, Errors.own_ok}
+use Rattle.handshake.specs.Greeting.{back_field, greeting_fields, greeting_of, offer_fields, protocol_field}
+use Rattle.handshake.specs.Reading.{bytes_field, counted_field, last_text, number_field, optional_text, text_field}
+use Rattle.handshake.specs.Response.{head_fields, response_fields, response_of}
+use Rattle.mx_base.{specs.declared.names.LinkId.LinkId, specs.declared.names.Port.TheVariants.Traffic}
+use Rattle.packet_frame.specs.Packets.{first_message, spelling, split}
+use Rattle.promises.specs.{Due.Work, Due.work_of, Owners.is_refused, Rest.IsAtRest, Rest.Waits, Sends.MayOpen, Sends.MaySend, Sends.owner_for, Service.Turn}
+use Rattle.promises.specs.Worked.{at, denied, drained, entering, first_turn, forms, link, query, salt, service, setup}
+use Rattle.server_side.specs.Login.{answer_said, opening as server_opening, response_said}
+use Rattle.std.specs.Prelude.{List, None, Some, false, refl, suc, true, zero, ℕ, ◌++◌, ◌∷◌, ◌≡◌}
 
 bob-refused : is_refused service 2 1 denied ≡ true
 unfolding client_opening server_opening payloads_in first_message split spelling account_of response_fields head_fields response_of greeting_fields protocol_field offer_fields back_field greeting_of switch_of number_field bytes_field text_field counted_field optional_text last_text own_ok connection_refused bad_server_bytes connection_lost response_said answer_said

@@ -1,24 +1,18 @@
 -- What a client is due only grows.
-use Rattle.std.specs.Prelude.{◌≡◌, ℕ, suc, Bool, true, false, cond, List, [], ◌∷◌, ◌++◌, Option, Some, None, refl}
-use Rattle.std.proofs.Common.{sym, ◌∙◌, ap, subst, append-nil, append_assoc}
-use Rattle.mx_base.specs.declared.names.LinkId.{LinkId}
-use Rattle.mx_wire.specs.Log.{Log, read_of}
-use Rattle.mx_wire.specs.Moments.{LawfulAfter, AllLawful}
-use Rattle.mx_wire.specs.declared.entry.Entry.{Entry}
-use Rattle.packet_frame.specs.Packets.{Framed, Split, next_id, split}
-use Rattle.packet_frame.specs.declared.fault.FrameFault.{FrameFault}
-use Rattle.packet_frame.specs.Laws.{split-nothing, first_message-empty}
-use Rattle.client_side.specs.Login.{Opening, Waits, Says, Fails, switched_of}
-use Rattle.client_side.specs.Laws.{opening-says-more, opening-fails-more, opening-switched-more}
+use Rattle.client_session.specs.Answers.{Talk, fault_answer, front, front_in, greeted, heard_more, messages_of, opening_of}
 use Rattle.client_session.specs.Arrivals.{Arrival, arrival_of, is_served}
-use Rattle.client_session.specs.Answers.{Talk, heard_more, opening_of, greeted, front_in, front, messages_of, fault_answer}
-use Rattle.exchange.specs.Logins.{IsPrefix, loses, before_loss}
-use Rattle.exchange.specs.Replies.{Answer, spelt}
-use Rattle.promises.specs.Service.{Service}
-use Rattle.promises.specs.Owners.{talk_with}
-use Rattle.promises.specs.Due.{answer, answered, answers, due_in, turned_away, due_then, due_by, due_of, due}
-use Rattle.promises.specs.Headline.{IsLawful}
-use Rattle.promises.proofs.Staying.{Grown, messages-grow, talk-more, arrival-stays, answer-stays}
+use Rattle.client_side.specs.Laws.{opening-fails-more, opening-says-more, opening-switched-more}
+use Rattle.client_side.specs.Login.{Fails, Opening, Says, Waits, switched_of}
+use Rattle.exchange.specs.{Logins.IsPrefix, Logins.before_loss, Logins.loses, Replies.Answer}
+use Rattle.mx_base.specs.{declared.names.LinkId.LinkId}
+use Rattle.mx_wire.specs.{Log.Log, Log.read_of, Moments.AllLawful, Moments.LawfulAfter, declared.entry.Entry.Entry}
+use Rattle.packet_frame.specs.{Packets.Framed, Packets.Split, Packets.next_id, declared.fault.FrameFault.FrameFault}
+use Rattle.packet_frame.specs.Laws.{first_message-empty, split-nothing}
+use Rattle.promises.proofs.Staying.{Grown, answer-stays, arrival-stays, messages-grow, talk-more}
+use Rattle.promises.specs.{Headline.IsLawful, Owners.talk_with, Service.Service}
+use Rattle.promises.specs.Due.{answer, answered, answers, due, due_by, due_in, due_of, due_then, turned_away}
+use Rattle.std.proofs.{Common.ap, Common.append-nil, Common.append_assoc, Common.arith, Common.subst, Common.sym, Common.◌∙◌, lemmas.Grind.common_steps}
+use Rattle.std.specs.Prelude.{Bool, List, None, Option, Some, [], cond, false, refl, suc, true, ℕ, ◌++◌, ◌∷◌, ◌≡◌}
 
 pub prefix-self : (xs : List ℕ) → IsPrefix xs xs
 prefix-self xs = record { rest = []; is = append-nil xs }
@@ -37,17 +31,14 @@ answers-grow old new stay i (message ∷ messages) later last now base = by (old
   by : (o : Option Answer) → old i ≡ o → IsPrefix (answers old (suc i) messages last) (answers new (suc i) (messages ++ later) now)
       → IsPrefix (answered (next_id message.last) o (answers old (suc i) messages last)) (answered (next_id message.last) (new i) (answers new (suc i) (messages ++ later) now))
   by None is others = record { rest = answered (next_id message.last) (new i) (answers new (suc i) (messages ++ later) now); is = refl }
-  by (Some reply) is others = subst (λ (o : Option Answer). IsPrefix (spelt (next_id message.last) reply ++ answers old (suc i) messages last) (answered (next_id message.last) o (answers new (suc i) (messages ++ later) now))) (sym (stay i reply is))
-      (prefix-behind (spelt (next_id message.last) reply) (answers old (suc i) messages last) (answers new (suc i) (messages ++ later) now) others)
+  by (Some reply) is others = grind (arith, common_steps, prefix-behind)
 
 -- what comes last: the answer to a fault, behind which nothing comes
 pub last-grows : (limit : ℕ) (new : ℕ → Option Answer) (was now : Split) (grown : Grown was now) (k : ℕ) → IsPrefix (fault_answer limit was.fault) (answers new k grown.later (fault_answer limit now.fault))
 last-grows limit new was now grown k = by was.fault refl where
   by : (o : Option FrameFault) → was.fault ≡ o → IsPrefix (fault_answer limit o) (answers new k grown.later (fault_answer limit now.fault))
   by None is = record { rest = answers new k grown.later (fault_answer limit now.fault); is = refl }
-  by (Some fault) is = (let parts = grown.ended fault is in
-      subst (λ (l : List Framed). IsPrefix (fault_answer limit (Some fault)) (answers new k l (fault_answer limit now.fault))) (sym parts.0)
-      (subst (λ (o : Option FrameFault). IsPrefix (fault_answer limit (Some fault)) (fault_answer limit o)) (sym parts.1) (prefix-self (fault_answer limit (Some fault)))))
+  by (Some fault) is = grind (arith, common_steps, prefix-self)
 
 abbrev pub said_after : (ℕ → Option Answer) → (limit : ℕ) → Split → List ℕ
 said_after reply limit messages = answers reply 1 messages.messages (fault_answer limit messages.fault)
@@ -55,23 +46,17 @@ said_after reply limit messages = answers reply 1 messages.messages (fault_answe
 pub after-grows : (old new : ℕ → Option Answer) → ((i : ℕ) (reply : Answer) → old i ≡ Some reply → new i ≡ Some reply) → (talk : Talk) (more : List ℕ) → IsPrefix (said_after old talk.setup.limit (messages_of talk)) (said_after new talk.setup.limit (messages_of (heard_more talk more)))
 after-grows old new stay talk more = by (messages-grow talk more) where
   by : Grown (messages_of talk) (messages_of (heard_more talk more)) → IsPrefix (said_after old talk.setup.limit (messages_of talk)) (said_after new talk.setup.limit (messages_of (heard_more talk more)))
-  by grown = subst (λ (l : List Framed). IsPrefix (said_after old talk.setup.limit (messages_of talk)) (answers new 1 l (fault_answer talk.setup.limit (messages_of (heard_more talk more)).fault))) (sym grown.messages)
-      (answers-grow old new stay 1 (messages_of talk).messages grown.later (fault_answer talk.setup.limit (messages_of talk).fault) (fault_answer talk.setup.limit (messages_of (heard_more talk more)).fault)
-      (last-grows talk.setup.limit new (messages_of talk) (messages_of (heard_more talk more)) grown))
+  by grown = grind (arith, common_steps, answers-grow, last-grows)
 
 -- before its login is whole
 pub waits-none : (reply : ℕ → Option Answer) (talk : Talk) (switched : Bool) → opening_of talk ≡ Waits switched → said_after reply talk.setup.limit (messages_of talk) ≡ []
-waits-none reply talk switched is = ap (λ (o : Opening). said_after reply talk.setup.limit (split talk.setup.limit 0 (Rattle.client_session.specs.Answers.commands_in talk o))) is
-    ∙ ap (said_after reply talk.setup.limit) (split-nothing talk.setup.limit 0 [] (first_message-empty talk.setup.limit 0))
+waits-none reply talk switched is = grind (arith, common_steps, split-nothing, first_message-empty)
 
 pub greeted-first : (talk : Talk) (switched : Bool) → IsPrefix (greeted talk false) (greeted talk switched)
-greeted-first talk false = prefix-self (greeted talk false)
-greeted-first talk true = prefix-behind _ [] _ (record { rest = _; is = refl })
+greeted-first talk switched = grind (arith, common_steps, prefix-self, prefix-behind)
 
 pub front-greets : (talk : Talk) (o : Opening) → IsPrefix (greeted talk (switched_of o)) (front_in talk o)
-front-greets talk (Waits switched) = prefix-self (greeted talk switched)
-front-greets talk (Says switched response id rest) = record { rest = _; is = refl }
-front-greets talk (Fails switched fault id) = record { rest = _; is = refl }
+front-greets talk o = grind (arith, common_steps, prefix-self)
 
 pub prefix-trans : (xs ys zs : List ℕ) → IsPrefix xs ys → IsPrefix ys zs → IsPrefix xs zs
 prefix-trans xs ys zs one two = record { rest = one.rest ++ two.rest; is = sym (append_assoc xs one.rest two.rest) ∙ ap (λ l. l ++ two.rest) one.is ∙ two.is }
@@ -79,12 +64,10 @@ prefix-trans xs ys zs one two = record { rest = one.rest ++ two.rest; is = sym (
 pub in-grows : (old new : ℕ → Option Answer) → ((i : ℕ) (reply : Answer) → old i ≡ Some reply → new i ≡ Some reply) → (talk : Talk) (more : List ℕ) → IsPrefix (due_in old talk) (due_in new (heard_more talk more))
 in-grows old new stay talk more = by (opening_of talk) refl where
   same : front talk ≡ front (heard_more talk more) → IsPrefix (due_in old talk) (due_in new (heard_more talk more))
-  same is = subst (λ (l : List ℕ). IsPrefix (due_in old talk) (l ++ said_after new talk.setup.limit (messages_of (heard_more talk more)))) is
-      (prefix-behind (front talk) (said_after old talk.setup.limit (messages_of talk)) (said_after new talk.setup.limit (messages_of (heard_more talk more))) (after-grows old new stay talk more))
+  same is = grind (arith, common_steps, prefix-behind, after-grows)
 
   greets : (switched : Bool) → opening_of talk ≡ Waits switched → IsPrefix (greeted talk switched) (greeted talk (switched_of (opening_of (heard_more talk more))))
-  greets true at = subst (λ (b : Bool). IsPrefix (greeted talk true) (greeted talk b)) (sym (opening-switched-more talk.setup.limit talk.read more at)) (prefix-self (greeted talk true))
-  greets false at = greeted-first talk (switched_of (opening_of (heard_more talk more)))
+  greets switched at = grind (arith, common_steps, opening-switched-more, prefix-self, greeted-first)
 
   by : (o : Opening) → opening_of talk ≡ o → IsPrefix (due_in old talk) (due_in new (heard_more talk more))
   by (Says switched response id rest) at = same (ap (front_in talk) at ∙ ap (front_in (heard_more talk more)) (sym (opening-says-more talk.setup.limit talk.read more switched response id rest at)))

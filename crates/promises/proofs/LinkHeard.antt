@@ -1,79 +1,44 @@
 -- A link to a server as a piece is heard there.
-use Rattle.exchange.specs.Commands.{Command, commands_in, is_command, is_whole}
-use Rattle.exchange.specs.Logins.{IsPrefix, has_failed, is_empty}
-use Rattle.exchange.specs.Replies.{Answer, Clean, Forms, Heard, Never, Replies, Spoilt, Wholly, command_reply, cut, replies_by, reply_at, spelt, stands}
-use Rattle.packet_frame.specs.PacketLaws.{nat_eq-false, nat_eq-true}
-use Rattle.promises.proofs.LinkStanding.{IsBegun, IsPiece, IsWholeReply, Stands, begun-at, begun-some, hearing, hearing-more, inside-from, message, never-reply}
-use Rattle.promises.proofs.LinkStanding.{opening-more, replies-both, reply-of, reply-open, reply-there, standing-of, stands-answered, stands-at, stands-more}
-use Rattle.promises.proofs.LinkStanding.{whole-reply, written, written-part, written-whole}
-use Rattle.promises.proofs.LinkStates.{IsEntering, IsHanded, IsInside, begun, begun_by, bytes_in, reply_said, standing_said}
-use Rattle.promises.proofs.Pieces.{behind-all, empty-not, has_bytes}
-use Rattle.reply_track.specs.Runs.{Ended, Ending, Failed, Going, renumbered, run}
-use Rattle.server_side.specs.Hearing.{Fails as GotFault, Got, Hears, got_of, hears, reply_begun, reply_by, reply_due}
-use Rattle.server_side.specs.Laws.{opening-got, opening-said}
-use Rattle.server_side.specs.Login.{Fails, Goes, LogsIn, Opening, opening, said_of}
-use Rattle.server_side.specs.Reading.{HasFailed, TellsOf}
+use Rattle.{client_session.specs.Errors.bad_server_bytes, exchange.specs.Logins.has_failed, server_side.specs.declared.fault.BackendFault.BackendFault}
+use Rattle.{server_side.specs.declared.fault.BackendFault.TheVariants.BadBytes, std.proofs.lemmas.Grind.common_steps, std.specs.List.list_all}
+use Rattle.exchange.specs.Commands.{Command, commands_in, is_command}
+use Rattle.exchange.specs.Replies.{Answer, Forms, Never, Spoilt, Wholly, command_reply, spelt}
+use Rattle.mx_base.{specs.Fields.AreBytes}
+use Rattle.promises.{proofs.InWork.some-same, proofs.Pieces.behind-all, proofs.Pieces.has_bytes}
+use Rattle.promises.proofs.LinkStanding.{IsBegun, IsPiece, begun-at, begun-command, begun-some, heard-run, inside-after, replies-both, reply-heard, reply-spelt}
+use Rattle.promises.proofs.LinkStanding.{standing-heard, standing-of, stands-as, stands-more, written-is}
+use Rattle.promises.proofs.LinkStates.{IsCommand, IsEntering, IsInside, Stands, begun, bytes_in, reply_said, standing_said, written}
+use Rattle.reply_track.{proofs.Finishing.AreBytes-append, specs.declared.place.State.State}
+use Rattle.reply_track.proofs.Replying.{ended-shorter, failed-shorter, length-renumbered, renumbered-more, run-more}
+use Rattle.reply_track.specs.{Replying.id_after, Replying.payloads_in, Runs.Ended, Runs.Ending, Runs.Failed, Runs.Going, Runs.renumbered, Runs.run}
+use Rattle.server_side.{specs.Login.LogsIn, specs.Login.Opening, specs.Login.opening, specs.Login.said_of, specs.declared.command.Command.Command as Handed}
+use Rattle.server_side.specs.{Account.Account, Backend.BackendState, Laws.opening-got, Laws.opening-said, Reading.HasFailed, Reading.TellsOf}
+use Rattle.server_side.specs.Hearing.{Fails as GotFault, Got, Hears, got_of, reply_by}
 use Rattle.server_side.specs.declared.hear.Heard.TheVariants.{LoggedIn, Part, Quiet, Whole as WholeReply}
-use Rattle.std.proofs.Common.{ap, append-nil, arith, inl, inr, length-append, subst, sym, ◌∙◌}
-use Rattle.std.proofs.lemmas.Bool.{and_cases, and_left, and_parts, and_right}
-use Rattle.std.proofs.lemmas.List.{length_push, nil_from_length}
-use Rattle.std.specs.Prelude.{Bool, List, None, Option, Some, [], cond, false, length, nat_eq, not, refl, suc, take, true, zero, ℕ, ◌&&◌, ◌++◌, ◌+◌, ◌-◌, ◌<◌}
-use Rattle.std.specs.Prelude.{◌∷◌, ◌≡◌, ◌≤◌, ◌⊎◌}
-use Rattle.promises.{proofs.InWork.some-same, specs.Follows.behind_replies}
-use Rattle.server_side.{specs.Account.Account, specs.Backend.BackendState, specs.declared.command.Command.Command as Handed}
-use Rattle.server_side.{specs.declared.fault.BackendFault.BackendFault, specs.declared.fault.BackendFault.TheVariants.BadBytes}
-use Rattle.std.{proofs.lemmas.Grind.common_steps, proofs.lemmas.List.Folds.list_all-append, specs.List.list_all}
-use Rattle.{client_session.specs.Errors.bad_server_bytes, mx_base.specs.Fields.AreBytes, reply_track.specs.declared.place.State.State}
+use Rattle.std.proofs.Common.{ap, append-nil, arith, inl, length-append, sym, ◌∙◌}
+use Rattle.std.specs.Prelude.{Bool, List, None, Some, [], false, length, nat_eq, refl, take, true, ℕ, ◌&&◌, ◌++◌, ◌+◌, ◌-◌, ◌<◌, ◌∷◌, ◌≡◌, ◌≤◌}
 
 -- A login goes on, is there, or fails.
 abbrev pub TellsEntering : Forms → Account → (heard : List ℕ) → (pieces : List Command) → Got → Type 0
 TellsEntering forms user heard pieces (Hears Quiet left) = IsEntering user heard pieces left
 TellsEntering forms user heard pieces (Hears LoggedIn left) = IsInside forms user heard pieces left × (left.command ≡ None)
-TellsEntering forms user heard pieces (Hears (Part used) left) = ⊥
-TellsEntering forms user heard pieces (Hears (WholeReply used) left) = ⊥
 TellsEntering forms user heard pieces (GotFault fault) = (has_failed (opening user heard) ≡ true) × (standing_said forms user heard pieces ≡ Spoilt)
+TellsEntering forms user heard pieces other = ⊥
 
 -- bytes behind all commands spoil a link
 spoilt-by : {forms : Forms} {user : Account} {read : List ℕ} {pieces : List Command} {kept : List ℕ} → Stands forms user read pieces [] kept
     → 0 < length kept → standing_said forms user read pieces ≡ Spoilt
-spoilt-by {kept} at some = standing-of at
-    ∙ stands-answered (at.others ++ []) (at.whole ++ []) kept (let one : length (at.others ++ []) ≡ length at.others + 0 = length-append at.others [] in
-    let two : length (at.whole ++ []) ≡ length at.whole + 0 = length-append at.whole [] in
-    let same : length at.whole ≡ length at.others = at.all in omega arith)
-    ∙ ap (λ b. cond b Clean Spoilt) (and_left (is_empty kept) (list_all is_whole (at.others ++ [])) (empty-not kept some))
-
-none-new : {b : Bool} → false ≡ true → b ≡ false
-none-new not = cc
+spoilt-by at some = grind (arith, common_steps, (standing-of at))
 
 -- a login that is there, before any command
 abbrev first-inside : {forms : Forms} {user : Account} {read : List ℕ} {pieces : List Command} {rest : List ℕ} (said : List ℕ)
     → opening user read ≡ LogsIn said rest → list_all has_bytes pieces ≡ true → length (bytes_in pieces) ≤ length said → Stands forms user read pieces [] rest
 first-inside {pieces} said is some fits = record {
   said = said;
-  past = [];
+  before = record { others = []; wholes = refl; past = []; whole = []; replies = refl; all = refl };
   is = is;
-  others = [];
-  wholes = refl;
   commands = ap commands_in (behind-all (length said) pieces some fits);
-  new = λ n i any. none-new any;
-  whole = [];
-  replies = refl;
-  all = refl;
 }
-
-failed-by : (forms : Forms) (user : Account) (read : List ℕ) (pieces : List Command) (fault : BackendFault) (o : Opening) → opening user read ≡ o
-    → HasFailed o fault → list_all has_bytes pieces ≡ true → length (bytes_in pieces) ≤ length (said_of o)
-    → (has_failed (opening user read) ≡ true) × (standing_said forms user read pieces ≡ Spoilt)
-failed-by forms user read pieces fault (Goes said) is failed some fits = absurd failed
-failed-by forms user read pieces fault (LogsIn said rest) is failed some fits = (
-  ap has_failed is ∙ ap not (empty-not rest failed.0),
-  spoilt-by (first-inside said is some fits) failed.0,
-)
-failed-by forms user read pieces fault (Fails said why) is failed some fits = grind (arith, common_steps, is)
-
-quiet-at : {user : Account} {heard : List ℕ} {pieces : List Command} {backend left : BackendState} (piece : List ℕ) → IsEntering user heard pieces backend
-    → TellsOf (Hears Quiet left) backend (bytes_in pieces) (heard ++ piece) → IsEntering user (heard ++ piece) pieces left
-quiet-at {heard} piece at tells = grind (arith, common_steps)
 
 pub heard-entering : {user : Account} {heard : List ℕ} {pieces : List Command} {backend : BackendState} (forms : Forms) (piece : List ℕ)
     → IsEntering user heard pieces backend → list_all has_bytes pieces ≡ true → TellsEntering forms user (heard ++ piece) pieces (got_of piece backend)
@@ -81,28 +46,29 @@ heard-entering {user} {heard} {pieces} {backend} forms piece at some = by (got_o
   where
     -- all that was written is of what the router says
     fits : length (bytes_in pieces) ≤ length (said_of (opening user (heard ++ piece)))
-    fits = (let more = opening-said user heard piece in
-        let is : (bytes_in pieces ++ backend.own) ++ more.0 ≡ said_of (opening user (heard ++ piece)) = ap (λ (o : Opening). said_of o ++ more.0) (sym at.goes)
-        ∙ more.1 in
-        let one : length ((bytes_in pieces ++ backend.own) ++ more.0) ≡ length (bytes_in pieces ++ backend.own) + length more.0 = length-append
-        (bytes_in pieces ++ backend.own) more.0 in
-        let two : length (bytes_in pieces ++ backend.own) ≡ length (bytes_in pieces) + length backend.own = length-append (bytes_in pieces) backend.own in
-        let same : length ((bytes_in pieces ++ backend.own) ++ more.0) ≡ length (said_of (opening user (heard ++ piece))) = ap length is in omega arith)
+    fits = (let more = opening-said user heard piece in grind (arith, common_steps, at))
+
+    failed : (fault : BackendFault) (o : Opening) → opening user (heard ++ piece) ≡ o → HasFailed o fault
+        → TellsEntering forms user (heard ++ piece) pieces (GotFault fault)
+    failed fault (LogsIn said rest) is bad = (grind (arith, common_steps), spoilt-by (first-inside said is some (rw is at fits)) bad.0)
+    failed fault o is bad = grind (arith, common_steps)
 
     by : (got : Got) → TellsOf got backend (bytes_in pieces) (heard ++ piece) → TellsEntering forms user (heard ++ piece) pieces got
-    by (Hears Quiet left) tells = quiet-at piece at tells
+    by (Hears Quiet left) tells = record { account = tells.1 ∙ at.account; login = tells.0; goes = rw at.account at tells.2 }
     by (Hears LoggedIn left) tells = (
-      inside-from (first-inside (bytes_in pieces ++ left.own) is some (let sum = length-append (bytes_in pieces) left.own in
-          omega arith)) (ap begun tells.0.idle)
-          (tells.1 ∙ at.account) tells.0.stage (inl refl) (subst (IsHanded forms) (sym tells.0.idle) tt) (λ none. refl) (rw tells.0.idle refl),
+      record {
+        account = tells.1 ∙ at.account;
+        stage = tells.0.stage;
+        part = [];
+        stands = stands-as (sym (ap begun tells.0.idle)) (first-inside (bytes_in pieces ++ left.own)
+            (rw (tells.1 ∙ at.account, append-nil) at (tells.0.is [])) some (omega (arith, length-append (bytes_in pieces) left.own)));
+        written = inl refl;
+        command = rw tells.0.idle refl;
+      },
       tells.0.idle,
-    ) where
-      is : opening user (heard ++ piece) ≡ LogsIn (bytes_in pieces ++ left.own) []
-      is = ap (λ (u : Account). opening u (heard ++ piece)) (sym (tells.1 ∙ at.account)) ∙ ap (opening left.account) (sym (append-nil (heard ++ piece)))
-          ∙ tells.0.is []
-    by (Hears (Part used) left) tells = tells
-    by (Hears (WholeReply used) left) tells = tells
-    by (GotFault fault) tells = failed-by forms user (heard ++ piece) pieces fault (opening user (heard ++ piece)) refl (rw at.account at tells) some fits
+    )
+    by (GotFault fault) tells = failed fault (opening user (heard ++ piece)) refl (rw at.account at tells)
+    by other tells = absurd tells
 
 -- The reply to the command that is begun is whole: this is what it says, and the link is clean where all of the command was written and the piece
 -- ended with the reply.
@@ -114,7 +80,8 @@ pub record IsReplied (forms : Forms) (user : Account) (heard : List ℕ) (pieces
   pub reply : left.reply ≡ spelt command.first answer
   pub idle : left.command ≡ None
   pub told : (n i : ℕ) (lost : Bool) → is_command n i command.tag ≡ true → reply_said forms n i user heard pieces lost ≡ Some answer
-  pub inside : (nat_eq command.sent (length command.bytes) && ended) ≡ true → IsInside forms user heard pieces left
+  pub inside : (nat_eq command.sent (length command.bytes) && ended) ≡ true → (reply : List ℕ)
+      → IsInside forms user heard pieces (record left { reply = reply })
   pub spoilt : (nat_eq command.sent (length command.bytes) && ended) ≡ false → standing_said forms user heard pieces ≡ Spoilt
 
 -- The reply goes on: the command is the same, but for how far its reply is.
@@ -135,26 +102,10 @@ pub record IsBroken (forms : Forms) (user : Account) (heard : List ℕ) (pieces 
   pub spoilt : standing_said forms user heard pieces ≡ Spoilt
 
 abbrev pub TellsInside : Forms → Account → (heard : List ℕ) → (pieces : List Command) → BackendState → (size : ℕ) → Got → Type 0
-TellsInside forms user heard pieces backend size (Hears Quiet left) = ⊥
-TellsInside forms user heard pieces backend size (Hears LoggedIn left) = ⊥
 TellsInside forms user heard pieces backend size (Hears (Part used) left) = IsGoing forms user heard pieces backend left
 TellsInside forms user heard pieces backend size (Hears (WholeReply used) left) = IsReplied forms user heard pieces backend left (nat_eq used size)
 TellsInside forms user heard pieces backend size (GotFault fault) = IsBroken forms user heard pieces backend fault
-
-got-inside : {forms : Forms} {user : Account} {heard : List ℕ} {pieces : List Command} {backend : BackendState} (piece : List ℕ)
-    → IsInside forms user heard pieces backend → got_of piece backend ≡ reply_due backend.command piece backend
-got-inside {backend} piece at = ap (λ s. hears s piece backend) at.stage
-
--- nothing was asked for
-unasked-at : {forms : Forms} {user : Account} {heard : List ℕ} {pieces : List Command} {backend : BackendState} (piece : List ℕ) → IsInside forms user heard
-    pieces backend → 0 < length piece → begun backend.command ≡ [] → IsBroken forms user (heard ++ piece) pieces backend (BadBytes 0)
-unasked-at {forms} {user} {heard} {pieces} piece at some none = record {
-  place = 0;
-  bad_bytes = refl;
-  told = λ command n i lost is sent here. grind (arith, common_steps, begun-some, is);
-  spoilt = spoilt-by (rw none at (stands-more piece (stands-at at))) (let sum : length
-      (at.part ++ piece) ≡ length at.part + length piece = length-append at.part piece in omega arith);
-}
+TellsInside forms user heard pieces backend size other = ⊥
 
 -- A piece comes for a command that is begun, of whose reply a part was read.
 module _ {forms : Forms} {user : Account} {heard : List ℕ} {pieces : List Command} {backend : BackendState} {command : Handed} (piece : List ℕ)
@@ -162,129 +113,83 @@ module _ {forms : Forms} {user : Account} {heard : List ℕ} {pieces : List Comm
   abbrev bytes : List ℕ
   bytes = at.inside.part ++ piece
 
-  abbrev c : Command
-  c = written command
-
-  now : Stands forms user (heard ++ piece) pieces (c ∷ []) bytes
+  abbrev now : Stands forms user (heard ++ piece) pieces (written command ∷ []) bytes
   now = stands-more piece (begun-at at)
 
-  written-now : (bytes_in pieces ++ backend.own ≡ now.said) ⊎ ((backend.own ≡ []) × IsPrefix now.said (bytes_in pieces))
-  written-now = rw (let both : LogsIn now.said (now.past ++ bytes) ≡ LogsIn at.inside.said (at.inside.past ++ bytes) = sym now.is
-      ∙ opening-more user heard piece at.inside.said at.inside.past at.inside.part at.inside.is in
-      let same : now.said ≡ at.inside.said = cc in same) at.inside.written
+  has : IsCommand forms at.inside.stands.before.others command at.inside.part backend.reply
+  has = begun-command at
 
-  -- the reply goes on
-  part-at : (state : State) → run command.tracker.state piece ≡ Going state → IsGoing forms user (heard ++ piece) pieces backend
-      (record backend
-      { command = Some (record command { tracker = record { state = state } }); reply = backend.reply ++ renumbered command.tracker.state piece })
-  part-at state goes = (let same : begun (Some (record command { tracker = record { state = state } })) ≡ c ∷ [] = begun-some
-      (record command { tracker = record { state = state } }) at.some in
-      let inside : IsInside forms user (heard ++ piece) pieces
-      (record backend
-      { command = Some (record command { tracker = record { state = state } }); reply = backend.reply ++ renumbered command.tracker.state piece }) =
-      (let m = message at in inside-from now same at.inside.account at.inside.stage written-now
-      (record { payload = m.payload; spelt = m.spelt; short = m.short; sent = m.sent; form = m.form }) (λ none. absurd (let no : c ∷ [] ≡ [] = none in
-      cc)) (hearing-more piece state (hearing at) are goes)) in
-      record { command = command; was = at.is; sent = at.some; state = state; is = refl; inside = inside })
+  heard-begun : (ending : Ending) → run command.tracker.state piece ≡ ending → TellsInside forms user (heard ++ piece) pieces backend (length piece)
+      (reply_by (length piece) (renumbered command.tracker.state piece) command backend ending)
+  heard-begun (Going state) goes = record {
+    command = command;
+    was = at.is;
+    sent = at.some;
+    state = state;
+    is = refl;
+    inside = inside-after backend.own (backend.reply ++ renumbered command.tracker.state piece) (Some more) at.inside
+        (stands-as (sym (begun-some more at.some)) now) at.inside.written (grind
+        (arith, common_steps, has, run-more, renumbered-more, (AreBytes-append at.inside.part piece)));
+  } where
+    more : Handed
+    more = record command { tracker = record { state = state } }
+  heard-begun (Failed behind) is = record {
+    place = length backend.reply + (length piece - length behind);
+    bad_bytes = refl;
+    told = λ other n i lost same sent here. grind (arith, common_steps, some-same, (at.is), (has.new n i), (reply-heard now (Never _) never n i lost));
+    spoilt = standing-heard now (Never _) never;
+  } where
+    never : command_reply forms (written command) bytes ≡ Never (length backend.reply + (length piece - length behind))
+    never = (let fits = failed-shorter command.tracker.state piece behind is in grind
+        (arith, common_steps, (heard-run command bytes has.message), run-more, length-renumbered, has))
+  heard-begun (Ended end rest) is = record {
+    command = command;
+    is = at.is;
+    sent = at.some;
+    answer = reply;
+    reply = reply-spelt command piece has end rest are is;
+    idle = refl;
+    told = λ n i lost here. reply-heard now (Wholly reply rest) whole n i lost (has.new n i here) here;
+    inside = λ both kept. inside-after backend.own kept None at.inside (answered both) at.inside.written refl;
+    spoilt = λ either. (let shorter = ended-shorter command.tracker.state piece rest end is in let same = written-is command has.message has.sent in
+        grind (arith, common_steps, (standing-heard now (Wholly reply rest) whole)));
+  } where
+    reply : Answer
+    reply = payloads_in (id_after command.bytes) (take (length bytes - length rest) bytes)
 
-  -- what is said of it and of the link, by what the definition makes of these bytes
-  replies-now : (heard_is : Heard) → command_reply forms c bytes ≡ heard_is → replies_by (command_reply forms) (c ∷ []) bytes ≡ cut heard_is bytes
-      (replies_by (command_reply forms) [])
-  replies-now heard_is is = ap (λ h. cut h bytes (replies_by (command_reply forms) [])) is
+    whole : command_reply forms (written command) bytes ≡ Wholly reply rest
+    whole = grind (arith, common_steps, (heard-run command bytes has.message), run-more, has)
 
-  said-now : (r : Replies) → replies_by (command_reply forms) (c ∷ []) bytes ≡ r → (n i : ℕ) (lost : Bool) → is_command n i command.tag ≡ true
-      → reply_said forms n i user (heard ++ piece) pieces lost ≡ reply_at (length now.others) (behind_replies now.whole r) lost
-  said-now r is n i lost here = reply-of c now n i lost here ∙ ap (λ (r : Replies). reply_at (length now.others) (behind_replies now.whole r) lost) is
-
-  standing-now : (r : Replies) → replies_by (command_reply forms) (c ∷ []) bytes ≡ r → standing_said forms user (heard ++ piece) pieces ≡ stands
-      (now.others ++ c ∷ []) (behind_replies now.whole r)
-  standing-now r is = standing-of now ∙ ap (λ (r : Replies). stands (now.others ++ c ∷ []) (behind_replies now.whole r)) is
-
-  -- no reply goes on so
-  broken-at : (place : ℕ) → command_reply forms c bytes ≡ Never place → IsBroken forms user (heard ++ piece) pieces backend (BadBytes place)
-  broken-at place never = (let last : replies_by (command_reply forms) (c ∷ []) bytes ≡ record { whole = []; rest = bytes; bad = Some place } = replies-now
-      (Never place) never in record {
-        place = place;
-        bad_bytes = refl;
-        told = λ other n i lost same sent here. said-now _ last n i lost (ap (λ (h : Handed). is_command n i h.tag) (some-same command other (sym at.is ∙ same))
-            ∙ here) ∙ reply-open now.whole bytes (Some place) (length now.others) lost now.all;
-        spoilt = standing-now _ last;
-      })
-
-  -- the reply is whole
-  replied-at : {reply : Answer} {rest : List ℕ} → IsWholeReply forms command at.inside.part backend.reply piece reply rest → IsReplied forms user
-      (heard ++ piece) pieces backend
-      (record backend { command = None; reply = backend.reply ++ take (length piece - length rest) (renumbered command.tracker.state piece) })
-      (nat_eq (length piece - length rest) (length piece))
-  replied-at {reply} {rest} whole = (let inside : (nat_eq command.sent (length command.bytes) && nat_eq used (length piece)) ≡ true → IsInside forms user
-      (heard ++ piece) pieces (record backend { command = None; reply = backend.reply ++ take used (renumbered command.tracker.state piece) }) = λ both.
-      (let parts = and_parts (nat_eq command.sent (length command.bytes)) (nat_eq used (length piece)) both in let shorter = whole.shorter in
-      let ended : used ≡ length piece = nat_eq-true used (length piece) parts.1 in
-      inside-from (answered (written-whole at (nat_eq-true command.sent (length command.bytes) parts.0)) (nil_from_length rest (omega arith))) refl
-      at.inside.account at.inside.stage written-now tt (λ none. refl) refl) in
-      record {
-        command = command;
-        is = at.is;
-        sent = at.some;
-        answer = reply;
-        reply = whole.handed;
-        idle = refl;
-        told = λ n i lost here. said-now _ one n i lost here ∙ reply-there now.whole reply rest (length now.others) lost now.all;
-        inside = inside;
-        spoilt = spoilt;
-      }) where
-        used : ℕ
-        used = length piece - length rest
-
-        one : replies_by (command_reply forms) (c ∷ []) bytes ≡ record { whole = reply ∷ []; rest = rest; bad = None }
-        one = replies-now (Wholly reply rest) (whole.said c refl)
-
-        -- the command is among those that are answered
-        answered : is_whole c ≡ true → rest ≡ [] → Stands forms user (heard ++ piece) pieces [] []
-        answered wholly empty = record {
-          said = now.said;
-          past = now.past ++ bytes;
-          is = now.is ∙ ap (LogsIn now.said) (sym (append-nil (now.past ++ bytes)));
-          others = now.others ++ c ∷ [];
-          wholes = grind (arith, common_steps, list_all-append);
-          commands = now.commands ∙ sym (append-nil (now.others ++ c ∷ []));
-          new = λ n i any. none-new any;
-          whole = now.whole ++ reply ∷ [];
-          replies = replies-both forms now.others (c ∷ []) now.past bytes now.whole now.replies now.all ∙ ap (behind_replies now.whole) one
-              ∙ ap (λ r. record { whole = now.whole ++ reply ∷ []; rest = r; bad = None }) empty;
-          all = grind (arith, common_steps, reply);
-        }
-
-        spoilt : (nat_eq command.sent (length command.bytes) && nat_eq used (length piece)) ≡ false → standing_said forms user (heard ++ piece) pieces ≡ Spoilt
-        spoilt either = standing-now _ one ∙ stands-answered (now.others ++ c ∷ []) (now.whole ++ reply ∷ []) rest (let a = length_push now.others c in
-            let b = length_push now.whole reply in
-            let same = now.all in omega arith)
-            ∙ ap (λ b. cond b Clean Spoilt) (unclean (and_cases (nat_eq command.sent (length command.bytes)) (nat_eq used (length piece)) either)) where
-              unclean : (nat_eq command.sent (length command.bytes) ≡ false) ⊎ (nat_eq used (length piece) ≡ false) →
-                  (is_empty rest && list_all is_whole (now.others ++ c ∷ [])) ≡ false
-              unclean (inr more) = grind (arith, common_steps, empty-not, nat_eq-false)
-              unclean (inl unsent) = and_right (is_empty rest) (list_all is_whole (now.others ++ c ∷ [])) (list_all-append is_whole now.others (c ∷ [])
-                  ∙ and_right (list_all is_whole now.others) (is_whole c && true)
-                  (and_left (is_whole c) true (written-part at (nat_eq-false command.sent (length command.bytes) unsent))))
+    -- the command is among those that are answered
+    answered : (nat_eq command.sent (length command.bytes) && nat_eq (length piece - length rest) (length piece)) ≡ true
+        → Stands forms user (heard ++ piece) pieces [] []
+    answered both = record {
+      said = now.said;
+      before = record {
+        others = now.before.others ++ written command ∷ [];
+        wholes = grind (arith, common_steps, (written-is command has.message has.sent));
+        past = now.before.past ++ bytes;
+        whole = now.before.whole ++ reply ∷ [];
+        replies = (let shorter = ended-shorter command.tracker.state piece rest end is in
+            grind (arith, common_steps, (replies-both now.before (written command ∷ []) bytes), whole, reply));
+        all = grind (arith, common_steps, reply);
+      };
+      is = rw append-nil now.is;
+      commands = rw append-nil now.commands;
+    }
 
 module _ {forms : Forms} {user : Account} {heard piece : List ℕ} {pieces : List Command} {backend : BackendState} where
   -- A piece comes, which isn't empty.
   pub heard-inside : IsInside forms user heard pieces backend → IsPiece piece
       → TellsInside forms user (heard ++ piece) pieces backend (length piece) (got_of piece backend)
-  heard-inside at some = grind (arith, common_steps, got-inside, asked) where
-    read : (command : Handed) → IsBegun forms user heard pieces backend command → (ending : Ending) → run command.tracker.state piece ≡ ending → TellsInside
-        forms user (heard ++ piece) pieces backend (length piece) (reply_by (length piece) (renumbered command.tracker.state piece) command backend ending)
-    read command begins (Going state) is = part-at piece begins some.are state is
-    read command begins (Ended end rest) is = replied-at piece begins some.are
-        (whole-reply forms piece end rest (message begins).form (hearing begins) some.are is).1
-    read command begins (Failed behind) is = broken-at piece begins some.are (length backend.reply + (length piece - length behind))
-        (never-reply forms piece behind (message begins).form (hearing begins) is (written command) refl)
-
-    by-sent : (command : Handed) → backend.command ≡ Some command → (sent : ℕ) → command.sent ≡ sent → TellsInside forms user (heard ++ piece) pieces backend
-        (length piece) (reply_begun sent piece command backend)
-    by-sent command is zero none = unasked-at piece at some.some (ap begun is ∙ ap (λ sent. begun_by sent command) none)
-    by-sent command is (suc sent) more = read command (record { inside = at; is = is; some = omega arith }) (run command.tracker.state piece) refl
-
-    asked : (o : Option Handed) → backend.command ≡ o → TellsInside forms user (heard ++ piece) pieces backend (length piece) (reply_due o piece backend)
-    asked None is = unasked-at piece at some.some (ap begun is)
-    asked (Some command) is = by-sent command is command.sent refl
+  heard-inside at some = (let asked = λ (command : Handed) (is : backend.command ≡ Some command) (begun : 0 < command.sent).
+      heard-begun piece (record { inside = at; is = is; some = begun }) some.are (run command.tracker.state piece) refl in
+      grind (arith, common_steps, unasked, asked)) where
+        -- nothing was asked for
+        unasked : begun backend.command ≡ [] → IsBroken forms user (heard ++ piece) pieces backend (BadBytes 0)
+        unasked none = record {
+          place = 0;
+          bad_bytes = refl;
+          told = λ command n i lost is sent here. grind (arith, common_steps, begun-some, is);
+          spoilt = spoilt-by (stands-more piece (stands-as none at.stands)) (let bytes = some.some in omega (arith, length-append at.part piece));
+        }

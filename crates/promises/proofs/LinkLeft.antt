@@ -1,49 +1,29 @@
 -- What is left to be written on a link: it may be written, it is all that is owed, and where the link takes no more of it a query waits.
 use Rattle.client_session.specs.Arrivals.{Arrival, arrival_of, is_served}
+use Rattle.exchange.specs.{Logins.IsPrefix, Logins.heard_of, Replies.Forms, Replies.Spoilt, Replies.Standing, Replies.standing_on, Replies.stands}
 use Rattle.exchange.specs.Commands.{Command, commands_on, pieces_of}
-use Rattle.exchange.specs.Logins.{IsPrefix, heard_of}
-use Rattle.exchange.specs.Replies.{Forms, stands}
-use Rattle.mx_base.specs.declared.tag.Tag.TheVariants.{For, Own as OwnTag, Reply}
-use Rattle.mx_wire.specs.Growth.{bool_cases, bytes-idle, bytes-other, bytes-same}
-use Rattle.mx_wire.specs.Log.{Log, is_link, written_of, wrote_bytes}
-use Rattle.packet_frame.specs.PacketLaws.{nat_eq-false, nat_eq-true}
-use Rattle.packet_frame.specs.Packets.{Framed, spelling}
-use Rattle.promises.proofs.Arrivals.{Now, Was, comes-of, none-new, of-client, owed-client, unclient-at, unowned}
-use Rattle.promises.proofs.Growing.{due-grows, prefix-trans}
-use Rattle.promises.proofs.LinkStanding.{entering-at, standing-entering, written}
-use Rattle.promises.proofs.LinkStates.{IsEntering, LinkAt, begun, bytes_in}
-use Rattle.promises.proofs.ServerStanding.{asked-spelt, may-write, row-clean, row-commands, row-inside, row-message, row-runs, row-sends, row-sound}
-use Rattle.promises.proofs.ServerStanding.{row-standing, row-user, row-written, row_standing}
-use Rattle.promises.proofs.ServerWrites.{LeftAt, OfCommand, OfLogin, left-at}
-use Rattle.promises.specs.Closes.{MayClose, MayDrop, MayPart}
-use Rattle.promises.specs.Due.{Work, due, work_of}
-use Rattle.promises.specs.Headline.{IsLawful, IsServed}
-use Rattle.promises.specs.Owners.{Owner, is_here, owner_of, user_of, user_on}
+use Rattle.mx_base.specs.{Sent.Sent, declared.names.LinkId.LinkId, declared.names.Port.TheVariants.Traffic, declared.tag.Tag.Tag}
+use Rattle.mx_base.specs.declared.tag.Tag.TheVariants.{For, Reply}
+use Rattle.mx_wire.specs.{Growth.bool_cases, Growth.bytes-idle, Growth.bytes-other, Growth.bytes-same, Log.Log, Log.is_link, Log.of_link, Log.written_of}
+use Rattle.mx_wire.specs.{Log.wrote_bytes, Moments.AllLawful, Tells.Fits, declared.entry.Entry.Entry, declared.entry.Entry.TheVariants.Wrote}
+use Rattle.packet_frame.specs.{PacketLaws.nat_eq-true, Packets.Framed, Packets.spelling, SpellingLaws.spelling-some}
+use Rattle.promises.proofs.{Causes.same-link, Growing.due-grows, Growing.prefix-trans, InWork.some-same, Links.owner-turn, ServerLinks.LinkStands}
+use Rattle.promises.proofs.Arrivals.{Now, Was, client-at, comes-of, of-client, unclient-at, unowned}
+use Rattle.promises.proofs.Clean.{before-loss, pieces-bytes}
+use Rattle.promises.proofs.LinkEntries.{LeftAt, OfCommand, OfLogin, left-at}
+use Rattle.promises.proofs.LinkStanding.{begun-some, commands-of, said-at, standing-inside, standing_by}
+use Rattle.promises.proofs.LinkStates.{Entering, Inside, IsCommand, IsEntering, IsHanded, IsInside, LinkAt, bytes_in, standing_said, written}
+use Rattle.promises.proofs.Queries.{HandedStands, IsAsked}
+use Rattle.promises.specs.{Closes.MayClose, Closes.MayDrop, Closes.MayPart, Due.Work, Due.due, Due.work_of, Headline.IsLawful, Headline.IsServed, Owners.Owner}
+use Rattle.promises.specs.{Owners.is_here, Owners.owner_of, Owners.user_of, Owners.user_on, Sends.Asks, Sends.Begins, Sends.Continues, Sends.GoesOn}
+use Rattle.promises.specs.{Service.Service, Service.Turn, Service.turn_of, Sizes.last_bytes, Sizes.login_first, Sizes.owed, Sizes.owed_standing, Sizes.query_in}
 use Rattle.promises.specs.Rest.{Blocked, Full, IsBusy, IsKept, LogsIn, Replies, Sent as SentWhole, Stays, Waits}
-use Rattle.promises.specs.Service.{Service, Turn, turn_of}
-use Rattle.promises.specs.Sizes.{last_bytes, login_first, owed, owed_standing, query_in, unwritten}
-use Rattle.server_side.specs.Backend.{BackendState, is_begun, left, left_by}
-use Rattle.server_side.specs.Login.{opening, said_of}
-use Rattle.std.proofs.Common.{ap, append-nil, append_assoc, arith, inl, inr, length-append, sym, ◌∙◌}
-use Rattle.std.proofs.lemmas.List.{length-take-le, take-append-drop, take_all}
-use Rattle.std.specs.Prelude.{List, Option, Some, [], drop, false, length, nat_eq, not, refl, suc, take, true, zero, ℕ, ◌++◌, ◌<◌, ◌∷◌, ◌≡◌, ◌≢◌, ◌≤◌, ◌⊎◌}
-use Rattle.mx_base.{specs.Sent.Sent, specs.declared.names.LinkId.LinkId, specs.declared.names.Port.TheVariants.Traffic, specs.declared.tag.Tag.Tag}
-use Rattle.mx_wire.{specs.Moments.AllLawful, specs.Tells.Fits, specs.declared.entry.Entry.Entry, specs.declared.entry.Entry.TheVariants.Wrote}
-use Rattle.promises.{proofs.Causes.same-link, proofs.InWork.some-same, proofs.Links.owner-turn, proofs.ServerLinks.LinkStands, specs.Sends.Asks}
-use Rattle.server_side.{specs.Account.Account, specs.declared.command.Command.Command as Handed, specs.declared.stage.Stage.TheVariants.In}
-use Rattle.std.{proofs.Math.Seq.drop-append_seam, proofs.lemmas.Bool.not-true, proofs.lemmas.Grind.common_steps}
-use Rattle.{packet_frame.specs.SpellingLaws.spelling-some, ready_loop.specs.Drained.write_dry}
-
--- Something is left of a command that wasn't written whole.
-left-some : (backend : BackendState) (command : Handed) → backend.command ≡ Some command → command.sent < length command.bytes
-    → (l : Sent) × (left backend ≡ Some l)
-left-some backend command has less = by backend.own refl where
-  rest : Sent
-  rest = record { tag = command.tag; bytes = drop command.sent command.bytes }
-
-  by : (own : List ℕ) → backend.own ≡ own → (l : Sent) × (left backend ≡ Some l)
-  by [] at = (rest, ap (λ own. left_by own backend.command) at ∙ ap (left_by []) has ∙ grind (arith, common_steps))
-  by (byte ∷ bytes) at = (record { tag = OwnTag; bytes = byte ∷ bytes }, ap (λ own. left_by own backend.command) at)
+use Rattle.ready_loop.specs.{Drained.write_dry}
+use Rattle.server_side.specs.{Account.Account, Login.opening, Login.said_of, declared.command.Command.Command as Handed, declared.stage.Stage.TheVariants.In}
+use Rattle.server_side.specs.Backend.{BackendState, is_begun, left}
+use Rattle.std.proofs.{Math.Seq.drop-append_seam, lemmas.Grind.common_steps, lemmas.List.length-take-le, lemmas.List.take-append-drop, lemmas.List.take_all}
+use Rattle.std.proofs.Common.{ap, append-nil, append_assoc, arith, inl, inr, length-append, subst, sym, ◌∙◌}
+use Rattle.std.specs.Prelude.{List, Some, [], drop, is_some, length, refl, suc, take, true, zero, ℕ, ◌++◌, ◌<◌, ◌∷◌, ◌≡◌, ◌≢◌, ◌≤◌, ◌⊎◌}
 
 last-behind : (others : List Command) (c : Command) → last_bytes (others ++ c ∷ []) ≡ c.bytes
 last-behind [] c = refl
@@ -57,8 +37,10 @@ said-left : (forms : Forms) (user : Account) (heard : List ℕ) (pieces : List C
     → drop (length (bytes_in pieces)) (said_of (opening user heard)) ≡ backend.own
 said-left forms user heard pieces backend h5 = grind (arith, common_steps, drop-append_seam, length-append)
 
-begun-there : (o : Option Handed) → is_begun o ≡ true → (command : Handed) × (o ≡ Some command) × (nat_eq command.sent 0 ≡ false)
-begun-there o begun = grind (arith, common_steps, not-true)
+-- the bytes of a command are its message's
+asked-spelt : {service : Service} {n i : ℕ} {bytes : List ℕ} {id : ℕ} {log : Log} (asked : IsAsked service n i bytes id log)
+    → bytes ≡ spelling asked.message.first asked.message.payload
+asked-spelt asked = grind (arith, common_steps)
 
 -- A link to a server as it was heard and written.
 
@@ -66,9 +48,9 @@ begun-there o begun = grind (arith, common_steps, not-true)
 abbrev pub IsNeeded : Log → (n : ℕ) → BackendState → Type 0
 IsNeeded log n backend = (is_here n log ≡ true) ⊎ (is_begun backend.command ≡ true)
 
-module _ {service : Service} {log : Log} {link : LinkId} {backend : BackendState} (stands : LinkStands service log link backend) where
+module _ {service : Service} {log : Log} {link : LinkId} {backend : BackendState} (row : LinkStands service log link backend) where
   abbrev turn : Turn
-  turn = stands.turn
+  turn = row.turn
 
   abbrev heard : List ℕ
   heard = heard_of link log
@@ -76,11 +58,82 @@ module _ {service : Service} {log : Log} {link : LinkId} {backend : BackendState
   abbrev pieces : List Command
   pieces = pieces_of link log
 
-  here : IsNeeded log turn.client backend → (command : Handed) → backend.command ≡ Some command → command.sent ≡ 0 → is_here turn.client log ≡ true
-  here needed command has unsent = elim needed [
-    | inl is ↦ is
-    | inr begun ↦ cc (ap is_begun has ∙ ap (λ sent. not (nat_eq sent 0)) unsent, begun)
+  row-user : user_on service link log ≡ Some backend.account
+  row-user = grind (arith, common_steps)
+
+  abbrev row_standing : Standing
+  row_standing = standing_on service.forms backend.account link log
+
+  row-standing : row_standing ≡ standing_said service.forms backend.account heard pieces
+  row-standing = grind (arith, common_steps)
+
+  row-written : written_of link log ≡ bytes_in pieces
+  row-written = cc (pieces-bytes (of_link link log), (before-loss (of_link link log) [] row.unlost).0)
+
+  -- it can be used
+  row-sound : row_standing ≢ Spoilt
+  row-sound is = elim row.at [
+    | Entering at ↦ grind (arith, common_steps, row-standing)
+    | Inside at ↦ grind (arith, common_steps, (sym (row-standing ∙ standing-inside at) ∙ is))
   ]
+
+  -- a command on it
+  module _ {command : Handed} (has : backend.command ≡ Some command) where
+    row-inside : IsInside service.forms backend.account heard pieces backend
+    row-inside = grind (arith, common_steps)
+
+    row-command : IsCommand service.forms row-inside.stands.before.others command row-inside.part backend.reply
+    row-command = subst (λ o. IsHanded service.forms row-inside.stands.before.others o row-inside.part backend.reply) has row-inside.command
+
+    row-stands : row_standing ≡ standing_by (Some command)
+    row-stands = row-standing ∙ standing-inside row-inside ∙ ap standing_by has
+
+    row-commands : 0 < command.sent → commands_on backend.account link log ≡ row-inside.stands.before.others ++ written command ∷ []
+    row-commands some = grind (arith, common_steps, begun-some, commands-of, row-inside)
+
+  -- What is left to be written there may be written, where its client is connected or a reply is due there.
+  module _ (needed : IsNeeded log turn.client backend) where
+    may-send : (command : Handed) (k : ℕ) → backend.own ≡ [] → backend.command ≡ Some command → command.sent < length command.bytes
+        → IsLawful service log (Wrote link command.tag (take k (drop command.sent command.bytes)))
+    may-send command k none has less = rw stands.tag (record {
+      message = stands.asked.message;
+      due = stands.asked.due;
+      asks = stands.asked.asks;
+      form = stands.asked.form;
+      owner = grind (arith, common_steps);
+      user = backend.account;
+      is_user = row.user;
+      logged_in = record {
+        said = inside.stands.said;
+        rest = inside.stands.before.past ++ inside.part;
+        is = inside.stands.is;
+        written = rw row-written (grind (arith, common_steps));
+      };
+      elsewhere = λ other at. grind (arith, common_steps, some-same, (sym stands.carrier ∙ at));
+      follows = follows command.sent refl;
+    }) where
+      stands : HandedStands service log turn.client link command
+      stands = row.command command has
+
+      inside : IsInside service.forms backend.account heard pieces backend
+      inside = row-inside has
+
+      follows : (sent : ℕ) → command.sent ≡ sent → Continues (For (record { 0 = turn.client }) stands.ordinal) (take k (drop command.sent command.bytes))
+          (spelling stands.asked.message.first stands.asked.message.payload) (is_here turn.client log) (commands_on backend.account link log) row_standing
+      follows zero unsent = Begins (grind (arith, common_steps)) (grind (arith, common_steps, (row-stands has))) (record {
+        rest = drop k (drop command.sent command.bytes);
+        is = grind (arith, common_steps, (asked-spelt stands.asked));
+      })
+      follows (suc sent) at = GoesOn inside.stands.before.others (take command.sent command.bytes) (grind (arith, common_steps, (row-stands has)))
+          (row-commands has (omega arith)
+          ∙ ap (λ (t : Tag). inside.stands.before.others ++ record { tag = t; bytes = take command.sent command.bytes } ∷ []) stands.tag)
+          (record { rest = drop k (drop command.sent command.bytes); is = grind (arith, common_steps, (asked-spelt stands.asked)) })
+
+    may-write : (l : Sent) (k : ℕ) → left backend ≡ Some l → IsLawful service log (Wrote link l.tag (take k l.bytes))
+    may-write l k lefts = elim (left-at backend l lefts) [
+      | OfLogin some same ↦ rw same (record { user = backend.account; is_user = row-user; sound = row-sound; front = rw row-written (said-at k row.at some) })
+      | OfCommand command none has less same ↦ rw same (may-send command k none has less)
+    ]
 
   -- It is all that is owed to the link.
   pub link-owed : AllLawful Fits log → (l : Sent) → left backend ≡ Some l → l.bytes ≡ owed service link log
@@ -89,39 +142,28 @@ module _ {service : Service} {log : Log} {link : LinkId} {backend : BackendState
     query = query_in (work_of service turn.client log)
 
     rest : List ℕ
-    rest = owed_standing (row_standing stands) (commands_on backend.account link log) query
-
-    own : unwritten link log (said_of (opening backend.account heard)) ≡ backend.own
-    own = cc (row-written stands, said-left service.forms backend.account heard pieces backend stands.at)
+    rest = owed_standing row_standing (commands_on backend.account link log) query
 
     whole : owed service link log ≡ login_first backend.own rest
-    whole = cc (unclient-at log told service link turn stands.is_turn, stands.is_turn, row-user stands, own)
+    whole = (let said = said-left service.forms backend.account heard pieces backend row.at in
+        cc (unclient-at log told service link turn row.is_turn, row.is_turn, row-user, row-written, said))
 
     by : LeftAt backend l → l.bytes ≡ owed service link log
     by (OfLogin some same) = cc (same, whole, first-some backend.own rest some)
-    by (OfCommand command none has less same) = ap (λ (l : Sent). l.bytes) same ∙ sym (cc (whole, none, behind command.sent refl)) where
+    by (OfCommand command none has less same) = ap (λ (l : Sent). l.bytes) same ∙ sym (cc (whole, none, behind)) where
       the-query : query ≡ command.bytes
-      the-query = (let handed = stands.command command has in cc (handed.asked.asks.work, handed.asked.asks.query, asked-spelt handed.asked))
+      the-query = (let handed = row.command command has in cc (handed.asked.asks.work, handed.asked.asks.query, asked-spelt handed.asked))
 
-      behind : (sent : ℕ) → command.sent ≡ sent → rest ≡ drop command.sent command.bytes
-      behind zero at = cc (row-clean stands has at, the-query, at)
-      behind (suc sent) at = ap (λ standing. owed_standing standing (commands_on backend.account link log) query) (row-sends stands has (omega arith) less)
-          ∙ ap (λ cs. drop (length (last_bytes cs)) query) (row-commands stands has (omega arith))
-          ∙ ap (λ bytes. drop (length bytes) query) (last-behind (row-inside stands has).others (written command))
-          ∙ ap (λ k. drop k query) (length-take-le command.sent command.bytes (omega arith)) ∙ ap (drop command.sent) the-query
+      behind : rest ≡ drop command.sent command.bytes
+      behind = grind (arith, common_steps, (row-stands has), (row-commands has), last-behind, length-take-le, (the-query))
 
   -- The link takes no more of it: its query in work waits, and it is worth keeping.
-  module _ (full : (l : Sent) → left backend ≡ Some l → write_dry link log ≡ true) where
+  module _ (full : is_some (left backend) ≡ true → write_dry link log ≡ true) where
     -- a command there was written whole, or the link takes no more
     whole-or-full : {command : Handed} → backend.command ≡ Some command
         → (command.sent ≡ length command.bytes) ⊎ ((command.sent < length command.bytes) × (write_dry link log ≡ true))
-    whole-or-full {command} has = (let most : command.sent ≤ length command.bytes = (row-message stands has).sent in
-        elim (bool_cases (nat_eq command.sent (length command.bytes))) [
-          | inl same ↦ inl (nat_eq-true command.sent (length command.bytes) same)
-          | inr other ↦ (let apart : command.sent ≢ length command.bytes = nat_eq-false command.sent (length command.bytes) other in
-              let less : command.sent < length command.bytes = omega arith in let some = left-some backend command has less in
-              inr (less, full some.0 some.1))
-        ])
+    whole-or-full {command} has = (let most : command.sent ≤ length command.bytes = (row-command has).sent in
+        grind (arith, common_steps, nat_eq-true))
 
     waits-there : {i : ℕ} {message : Framed} {due : Log} (work : Work) → Asks service turn.client i message due log
         → work_of service turn.client log ≡ Some work
@@ -130,48 +172,39 @@ module _ {service : Service} {log : Log} {link : LinkId} {backend : BackendState
       due = due;
       is_due = asks.is_due;
       link = link;
-      opened = stands.opened;
+      opened = row.opened;
       owner = grind (arith, common_steps);
       user = backend.account;
-      is_user = row-user stands;
+      is_user = row-user;
       on = stays;
     })
 
     -- while the login goes on there, or as its command
     pub waits-in : {i : ℕ} {message : Framed} {due : Log} (work : Work) → backend.stage ≢ In → Asks service turn.client i message due log
         → work_of service turn.client log ≡ Some work → Waits service turn.client work log
-    waits-in {i} {message} work outside asks is = waits-there work asks is (by backend.own refl) where
-      entering : IsEntering backend.account heard pieces backend
-      entering = entering-at service.forms backend.account heard pieces backend stands.at outside
-
-      by : (own : List ℕ) → backend.own ≡ own → Stays service.forms turn.client i message backend.account link log
-      by [] none = LogsIn (row-standing stands ∙ standing-entering service.forms backend.account heard pieces backend entering)
-          (cc (entering.goes, none, append-nil (bytes_in pieces), row-written stands))
-      by (byte ∷ bytes) some = Full (full (record { tag = OwnTag; bytes = byte ∷ bytes }) (ap (λ own. left_by own backend.command) some))
+    waits-in {i} {message} work outside asks is = waits-there work asks is (let entering : IsEntering backend.account heard pieces backend =
+        grind (arith, common_steps) in grind (arith, common_steps, LogsIn, Full, append-nil, row-standing, row-written))
 
     pub waits-on : {command : Handed} (work : Work) → backend.command ≡ Some command → work_of service turn.client log ≡ Some work
         → Waits service turn.client work log
-    waits-on {command} work has is = (let handed = stands.command command has in waits-there work handed.asked.asks is (elim (whole-or-full has) [
+    waits-on {command} work has is = (let handed = row.command command has in waits-there work handed.asked.asks is (elim (whole-or-full has) [
       | inr part ↦ Full part.1
-      | inl all ↦ (let size = ap length (row-message stands has).spelt in let least = spelling-some 0 (row-message stands has).payload in
+      | inl all ↦ (let size = ap length (row-command has).message.spelt in let least = spelling-some 0 (row-command has).message.payload in
           let whole : written command ≡ record {
             tag = For (record { 0 = turn.client }) handed.ordinal;
             bytes = spelling handed.asked.message.first handed.asked.message.payload;
           } = λ j. record { tag = handed.tag j; bytes = (take_all command.sent command.bytes (omega arith) ∙ asked-spelt handed.asked) j } in
-          SentWhole (row-inside stands has).others (row-runs stands has all) (row-commands stands has (omega arith)
-          ∙ ap (λ (c : Command). (row-inside stands has).others ++ c ∷ []) whole))
+          SentWhole (row-inside has).stands.before.others (grind (arith, common_steps, (row-stands has), spelling-some, (row-command has).message))
+          (row-commands has (omega arith) ∙ ap (λ (c : Command). (row-inside has).stands.before.others ++ c ∷ []) whole))
     ]))
 
-    busy : is_begun backend.command ≡ true → IsBusy service.forms backend.account link log
-    busy begun = (let has = begun-there backend.command begun in let some : has.0.sent ≢ 0 = nat_eq-false has.0.sent 0 has.2 in elim (whole-or-full has.1) [
-      | inl all ↦ Replies (row-runs stands has.1 all)
-      | inr part ↦ Blocked (row-sends stands has.1 (omega arith) part.0) part.1
-    ])
+    busy : {command : Handed} → backend.command ≡ Some command → 0 < command.sent → IsBusy service.forms backend.account link log
+    busy has some = grind (arith, common_steps, Replies, Blocked, (whole-or-full has), (row-stands has), (row-command has).message, spelling-some)
 
     pub link-kept : (owner : Owner) (user : Account) → IsNeeded log turn.client backend
         → owner_of service link log ≡ Some owner → user_on service link log ≡ Some user → IsKept service.forms owner user link log
-    link-kept owner user needed owned known = rw (← (some-same backend.account user (sym (row-user stands) ∙ known))) (record {
-      sound = row-sound stands;
+    link-kept owner user needed owned known = rw (← (some-same backend.account user (sym row-user ∙ known))) (record {
+      sound = row-sound;
       needed = grind (arith, common_steps, owner-turn, some-same, busy);
     })
 
@@ -182,25 +215,11 @@ pub data IsLeft (service : Service) (log : Log) (link : LinkId) (sent : Sent) : 
   ForServer : (backend : BackendState) (stands : LinkStands service log link backend) → IsNeeded log stands.turn.client backend → left backend ≡ Some sent
       → IsLeft service log link sent
 
-module _ {service : Service} {log : Log} {link : LinkId} {sent : Sent} where
-  -- any part of it may be written
-  left-lawful : (k : ℕ) → IsLeft service log link sent → IsLawful service log (Wrote link sent.tag (take k sent.bytes))
-  left-lawful k (ForClient n came is on reply rest) = rw reply (n, came, is, on)
-  left-lawful k (ForServer backend stands needed is) = may-write stands (here stands needed) sent k is
-
-  module _ (told : AllLawful Fits log) where
-    -- it is all that is owed
-    pub left-owed : IsLeft service log link sent → sent.bytes ≡ owed service link log
-    left-owed (ForClient n came is on reply rest) = owed-client log told service n came link sent.bytes is on rest
-    left-owed (ForServer backend stands needed is) = link-owed stands told sent is
-
-    -- and any part of it goes on with what the client is due
-    left-due : (k n : ℕ) (came : Arrival) → arrival_of n log ≡ Some came → came.link ≡ link → IsLeft service log link sent
-        → IsPrefix (written_of came.link log ++ take k sent.bytes) (due service n log)
-    left-due k n came is on (ForClient m other at there reply rest) = of-client log told
-        (λ i (c : Arrival). IsPrefix (written_of c.link log ++ take k sent.bytes) (due service i log)) at is (there ∙ sym on)
-        (record { rest = drop k sent.bytes; is = grind (arith, common_steps, append_assoc, take-append-drop) })
-    left-due k n came is on (ForServer backend stands needed lefts) = cc (unowned log told service n came is on, stands.is_turn)
+-- it is all that is owed
+pub left-owed : {service : Service} {log : Log} {link : LinkId} {sent : Sent} → AllLawful Fits log → IsLeft service log link sent
+    → sent.bytes ≡ owed service link log
+left-owed {service} {log} {link} {sent} told (ForClient n came is on reply rest) = grind (arith, common_steps, drop-append_seam, (client-at log told n came link is on))
+left-owed {sent = sent} told (ForServer backend stands needed is) = link-owed stands told sent is
 
 -- bytes of what is left, from its beginning
 pub record IsPart (service : Service) (log : Log) (link : LinkId) (tag : Tag) (bytes : List ℕ) : Type 0 where
@@ -211,19 +230,29 @@ pub record IsPart (service : Service) (log : Log) (link : LinkId) (tag : Tag) (b
   pub front : bytes ≡ take n sent.bytes
 
 module _ {service : Service} {log : Log} {link : LinkId} {tag : Tag} {bytes : List ℕ} (part : IsPart service log link tag bytes) where
+  -- they may be written
   pub part-lawful : IsLawful service log (Wrote link tag bytes)
-  part-lawful = rw (part.same_tag, part.front) (left-lawful part.n part.is_left)
+  part-lawful = rw (part.same_tag, part.front) (elim part.is_left [
+    | ForClient n came is on reply rest ↦ rw reply (n, came, is, on)
+    | ForServer backend stands needed is ↦ may-write stands needed part.sent part.n is
+  ])
 
+  -- and go on with what the client is due
   pub part-due : AllLawful Fits log → (n : ℕ) (came : Arrival) → arrival_of n log ≡ Some came → came.link ≡ link
       → IsPrefix (written_of came.link log ++ bytes) (due service n log)
-  part-due told n came is on = rw part.front (left-due told part.n n came is on part.is_left)
+  part-due told n came is on = rw part.front (elim part.is_left [
+    | ForClient m other at there reply rest ↦ of-client log told
+        (λ i (c : Arrival). IsPrefix (written_of c.link log ++ take part.n part.sent.bytes) (due service i log)) at is (there ∙ sym on)
+        (record { rest = drop part.n part.sent.bytes; is = grind (arith, common_steps, append_assoc, take-append-drop) })
+    | ForServer backend stands needed lefts ↦ cc (unowned log told service n came is on, stands.is_turn)
+  ])
 
 -- What is written to each client goes on to be a beginning of what it is due, as long as each write does.
 pub served-more : (service : Service) (log : Log) (e : Entry) → AllLawful Fits log → Fits log e → AllLawful (IsLawful service) (log ++ e ∷ [])
     → ((link : LinkId) (tag : Tag) (bytes : List ℕ) → e ≡ Wrote link tag bytes → (n : ℕ) (came : Arrival) → arrival_of n log ≡ Some came → came.link ≡ link
     → IsPrefix (written_of came.link log ++ bytes) (due service n log)) → IsServed service log → IsServed service (log ++ e ∷ [])
 served-more service log e told fits lawful goes served n came is = elim (comes-of log e fits n came is) [
-  | Now new fresh ↦ record { rest = due service n then; is = ap (λ xs. xs ++ due service n then) (none-new log e came new fresh) }
+  | Now new fresh ↦ record { rest = due service n then; is = grind (arith, common_steps, bytes-idle) }
   | Was was ↦ entry e refl was
 ] where
   then : Log

@@ -1,34 +1,21 @@
 -- A client's query in work, and the command on a link that it becomes.
-use Rattle.client_session.specs.Arrivals.{Arrival, arrival_of}
-use Rattle.client_session.specs.Errors.{connection_lost, connection_refused}
-use Rattle.exchange.specs.Commands.{carrier_of, carries, is_command, most_command, pieces_of}
-use Rattle.exchange.specs.Logins.{heard_of, was_lost}
-use Rattle.exchange.specs.Replies.{Answer, spelt, stands}
-use Rattle.mx_wire.specs.Log.{Log, is_open}
-use Rattle.mx_wire.specs.Tells.{Fits, IsNew}
-use Rattle.packet_frame.specs.Packets.{Framed, longest, next_id, packet, packets, spelling}
-use Rattle.promises.proofs.Calm.{Leaves, Spares, asks-server, asks-stay, asks-unreplied, carrier-same, reply-left, sent-unrefused, unrefused-more, unsent-still}
-use Rattle.promises.proofs.Causes.{arrival-came, came-names, came_as, named-none, same-link}
-use Rattle.promises.proofs.InWork.{asks-unrefused, some-same}
-use Rattle.promises.proofs.LinkStates.{Entering, Inside, LinkAt, form_at, reply_said}
-use Rattle.promises.proofs.Links.{came-new, open-was, refused-or-sent}
-use Rattle.promises.proofs.Staying.{arrival-stays, carrier-stays, lost-stays}
-use Rattle.promises.specs.Due.{Work, message_of, reply_to}
-use Rattle.promises.specs.Owners.{is_here, is_refused, talk_with, user_of, user_on}
-use Rattle.promises.specs.Sends.{Asks, form_of}
-use Rattle.promises.specs.Worked.{at, link, reply, service}
-use Rattle.reply_track.specs.declared.reply.ReplyKind.TheVariants.{Command as Results, Fields}
-use Rattle.server_side.specs.Backend.{BackendState, is_begun}
-use Rattle.std.proofs.Common.{ap, append-nil, arith, length-append, length-drop, length-take-le, sym, ◌∙◌}
-use Rattle.std.specs.Option.{option_and_then, option_map}
-use Rattle.std.specs.Prelude.{Bool, List, None, Option, Some, [], cond, drop, false, length, nat_eq, not, refl, slice_index_or, suc, take, true, zero, ℕ, ◌&&◌}
-use Rattle.std.specs.Prelude.{◌*◌, ◌++◌, ◌+◌, ◌-◌, ◌/◌, ◌<◌, ◌∷◌, ◌≡◌, ◌≤◌}
+use Rattle.{client_session.specs.Arrivals.arrival_of, exchange.specs.Logins.heard_of, exchange.specs.Logins.was_lost, packet_frame.specs.PacketLaws.nat_eq-true}
+use Rattle.{promises.proofs.LinkStates.form_at, promises.proofs.LinkStates.reply_said, reply_track.specs.Replying.kind_to, std.proofs.lemmas.Grind.common_steps}
+use Rattle.exchange.specs.{Commands.carrier_of, Commands.carries, Commands.is_command, Commands.most_command, Commands.pieces_of, Replies.spelt, Replies.stands}
 use Rattle.mx_base.{specs.declared.names.LinkId.LinkId, specs.declared.tag.Tag.Tag, specs.declared.tag.Tag.TheVariants.For}
-use Rattle.mx_wire.{specs.Growth.same_number, specs.Moments.AllLawful, specs.declared.entry.Entry.Entry}
-use Rattle.promises.{proofs.LinkStanding.unanswered-at, proofs.Witness.lawful, specs.Follows.RefusedOrSent, specs.Headline.IsLawful, specs.Replied.replied}
-use Rattle.server_side.{specs.Account.Account, specs.Handing.id_begun, specs.declared.command.Command.Command as Handed}
-use Rattle.{client_session.specs.Answers.account, packet_frame.specs.PacketLaws.nat_eq-true, promises.specs.Service.Service, reply_track.specs.Replying.kind_to}
-use Rattle.std.proofs.lemmas.Grind.{common_steps}
+use Rattle.mx_wire.specs.{Growth.same_number, Log.Log, Log.is_open, Moments.AllLawful, Tells.Fits, Tells.IsNew, declared.entry.Entry.Entry}
+use Rattle.packet_frame.specs.Packets.{Framed, longest, next_id, packet, packets, spelling}
+use Rattle.promises.{proofs.Staying.arrival-stays, proofs.Staying.lost-stays, specs.Sends.Asks, specs.Sends.form_of, specs.Service.Service}
+use Rattle.promises.proofs.{Causes.arrival-came, Causes.came-names, Causes.came_as, Causes.named-none, Causes.same-link, Links.came-new, Links.open-was}
+use Rattle.promises.proofs.Calm.{Spares, asks-server, asks-stay, carrier-same, sent-unrefused, unrefused-more, unsent-still}
+use Rattle.promises.proofs.InWork.{asks-open, asks-unrefused, some-same}
+use Rattle.promises.specs.{Due.Work, Due.message_of, Follows.RefusedOrSent, Headline.IsLawful, Owners.is_here, Owners.user_of, Owners.user_on, Replied.replied}
+use Rattle.promises.specs.Worked.{link, service}
+use Rattle.reply_track.specs.declared.reply.ReplyKind.TheVariants.{Command as Results, Fields}
+use Rattle.server_side.specs.{Account.Account, Backend.is_begun, Handing.id_begun, declared.command.Command.Command as Handed}
+use Rattle.std.proofs.Common.{ap, append-nil, arith, length-append, length-drop, length-take-le, sym, ◌∙◌}
+use Rattle.std.specs.Prelude.{List, None, Option, Some, [], cond, drop, false, length, nat_eq, not, refl, slice_index_or, suc, take, true, zero, ℕ, ◌&&◌, ◌*◌}
+use Rattle.std.specs.Prelude.{◌++◌, ◌+◌, ◌-◌, ◌/◌, ◌<◌, ◌∷◌, ◌≡◌, ◌≤◌}
 
 -- A query in work, of these packets, whose answer begins with this id.
 pub record IsAsked (service : Service) (n i : ℕ) (bytes : List ℕ) (id : ℕ) (log : Log) : Type 0 where
@@ -119,11 +106,6 @@ pub record Calm (service : Service) (log : Log) (e : Entry) (n : ℕ) : Type 0 w
   pub writes : (i : ℕ) → carries n i e ≡ None
   pub spares : (i : ℕ) → Spares service log e n i
 
--- A command that is in work: it wasn't sent, or its link is left.
-pub data Stays (service : Service) (log : Log) (e : Entry) (n i : ℕ) : Type 0 where
-  Unbegun : carrier_of n i log ≡ None → Stays service log e n i
-  There : (link : LinkId) (user : Account) → carrier_of n i log ≡ Some link → user_on service link log ≡ Some user → Leaves link log e → Stays service log e n i
-
 -- A client that has gone stays gone: its link was open or closed before, and is never opened again.
 
 gone-link : (link : LinkId) (log : Log) (e : Entry) → Fits log e → (IsNew link log → ⊥) → (is_open link log && not (was_lost link log)) ≡ false
@@ -132,62 +114,12 @@ gone-link link log e fits known gone = grind (arith, common_steps, open-was, cam
 
 pub gone-stays : (service : Service) (n : ℕ) (user : Account) (log : Log) (e : Entry) → Fits log e → user_of service n log ≡ Some user → is_here n log ≡ false
     → is_here n (log ++ e ∷ []) ≡ false
-gone-stays service n user log e fits known gone = by (arrival_of n log) refl known where
-  by : (o : Option Arrival) → arrival_of n log ≡ o → option_and_then account (option_map (λ (came : Arrival). talk_with service n came log) o) ≡ Some user
-      → is_here n (log ++ e ∷ []) ≡ false
-  by None at known = cc
-  by (Some came) at known = cc (
-    arrival-stays n log (e ∷ []) came at,
-    gone-link came.link log e fits
-        (λ new. named-none came.link (came_as came.link) log (came-names came.link) new (arrival-came n log came at)) (cc (at, gone)),
-  )
-
-unreplied : (b : Bool) (refusal reply : Option Answer) → b ≡ false → cond b refusal reply ≡ None → reply ≡ None
-unreplied b refusal reply unrefused is = grind (arith, common_steps)
-
-module _ (service : Service) (log : Log) (e : Entry) where
-  abbrev then : Log
-  then = log ++ e ∷ []
-
-  pub still-none : (n i : ℕ) (packets : List ℕ) (first : ℕ) → RefusedOrSent service then → IsAsked service n i packets first log → Calm service log e n
-      → Stays service log e n i → replied service n i then ≡ None
-  still-none n i packets first never asked calm stays = (let unrefused = asks-unrefused service n i asked.message asked.due log asked.asks in elim stays [
-    | Unbegun none ↦ unsent-still service n i then (carrier-same n i log e (calm.writes i) ∙ none) (unrefused-more service n i log e unrefused (calm.spares i))
-    | There link user at is leaves ↦ ap (λ b. cond b (Some (connection_refused ∷ [])) (reply_to service n i then)) (sent-unrefused service n i then link never
-        (carrier-stays n i log (e ∷ []) link at)) ∙ reply-left service n i log e link user at is leaves ∙ unreplied (is_refused service n i log) (Some
-        (connection_refused ∷ [])) (reply_to service n i log) unrefused (asks-unreplied service n i asked.message asked.due log asked.asks)
-  ])
-
-  pub asked-calm : (n i : ℕ) (packets : List ℕ) (first : ℕ) → AllLawful (IsLawful service) then → IsAsked service n i packets first log → Calm service log e n
-      → Stays service log e n i → IsAsked service n i packets first then
-  asked-calm n i packets first lawful asked calm stays = grind (
-    arith,
-    common_steps,
-    asks-stay,
-    asks-server,
-    (still-none n i packets first (refused-or-sent service then lawful) asked calm stays),
-  )
-
-  -- A command on a link that is left.
-  module _ {n : ℕ} {link : LinkId} {user : Account} {command : Handed} (lawful : AllLawful (IsLawful service) then) (is : user_on service link log ≡ Some user)
-      (stands : HandedStands service log n link command) (calm : Calm service log e n) (leaves : Leaves link log e) where
-    handed-stays : Stays service log e n stands.ordinal
-    handed-stays = by command.sent stands.carrier where
-      by : (sent : ℕ) → carrier_of n stands.ordinal log ≡ carried_by link sent → Stays service log e n stands.ordinal
-      by zero carrier = Unbegun carrier
-      by (suc sent) carrier = There link user carrier is leaves
-
-    pub handed-calm : HandedStands service then n link command
-    handed-calm = record {
-      ordinal = stands.ordinal;
-      tag = stands.tag;
-      asked = asked-calm n stands.ordinal command.bytes command.first lawful stands.asked calm handed-stays;
-      carrier = carrier-same n stands.ordinal log e (calm.writes stands.ordinal) ∙ stands.carrier;
-    }
-
-    pub handed-none : (i : ℕ) → command.tag ≡ For (record { 0 = n }) i → replied service n i then ≡ None
-    handed-none i tag = ap (λ k. replied service n k then) (same-ordinal n i stands.ordinal command.tag tag stands.tag)
-        ∙ still-none n stands.ordinal command.bytes command.first (refused-or-sent service then lawful) stands.asked calm handed-stays
+gone-stays service n user log e fits known gone = elim (arrival_of n log) as (λ o. arrival_of n log ≡ o → is_here n (log ++ e ∷ []) ≡ false) [
+  | None ↦ λ none. cc (known, none)
+  | Some came ↦ λ at. (let known = named-none came.link (came_as came.link) log (came-names came.link) in
+      let shut = gone-link came.link log e fits (λ new. known new (arrival-came n log came at)) (cc (at, gone)) in
+      cc (arrival-stays n log (e ∷ []) came at, shut))
+] refl
 
 -- What comes of a command on a link is what the link says.
 pub replied-said : (service : Service) (n i : ℕ) (link : LinkId) (user : Account) (log : Log) → RefusedOrSent service log
@@ -195,15 +127,24 @@ pub replied-said : (service : Service) (n i : ℕ) (link : LinkId) (user : Accou
     → replied service n i log ≡ reply_said service.forms n i user (heard_of link log) (pieces_of link log) (was_lost link log)
 replied-said service n i link user log never carrier is = grind (arith, common_steps, sent-unrefused)
 
--- nothing comes of one that is written in part, or waits for its first byte
-pub command-unreplied : {user : Account} {backend : BackendState} (service : Service) (n i : ℕ) (link : LinkId) (log : Log) (command : Handed)
-    → RefusedOrSent service log → LinkAt service.forms user (heard_of link log) (pieces_of link log) backend → backend.command ≡ Some command
-    → command.tag ≡ For (record { 0 = n }) i → carrier_of n i log ≡ carried_by link command.sent → user_on service link log ≡ Some user
-    → was_lost link log ≡ false → (command.sent ≡ 0 → is_refused service n i log ≡ false) → replied service n i log ≡ None
-command-unreplied service n i link log command never (Entering at) has tag carrier is unlost unrefused = cc (at.login.idle, has)
-command-unreplied {user} service n i link log command never (Inside at) has tag carrier is unlost unrefused = by command.sent refl where
-  by : (sent : ℕ) → command.sent ≡ sent → replied service n i log ≡ None
-  by zero none = unsent-still service n i log (carrier ∙ ap (carried_by link) none) (unrefused none)
-  by (suc sent) some = replied-said service n i link user log never (carrier ∙ ap (carried_by link) some) is
-      ∙ unanswered-at (record { inside = at; is = has; some = omega arith }) n i (was_lost link log) (command-is n i command.tag tag)
-      ∙ ap (λ b. cond b (Some (connection_lost ∷ [])) None) unlost
+-- nothing came of a query that is in work
+pub asked-unreplied : {service : Service} {n i id : ℕ} {bytes : List ℕ} {log : Log} → IsAsked service n i bytes id log → replied service n i log ≡ None
+asked-unreplied {service} {n} {i} {log = log} asked =
+    (let unanswered = asks-open service n i asked.message asked.due log asked.asks in grind (arith, common_steps))
+
+module _ (service : Service) (log : Log) (e : Entry) (lawful : AllLawful (IsLawful service) (log ++ e ∷ [])) where
+  abbrev then : Log
+  then = log ++ e ∷ []
+
+  -- it stays in work until something comes of it
+  pub asked-still : {n i id : ℕ} {bytes : List ℕ} → IsAsked service n i bytes id log → replied service n i then ≡ None → IsAsked service n i bytes id then
+  asked-still asked none = grind (arith, common_steps, asks-stay, asks-server)
+
+  pub unsent-none : {n i id : ℕ} {bytes : List ℕ} → IsAsked service n i bytes id log → Calm service log e n → carrier_of n i then ≡ None
+      → replied service n i then ≡ None
+  unsent-none {n} {i} asked calm unsent =
+      grind (arith, common_steps, unsent-still, unrefused-more, (asks-unrefused service n i asked.message asked.due log asked.asks), (calm.spares i))
+
+  pub asked-calm : {n i id : ℕ} {bytes : List ℕ} → IsAsked service n i bytes id log → Calm service log e n → carrier_of n i log ≡ None
+      → IsAsked service n i bytes id then
+  asked-calm {n} {i} asked calm unsent = asked-still asked (unsent-none asked calm (carrier-same n i log e (calm.writes i) ∙ unsent))

@@ -1,11 +1,8 @@
 -- Rows of tables by numbers, and lists of one at most.
-use Rattle.mx_wire.specs.Growth.{same_number}
-use Rattle.packet_frame.specs.PacketLaws.{nat_eq-true}
+use Rattle.{mx_base.specs.declared.names.LinkId.LinkId, mx_wire.specs.Growth.same_number, packet_frame.specs.PacketLaws.nat_eq-true}
+use Rattle.{promises.proofs.InWork.some-same, std.proofs.lemmas.Grind.common_steps}
 use Rattle.std.proofs.Common.{ap, arith, sym, ◌∙◌}
 use Rattle.std.specs.Prelude.{List, None, Option, Some, [], cond, false, nat_eq, ℕ, ◌∷◌, ◌≡◌}
-use Rattle.mx_base.specs.declared.names.LinkId.{LinkId}
-use Rattle.promises.proofs.InWork.{some-same}
-use Rattle.std.proofs.lemmas.Grind.{common_steps}
 
 pub no-some : {X : Type 0} {x : X} {o : Option X} → o ≡ None → o ≡ Some x → ⊥
 no-some none some = (let no' : None ≡ Some _ = sym none ∙ some in cc)

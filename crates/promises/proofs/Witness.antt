@@ -1,48 +1,28 @@
 -- The worked log keeps the promises.
-use Rattle.std.specs.Prelude.{◌≡◌, ◌⊎◌, ℕ, zero, suc, ◌<◌, Bool, true, false, nat_eq, ◌&&◌, ◌||◌, cond, List, [], ◌∷◌, ◌++◌, length, take, slice_get, Option, Some, None, refl}
-use Rattle.std.specs.List.{list_any}
-use Rattle.std.proofs.Common.{sym, ◌∙◌, ap, subst, append-nil, append_assoc, arith, inl, inr}
-use Rattle.std.proofs.lemmas.List.Folds.{list_any-append}
-use Rattle.ready_loop.specs.Drained.{all_accepted, read_dry}
-use Rattle.std.proofs.lemmas.Option.{slice_get_within}
-use Rattle.std.proofs.lemmas.List.{take_all}
-use Rattle.mx_base.specs.declared.names.LinkId.{LinkId}
-use Rattle.mx_base.specs.declared.names.Port.{Port}
-use Rattle.mx_base.specs.declared.names.Port.TheVariants.{Traffic, Admin}
-use Rattle.mx_wire.specs.Log.{Log, is_open, written_of}
-use Rattle.mx_wire.specs.Tells.{IsOpen}
-use Rattle.mx_wire.specs.Growth.{same_number}
-use Rattle.mx_wire.specs.Moments.{AtEachMoment, AllLawful}
-use Rattle.mx_wire.specs.declared.entry.Entry.{Entry}
-use Rattle.packet_frame.specs.PacketLaws.{nat_eq-true}
-use Rattle.server_side.specs.Account.{Account}
+use Rattle.client_session.specs.{Accounts.account_of, Errors.bad_server_bytes, Errors.connection_lost, Errors.connection_refused, Errors.own_ok}
 use Rattle.client_session.specs.Arrivals.{Arrival, arrival_of, arrivals}
-use Rattle.packet_frame.specs.Packets.{Framed, first_message, split, spelling}
-use Rattle.reply_track.specs.Replying.{payloads_in}
-use Rattle.handshake.specs.Response.{response_fields, head_fields, response_of}
-use Rattle.handshake.specs.Greeting.{greeting_fields, greeting_of, protocol_field, offer_fields, back_field}
-use Rattle.handshake.specs.Switch.{switch_of}
-use Rattle.handshake.specs.Reading.{number_field, bytes_field, text_field, counted_field, optional_text, last_text}
-use Rattle.client_side.specs.Login.{opening as client_opening}
-use Rattle.server_side.specs.Login.{opening as server_opening, response_said, answer_said}
-use Rattle.client_session.specs.Accounts.{account_of}
-use Rattle.client_session.specs.Errors.{own_ok, connection_refused, bad_server_bytes, connection_lost}
-use Rattle.exchange.specs.Logins.{IsPrefix}
-use Rattle.exchange.specs.Replies.{Clean, Enters, Runs, Spoilt, standing_on}
-use Rattle.promises.specs.Service.{Turn, Service}
-use Rattle.promises.specs.Owners.{Owner, owner_of, user_on}
-use Rattle.promises.specs.Due.{Work, work_of, due}
-use Rattle.exchange.specs.Commands.{carrier_of}
-use Rattle.mx_wire.specs.declared.entry.Entry.TheVariants.{ReadNothing}
-use Rattle.std.specs.Option.{option_map}
-use Rattle.promises.specs.Sends.{MayOpen, MaySend, MaySay, Begins, owner_for}
-use Rattle.promises.specs.Closes.{MayClose, IsSpoilt}
-use Rattle.promises.specs.Rest.{Sent, LogsIn, Waits, IsAnswered, IsKept, IsAtRest, RestsAt}
-use Rattle.promises.specs.Headline.{IsServed, IsLawful, Serves}
-use Rattle.promises.specs.Worked.{server_greeting, link, salt, at, setup, service, forms, first_turn, second_turn, ann, bob, query, early, entering, logged_in, bob_asked, bob_asks, waiting, denied, answered, whole}
-use Rattle.promises.proofs.InWork.{some-same}
-use Rattle.promises.proofs.Causes.{or-cases, opened_as, came_as, or-inl, or-inr}
-use Rattle.promises.proofs.Links.{open-was}
+use Rattle.client_side.specs.{Login.opening as client_opening}
+use Rattle.exchange.specs.{Commands.carrier_of, Logins.IsPrefix, Replies.Clean, Replies.Enters, Replies.Runs, Replies.Spoilt, Replies.standing_on}
+use Rattle.handshake.specs.{Response.head_fields, Response.response_fields, Response.response_of, Switch.switch_of}
+use Rattle.handshake.specs.Greeting.{back_field, greeting_fields, greeting_of, offer_fields, protocol_field}
+use Rattle.handshake.specs.Reading.{bytes_field, counted_field, last_text, number_field, optional_text, text_field}
+use Rattle.mx_base.specs.{declared.names.LinkId.LinkId, declared.names.Port.Port, declared.names.Port.TheVariants.Traffic}
+use Rattle.mx_wire.specs.{Growth.same_number, Log.Log, Log.is_open, Log.written_of, Moments.AllLawful, Moments.AtEachMoment, Tells.IsOpen}
+use Rattle.mx_wire.specs.{declared.entry.Entry.Entry, declared.entry.Entry.TheVariants.ReadNothing}
+use Rattle.packet_frame.specs.{PacketLaws.nat_eq-true, Packets.Framed, Packets.first_message, Packets.spelling, Packets.split}
+use Rattle.promises.proofs.{Causes.came_as, Causes.opened_as, Causes.or-cases, Causes.or-inl, Causes.or-inr, InWork.some-same, Links.open-was}
+use Rattle.promises.specs.{Closes.IsSpoilt, Closes.MayClose, Due.Work, Due.due, Due.work_of, Headline.IsLawful, Headline.IsServed, Headline.Serves}
+use Rattle.promises.specs.{Owners.Owner, Owners.owner_of, Owners.user_on, Rest.IsAnswered, Rest.IsAtRest, Rest.IsKept, Rest.LogsIn, Rest.RestsAt, Rest.Sent}
+use Rattle.promises.specs.{Rest.Waits, Sends.Begins, Sends.MayOpen, Sends.MaySay, Sends.MaySend, Sends.owner_for, Service.Service}
+use Rattle.promises.specs.Worked.{ann, answered, at, bob, bob_asked, bob_asks, denied, early, entering, first_turn, forms, link, logged_in, query, salt}
+use Rattle.promises.specs.Worked.{second_turn, server_greeting, service, setup, waiting, whole}
+use Rattle.ready_loop.specs.Drained.{all_accepted, read_dry}
+use Rattle.reply_track.specs.{Replying.payloads_in}
+use Rattle.server_side.specs.{Account.Account, Login.answer_said, Login.opening as server_opening, Login.response_said}
+use Rattle.std.proofs.{lemmas.Grind.common_steps, lemmas.List.Folds.list_any-append, lemmas.List.take_all, lemmas.Option.slice_get_within}
+use Rattle.std.proofs.Common.{ap, append-nil, arith, inl, subst, sym, ◌∙◌}
+use Rattle.std.specs.{List.list_any}
+use Rattle.std.specs.Prelude.{Bool, List, None, Option, Some, [], false, length, nat_eq, refl, suc, take, true, zero, ℕ, ◌&&◌, ◌++◌, ◌<◌, ◌||◌, ◌∷◌, ◌≡◌}
 
 -- Who came.
 abbrev ann_at : Arrival
@@ -58,14 +38,12 @@ is_front (x ∷ xs) [] = false
 is_front (x ∷ xs) (y ∷ ys) = nat_eq x y && is_front xs ys
 
 and-true : (a b : Bool) → (a && b) ≡ true → (a ≡ true) × (b ≡ true)
-and-true true b is = (refl, is)
-and-true false b is = absurd (let no : false ≡ true = is in cc)
+and-true a b is = grind (arith, common_steps)
 
 front-is : (front all : List ℕ) → is_front front all ≡ true → IsPrefix front all
 front-is [] ys is = record { rest = ys; is = refl }
 front-is (x ∷ xs) [] is = absurd (let no : false ≡ true = is in cc)
-front-is (x ∷ xs) (y ∷ ys) is = (let parts = and-true (nat_eq x y) (is_front xs ys) is in let later = front-is xs ys parts.1 in
-    record { rest = later.rest; is = ap (λ k. k ∷ xs ++ later.rest) (nat_eq-true x y parts.0) ∙ ap (λ l. y ∷ l) later.is })
+front-is (x ∷ xs) (y ∷ ys) is = grind (arith, common_steps, (front-is xs ys), and-true, nat_eq-true)
 
 abbrev written_by : Option Arrival → Log → List ℕ
 written_by None log = []
@@ -80,13 +58,7 @@ serves_all service log = serves_up_to service (length (arrivals log)) log
 
 up-to-is : (service : Service) (most n : ℕ) (log : Log) → n < most → serves_up_to service most log ≡ true → is_front (written_by (arrival_of (suc n) log) log) (due service (suc n) log) ≡ true
 up-to-is service zero n log within is = absurd (let no : n < 0 = within in omega arith)
-up-to-is service (suc most) n log within is = by (nat_eq n most) refl (up-to-is service most n log) where
-  parts : (is_front (written_by (arrival_of (suc most) log) log) (due service (suc most) log) ≡ true) × (serves_up_to service most log ≡ true)
-  parts = and-true _ _ is
-
-  by : (b : Bool) → nat_eq n most ≡ b → (n < most → serves_up_to service most log ≡ true → is_front (written_by (arrival_of (suc n) log) log) (due service (suc n) log) ≡ true) → is_front (written_by (arrival_of (suc n) log) log) (due service (suc n) log) ≡ true
-  by true same later = ap (λ k. is_front (written_by (arrival_of (suc k) log) log) (due service (suc k) log)) (nat_eq-true n most same) ∙ parts.0
-  by false other later = later (let apart : nat_eq n most ≡ false = other in grind arith) parts.1
+up-to-is service (suc most) n log within is = grind (arith, common_steps, (up-to-is service most n log), and-true, nat_eq-true)
 
 serves-is : (service : Service) (log : Log) → serves_all service log ≡ true → IsServed service log
 serves-is service log is zero came at = absurd (let no : None ≡ Some came = at in cc)
@@ -101,7 +73,7 @@ at_each test before (e ∷ log) = test before && at_each test (before ++ e ∷ [
 each-is : (test : Log → Bool) (before log : Log) → at_each test before log ≡ true → (n : ℕ) → test (before ++ take n log) ≡ true
 each-is test before [] is n = ap test (ap (λ (l : Log). before ++ l) (take_all n [] (omega arith)) ∙ append-nil before) ∙ is
 each-is test before (e ∷ log) is zero = ap test (append-nil before) ∙ (and-true (test before) (at_each test (before ++ e ∷ []) log) is).0
-each-is test before (e ∷ log) is (suc n) = ap test (sym (append_assoc before (e ∷ []) (take n log))) ∙ each-is test (before ++ e ∷ []) log (and-true (test before) (at_each test (before ++ e ∷ []) log) is).1 n
+each-is test before (e ∷ log) is (suc n) = grind (arith, common_steps, (each-is test (before ++ e ∷ []) log), and-true)
 
 served-whole : at_each (serves_all service) [] whole ≡ true
 unfolding client_opening server_opening payloads_in first_message split spelling account_of response_fields head_fields response_of greeting_fields protocol_field offer_fields back_field greeting_of switch_of number_field bytes_field text_field counted_field optional_text last_text own_ok connection_refused bad_server_bytes connection_lost response_said answer_said
@@ -161,10 +133,7 @@ apart a b other same = (let no : true ≡ false = sym (same_number b) ∙ ap (λ
 
 -- the one link that was opened before is the first client's
 owned-by : (other : LinkId) → owner_of service other bob_asks ≡ Some (owner_for service 2 query_message bob_asked) → is_open other bob_asks ≡ false
-owned-by other is = absurd (by (nat_eq other.0 3) is) where
-  by : (b : Bool) → option_map (λ (turn : Turn). record { client = turn.client; hostgroup = turn.hostgroup }) (cond b (Some first_turn) None) ≡ Some (owner_for service 2 query_message bob_asked) → ⊥
-  by true same = apart 1 2 refl (ap client_in same)
-  by false same = (let no : None ≡ Some (owner_for service 2 query_message bob_asked) = same in cc)
+owned-by other is = grind (arith, common_steps)
 
 opens-second : MayOpen service at bob_asks
 unfolding client_opening server_opening payloads_in first_message split spelling account_of response_fields head_fields response_of greeting_fields protocol_field offer_fields back_field greeting_of switch_of number_field bytes_field text_field counted_field optional_text last_text own_ok connection_refused bad_server_bytes connection_lost response_said answer_said
@@ -186,10 +155,7 @@ link-of a b same = ap (λ (l : LinkId). l.0) same
 
 -- the clients' links are others
 parts-not : (n : ℕ) (came : Arrival) → arrival_of n denied ≡ Some came → came.link ≡ link 4 → ⊥
-parts-not zero came is on = (let no : None ≡ Some came = is in cc)
-parts-not (suc zero) came is on = (let same : ann_at ≡ came = some-same ann_at came is in apart 1 4 refl (link-of 1 4 (ap (λ (c : Arrival). c.link) same ∙ on)))
-parts-not (suc (suc zero)) came is on = (let same : bob_at ≡ came = some-same bob_at came is in apart 2 4 refl (link-of 2 4 (ap (λ (c : Arrival). c.link) same ∙ on)))
-parts-not (suc (suc (suc n))) came is on = (let no : None ≡ Some came = is in cc)
+parts-not n came is on = grind (arith, common_steps, some-same, link-of)
 
 spoilt-second : standing_on forms bob (link 4) denied ≡ Spoilt
 unfolding client_opening server_opening payloads_in first_message split spelling account_of response_fields head_fields response_of greeting_fields protocol_field offer_fields back_field greeting_of switch_of number_field bytes_field text_field counted_field optional_text last_text own_ok connection_refused bad_server_bytes connection_lost response_said answer_said
@@ -224,15 +190,11 @@ abbrev known_as : LinkId → Entry → Bool
 known_as l e = came_as l e || opened_as l e
 
 known-more : (l : LinkId) (log : Log) (e : Entry) → (is_open l log ≡ true → list_any (known_as l) log ≡ true) → is_open l (log ++ e ∷ []) ≡ true → list_any (known_as l) (log ++ e ∷ []) ≡ true
-known-more l log e before opened = list_any-append (known_as l) log (e ∷ []) ∙ by (open-was l log e opened) where
-  by : (is_open l log ≡ true) ⊎ ((came_as l e ≡ true) ⊎ (opened_as l e ≡ true)) → (list_any (known_as l) log || (known_as l e || false)) ≡ true
-  by (inl was) = or-inl (list_any (known_as l) log) (known_as l e || false) (before was)
-  by (inr (inl came)) = or-inr (list_any (known_as l) log) (known_as l e || false) (or-inl (known_as l e) false (or-inl (came_as l e) (opened_as l e) came))
-  by (inr (inr now)) = or-inr (list_any (known_as l) log) (known_as l e || false) (or-inl (known_as l e) false (or-inr (came_as l e) (opened_as l e) now))
+known-more l log e before opened = grind (arith, common_steps, list_any-append, open-was, or-inl, or-inr)
 
 known-behind : (l : LinkId) (before log : Log) → (is_open l before ≡ true → list_any (known_as l) before ≡ true) → is_open l (before ++ log) ≡ true → list_any (known_as l) (before ++ log) ≡ true
 known-behind l before [] is opened = ap (list_any (known_as l)) (append-nil before) ∙ is (ap (is_open l) (sym (append-nil before)) ∙ opened)
-known-behind l before (e ∷ log) is opened = ap (list_any (known_as l)) (sym (append_assoc before (e ∷ []) log)) ∙ known-behind l (before ++ e ∷ []) log (known-more l before e is) (ap (is_open l) (append_assoc before (e ∷ []) log) ∙ opened)
+known-behind l before (e ∷ log) is opened = grind (arith, common_steps, (known-behind l (before ++ e ∷ []) log (known-more l before e is)), known-more)
 
 known-open : (l : LinkId) (log : Log) → is_open l log ≡ true → list_any (known_as l) log ≡ true
 known-open l log opened = known-behind l [] log (λ is. absurd (let no : false ≡ true = is in cc)) opened
@@ -244,25 +206,13 @@ data Four (l : LinkId) : Type 0 where
   Fourth : link 4 ≡ l → Four l
 
 or-false : (b : Bool) → (b || false) ≡ true → b ≡ true
-or-false true is = refl
-or-false false is = is
+or-false b is = grind (arith, common_steps)
 
 named-by : (l : LinkId) (k : ℕ) → nat_eq l.0 k ≡ true → link k ≡ l
 named-by l k is = ap (λ j. record { 0 = j }) (sym (nat_eq-true l.0 k is))
 
 four : (l : LinkId) → ((nat_eq l.0 1 || false) || (nat_eq l.0 3 || ((nat_eq l.0 2 || false) || (nat_eq l.0 4 || false)))) ≡ true → Four l
-four l is = by (or-cases (nat_eq l.0 1 || false) (nat_eq l.0 3 || ((nat_eq l.0 2 || false) || (nat_eq l.0 4 || false))) is) where
-  by4 : ((nat_eq l.0 2 || false) ≡ true) ⊎ ((nat_eq l.0 4 || false) ≡ true) → Four l
-  by4 (inl two) = Second (named-by l 2 (or-false (nat_eq l.0 2) two))
-  by4 (inr last) = Fourth (named-by l 4 (or-false (nat_eq l.0 4) last))
-
-  by3 : (nat_eq l.0 3 ≡ true) ⊎ (((nat_eq l.0 2 || false) || (nat_eq l.0 4 || false)) ≡ true) → Four l
-  by3 (inl three) = Third (named-by l 3 three)
-  by3 (inr others) = by4 (or-cases (nat_eq l.0 2 || false) (nat_eq l.0 4 || false) others)
-
-  by : ((nat_eq l.0 1 || false) ≡ true) ⊎ ((nat_eq l.0 3 || ((nat_eq l.0 2 || false) || (nat_eq l.0 4 || false))) ≡ true) → Four l
-  by (inl one) = First (named-by l 1 (or-false (nat_eq l.0 1) one))
-  by (inr others) = by3 (or-cases (nat_eq l.0 3) ((nat_eq l.0 2 || false) || (nat_eq l.0 4 || false)) others)
+four l is = grind (arith, common_steps, or-cases, named-by, or-false)
 
 four-waiting : (l : LinkId) → is_open l waiting ≡ true → Four l
 four-waiting l opened = four l (known-open l waiting opened)
@@ -272,16 +222,11 @@ four-answered l opened = four l (known-open l answered opened)
 
 -- what is said of one owner and user is said of the link's
 kept-by : (owner mine : Owner) (user me : Account) (l : LinkId) (log : Log) → owner_of service l log ≡ Some mine → user_on service l log ≡ Some me → IsKept forms mine me l log → owner_of service l log ≡ Some owner → user_on service l log ≡ Some user → IsKept forms owner user l log
-kept-by owner mine user me l log one two kept owned who = subst (λ (o : Owner). IsKept forms o user l log) (some-same mine owner (sym one ∙ owned)) (subst (λ (u : Account). IsKept forms mine u l log) (some-same me user (sym two ∙ who)) kept)
+kept-by owner mine user me l log one two kept owned who = grind (arith, common_steps, some-same)
 
 -- what is said of the two clients is said of each that came
 both-answered : (log : Log) → arrivals log ≡ ann_at ∷ bob_at ∷ [] → IsAnswered service 1 ann_at log → IsAnswered service 2 bob_at log → (n : ℕ) (came : Arrival) → arrival_of n log ≡ Some came → IsAnswered service n came log
-both-answered log are first second zero came is = absurd (let no : None ≡ Some came = is in cc)
-both-answered log are first second (suc n) came is = by n (sym (ap (λ (l : List Arrival). slice_get l n) are) ∙ is) where
-  by : (k : ℕ) → slice_get (ann_at ∷ bob_at ∷ []) k ≡ Some came → IsAnswered service (suc k) came log
-  by zero at = subst (λ (c : Arrival). IsAnswered service 1 c log) (some-same ann_at came at) first
-  by (suc zero) at = subst (λ (c : Arrival). IsAnswered service 2 c log) (some-same bob_at came at) second
-  by (suc (suc k)) at = absurd (let no : None ≡ Some came = at in cc)
+both-answered log are first second n came is = grind (arith, common_steps, some-same)
 
 rest-begun : IsAtRest service []
 rest-begun = record {
@@ -340,20 +285,13 @@ bob-there = refl
 rest-waiting : IsAtRest service waiting
 rest-waiting = record { accepted = accepted; named = refl; read = λ l opened. inl (dry l (four-waiting l opened)); clients = λ n came is opened. both-answered waiting refl ann-answered bob-answered n came is; servers = λ l owner user opened owned who. servers l owner user (four-waiting l opened) owned who } where
   accepted : (port : Port) → all_accepted port waiting ≡ true
-  accepted Traffic = refl
-  accepted Admin = refl
+  accepted port = grind (arith, common_steps)
 
   dry : (l : LinkId) → Four l → read_dry l waiting ≡ true
-  dry l (First is) = subst (λ (k : LinkId). read_dry k waiting ≡ true) is refl
-  dry l (Second is) = subst (λ (k : LinkId). read_dry k waiting ≡ true) is refl
-  dry l (Third is) = subst (λ (k : LinkId). read_dry k waiting ≡ true) is refl
-  dry l (Fourth is) = subst (λ (k : LinkId). read_dry k waiting ≡ true) is refl
+  dry l two = grind (arith, common_steps)
 
   servers : (l : LinkId) (owner : Owner) (user : Account) → Four l → owner_of service l waiting ≡ Some owner → user_on service l waiting ≡ Some user → IsKept forms owner user l waiting
-  servers l owner user (First is) owned who = absurd (let no : None ≡ Some owner = ap (λ k. owner_of service k waiting) is ∙ owned in cc)
-  servers l owner user (Second is) owned who = absurd (let no : None ≡ Some owner = ap (λ k. owner_of service k waiting) is ∙ owned in cc)
-  servers l owner user (Third is) owned who = subst (λ (k : LinkId). IsKept forms owner user k waiting) is (kept-by owner (record { client = 1; hostgroup = 0 }) user ann (link 3) waiting refl ann-there third-kept (ap (λ k. owner_of service k waiting) is ∙ owned) (ap (λ k. user_on service k waiting) is ∙ who))
-  servers l owner user (Fourth is) owned who = subst (λ (k : LinkId). IsKept forms owner user k waiting) is (kept-by owner (record { client = 2; hostgroup = 0 }) user bob (link 4) waiting refl bob-there fourth-kept (ap (λ k. owner_of service k waiting) is ∙ owned) (ap (λ k. user_on service k waiting) is ∙ who))
+  servers l owner user four owned who = grind (arith, common_steps, kept-by, ann-there, third-kept, bob-there, fourth-kept)
 
 -- and at the end
 ann-done : IsAnswered service 1 ann_at answered
@@ -375,20 +313,13 @@ ann-still = refl
 rest-answered : IsAtRest service answered
 rest-answered = record { accepted = accepted; named = refl; read = λ l opened. inl (dry l (four-answered l opened) opened); clients = λ n came is opened. both-answered answered refl ann-done bob-done n came is; servers = λ l owner user opened owned who. servers l owner user (four-answered l opened) opened owned who } where
   accepted : (port : Port) → all_accepted port answered ≡ true
-  accepted Traffic = refl
-  accepted Admin = refl
+  accepted port = grind (arith, common_steps)
 
   dry : (l : LinkId) → Four l → is_open l answered ≡ true → read_dry l answered ≡ true
-  dry l (First is) opened = subst (λ (k : LinkId). read_dry k answered ≡ true) is refl
-  dry l (Second is) opened = subst (λ (k : LinkId). read_dry k answered ≡ true) is refl
-  dry l (Third is) opened = subst (λ (k : LinkId). read_dry k answered ≡ true) is refl
-  dry l (Fourth is) opened = absurd (let no : false ≡ true = ap (λ k. is_open k answered) is ∙ opened in cc)
+  dry l two opened = grind (arith, common_steps)
 
   servers : (l : LinkId) (owner : Owner) (user : Account) → Four l → is_open l answered ≡ true → owner_of service l answered ≡ Some owner → user_on service l answered ≡ Some user → IsKept forms owner user l answered
-  servers l owner user (First is) opened owned who = absurd (let no : None ≡ Some owner = ap (λ k. owner_of service k answered) is ∙ owned in cc)
-  servers l owner user (Second is) opened owned who = absurd (let no : None ≡ Some owner = ap (λ k. owner_of service k answered) is ∙ owned in cc)
-  servers l owner user (Third is) opened owned who = subst (λ (k : LinkId). IsKept forms owner user k answered) is (kept-by owner (record { client = 1; hostgroup = 0 }) user ann (link 3) answered refl ann-still third-clean (ap (λ k. owner_of service k answered) is ∙ owned) (ap (λ k. user_on service k answered) is ∙ who))
-  servers l owner user (Fourth is) opened owned who = absurd (let no : false ≡ true = ap (λ k. is_open k answered) is ∙ opened in cc)
+  servers l owner user four opened owned who = grind (arith, common_steps, kept-by, ann-still, third-clean)
 
 rests-whole : AllLawful (RestsAt service) whole
 rests-whole = (rest-begun, skip 23 (rest-waiting, skip 11 (rest-answered, tt)))

@@ -10,7 +10,7 @@ use Rattle.mem_wire.specs.Play.{IsPlay}
 use Rattle.client_session.specs.Setups.{Setup}
 use Rattle.promises.specs.Headline.{Serves}
 use Rattle.promises.specs.Replay.{KeepsSized}
-use Rattle.router_world.specs.Owed.{lends}
+use Rattle.router_world.specs.Acts.{lends}
 use Rattle.router_world.proofs.Promises.{keeps}
 use Rattle.router_world.proofs.Sizing.{keeps-sized}
 use Rattle.session_core.specs.declared.router.Core.{Core}

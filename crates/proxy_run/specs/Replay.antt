@@ -1,25 +1,15 @@
 -- What a replay puts, and why it stops short.
-use Rattle.std.specs.Prelude.{◌≡◌, ℕ, ◌<◌, ◌≤◌, Bool, List, [], ◌∷◌, ◌++◌, length, Option, Some, None, Ok, Err}
-use Rattle.mx_wire.specs.Log.{Log}
 use Rattle.mx_wire.specs.Outside.{HasUnder, Takes, TakesFront}
-use Rattle.mx_wire.specs.declared.entry.Entry.TheVariants.{Over}
-use Rattle.recording.specs.declared.entry.RecordEntry.{RecordEntry}
-use Rattle.recording.specs.declared.fault.RecordFault.{RecordFault}
-use Rattle.recording.specs.Recording.{recording_of}
-use Rattle.recording.specs.Transcript.{transcript_of}
-use Rattle.mem_wire.specs.Play.{IsPlay}
-use Rattle.mem_wire.specs.Told.{Played}
-use Rattle.ready_loop.specs.Round.{calls_since_wake}
-use Rattle.client_session.specs.Setups.{Setup}
-use Rattle.promises.specs.Replay.{KeepsSized, ReplaysTo}
-use Rattle.session_core.specs.Cores.{setup_of}
-use Rattle.mx_config.specs.declared.config.Config.{Config}
-use Rattle.mx_config.specs.declared.fault.ConfigFault.{ConfigFault}
-use Rattle.mx_config.specs.Values.{Agrees}
-use Rattle.mx_config.specs.Reading.{reading_of}
-use Rattle.proxy_run.specs.declared.stop.Stop.{Stop}
+use Rattle.std.specs.Prelude.{Bool, Err, List, None, Ok, Option, Some, [], ℕ, ◌++◌, ◌<◌, ◌∷◌, ◌≡◌, ◌≤◌}
+use Rattle.mem_wire.{specs.Play.IsPlay, specs.Told.Played}
+use Rattle.mx_config.{specs.Reading.reading_of, specs.Values.Agrees, specs.declared.config.Config.Config, specs.declared.fault.ConfigFault.ConfigFault}
+use Rattle.mx_wire.{specs.Log.Log, specs.declared.entry.Entry.TheVariants.Over}
+use Rattle.promises.{specs.Replay.KeepsSized, specs.Replay.ReplaysTo}
+use Rattle.proxy_run.{specs.Words.Named, specs.Words.replay_words, specs.declared.stop.Stop.Stop}
+use Rattle.recording.{specs.Recording.recording_of, specs.Transcript.transcript_of, specs.declared.entry.RecordEntry.RecordEntry}
+use Rattle.recording.{specs.declared.fault.RecordFault.RecordFault}
+use Rattle.{client_session.specs.Setups.Setup, ready_loop.specs.Round.calls_since_wake, session_core.specs.Cores.setup_of}
 use Rattle.proxy_run.specs.declared.stop.Stop.TheVariants as stop
-use Rattle.proxy_run.specs.Words.{Named, replay_words}
 
 -- names with their bytes, where they are told
 abbrev pub Held : Type 0

@@ -1,26 +1,23 @@
 -- Whose an open link is, what the router sends there, and that what it does and where it waits keeps the promises.
-use Rattle.promises.proofs.Arrivals.{get-behind, of-client, owner-client, ownerless, unowned}
-use Rattle.promises.proofs.Departures.{parted-closes, parted-told}
+use Rattle.{mx_wire.specs.Moments.moment-last, mx_wire.specs.Moments.moment-more, promises.proofs.Links.owner-turn, std.proofs.lemmas.Bool.false_from_ne_true}
+use Rattle.promises.proofs.{Arrivals.get-behind, Arrivals.of-client, Arrivals.unowned, Departures.parted-closes, Departures.parted-told, Dues.work-is}
 use Rattle.promises.proofs.LinkLeft.{ForClient, ForServer, IsLeft, IsNeeded, IsPart, link-kept, part-due, part-lawful, served-more, server-closes, waits-in}
 use Rattle.promises.proofs.LinkLeft.{waits-on}
-use Rattle.promises.proofs.Talks.{lost-away, over-no-query, work-is}
-use Rattle.promises.specs.Rest.{IsAnswered, IsAtRest, IsEnding, IsKept, Waits}
+use Rattle.promises.specs.Closes.{MayClose}
+use Rattle.promises.specs.Rest.{IsAnswered, IsAtRest, IsEnding, Waits}
 use Rattle.ready_loop.specs.Drained.{MayWait, read_dry}
-use Rattle.router_world.proofs.Names.{Account, Address, AllLawful, Answer, Arrival, ClientNo, Closed, Entry, Fits, For, Form, Forms, Framed, IsFarewell}
-use Rattle.router_world.proofs.Names.{IsFront, IsLawful, IsOpen, IsOurs, IsServed, Keeps, Lent, LinkId, List, Log, MayOpen, None, OpenFailed, Opened, Option}
-use Rattle.router_world.proofs.Names.{Owner, Parting, Phase, Reply, RestsAt, Results, Seat, Sent, ServerId, Service, Setup, Some, Tables, Tag, Talk, Target}
-use Rattle.router_world.proofs.Names.{Turn, Work, Wrote, [], ap, append-nil, append_assoc, arith, arrival_of, asks, awaits, bool_cases, close_of, closes}
-use Rattle.router_world.proofs.Names.{common_steps, cons_option, false, farewell_of, form_of, has_ended, inl, inr, is_here, is_open, is_query, is_waiting}
-use Rattle.router_world.proofs.Names.{lawful-more, left, left_in, length, length-append, message_of, next_turn, oldest, open_tries, open_try, owner_of, reads}
-use Rattle.router_world.proofs.Names.{refl, reply_sent, sends, sends_by, some-same, subst, sym, tables_after, take, tries-more, true, turn_at, turn_for, turns}
-use Rattle.router_world.proofs.Names.{turns_behind, user_on, work_of, work_said, write_dry, written_of, ℕ, ◌++◌, ◌∙◌, ◌∷◌, ◌≡◌, ◌≢◌, ◌⊎◌}
-use Rattle.router_world.proofs.Seats.{WaitsFor, ended-seat, told-seat, work-here}
-use Rattle.router_world.proofs.Sound.{AtMostOne, Busy, Clients, Closes, Gone, Logs, Nobody, NoneParts, On, One, OneParts, PartStands, Parts, PartsStand}
-use Rattle.router_world.proofs.Sound.{SeatStands, Servers, Sound, Waiting, Waits as WaitsForLink}
-use Rattle.router_world.proofs.Stepping.{IsQuiet, done, nobody-waits, quiet-closes}
-use Rattle.promises.{proofs.Calm.asks-server, proofs.ServerLinks.LinkStands, specs.Closes.MayClose}
-use Rattle.router_world.{proofs.Apart.owned-turn, proofs.Moving.unnumbered, specs.Acts.target_of}
-use Rattle.mx_wire.specs.Moments.{moment-more}
+use Rattle.router_world.proofs.{Apart.owned-turn, Stepping.IsQuiet, Stepping.done, Stepping.nobody-waits, Stepping.unlent, Stepping.unnumbered}
+use Rattle.router_world.proofs.Names.{Address, AllLawful, Arrival, ClientNo, Closed, Entry, Fits, For, Form, Forms, Framed, IsFarewell, IsFront, IsLawful}
+use Rattle.router_world.proofs.Names.{IsOpen, IsOurs, IsServed, Keeps, Lent, LinkId, List, Log, MayOpen, None, OpenFailed, Opened, Option, Owner, Parting}
+use Rattle.router_world.proofs.Names.{Reply, RestsAt, Results, Seat, Sent, ServerId, Service, Setup, Some, Tables, Tag, Target, Turn, Work, Wrote, [], ap}
+use Rattle.router_world.proofs.Names.{append-nil, append_assoc, arith, asks, awaits, bool_cases, close_of, common_steps, cons_option, farewell_of, form_of, inl}
+use Rattle.router_world.proofs.Names.{inr, is_ending, is_here, is_open, is_some, lawful-more, left, length, length-append, message_of, next_turn, oldest}
+use Rattle.router_world.proofs.Names.{open_tries, open_try, owner_of, reads, refl, reply_sent, same_number, sends, some-same, subst, sym, tables_after, take}
+use Rattle.router_world.proofs.Names.{tries-more, true, turn_at, turn_for, turns, turns_behind, work_of, write_dry, written_of, ℕ, ◌++◌, ◌∙◌, ◌∷◌, ◌≡◌, ◌≢◌}
+use Rattle.router_world.proofs.Names.{◌⊎◌}
+use Rattle.router_world.proofs.Seats.{ended-seat, seat-told, told-seat}
+use Rattle.router_world.proofs.Sound.{Busy, Clients, Closes, Gone, Linked, Logs, Nobody, NoneParts, On, One, OneParts, PartStands, Parts, RowStands, SeatStands}
+use Rattle.router_world.proofs.Sound.{Servers, Sound, Waiting, Waits as WaitsForLink}
 use Rattle.client_talk.specs.declared.session.Phase.TheVariants as phase
 
 -- Which clients are connected, and whose an open link is.
@@ -37,13 +34,13 @@ pub data ClosesNext (service : Service) (log : Log) (tables : Tables) (link : Li
 
 pub closes-next : {service : Service} {log : Log} {tables : Tables} (link : LinkId) → Sound service log tables
     → close_of tables.parting tables.lends.closing ≡ Some link → ClosesNext service log tables link
-closes-next {service} {log} {tables} link sound next = by tables.parting tables.lends.closing refl refl sound.parts sound.lends.one_closes next where
-  by : (parting : List Parting) (closing : List LinkId) → tables.parting ≡ parting → tables.lends.closing ≡ closing
-      → PartsStand service log tables.numbers tables.lends.closing parting → AtMostOne closing → close_of parting closing ≡ Some link
-      → ClosesNext service log tables link
-  by _ _ parts closes (OneParts p stands) most next = ClosesClient p stands parts (some-same p.link link next)
-  by _ _ parts closes NoneParts Nobody next = cc
-  by _ _ parts closes NoneParts (One other) next = ClosesServer parts (closes ∙ ap (λ (l : LinkId). l ∷ []) (some-same other link next))
+closes-next {service} {log} {tables} link sound next = elim sound.parts as (λ parting at. tables.parting ≡ parting → ClosesNext service log tables link) [
+  | OneParts p stands ↦ λ is. ClosesClient p stands is (cc (is, next))
+  | NoneParts ↦ λ none. elim sound.lends.one_closes as (λ closing one. tables.lends.closing ≡ closing → ClosesNext service log tables link) [
+    | Nobody ↦ λ is. cc (none, is, next)
+    | One other ↦ λ is. ClosesServer none (cc (none, is, next))
+  ] refl
+] refl
 
 -- what is said in one piece to a client
 pub reply-front : (tag : Tag) (bytes whole : List ℕ) → IsFront (reply_sent whole) tag bytes → (tag ≡ Reply) × (n : ℕ) × (bytes ≡ take n whole)
@@ -51,10 +48,6 @@ reply-front tag bytes whole front = grind (arith, common_steps, some-same)
 
 reply-whole : (whole : List ℕ) (sent : Sent) → reply_sent whole ≡ Some sent → (sent.tag ≡ Reply) × (sent.bytes ≡ whole)
 reply-whole whole sent is = grind (arith, common_steps, some-same)
-
-part-of : {service : Service} {log : Log} {link : LinkId} {tag : Tag} {bytes : List ℕ} {lent : Option Sent} (front : IsFront lent tag bytes)
-    → IsLeft service log link front.sent → IsPart service log link tag bytes
-part-of front is = record { sent = front.sent; is_left = is; same_tag = front.same_tag; n = front.n; front = front.front }
 
 module _ {service : Service} {log : Log} {tables : Tables} (sound : Sound service log tables) where
   -- a client of which something is left among the links to servers is connected
@@ -75,31 +68,16 @@ module _ {service : Service} {log : Log} {tables : Tables} (sound : Sound servic
 
   -- an open link that has an owner is a server's
   pub server-of : {link : LinkId} (owner : Owner) → AllLawful Fits log → IsQuiet tables → IsOpen link log → owner_of service link log ≡ Some owner
-      → (lent : Lent) × (tables.lends.links link.0 ≡ Some lent) × (row : LinkStands service log link lent.backend) × (row.turn.client ≡ owner.client)
+      → (lent : Lent) × (tables.lends.links link.0 ≡ Some lent) × (row : RowStands service log tables.lends link lent) × (row.0.turn.client ≡ owner.client)
   server-of {link} owner told quiet opened owned = elim (is-of link quiet opened) [
-    | OfServer lent is ↦ (let row = sound.lends.rows link lent is in (lent, is, row, owner-client log told service link row.turn owner row.is_turn owned))
+    | OfServer lent is ↦ (let row = sound.lends.rows link lent is in (lent, is, row, grind (arith, common_steps, some-same, owner-turn)))
     | OfClient client seat number is on ↦ (let stands = (sound.seated.seats client.0 seat is).stands in
-        absurd (ownerless log told service owner client.0 stands.came stands.is_came (stands.link ∙ on) owned))
+        cc (unowned log told service client.0 stands.came stands.is_came (stands.link ∙ on), owned))
   ]
 
   -- its client is connected, or it isn't its own any more and a reply is due there
-  pub owner-needs : {link : LinkId} {lent : Lent} → tables.lends.links link.0 ≡ Some lent → (row : LinkStands service log link lent.backend)
-      → IsNeeded log row.turn.client lent.backend
-  owner-needs {link} {lent} is row = grind (arith, common_steps, live-here)
-
-  -- What is lent for a link is left to be written there.
-
-  pub sends-left : (link : LinkId) (sent : Sent) → sends tables link ≡ Some sent → IsLeft service log link sent
-  sends-left link sent is = by (tables.numbers link.0) refl is where
-    by : (o : Option ClientNo) → tables.numbers link.0 ≡ o → sends_by tables link o ≡ Some sent → IsLeft service log link sent
-    by None at is = there (tables.lends.links link.0) refl is where
-      there : (o : Option Lent) → tables.lends.links link.0 ≡ o → left_in o ≡ Some sent → IsLeft service log link sent
-      there None none is = cc
-      there (Some lent) at is = (let row = sound.lends.rows link lent at in ForServer lent.backend row (owner-needs at row) is)
-    by (Some client) at is = (let seat = sound.seated.numbers link client at in
-        let stands = (sound.seated.seats client.0 seat.0 seat.1).stands in
-        let reply = reply-whole seat.0.session.client.outgoing sent (rw seat.1 at is) in ForClient client.0 stands.came stands.is_came (stands.link ∙ seat.2)
-        reply.0 (ap (λ xs. written_of stands.came.link log ++ xs) reply.1 ∙ told-seat service log client.0 seat.0 stands))
+  pub owner-needs : {link : LinkId} {lent : Lent} (row : RowStands service log tables.lends link lent) → IsNeeded log row.0.turn.client lent.backend
+  owner-needs row = grind (arith, common_steps, live-here, (row.1))
 
   pub farewell-left : (link : LinkId) (sent : Sent) → IsFarewell tables link → farewell_of tables.parting ≡ Some sent → IsLeft service log link sent
   farewell-left link sent farewell is = elim (closes-next link sound farewell.is_next) [
@@ -108,6 +86,27 @@ module _ {service : Service} {log : Log} {tables : Tables} (sound : Sound servic
         ForClient stands.n stands.parted.came stands.parted.is_came (stands.parted.on ∙ on) reply.0
         (rw reply.1 (parted-told stands.parted (λ none. cc (none, at, is)))))
   ]
+
+-- What is read and lent of a link, by whose it is: what is lent for one is left to be written there.
+module _ {service : Service} {log : Log} {tables : Tables} (told : AllLawful Fits log) (sound : Sound service log tables) {link : LinkId} where
+  pub server-sends : {lent : Lent} → tables.lends.links link.0 ≡ Some lent → sends tables link ≡ left lent.backend
+  server-sends {lent} is = grind (arith, common_steps, (unnumbered told sound link lent is))
+
+  pub client-sends : {client : ClientNo} {seat : Seat} → tables.numbers link.0 ≡ Some client → tables.seats client.0 ≡ Some seat → seat.link ≡ link
+      → sends tables link ≡ reply_sent seat.session.client.outgoing
+  client-sends {client} number is on = grind (arith, common_steps, same_number, (unlent told sound link client number))
+
+  pub sends-left : (sent : Sent) → sends tables link ≡ Some sent → IsLeft service log link sent
+  sends-left sent is = by (tables.lends.links link.0) (tables.numbers link.0) refl refl where
+    by : (row : Option Lent) (number : Option ClientNo) → tables.lends.links link.0 ≡ row → tables.numbers link.0 ≡ number → IsLeft service log link sent
+    by (Some lent) number at h4 = (let row = sound.lends.rows link lent at in
+        ForServer lent.backend row.0 (owner-needs sound row) (sym (server-sends at) ∙ is))
+    by None None none unnumbered = grind (arith, common_steps)
+    by None (Some client) none number = (let seat = sound.seated.numbers link client number in
+        let stands = (sound.seated.seats client.0 seat.0 seat.1).stands in
+        let reply = reply-whole seat.0.session.client.outgoing sent (sym (client-sends number seat.1 seat.2) ∙ is) in
+        ForClient client.0 stands.came stands.is_came (stands.link ∙ seat.2)
+        reply.0 (ap (λ xs. written_of stands.came.link log ++ xs) reply.1 ∙ told-seat service log client.0 seat.0 stands))
 
 -- The commands of the opens of a log, one entry at a time.
 
@@ -121,9 +120,6 @@ abbrev pub OpensNext : Service → Log → Entry → Type 0
 OpensNext service log e = (turn : Turn) → turn_at (tables_after service.setup log) e ≡ turn ∷ [] → next_turn service log ≡ Some turn
 
 module _ (service : Service) (log : Log) (e : Entry) where
-  turns-more : turns service.setup (log ++ e ∷ []) ≡ turns service.setup log ++ turn_at (tables_after service.setup log) e
-  turns-more = grind (arith, common_steps, append-nil, behind-both)
-
   -- so it is where the service's opens are those of a longer log
   pub opens-next : (more : Log) → service.opens ≡ turns service.setup ((log ++ e ∷ []) ++ more)
       → length (turns service.setup log) ≡ length (open_tries log) → OpensNext service log e
@@ -131,7 +127,6 @@ module _ (service : Service) (log : Log) (e : Entry) where
     arith,
     common_steps,
     behind-both,
-    turns-more,
     (append_assoc (turns service.setup log) (turn ∷ []) rest),
     (get-behind (turns service.setup log) rest turn),
   ))
@@ -143,23 +138,14 @@ pub record IsFor (service : Service) (log : Log) (tables : Tables) (e : Entry) :
   pub waiting : Waiting tables.lends client
   pub turn : turn_at tables e ≡ record { client = client.0; ordinal = waiting.ask.ordinal; hostgroup = 0 } ∷ []
 
--- nothing is to be closed then, somebody waits, and it is at the server that queries go to
-pub awaits-so : (setup : Setup) (tables : Tables) (target : Target) → awaits setup tables ≡ Some target
-    → (closes tables ≡ false) × (is_waiting tables.lends.waiting ≡ true) × (target_of setup.target ≡ Some target)
-awaits-so setup tables target is = grind (arith, common_steps)
-
-one-waits : (waiting : List ClientNo) → AtMostOne waiting → is_waiting waiting ≡ true → (client : ClientNo) × (waiting ≡ client ∷ [])
-one-waits waiting h1 is = grind (arith, common_steps)
-
 pub opens-for : (service : Service) (log : Log) (tables : Tables) (target : Target) (e : Entry) → Sound service log tables
     → awaits service.setup tables ≡ Some target → turn_at tables e ≡ turn_for (oldest tables.lends.waiting) tables.lends.asks → IsFor service log tables e
-opens-for service log tables target e sound awaits at = (let one = one-waits tables.lends.waiting sound.lends.one_waits
-    (awaits-so service.setup tables target awaits).1 in let waiting = sound.lends.waits one.0 one.1 in record {
-      client = one.0;
-      waits = one.1;
-      waiting = waiting;
-      turn = grind (arith, common_steps);
-    })
+opens-for service log tables target e sound awaited at =
+    elim sound.lends.one_waits as (λ clients one. tables.lends.waiting ≡ clients → IsFor service log tables e) [
+      | Nobody ↦ λ none. grind (arith, common_steps)
+      | One client ↦ λ is. (let waiting = sound.lends.waits client is in
+          record { client = client; waits = is; waiting = waiting; turn = grind (arith, common_steps) })
+    ] refl
 
 -- What the router does is lawful.
 
@@ -171,7 +157,7 @@ module _ {service : Service} {log : Log} (told : AllLawful Fits log) (sound : So
   may-open : (e : Entry) (server : ServerId) (address : Address) → OpensNext service log e
       → awaits service.setup now ≡ Some (record { server = server; address = address }) → turn_at now e ≡ turn_for (oldest now.lends.waiting) now.lends.asks
       → MayOpen service (record { server = server; address = address }) log
-  may-open e server address next awaited at = (let for = opens-for service log now _ e sound awaited at in let so = awaits-so service.setup now _ awaited in
+  may-open e server address next awaited at = (let for = opens-for service log now _ e sound awaited at in
       let stands = sound.lends.asks for.client.0 for.waiting.ask for.waiting.asks in
       let here : is_here for.client.0 log ≡ true = live-here sound for.client.0 (λ gone. cc (gone.unasked, for.waiting.asks)) in record {
         turn = record { client = for.client.0; ordinal = for.waiting.ask.ordinal; hostgroup = 0 };
@@ -183,16 +169,14 @@ module _ {service : Service} {log : Log} (told : AllLawful Fits log) (sound : So
         unsent = cc (stands.unsent);
         goes = refl;
         target = grind (arith, common_steps, some-same);
-        none = λ link owned. elim (bool_cases (is_open link log)) [
-          | inr shut ↦ shut
-          | inl opened ↦ (let there = server-of sound _ told (quiet-closes now so.0) opened owned in
-              let holds = sound.lends.holds link there.0 there.1 there.2.turn there.2.is_turn in grind (arith, common_steps))
-        ];
+        none = λ link owned. false_from_ne_true (is_open link log) (λ opened. (let there = server-of sound _ told
+            (grind (arith, common_steps)) opened owned in
+            let holds = there.2.1 in grind (arith, common_steps)));
       })
 
   pub writes-left : (link : LinkId) (tag : Tag) (bytes : List ℕ) → IsOurs service.setup log (Wrote link tag bytes) → IsPart service log link tag bytes
-  writes-left link tag bytes (inl ours) = part-of ours.1 (sends-left sound link ours.1.sent ours.1.is)
-  writes-left link tag bytes (inr ours) = part-of ours.1 (farewell-left sound link ours.1.sent ours.0 ours.1.is)
+  writes-left link tag bytes (inl ours) = (let front = ours.1 in let is_left = sends-left told sound front.sent front.is in search (front, is_left))
+  writes-left link tag bytes (inr ours) = (let front = ours.1 in let is_left = farewell-left sound link front.sent ours.0 front.is in search (front, is_left))
 
   pub lawful-entry : (e : Entry) → OpensNext service log e → IsOurs service.setup log e → IsLawful service log e
   lawful-entry (Opened server address link) next ours = may-open (Opened server address link) server address next ours refl
@@ -208,24 +192,11 @@ module _ {service : Service} {log : Log} (told : AllLawful Fits log) (sound : So
 -- as many commands as opens were tried
 pub counts-more : (service : Service) (log : Log) (e : Entry) → Sound service log (tables_after service.setup log) → IsOurs service.setup log e
     → length (turns service.setup log) ≡ length (open_tries log) → length (turns service.setup (log ++ e ∷ [])) ≡ length (open_tries (log ++ e ∷ []))
-counts-more service log e sound ours was = (let one = by e ours in grind (arith, common_steps, length-append, tries-more, turns-more)) where
+counts-more service log e sound ours was = (let one = by e ours in grind (arith, common_steps, behind-both, length-append, tries-more)) where
   by : (e : Entry) → IsOurs service.setup log e → length (turn_at (tables_after service.setup log) e) ≡ length (cons_option (open_try e) [])
   by (Opened server address link) ours = ap length (opens-for service log (tables_after service.setup log) _ (Opened server address link) sound ours refl).turn
   by (OpenFailed server address) ours = ap length (opens-for service log (tables_after service.setup log) _ (OpenFailed server address) sound ours refl).turn
   by _ ours = refl
-
--- the phase says whether a client is at its end
-ends-or-lasts : (at : Phase) → (at ≡ phase.Ending) ⊎ (at ≢ phase.Ending)
-ends-or-lasts at = grind (arith, common_steps)
-
-seat-lasts : (service : Service) (log : Log) (n : ℕ) (seat : Seat) (stands : SeatStands service log n seat) → seat.session.phase ≢ phase.Ending
-    → has_ended service n stands.came log ≡ false
-seat-lasts service log n seat stands lasts = grind (arith, common_steps, work-is, work-here)
-
--- a query in work is the one that a session waits for
-working-at : (at : Phase) (talk : Talk) (reply : ℕ → Option Answer) (arrived : ℕ) (work : Work) → WaitsFor at talk reply arrived
-    → work_said reply talk ≡ Some work → is_query work.message.payload ≡ true → (user : Account) × (at ≡ phase.Working user)
-working-at at talk reply arrived work waits is query = grind (arith, common_steps, over-no-query)
 
 -- The router waits, all that it asked for is done, and no more can be read or written on any link.
 module _ {service : Service} {log : Log} {tables : Tables} (told : AllLawful Fits log) (sound : Sound service log tables)
@@ -236,18 +207,17 @@ module _ {service : Service} {log : Log} {tables : Tables} (told : AllLawful Fit
   -- Where the queries in work wait as the router does.
 
   -- a link for which there are bytes takes no more
-  row-full : {link : LinkId} {lent : Lent} → tables.lends.links link.0 ≡ Some lent → (l : Sent) → left lent.backend ≡ Some l → write_dry link log ≡ true
-  row-full {link} {lent} is l lefts = waits.drained.written link (sound.lends.rows link lent is).opened
-      (grind (arith, common_steps, (unnumbered told sound link lent is)))
+  row-full : {link : LinkId} {lent : Lent} → tables.lends.links link.0 ≡ Some lent → is_some (left lent.backend) ≡ true → write_dry link log ≡ true
+  row-full {link} {lent} is some = waits.drained.written link (sound.lends.rows link lent is).0.opened
+      (grind (arith, common_steps, (server-sends told sound is)))
 
   busy-waits : (n i : ℕ) (work : Work) → Busy tables.lends n i → work_of service n log ≡ Some work → Waits service n work log
-  busy-waits n i work (WaitsForLink ask is same unowned waiting) working = (let asks = (sound.lends.asks n ask is).asked.asks in
-      cc (nobody-waits service.setup tables waits.acted (asks-server service n ask.ordinal _ _ log asks), waiting))
-  busy-waits n i work (Logs ask is same link lent owns at outside) working = (let row = sound.lends.rows link lent at in
-      let mine = owned-turn sound.lends owns at row.is_turn in let asked = (sound.lends.asks n ask is).asked in rw mine at
+  busy-waits n i work (WaitsForLink ask is same unowned waiting) working = cc (nobody-waits sound waits.acted, waiting)
+  busy-waits n i work (Linked link lent owns at (Logs ask is same outside)) working = (let row = (sound.lends.rows link lent at).0 in
+      let mine = owned-turn sound.lends owns at in let asked = (sound.lends.asks n ask is).asked in rw mine at
       (waits-in row (row-full at) {i = ask.ordinal} {message = asked.message} {due = asked.due} work outside (rw mine asked.asks) (rw mine working)))
-  busy-waits n i work (On unasked link lent command owns at inside has tag) working = (let row = sound.lends.rows link lent at in
-      let mine = owned-turn sound.lends owns at row.is_turn in rw mine at (waits-on row (row-full at) work has (rw mine working)))
+  busy-waits n i work (Linked link lent owns at (On unasked command inside has tag)) working = (let row = (sound.lends.rows link lent at).0 in
+      let mine = owned-turn sound.lends owns at in rw mine at (waits-on row (row-full at) work has (rw mine working)))
 
   -- Each client with a seat is answered.
   module _ {link : LinkId} (opened : IsOpen link log) (client : ClientNo) (seat : Seat) (number : tables.numbers link.0 ≡ Some client)
@@ -257,74 +227,65 @@ module _ {service : Service} {log : Log} {tables : Tables} (told : AllLawful Fit
 
     -- its link takes no more, or there is nothing for it
     seat-full : (seat.session.client.outgoing ≡ []) ⊎ (write_dry link log ≡ true)
-    seat-full = grind (arith, common_steps)
+    seat-full = grind (arith, common_steps, (client-sends told sound number is on))
 
     -- as there are for a client at its end
-    ending-full : seat.session.phase ≡ phase.Ending → write_dry link log ≡ true
+    ending-full : is_ending seat.session.phase ≡ true → write_dry link log ≡ true
     ending-full ends = grind (arith, common_steps, seat-full, ((sound.seated.seats client.0 seat is).unfinished))
 
     -- it is read, unless it is at its end
     seat-read : (read_dry link log ≡ true) ⊎ IsEnding service link log
-    seat-read = elim (ends-or-lasts seat.session.phase) [
-      | inr lasts ↦ inl (grind (arith, common_steps))
+    seat-read = elim (bool_cases (is_ending seat.session.phase)) [
+      | inr lasts ↦ inl (grind (arith, common_steps, same_number))
       | inl ends ↦ inr (record {
         client = client.0;
         came = stands.came;
         is_came = stands.is_came;
         on = stands.link ∙ on;
-        ended = ended-seat service log client.0 seat stands ends;
+        ended = ended-seat service log client.0 seat stands ∙ ends;
         full = ending-full ends;
       })
-    ]
-
-    query-waits : is_here client.0 log ≡ true → (work : Work) → work_of service client.0 log ≡ Some work → is_query work.message.payload ≡ true
-        → Waits service client.0 work log
-    query-waits here work at query = elim stands.state [
-      | inr ended ↦ cc (lost-away client.0 stands.came log stands.is_came ended.lost, here)
-      | inl heard ↦ (let working = working-at seat.session.phase _ _ _ work (work-here heard.at)
-          (sym (work-is service client.0 stands.came log stands.is_came) ∙ at) query in
-          busy-waits client.0 seat.session.client.arrived work (rw working.1 at (sound.seated.seats client.0 seat is).serves) at)
     ]
 
     seat-answered : IsAnswered service client.0 stands.came log
     seat-answered = (let same : link ≡ stands.came.link = sym (stands.link ∙ on) in record {
       served = stands.served;
       told = grind (arith, common_steps, append-nil, told-seat, seat-full);
-      lasts = grind (arith, common_steps, ending-full, (ends-or-lasts seat.session.phase), (seat-lasts service log client.0 seat stands));
-      waits = query-waits;
+      lasts = grind (arith, common_steps, ending-full, (ended-seat service log client.0 seat stands));
+      waits = λ here work at query. elim stands.state [
+        | inr ended ↦ grind (arith, common_steps)
+        | inl heard ↦ (let all = seat-told heard.at in
+            let working = all.works work (sym all.due.work ∙ sym (work-is service client.0 stands.came log stands.is_came) ∙ at) query in
+            busy-waits client.0 seat.session.client.arrived work (rw working.1 at (sound.seated.seats client.0 seat is).serves) at)
+      ];
     })
 
   -- So is each client, each open link is read dry, but that of a client at its end, and each to a server is its client's, which is connected, or busy.
 
-  all-read : (link : LinkId) → IsOpen link log → (read_dry link log ≡ true) ⊎ IsEnding service link log
-  all-read link opened = grind (arith, common_steps, (whose link opened), (seat-read opened), (unnumbered told sound link))
-
-  client-answered : (n : ℕ) (came : Arrival) → arrival_of n log ≡ Some came → IsOpen came.link log → IsAnswered service n came log
-  client-answered n came is opened = elim (whose came.link opened) [
-    | OfServer lent at ↦ cc (unowned log told service n came is refl, (sound.lends.rows came.link lent at).is_turn)
-    | OfClient client seat number at on ↦ (let stands = (sound.seated.seats client.0 seat at).stands in
-        of-client log told (λ m (c : Arrival). IsAnswered service m c log) stands.is_came is (stands.link ∙ on) (seat-answered opened client seat number at on))
-  ]
-
-  server-kept : (link : LinkId) (owner : Owner) (user : Account) → IsOpen link log → owner_of service link log ≡ Some owner
-      → user_on service link log ≡ Some user → IsKept service.forms owner user link log
-  server-kept link owner user opened owned known = (let there = server-of sound owner told (done service.setup tables waits.acted) opened owned in
-      link-kept there.2 (row-full there.1) owner user (owner-needs sound there.1 there.2) owned known)
-
   pub rests-at : IsAtRest service log
-  rests-at = record { accepted = waits.drained.accepted; named = waits.drained.named; read = all-read; clients = client-answered; servers = server-kept }
+  rests-at = record {
+    accepted = waits.drained.accepted;
+    named = waits.drained.named;
+    read = λ link opened. grind (arith, common_steps, (whose link opened), (seat-read opened));
+    clients = λ n came is opened. elim (whose came.link opened) [
+      | OfServer lent at ↦ cc (unowned log told service n came is refl, (sound.lends.rows came.link lent at).0.is_turn)
+      | OfClient client seat number at on ↦ (let stands = (sound.seated.seats client.0 seat at).stands in
+          of-client log told (λ m (c : Arrival). IsAnswered service m c log) stands.is_came is (stands.link ∙ on)
+          (seat-answered opened client seat number at on))
+    ];
+    servers = λ link owner user opened owned known. (let there = server-of sound owner told (done service.setup tables waits.acted) opened owned in
+        link-kept there.2.0 (row-full there.1) owner user (owner-needs sound there.2) owned known);
+  }
 
 -- Each entry of the router's keeps the promises.
-
-pub keeps-none : (service : Service) → Keeps service []
-keeps-none service = grind (arith, common_steps)
 
 pub keeps-more : (service : Service) (log : Log) (e : Entry) → AllLawful Fits log → Fits log e → Sound service log (tables_after service.setup log)
     → OpensNext service log e → IsOurs service.setup log e → Keeps service log → Keeps service (log ++ e ∷ [])
 keeps-more service log e told fits sound next ours keeps = (let lawful : AllLawful (IsLawful service) (log ++ e ∷ []) = lawful-more
     (IsLawful service) log e keeps.lawful (lawful-entry told sound e next ours) in record {
       served = moment-more (IsServed service) log e keeps.served (served-more service log e told fits lawful
-          (λ link tag bytes same. part-due (writes-left told sound link tag bytes (subst (IsOurs service.setup log) same ours)) told) sound.served);
+          (λ link tag bytes same. part-due (writes-left told sound link tag bytes (subst (IsOurs service.setup log) same ours)) told)
+          (moment-last (IsServed service) log keeps.served));
       lawful = lawful;
       rests = lawful-more (RestsAt service) log e keeps.rests (grind (arith, common_steps, rests-at));
     })

@@ -1,11 +1,9 @@
 pub mod Names
 pub mod Apart
 pub mod Comings
-pub mod Frames
 pub mod Going
 pub mod Lawful
 pub mod LinksAt
-pub mod Moving
 pub mod Promises
 pub mod Seats
 pub mod Sizing

@@ -1,13 +1,12 @@
 -- What the tables say of the log.
-use Rattle.router_world.proofs.Names.{Account, AllLawful, Arrival, Ask, ClientNo, Entry, Fits, For, Handed, In, IsLawful, IsOpen, IsServed, Lends, Lent, LinkId}
-use Rattle.router_world.proofs.Names.{List, Log, MayDrop, None, Option, Parting, Phase, Seat, SeatAt, Service, Session, Some, Tables, Turn, [], arrival_of}
-use Rattle.router_world.proofs.Names.{carrier_of, due, false, is_begun, is_finished, is_here, is_refused, is_served, length, replied, talk_with, true, turn_of}
-use Rattle.router_world.proofs.Names.{user_of, was_broken, was_lost, written_of, ℕ, ◌++◌, ◌+◌, ◌<◌, ◌∷◌, ◌≡◌, ◌≢◌, ◌⊎◌}
-use Rattle.promises.proofs.Arrivals.{Counted}
-use Rattle.client_talk.specs.declared.session.Phase.TheVariants as phase
+pub use Rattle.promises.proofs.{Queries.AreFormed, Queries.HandedStands, Queries.IsAsked, Queries.carried_by, ServerLinks.LinkStands}
 pub use Rattle.promises.proofs.Departures.{Done, Parted}
-pub use Rattle.promises.proofs.Queries.{AreFormed, HandedStands, IsAsked, carried_by}
-pub use Rattle.promises.proofs.ServerLinks.{LinkStands}
+use Rattle.promises.proofs.Arrivals.{Counted}
+use Rattle.router_world.proofs.Names.{Account, AllLawful, Arrival, Ask, BackendState, ClientNo, Entry, Fits, For, Handed, In, IsLawful, IsOpen, Lends, Lent}
+use Rattle.router_world.proofs.Names.{LinkId, List, Log, MayDrop, None, Option, Parting, Phase, Seat, SeatAt, Service, Session, Some, Tables, Turn, []}
+use Rattle.router_world.proofs.Names.{arrival_of, carrier_of, due, false, is_begun, is_finished, is_here, is_refused, is_served, length, replied, talk_with}
+use Rattle.router_world.proofs.Names.{true, turn_of, user_of, was_broken, was_lost, written_of, ℕ, ◌++◌, ◌+◌, ◌<◌, ◌∷◌, ◌≡◌, ◌≢◌, ◌⊎◌}
+use Rattle.client_talk.specs.declared.session.Phase.TheVariants as phase
 
 -- A client's command that isn't on a link yet.
 pub record AskStands (service : Service) (log : Log) (n : ℕ) (ask : Ask) : Type 0 where
@@ -20,6 +19,10 @@ pub data Owned (log : Log) (lends : Lends) (link : LinkId) (turn : Turn) (lent :
   Own : lent.owner ≡ Some (record { 0 = turn.client }) → lends.owned turn.client ≡ Some link → (lent.backend.stage ≢ In
       → (ask : Ask) × (lends.asks turn.client ≡ Some ask) × (ask.ordinal ≡ turn.ordinal)) → Owned log lends link turn lent
   Left : lent.owner ≡ None → is_here turn.client log ≡ false → is_begun lent.backend.command ≡ true → Owned log lends link turn lent
+
+-- a row stands, and is its client's
+abbrev pub RowStands : Service → Log → Lends → LinkId → Lent → Type 0
+RowStands service log lends link lent = (row : LinkStands service log link lent.backend) × Owned log lends link row.turn lent
 
 -- What there is of a client among the links to servers.
 
@@ -34,13 +37,16 @@ pub record Gone (lends : Lends) (n : ℕ) : Type 0 where
   pub unasked : lends.asks n ≡ None
   pub unowned : lends.owned n ≡ None
 
--- its command waits for a link to be opened, or for the login on its link; or it is on its link
+-- its command waits for the login on its link, or is on it
+pub data BusyOn (n i : ℕ) (asks : Option Ask) (backend : BackendState) : Type 0 where
+  Logs : (ask : Ask) → asks ≡ Some ask → ask.ordinal ≡ i → backend.stage ≢ In → BusyOn n i asks backend
+  On : asks ≡ None → (command : Handed) → backend.stage ≡ In → backend.command ≡ Some command → command.tag ≡ For (record { 0 = n }) i
+      → BusyOn n i asks backend
+
+-- or it waits for a link to be opened
 pub data Busy (lends : Lends) (n i : ℕ) : Type 0 where
   Waits : (ask : Ask) → lends.asks n ≡ Some ask → ask.ordinal ≡ i → lends.owned n ≡ None → lends.waiting ≡ record { 0 = n } ∷ [] → Busy lends n i
-  Logs : (ask : Ask) → lends.asks n ≡ Some ask → ask.ordinal ≡ i → (link : LinkId) (lent : Lent) → lends.owned n ≡ Some link → lends.links link.0 ≡ Some lent
-      → lent.backend.stage ≢ In → Busy lends n i
-  On : lends.asks n ≡ None → (link : LinkId) (lent : Lent) (command : Handed) → lends.owned n ≡ Some link → lends.links link.0 ≡ Some lent
-      → lent.backend.stage ≡ In → lent.backend.command ≡ Some command → command.tag ≡ For (record { 0 = n }) i → Busy lends n i
+  Linked : (link : LinkId) (lent : Lent) → lends.owned n ≡ Some link → lends.links link.0 ≡ Some lent → BusyOn n i (lends.asks n) lent.backend → Busy lends n i
 
 abbrev pub Serves : Phase → Lends → (n i : ℕ) → Type 0
 Serves phase.LoggingIn lends n i = Gone lends n
@@ -128,9 +134,7 @@ pub record Owns (lends : Lends) (n : ℕ) (link : LinkId) : Type 0 where
 
 -- The links to servers and the commands that go there stand for the log.
 pub record LendsSound (service : Service) (log : Log) (lends : Lends) : Type 0 where
-  pub rows : (link : LinkId) (lent : Lent) → lends.links link.0 ≡ Some lent → LinkStands service log link lent.backend
-  pub holds : (link : LinkId) (lent : Lent) → lends.links link.0 ≡ Some lent → (turn : Turn) → turn_of service link log ≡ Some turn
-      → Owned log lends link turn lent
+  pub rows : (link : LinkId) (lent : Lent) → lends.links link.0 ≡ Some lent → RowStands service log lends link lent
   pub asks : (k : ℕ) (ask : Ask) → lends.asks k ≡ Some ask → AskStands service log k ask
   pub owned : (k : ℕ) (link : LinkId) → lends.owned k ≡ Some link → Owns lends k link
   pub one_waits : AtMostOne lends.waiting
@@ -152,7 +156,6 @@ pub record Sound (service : Service) (log : Log) (tables : Tables) : Type 0 wher
   pub lends : LendsSound service log tables.lends
   pub parts : PartsStand service log tables.numbers tables.lends.closing tables.parting
   pub known : (link : LinkId) → IsOpen link log → Known tables.numbers tables.lends tables.parting link
-  pub served : IsServed service log
 
 -- what is known as an entry comes
 pub record Happens (service : Service) (log : Log) (e : Entry) (tables : Tables) : Type 0 where
@@ -160,6 +163,5 @@ pub record Happens (service : Service) (log : Log) (e : Entry) (tables : Tables)
   pub fits : Fits log e
   pub few : length log + 1 < 281474976710656
   pub lawful : AllLawful (IsLawful service) (log ++ e ∷ [])
-  pub served : IsServed service (log ++ e ∷ [])
   pub formed : AreFormed service (log ++ e ∷ [])
   pub sound : Sound service log tables

@@ -1,11 +1,12 @@
 -- What the router does next, by what it knows: what it reads, writes, opens and closes.
-use Rattle.std.specs.Prelude.{◌≡◌, ◌⊎◌, ℕ, Bool, true, false, is_some, ◌||◌, ◌&&◌, List, [], ◌∷◌, take, Option, Some, None}
-use Rattle.{mx_base.specs.Fields.AreBytes, mx_base.specs.Sent.Sent, ready_loop.specs.Machine.Target, ready_loop.specs.Drained.MayWait}
-use Rattle.{client_talk.specs.Sessions.is_read, promises.specs.Closes.was_offered, lend_core.specs.Events.left_in, lend_core.specs.Events.is_waiting}
-use Rattle.mx_base.specs.declared.{names.ClientNo.ClientNo, names.LinkId.LinkId, tag.Tag.Tag, tag.Tag.TheVariants.Reply}
-use Rattle.mx_wire.specs.{Log.Log, declared.entry.Entry.Entry}
-use Rattle.client_session.specs.{declared.setup.ServerAt.ServerAt, Setups.Setup, Setups.has_server}
-use Rattle.router_world.specs.{declared.seat.Parting.Parting, declared.seat.Seat.Seat, Tables.Tables, World.tables_after}
+use Rattle.{client_session.specs.Setups.Setup, client_session.specs.Setups.has_server, client_session.specs.declared.setup.ServerAt.ServerAt}
+use Rattle.{client_talk.specs.Sessions.is_read, lend_core.specs.Events.is_waiting, lend_core.specs.Events.left_in, lend_core.specs.Lends.oldest}
+use Rattle.{mx_base.specs.Fields.AreBytes, mx_base.specs.Sent.Sent, mx_base.specs.declared.names.ClientNo.ClientNo, mx_base.specs.declared.names.LinkId.LinkId}
+use Rattle.{mx_base.specs.declared.tag.Tag.Tag, mx_base.specs.declared.tag.Tag.TheVariants.Reply, mx_wire.specs.Log.Log}
+use Rattle.{mx_wire.specs.declared.entry.Entry.Entry, promises.specs.Closes.was_offered, ready_loop.specs.Drained.MayWait, ready_loop.specs.Machine.Target}
+use Rattle.{router_world.specs.Tables.Tables, router_world.specs.World.tables_after, router_world.specs.declared.seat.Parting.Parting}
+use Rattle.{router_world.specs.declared.seat.Seat.Seat, std.specs.Option.option_and_then, std.specs.Option.option_map, std.specs.Option.option_or}
+use Rattle.std.specs.Prelude.{Bool, List, None, Option, Some, [], false, if◌then◌else◌, is_some, nat_eq, take, true, ℕ, ◌&&◌, ◌||◌, ◌∷◌, ◌≡◌, ◌⊎◌}
 use Rattle.mx_wire.specs.declared.entry.Entry.TheVariants as entry
 
 -- What is to be written on a link.
@@ -15,15 +16,18 @@ reply_sent [] = None
 reply_sent (byte ∷ bytes) = Some (record { tag = Reply; bytes = byte ∷ bytes })
 
 abbrev pub seat_sends : Option Seat → Option Sent
-seat_sends None = None
-seat_sends (Some seat) = reply_sent seat.session.client.outgoing
+seat_sends seat = option_and_then (λ (seat : Seat). reply_sent seat.session.client.outgoing) seat
 
-abbrev pub sends_by : Tables → LinkId → Option ClientNo → Option Sent
-sends_by tables link (Some client) = seat_sends (tables.seats client.0)
-sends_by tables link None = left_in (tables.lends.links link.0)
+-- a client's link is read and written by its seat
+abbrev pub seat_at : LinkId → Option Seat → Option Seat
+seat_at link seat = option_and_then (λ (seat : Seat). if nat_eq seat.link.0 link.0 then Some seat else None) seat
 
+abbrev pub seat_on : Tables → LinkId → Option Seat
+seat_on tables link = option_and_then (λ (client : ClientNo). seat_at link (tables.seats client.0)) (tables.numbers link.0)
+
+-- one to a server what is left for it
 abbrev pub sends : Tables → LinkId → Option Sent
-sends tables link = sends_by tables link (tables.numbers link.0)
+sends tables link = option_or (left_in (tables.lends.links link.0)) (seat_sends (seat_on tables link))
 
 -- Whether a link is read.
 
@@ -31,12 +35,8 @@ abbrev pub seat_reads : Option Seat → Bool
 seat_reads None = false
 seat_reads (Some seat) = is_read seat.session.phase
 
-abbrev pub reads_by : Tables → LinkId → Option ClientNo → Bool
-reads_by tables link (Some client) = seat_reads (tables.seats client.0)
-reads_by tables link None = is_some (tables.lends.links link.0)
-
 abbrev pub reads : Tables → LinkId → Bool
-reads tables link = reads_by tables link (tables.numbers link.0)
+reads tables link = is_some (tables.lends.links link.0) || seat_reads (seat_on tables link)
 
 -- Links are closed before others are opened.
 
@@ -54,24 +54,13 @@ abbrev pub asks : Setup → Tables → Bool
 asks setup tables = closes tables || opens setup tables
 
 -- the open that is asked for
-abbrev pub target_of : Option ServerAt → Option Target
-target_of None = None
-target_of (Some at) = Some (record { server = at.server; address = at.address })
-
-abbrev pub awaited_if : (closes waits : Bool) → Setup → Option Target
-awaited_if false true setup = target_of setup.target
-awaited_if _ _ setup = None
-
 abbrev pub awaits : Setup → Tables → Option Target
-awaits setup tables = awaited_if (closes tables) (is_waiting tables.lends.waiting) setup
+awaits setup tables = if closes tables then None else if is_waiting tables.lends.waiting
+    then option_map (λ (at : ServerAt). record { server = at.server; address = at.address }) setup.target else None
 
 -- the link that is to be closed next, and what is offered to it before
-abbrev pub first_closing : List LinkId → Option LinkId
-first_closing [] = None
-first_closing (link ∷ links) = Some link
-
 abbrev pub close_of : List Parting → List LinkId → Option LinkId
-close_of [] closing = first_closing closing
+close_of [] closing = oldest closing
 close_of (parting ∷ later) closing = Some parting.link
 
 abbrev pub next_close : Tables → Option LinkId
@@ -117,3 +106,19 @@ IsOurs setup log (entry.Woke until_ms now_ms) = MayWait (reads (tables_after set
 IsOurs setup log entry.WaitFailed = MayWait (reads (tables_after setup log)) (sends (tables_after setup log)) (asks setup (tables_after setup log)) log
 IsOurs setup log entry.Over = MayWait (reads (tables_after setup log)) (sends (tables_after setup log)) (asks setup (tables_after setup log)) log
 IsOurs setup log _ = Unit {0}
+
+-- What the router lends for a link: all of what is to be written there, in one piece.
+
+-- the whole of what is lent
+pub record IsWhole (lent : Option Sent) (piece : List ℕ) : Type 0 where
+  pub sent : Sent
+  pub is : lent ≡ Some sent
+  pub bytes : piece ≡ sent.bytes
+
+-- all that was asked for is done, and it is the link's own; or it is for the one write that a link is offered before it closes
+abbrev pub Lends : Setup → Tables → LinkId → (piece : List ℕ) → Type 0
+Lends setup tables link piece = ((asks setup tables ≡ false) × IsWhole (sends tables link) piece) ⊎ (IsFarewell tables link × IsWhole (farewell_of
+    tables.parting) piece)
+
+abbrev pub lends : Setup → Log → LinkId → (piece : List ℕ) → Type 0
+lends setup log link piece = Lends setup (tables_after setup log) link piece

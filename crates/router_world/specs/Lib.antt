@@ -2,4 +2,3 @@ pub mod Seats
 pub mod Tables
 pub mod World
 pub mod Acts
-pub mod Owed

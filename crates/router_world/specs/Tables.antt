@@ -1,8 +1,7 @@
 -- What the router knows, and what changes of it, one table at a time.
-use Rattle.std.specs.Prelude.{ℕ, List, [], ◌∷◌, ◌++◌, Option, Some, None}
-use Rattle.mx_base.specs.declared.names.{ClientNo.ClientNo, LinkId.LinkId}
-use Rattle.lend_core.specs.Lends.{Lends, nothing_lent, set}
-use Rattle.router_world.specs.declared.seat.{Parting.Parting, Seat.Seat}
+use Rattle.{lend_core.specs.Lends.Lends, lend_core.specs.Lends.nothing_lent, lend_core.specs.Lends.set, mx_base.specs.declared.names.ClientNo.ClientNo}
+use Rattle.{mx_base.specs.declared.names.LinkId.LinkId, router_world.specs.declared.seat.Parting.Parting, router_world.specs.declared.seat.Seat.Seat}
+use Rattle.std.specs.Prelude.{List, None, Option, Some, [], ℕ, ◌++◌, ◌∷◌}
 
 -- How many clients came, and how many are connected; of each client that is served its seat, by its number; of each client's link its number; the links
 -- to servers with the commands that go there; and the clients' links that are to be closed, the oldest first.

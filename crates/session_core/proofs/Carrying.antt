@@ -1,20 +1,19 @@
 -- The core is carried over what it is told of and what it asks for.
-use Rattle.lend_core.specs.Events.{gone}
-use Rattle.mx_base.specs.{Fields.AreBytes, Sent.MayTake, Sent.Sent, declared.names.ClientNo.ClientNo, declared.names.LinkId.LinkId}
-use Rattle.mx_wire.specs.{Log.AreMarks, Log.Log, Log.is_link, Log.link_of, Moments.AllLawful, Moments.lawful-more, Tells.Fits, declared.entry.Entry.Entry}
+use Rattle.mx_wire.specs.Log.{AreMarks, Log, is_link, link_of}
 use Rattle.ready_loop.specs.Machine.{Acts, CarriesOver, Closes, HasActed, IsFarewell, IsHeard, IsToldOf, OwesFarewell}
-use Rattle.ready_loop.specs.{Changes.ChangesOnly, Changes.TakesChange, declared.machines.Act.Act, declared.machines.Event.Event}
-use Rattle.router_world.specs.{World.closed_by, World.step, World.tables_after, World.wrote_on, declared.seat.Parting.Parting, declared.seat.Seat.Seat}
-use Rattle.session_core.specs.Says.{Asked, Becomes, asks, awaits, changed, farewell, next_leaver, on_event, or_sent, reads, sends, sends_in, took_in}
-use Rattle.session_core.specs.Stands.{Stands, acted-after, awaited-after, calm-sends, carried, due_in, sends-after, tables-more, tidy-of, waits-after}
-use Rattle.session_core.specs.{Known.tables_of, Tidying.IsApart, Tidying.Tidy, declared.known.Known.Known, declared.router.Core.Core}
+use Rattle.router_world.specs.World.{closed_by, step, tables_after, wrote_on}
+use Rattle.session_core.specs.Says.{Asked, Becomes, asks, awaits, changed, farewell, next_leaver, on_event, reads, sends}
+use Rattle.session_core.specs.Stands.{IsApart, Stands, acted-after, apart-of, awaited-after, carried, due_in, sends-after, tables-more, waits-after}
 use Rattle.std.proofs.Common.{ap, append-nil, append_assoc, arith, inl, inr, subst, sym, ◌∙◌}
-use Rattle.std.proofs.lemmas.Result.{on_ok_weaker}
 use Rattle.std.specs.Prelude.{IsSome, List, None, OnOk, Option, Result, Some, [], false, is_some, refl, take, true, ℕ, ◌++◌, ◌∷◌, ◌≡◌}
-use Rattle.{client_session.specs.Setups.Setup, mx_wire.specs.Growth.bool_cases, promises.proofs.Moments.one-more, promises.specs.Closes.is_write}
-use Rattle.session_core.proofs.Changing.{among_end}
-use Rattle.{client_talk.specs.Sessions.is_ending, std.proofs.lemmas.Grind.common_steps, std.proofs.lemmas.List.length-take-le, std.specs.Option.option_to_list}
-use Rattle.{packet_frame.specs.PacketLaws.nat_eq-true, router_world.specs.Owed.IsWhole, router_world.specs.Owed.lends, router_world.specs.Tables.Tables}
+use Rattle.mx_base.{specs.Fields.AreBytes, specs.Sent.MayTake, specs.Sent.Sent, specs.declared.names.LinkId.LinkId}
+use Rattle.mx_wire.{specs.Growth.bool_cases, specs.Moments.AllLawful, specs.Moments.lawful-more, specs.Tells.Fits, specs.declared.entry.Entry.Entry}
+use Rattle.promises.{proofs.Moments.one-more, specs.Closes.is_write}
+use Rattle.ready_loop.{specs.Changes.ChangesOnly, specs.Changes.TakesChange, specs.declared.machines.Act.Act, specs.declared.machines.Event.Event}
+use Rattle.router_world.{specs.Acts.IsWhole, specs.Acts.lends, specs.Tables.Tables, specs.declared.seat.Parting.Parting}
+use Rattle.session_core.{specs.Known.tables_of, specs.declared.known.Known.Known, specs.declared.router.Core.Core}
+use Rattle.std.{proofs.lemmas.Grind.common_steps, proofs.lemmas.List.length-take-le, proofs.lemmas.Result.on_ok_weaker, specs.Option.option_to_list}
+use Rattle.{client_session.specs.Setups.Setup, lend_core.specs.Events.left_in, packet_frame.specs.PacketLaws.nat_eq-true}
 use Rattle.mx_wire.specs.declared.entry.Entry.TheVariants as entry
 use Rattle.router_world.specs.Acts as acts
 
@@ -33,30 +32,15 @@ none_parts old h1 heard acted = grind (arith, common_steps)
 
 pub names_popped : (old new : Core) (named : Option LinkId) → old.known.changed.items ≡ new.known.changed.items ++ option_to_list named → (named ≡ None
     → new.known.changed.items ≡ []) → TakesChange changed old new named
-names_popped old new h2 listed none = grind (arith, common_steps, bool_cases, nat_eq-true, among_end)
+names_popped old new h2 listed none = grind (arith, common_steps, bool_cases, nat_eq-true)
 
 -- The core is carried over what was written.
 
-client-took : (client : ClientNo) (link : LinkId) (seat : Seat) (n : ℕ) (tables : Tables) → tables.numbers link.0 ≡ Some client
-    → tables.seats client.0 ≡ Some seat → tables.lends.links link.0 ≡ None → (is_ending seat.session.phase ≡ true → gone client tables.lends ≡ tables.lends)
-    → took_in link n tables ≡ wrote_on link n (Some client) tables
-client-took client link seat n tables number is unlent ended = grind (arith, common_steps)
-
--- what is taken of a link that has something is what the world says of it
-took-wrote : (link : LinkId) (n : ℕ) (tables : Tables) (log : Log) (sent : Sent) → Tidy tables log → sends_in tables link ≡ Some sent
-    → took_in link n tables ≡ wrote_on link n (tables.numbers link.0) tables
-took-wrote link n tables log sent tidy some = by (tables.numbers link.0) refl where
-  by : (o : Option ClientNo) → tables.numbers link.0 ≡ o → took_in link n tables ≡ wrote_on link n o tables
-  by (Some client) at = (let seated = tidy.seated link client at in
-      client-took client link seated.seat n tables at seated.is seated.unlent (tidy.ended client seated.seat seated.is))
-  by None at = grind (arith, common_steps)
-
 pub taken_carries : (old : Core) (known : Known) (link : LinkId) (n : ℕ) (sent : Sent) → asks old ≡ false → MayTake (sends old link) n
-    → sends old link ≡ Some sent → Becomes (took_in link n (tables_of old.known)) old.known known
+    → sends old link ≡ Some sent → Becomes (wrote_on link n (left_in ((tables_of old.known).lends.links link.0)) (tables_of old.known)) old.known known
     → CarriesOver Stands due_in old (record old { known = known }) (entry.Wrote link sent.tag (take n sent.bytes))
 taken_carries old known link n sent acted may some is = carried old known (entry.Wrote link sent.tag (take n sent.bytes)) (λ log is_due held. record {
-  is = is.tables ∙ took-wrote link n (tables_of old.known) log sent (tidy-of old log held) (sym (calm-sends old link acted) ∙ some)
-      ∙ ap (λ (m : ℕ). wrote_on link m ((tables_of old.known).numbers link.0) (tables_of old.known))
+  is = is.tables ∙ ap (λ (m : ℕ). wrote_on link m (left_in ((tables_of old.known).lends.links link.0)) (tables_of old.known))
       (sym (length-take-le n sent.bytes (subst (λ (o : Option Sent). MayTake o n) some may)));
   ours = inl (
     acted-after old log acted held,
@@ -93,10 +77,10 @@ runs-marks setup tables log (_ ∷ marks) all runs = absurd all.0
 
 -- A link that is to be closed has nothing else to be written, and what is offered to it changes nothing else.
 
-none-said : (tables : Tables) (log : Log) (link : LinkId) → IsApart tables log link → sends_in tables link ≡ None
+none-said : (tables : Tables) (log : Log) (link : LinkId) → IsApart tables log link → acts.sends tables link ≡ None
 none-said tables log link apart = grind (arith, common_steps)
 
-closed-says : (parting : List Parting) (tables : Tables) (link : LinkId) → sends_in (closed_by parting tables) link ≡ sends_in tables link
+closed-says : (parting : List Parting) (tables : Tables) (link : LinkId) → acts.sends (closed_by parting tables) link ≡ acts.sends tables link
 closed-says h0 tables link = grind (arith, common_steps)
 
 -- what an entry of the offer makes of the tables
@@ -117,23 +101,21 @@ lent-of : (known : Known) (link : LinkId) → acts.next_close (tables_of known) 
 unfolding tables_of
 lent-of known link next = grind (arith, common_steps)
 
-or-nothing : (o : Option Sent) → or_sent o None ≡ o
-or-nothing h0 = grind (arith, common_steps)
-
-none-some : (o : Option Sent) → o ≡ None → is_some o ≡ true → ⊥
-none-some h0 none some = grind (arith, common_steps)
-
 -- The link that is to be closed, once its close is asked for.
 module _ (old : Core) (known : Known) (link : LinkId) (next : acts.next_close (tables_of old.known) ≡ Some link)
     (is : tables_of known ≡ closed_by (tables_of old.known).parting (tables_of old.known)) (leaver : known.leaver ≡ next_leaver old.known.leaver) where
   apart : (log : Log) → Stands old log → IsApart (tables_of old.known) log link
-  apart log held = (tidy-of old log held).closes link next
+  apart log held = apart-of old log link held next
 
   -- what is lent of it is the farewell alone
   said-last : (log : Log) → Stands old log → sends (record old { known = known }) link ≡ acts.farewell_of (tables_of old.known).parting
-  said-last log held = ap (λ (o : Option Sent). or_sent (farewell link known.leaver) o) (ap (λ (t : Tables). sends_in t link) is
-      ∙ closed-says (tables_of old.known).parting (tables_of old.known) link ∙ none-said (tables_of old.known) log link (apart log held))
-      ∙ or-nothing (farewell link known.leaver) ∙ ap (farewell link) leaver ∙ lent-of old.known link next
+  said-last log held = grind (
+    arith,
+    common_steps,
+    (closed-says (tables_of old.known).parting (tables_of old.known) link),
+    (none-said (tables_of old.known) log link (apart log held)),
+    (lent-of old.known link next),
+  )
 
   -- and is the whole of it
   farewell-whole : (log : Log) (sent : Sent) → Stands old log → sends (record old { known = known }) link ≡ Some sent → lends old.setup log link sent.bytes
@@ -148,8 +130,7 @@ module _ (old : Core) (known : Known) (link : LinkId) (next : acts.next_close (t
       is = is;
       ours = record {
         is_next = sym (ap (λ (t : Tables). acts.next_close t) held.tables) ∙ next;
-        offered = λ some. absurd (none-some (acts.farewell_of (tables_of old.known).parting) (sym (said-last log held) ∙ none)
-            (ap (λ (t : Tables). is_some (acts.farewell_of t.parting)) held.tables ∙ some));
+        offered = λ some. cc (said-last log held, none, ap (λ (t : Tables). is_some (acts.farewell_of t.parting)) held.tables);
       };
     });
     offered = λ some log e marks told are may closing held. (

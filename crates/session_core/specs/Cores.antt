@@ -1,6 +1,6 @@
 -- What the core takes of the configuration.
-use Rattle.std.specs.Prelude.{All, List, None, Option, Some, [], length, map, not, true, ℕ, ◌++◌, ◌==◌, ◌∷◌, ◌≡◌, ◌≢◌, ◌≤◌}
-use Rattle.client_session.specs.{Setups.Setup, Setups.User, Setups.most_message, declared.setup.ServerAt.ServerAt}
+use Rattle.std.specs.Prelude.{All, List, None, Option, Some, [], map, not, true, ℕ, ◌++◌, ◌==◌, ◌∷◌, ◌≡◌, ◌≢◌}
+use Rattle.client_session.specs.{Setups.Setup, Setups.User, declared.setup.ServerAt.ServerAt}
 use Rattle.mx_config.specs.{Lawful.EachBehind, Lawful.IsLawful, Lawful.IsLawfulUser, declared.config.Config.Config, declared.config.UserRow.UserRow}
 use Rattle.std.proofs.{Common.arith, lemmas.Grind.common_steps, lemmas.List.Elements.All-cons, lemmas.List.Elements.All-nil}
 use Rattle.{handshake.specs.Spelling.IsText, hostgroups.specs.declared.row.ServerRow.ServerRow, std.specs.List.list_any}
@@ -45,12 +45,6 @@ texts-behind before (row ∷ rows) each = All-cons (λ (r : UserRow). IsText r.n
 -- its version is a text that a NUL ends, and so are the names; and no longer message is allowed than may be
 pub lawful_version : (config : Config) → IsLawful config → IsText config.proxy.server_version
 lawful_version config lawful = grind (arith, common_steps, none-zero config.proxy.server_version, lawful.proxy.server_version)
-
-pub lawful_short : (config : Config) → IsLawful config → length config.proxy.server_version ≤ 255
-lawful_short config lawful = grind (arith, common_steps, lawful.proxy.server_version)
-
-pub lawful_limit : (config : Config) → IsLawful config → config.proxy.max_packet ≤ most_message
-lawful_limit config lawful = (let most : config.proxy.max_packet ≤ 268435456 = lawful.proxy.max_packet.1 in omega arith)
 
 pub lawful_names : (config : Config) → IsLawful config → AreTexts config.users
 lawful_names config lawful = texts-behind [] config.users lawful.users.each

@@ -2,7 +2,7 @@
 use Rattle.std.specs.Prelude.{Bool, List, None, Option, Some, [], false, if◌then◌else◌, nat_eq, ◌||◌, ◌∷◌, ◌≡◌}
 use Rattle.router_world.specs.{Tables.Tables, declared.seat.Parting.Parting}
 use Rattle.session_core.specs.declared.known.{Known.Known, Leaver.Leaver}
-use Rattle.{lend_core.specs.Lends.lends_of, mx_base.specs.declared.names.LinkId.LinkId, std.specs.HashMap.get}
+use Rattle.{lend_core.specs.Lends.lends_of, mx_base.specs.declared.names.LinkId.LinkId, std.specs.HashMap.get, std.specs.List.list_any}
 
 -- a link is to be closed until its close is asked for
 abbrev pub parted_by : Option Leaver → List Parting
@@ -20,12 +20,8 @@ tables_of known = record {
 }
 
 -- the links that may have something new
-abbrev pub is_among : LinkId → List LinkId → Bool
-is_among link [] = false
-is_among link (other ∷ links) = nat_eq link.0 other.0 || is_among link links
-
 abbrev pub is_changed : Known → LinkId → Bool
-is_changed known link = is_among link known.changed.items
+is_changed known link = list_any (λ (other : LinkId). nat_eq link.0 other.0) known.changed.items
 
 abbrev pub is_at : LinkId → Option LinkId → Bool
 is_at link None = false

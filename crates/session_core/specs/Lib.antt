@@ -1,5 +1,4 @@
 pub mod Cores
 pub mod Known
 pub mod Says
-pub mod Tidying
 pub mod Stands

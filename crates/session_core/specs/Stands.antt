@@ -1,15 +1,17 @@
 -- Where the core may be after a log: what it knows is the fold of the log, and each entry was its own.
+use Rattle.router_world.proofs.{Lawful.ClosesClient, Lawful.ClosesServer, Lawful.closes-next, Stepping.came-unlent, Stepping.unclosing, Promises.stands-all}
 use Rattle.client_session.specs.Setups.{Setup, most_message}
-use Rattle.mx_base.{specs.Sent.Sent, specs.declared.names.ClientNo.ClientNo, specs.declared.names.LinkId.LinkId}
-use Rattle.mx_wire.specs.{Log.Log, Moments.AllLawful, Moments.lawful-more, Tells.Fits, declared.entry.Entry.Entry}
-use Rattle.promises.proofs.Moments.{one-more}
+use Rattle.mx_base.{specs.Sent.Sent, specs.declared.names.LinkId.LinkId}
+use Rattle.mx_wire.specs.{Log.Log, Moments.AllLawful, Moments.lawful-more, Tells.Fits, Tells.IsOpen, declared.entry.Entry.Entry}
+use Rattle.promises.proofs.Moments.{all-follow, one-more}
 use Rattle.ready_loop.specs.{Drained.IsDue, Drained.MayWait, Machine.CarriesOver, Machine.IsQuiet, Machine.Target}
-use Rattle.router_world.specs.{Acts.IsOurs, Owed.lends, Tables.Tables, Tables.no_tables, World.step, World.tables_after}
-use Rattle.session_core.specs.Says.{asks, awaits, farewell, or_sent, reads, reads_in, sends, sends_in}
-use Rattle.session_core.specs.{Known.tables_of, Tidying.IsSeated, Tidying.Tidy, Tidying.tidy-after, declared.known.Known.Known, declared.router.Core.Core}
+use Rattle.router_world.specs.{Acts.IsOurs, Acts.lends, Tables.Tables, Tables.no_tables, World.step, World.tables_after}
+use Rattle.session_core.specs.Says.{asks, awaits, farewell, reads, sends}
+use Rattle.session_core.specs.{Known.tables_of, declared.known.Known.Known, declared.router.Core.Core}
 use Rattle.std.proofs.Common.{ap, arith, inl, subst, sym, ◌∙◌}
 use Rattle.std.specs.Prelude.{IsSome, None, Option, Some, [], false, length, refl, ◌++◌, ◌<◌, ◌∷◌, ◌≡◌, ◌≤◌}
 use Rattle.{session_core.specs.declared.known.Leaver.Leaver, std.proofs.lemmas.Grind.common_steps, std.proofs.lemmas.List.Sums.fold-append}
+use Rattle.{promises.specs.Service.Service, router_world.proofs.Sound.Sound, std.specs.Option.option_or}
 use Rattle.router_world.specs.Acts as acts
 
 pub record Stands (core : Core) (log : Log) : Type 0 where
@@ -38,33 +40,43 @@ carried old known e goes = record {
   carried = λ log may is_due held. grind (arith, common_steps, tables-more, lawful-more, one-more, goes log is_due held);
 }
 
+-- A link that is to be closed is open, and nothing else.
+
+pub record IsApart (tables : Tables) (log : Log) (link : LinkId) : Type 0 where
+  pub opened : IsOpen link log
+  pub unnumbered : tables.numbers link.0 ≡ None
+  pub unlent : tables.lends.links link.0 ≡ None
+
+apart-sound : {service : Service} {log : Log} {tables : Tables} (link : LinkId) → AllLawful Fits log → Sound service log tables
+    → acts.next_close tables ≡ Some link → IsApart tables log link
+apart-sound {log = log} {tables} link told sound is = elim (closes-next link sound is) [
+  | ClosesServer none at ↦ (let stands = sound.lends.closes link at in
+      record { opened = stands.opened; unnumbered = unclosing told sound link at; unlent = stands.unlent })
+  | ClosesClient p stands at on ↦ subst (IsApart tables log) on (record {
+    opened = stands.parted.opened;
+    unnumbered = stands.unnumbered;
+    unlent = came-unlent told sound stands.n p.link stands.parted.is_came stands.parted.on;
+  })
+]
+
+pub apart-of : (core : Core) (log : Log) (link : LinkId) → Stands core log → acts.next_close (tables_of core.known) ≡ Some link
+    → IsApart (tables_of core.known) log link
+apart-of core log link held next = subst (λ (t : Tables). acts.next_close t ≡ Some link → IsApart t log link) (sym held.tables)
+    (apart-sound link held.fits (stands-all core.setup log held.short (all-follow log held.fits held.few) held.ours).1.sound) next
+
 -- What the core says is what its tables say.
-
-pub tidy-of : (core : Core) (log : Log) → Stands core log → Tidy (tables_of core.known) log
-tidy-of core log held = subst (λ (t : Tables). Tidy t log) (sym held.tables) (tidy-after core.setup log held.short held.few held.fits held.ours)
-
-says-same : (tables : Tables) (log : Log) (link : LinkId) → Tidy tables log
-    → (reads_in tables link ≡ acts.reads tables link) × (sends_in tables link ≡ acts.sends tables link)
-says-same tables log link tidy = by (tables.numbers link.0) refl where
-  by : (o : Option ClientNo) → tables.numbers link.0 ≡ o
-      → (reads_in tables link ≡ acts.reads tables link) × (sends_in tables link ≡ acts.sends tables link)
-  by None at = grind (arith, common_steps)
-  by (Some client) at = (let seated : IsSeated tables client link = tidy.seated link client at in grind (arith, common_steps))
 
 -- no act is asked for
 pub unasked : (core : Core) → asks core ≡ false → (core.known.leaver ≡ None) × (acts.asks core.setup (tables_of core.known) ≡ false)
 unasked core acted = grind (arith, common_steps)
-
-pub calm-sends : (core : Core) (link : LinkId) → asks core ≡ false → sends core link ≡ sends_in (tables_of core.known) link
-calm-sends core link acted = ap (λ (l : Option Leaver). or_sent (farewell link l) (sends_in (tables_of core.known) link)) (unasked core acted).0
 
 pub acted-after : (core : Core) (log : Log) → asks core ≡ false → Stands core log → acts.asks core.setup (tables_after core.setup log) ≡ false
 acted-after core log acted held = sym (ap (λ (t : Tables). acts.asks core.setup t) held.tables) ∙ (unasked core acted).1
 
 pub sends-after : (core : Core) (log : Log) (link : LinkId) → asks core ≡ false → Stands core log
     → acts.sends (tables_after core.setup log) link ≡ sends core link
-sends-after core log link acted held = sym (ap (λ (t : Tables). acts.sends t link) held.tables)
-    ∙ sym (calm-sends core link acted ∙ (says-same (tables_of core.known) log link (tidy-of core log held)).1)
+sends-after core log link acted held = sym (ap (λ (l : Option Leaver). option_or (farewell link l) (acts.sends (tables_of core.known) link))
+    (unasked core acted).0 ∙ ap (λ (t : Tables). acts.sends t link) held.tables)
 
 pub waits-after : (core : Core) (log : Log) → Stands core log → MayWait (reads core) (sends core) (asks core) log
     → MayWait (acts.reads (tables_after core.setup log)) (acts.sends (tables_after core.setup log)) (acts.asks core.setup (tables_after core.setup log)) log
@@ -72,8 +84,7 @@ waits-after core log held may = record {
   drained = record {
     accepted = may.drained.accepted;
     named = may.drained.named;
-    read = λ link opened is. may.drained.read link opened ((says-same (tables_of core.known) log link (tidy-of core log held)).0
-        ∙ ap (λ (t : Tables). acts.reads t link) held.tables ∙ is);
+    read = λ link opened is. may.drained.read link opened (ap (λ (t : Tables). acts.reads t link) held.tables ∙ is);
     written = λ link opened is. may.drained.written link opened (subst (λ (o : Option Sent). IsSome o) (sends-after core log link may.acted held) is);
   };
   acted = acted-after core log may.acted held;

@@ -13,7 +13,7 @@ impl Known {
     ghost use Rattle.mx_base.specs.declared.names.Port.TheVariants.{Traffic, Admin};
     ghost use Rattle.lend_core.specs.Events.{opened, open_failed, heard, lost};
     ghost use Rattle.router_world.specs.Tables.{with_lends};
-    ghost use Rattle.router_world.specs.World.{admitted, refused, admitted_if, comes, told, heard_on, got_on, lost_on, ended_on, failed_on};
+    ghost use Rattle.router_world.specs.World.{admitted, refused, comes, told, got_on, lost_on, ended_on, failed_on};
     ghost use Rattle.mx_base.specs.Fields.{AreBytes};
     ghost use Rattle.session_core.specs.Known.{tables_of};
     ghost use Rattle.session_core.specs.Says.{Becomes, Tells, on_event};
@@ -28,8 +28,7 @@ impl Known {
         ensures { OnOk result (Becomes (admitted client link salt setup.now (tables_of self.old)) self.old self.new) }
     {
         let session = new_session(self.alloc, client, salt, setup, true)?;
-        self.put_seat(client, Seat { link, session })?;
-        self.put_number(link, client)
+        self.put_seat(client, Seat { link, session })
     }
 
     // A client is told that there is no room for it.
@@ -40,24 +39,6 @@ impl Known {
         let mut packets = Vec::new(self.alloc);
         write_refusal(self.alloc, &mut packets, 0, Refusal::TooManyConnections)?;
         self.send_off(link, Bytes::from_vec(packets))
-    }
-
-    fn admit_if(
-        &mut self,
-        has_room: bool,
-        client: ClientNo,
-        link: LinkId,
-        salt: [u8; 20],
-        setup: &Setup,
-    ) -> Result<(), OutOfMemory>
-        requires { (tables_of self.old).parting ≡ [] }
-        ensures { OnOk result (Becomes (admitted_if has_room client link salt setup.now (tables_of self.old)) self.old self.new) }
-    {
-        if has_room {
-            self.admit(client, link, salt, setup)
-        } else {
-            self.refuse(link)
-        }
     }
 
     // A client comes to the port of clients.
@@ -73,16 +54,11 @@ impl Known {
     {
         let has_room = self.here < setup.max_clients() as u64;
         let client = self.count_client();
-        self.admit_if(has_room, client, link, salt, setup)
-    }
-
-    // One comes to the port of administrators, where nobody is served: its link is to be closed.
-    fn come_stranger(&mut self, link: LinkId, setup: &Setup)
-        requires { (tables_of self.old).parting ≡ [] }
-        ensures { Becomes (comes Admin setup.now link [] (tables_of self.old)) self.old self.new }
-    {
-        self.count_stranger();
-        self.part(link, false);
+        if has_room {
+            self.admit(client, link, salt, setup)
+        } else {
+            self.refuse(link)
+        }
     }
 
     /// A link comes. One at the port of clients is a client's, which is served where there is room for it; one at that of
@@ -100,7 +76,8 @@ impl Known {
         match port {
             Port::Traffic => self.come_client(link, salt, setup),
             Port::Admin => {
-                self.come_stranger(link, setup);
+                self.count_stranger();
+                self.part(link, false);
                 Ok(())
             }
         }
@@ -115,20 +92,13 @@ impl Known {
         self.lender.opened(link)
     }
 
-    // The command of the client that waits longest may be answered: no link can be had.
+    /// No link to the server could be opened for the client that waits longest, whose command may be answered.
     #[tactic(auto, using(crate::proofs::Changing::failed_tells))]
-    fn refuse_first(&mut self) -> Result<Option<Answered>, OutOfMemory>
-        ensures { IfOk result (λ answer. Tells (open_failed (tables_of self.old).lends) answer self.old self.new) }
-    {
-        self.lender.open_failed()
-    }
-
-    /// No link to the server could be opened for the client that waits longest.
     fn fail_open(&mut self, setup: &Setup) -> Result<(), OutOfMemory>
         requires { (tables_of self.old).parting ≡ [] }
         ensures { OnOk result (Becomes (told setup.now (open_failed (tables_of self.old).lends) (tables_of self.old)) self.old self.new) }
     {
-        let answer = self.refuse_first()?;
+        let answer = self.lender.open_failed()?;
         self.tell(answer, setup)
     }
 
@@ -145,31 +115,6 @@ impl Known {
         self.lender.heard(link, bytes)
     }
 
-    // Bytes come on a link to a server.
-    fn hear_server(
-        &mut self,
-        link: LinkId,
-        bytes: &mut [u8],
-        setup: &Setup,
-    ) -> Result<(), OutOfMemory>
-        requires { (tables_of self.old).parting ≡ [] }
-        ensures { OnOk result (Becomes (told setup.now (heard link bytes.old (tables_of self.old).lends) (tables_of self.old)) self.old self.new) }
-    {
-        let answer = self.take_piece(link, bytes)?;
-        self.tell(answer, setup)
-    }
-
-    fn hear_on(&mut self, link: LinkId, bytes: &mut [u8], setup: &Setup) -> Result<(), OutOfMemory>
-        requires { (tables_of self.old).parting ≡ [] }
-        ensures { OnOk result (Becomes (heard_on setup.now link bytes.old ((tables_of self.old).lends.links link.0) (tables_of self.old)) self.old self.new) }
-    {
-        if self.has_link(link) {
-            self.hear_server(link, bytes, setup)
-        } else {
-            Ok(())
-        }
-    }
-
     /// Bytes come on a link.
     fn hear(&mut self, link: LinkId, bytes: &mut [u8], setup: &Setup) -> Result<(), OutOfMemory>
         requires { (tables_of self.old).parting ≡ [] }
@@ -177,7 +122,10 @@ impl Known {
     {
         match self.number_of(link) {
             Some(client) => self.turn(client, News::Said(bytes), setup),
-            None => self.hear_on(link, bytes, setup),
+            None => {
+                let answer = self.take_piece(link, bytes)?;
+                self.tell(answer, setup)
+            }
         }
     }
 
@@ -190,21 +138,14 @@ impl Known {
         self.lender.lost(link)
     }
 
-    // A link to a server is lost.
-    fn lose_server(&mut self, link: LinkId, setup: &Setup) -> Result<(), OutOfMemory>
-        requires { (tables_of self.old).parting ≡ [] }
-        ensures { OnOk result (Becomes (told setup.now (lost link (tables_of self.old).lends) (tables_of self.old)) self.old self.new) }
-    {
-        let answer = self.take_loss(link)?;
-        self.tell(answer, setup)
-    }
-
+    // A link is lost, which may be one to a server.
     fn lose_on(&mut self, link: LinkId, setup: &Setup) -> Result<(), OutOfMemory>
         requires { (tables_of self.old).parting ≡ [] }
         ensures { OnOk result (Becomes (lost_on setup.now link ((tables_of self.old).lends.links link.0) (tables_of self.old)) self.old self.new) }
     {
         if self.has_link(link) {
-            self.lose_server(link, setup)
+            let answer = self.take_loss(link)?;
+            self.tell(answer, setup)
         } else {
             Ok(())
         }

@@ -94,19 +94,12 @@ impl Known {
         remove(&mut self.seats, client.0);
     }
 
-    /// The client's seat is put in, and its link may have something new.
+    /// The client's seat is put in, with its link's number, and its link may have something new.
     pub(crate) fn put_seat(&mut self, client: ClientNo, seat: Seat) -> Result<(), OutOfMemory>
-        ensures { OnOk result (Becomes (with_seat client seat (tables_of self.old)) self.old self.new) }
+        ensures { OnOk result (Becomes (with_number seat.link client (with_seat client seat (tables_of self.old))) self.old self.new) }
     {
         let link = seat.link;
         put(&mut self.seats, client.0, seat)?;
-        self.mark(link)
-    }
-
-    /// The link is the client's, and may have something new.
-    pub(crate) fn put_number(&mut self, link: LinkId, client: ClientNo) -> Result<(), OutOfMemory>
-        ensures { OnOk result (Becomes (with_number link client (tables_of self.old)) self.old self.new) }
-    {
         put(&mut self.numbers, link.0, client)?;
         self.mark(link)
     }
@@ -138,27 +131,19 @@ impl Known {
         self.came = counted(self.came);
     }
 
-    // The link of a client's that is to be closed, which no other is yet.
-    fn put_leaver(&mut self, parting: Parting)
-        ensures { self.new ≡ record self.old { leaver = Some (record { parting = parting; is_asked = false }) } }
-    {
-        self.leaver = Some(Leaver {
-            parting,
-            is_asked: false,
-        });
-    }
-
     /// A link is to be closed, and no other of a client's is yet. Nothing is offered to it.
     #[tactic(auto, unfolding(crate::specs::Known::tables_of))]
     pub(crate) fn part(&mut self, link: LinkId, is_client: bool)
         requires { (tables_of self.old).parting ≡ [] }
         ensures { Becomes (to_part (record { link = link; bytes = []; is_client = is_client }) (tables_of self.old)) self.old self.new }
     {
-        let bytes = Bytes::new(self.alloc);
-        self.put_leaver(Parting {
-            link,
-            bytes,
-            is_client,
+        self.leaver = Some(Leaver {
+            parting: Parting {
+                link,
+                bytes: Bytes::new(self.alloc),
+                is_client,
+            },
+            is_asked: false,
         });
     }
 
@@ -180,7 +165,7 @@ impl Known {
     }
 
     /// The link may have something new.
-    #[tactic(auto, using(crate::proofs::Changing::among_end), unfolding(crate::specs::Known::tables_of))]
+    #[tactic(auto, unfolding(crate::specs::Known::tables_of))]
     pub(crate) fn mark(&mut self, link: LinkId) -> Result<(), OutOfMemory>
         ensures { OnOk result (Marked (Some link) self.old self.new) }
     {
@@ -210,28 +195,14 @@ impl Known {
         self.seats.get(&client.0)
     }
 
-    #[tactic(auto, unfolding(crate::specs::Known::tables_of))]
-    pub(crate) fn own_link(&self, client: ClientNo) -> Option<LinkId>
-        ensures { result ≡ (tables_of self.now).lends.owned client.0 }
-    {
-        self.lender.link_of(client)
-    }
-
-    // The link may have something new, where there is one.
-    pub(crate) fn mark_if(&mut self, link: Option<LinkId>) -> Result<(), OutOfMemory>
-        ensures { OnOk result (Marked link self.old self.new) }
-    {
-        match link {
-            Some(link) => self.mark(link),
-            None => Ok(()),
-        }
-    }
-
-    /// So may the client's link to a server.
+    /// So may the client's link to a server, where it has one.
+    #[tactic(auto, using(crate::proofs::Changing::own_lends))]
     pub(crate) fn mark_own(&mut self, client: ClientNo) -> Result<(), OutOfMemory>
         ensures { OnOk result (Marked ((tables_of self.old).lends.owned client.0) self.old self.new) }
     {
-        let link = self.own_link(client);
-        self.mark_if(link)
+        match self.lender.link_of(client) {
+            Some(link) => self.mark(link),
+            None => Ok(()),
+        }
     }
 }

@@ -8,7 +8,7 @@ ghost use Rattle.ready_loop.specs.Machine.{CarriesOver, IsHeard, HasActed, IsTol
 ghost use Rattle.client_session.specs.Setups.{Setup};
 ghost use Rattle.session_core.specs.Stands.{Stands, due_in, quiet, lent-whole};
 ghost use Rattle.session_core.specs.Says.{reads, sends, asks, awaits, changed, address_of, most_of};
-ghost use Rattle.router_world.specs.Owed.{lends};
+ghost use Rattle.router_world.specs.Acts.{lends};
 
 use crate::router::Core;
 use mx_base::{Address, LinkId, OutOfMemory, Piece, Port};

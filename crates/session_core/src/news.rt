@@ -1,7 +1,8 @@
 // What a client's session is told, and what comes of it.
 ghost use Rattle.std.specs.Prelude.{◌≡◌, OnOk, IfOk};
 ghost use Rattle.std.specs.Option.{option_copied};
-ghost use Rattle.session_core.specs.Says.{turned_by, ask_of, asked_by};
+ghost use Rattle.router_world.specs.World.{ask_of, asked_by};
+ghost use Rattle.session_core.specs.Says.{turned_by};
 
 use client_session::Setup;
 use client_talk::{Query, Session, account, answered, ended, said};

@@ -22,42 +22,29 @@ fn reply(bytes: &[u8]) -> Option<Piece<'_>>
 }
 
 impl Known {
-    ghost use Rattle.std.specs.Prelude.{◌≡◌, ◌≤◌, [], length, is_some};
+    ghost use Rattle.std.specs.Prelude.{◌≡◌, []};
     ghost use Rattle.mx_base.specs.Sent.{IsLent, MayTake};
     ghost use Rattle.client_talk.specs.Events.{taken};
     ghost use Rattle.lend_core.specs.Events.{left_in};
     ghost use Rattle.std.specs.Option.{option_copied};
     ghost use Rattle.session_core.specs.Known.{tables_of};
-    ghost use Rattle.session_core.specs.Says.{seat_on, client_reads, client_sends, sends_in, farewell, known_reads, known_sends, Becomes, stepped_at, settled, client_took, took_in, MayTakeOf};
+    ghost use Rattle.session_core.specs.Says.{farewell, known_reads, known_sends, Becomes};
+    ghost use Rattle.router_world.specs.Acts.{seat_on, seat_sends, sends};
+    ghost use Rattle.router_world.specs.World.{stepped_at, client_took, wrote_on};
     ghost use Rattle.lend_core.specs.Changes.{taken_on};
     ghost use Rattle.router_world.specs.Tables.{with_lends};
 
     // The seat of the client whose link it is.
     #[tactic(auto, unfolding(crate::specs::Known::tables_of))]
     fn seat_on(&self, link: LinkId) -> Option<&Seat>
-        ensures { option_copied result ≡ seat_on link (tables_of self.now).seats ((tables_of self.now).numbers link.0) }
+        ensures { option_copied result ≡ seat_on (tables_of self.now) link }
     {
-        match self.number_of(link) {
-            Some(client) => match self.seat_of(client) {
-                Some(seat) => {
-                    if seat.link.0 == link.0 {
-                        Some(seat)
-                    } else {
-                        None
-                    }
-                }
-                None => None,
-            },
-            None => None,
-        }
-    }
-
-    fn reads_client(&self, link: LinkId) -> bool
-        ensures { result ≡ client_reads link (tables_of self.now).seats ((tables_of self.now).numbers link.0) }
-    {
-        match self.seat_on(link) {
-            Some(seat) => is_read(&seat.session),
-            None => false,
+        let client = self.number_of(link)?;
+        let seat = self.seat_of(client)?;
+        if seat.link.0 == link.0 {
+            Some(seat)
+        } else {
+            None
         }
     }
 
@@ -65,11 +52,15 @@ impl Known {
     pub(crate) fn reads(&self, link: LinkId) -> bool
         ensures { result ≡ known_reads self.now link }
     {
-        self.has_link(link) || self.reads_client(link)
+        self.has_link(link)
+            || match self.seat_on(link) {
+                Some(seat) => is_read(&seat.session),
+                None => false,
+            }
     }
 
     fn left_for_client(&self, link: LinkId) -> Option<Piece<'_>>
-        ensures { IsLent result (client_sends link (tables_of self.now).seats ((tables_of self.now).numbers link.0)) }
+        ensures { IsLent result (seat_sends (seat_on (tables_of self.now) link)) }
     {
         match self.seat_on(link) {
             Some(seat) => reply(left(&seat.session)),
@@ -84,15 +75,8 @@ impl Known {
         self.lender.outgoing(link)
     }
 
-    // Whether something is left for the server there.
-    fn owes_server(&self, link: LinkId) -> bool
-        ensures { result ≡ is_some (left_in ((tables_of self.now).lends.links link.0)) }
-    {
-        self.left_for_server(link).is_some()
-    }
-
     fn left_for(&self, link: LinkId) -> Option<Piece<'_>>
-        ensures { IsLent result (sends_in (tables_of self.now) link) }
+        ensures { IsLent result (sends (tables_of self.now) link) }
     {
         match self.left_for_server(link) {
             Some(piece) => Some(piece),
@@ -129,7 +113,7 @@ impl Known {
     // So many bytes were written to the client.
     #[tactic(auto, unfolding(crate::specs::Known::tables_of))]
     fn take_bytes(&mut self, client: ClientNo, n: usize)
-        requires { MayTakeOf ((tables_of self.old).seats client.0) n }
+        requires { MayTake (seat_sends ((tables_of self.old).seats client.0)) n }
         ensures { Becomes (stepped_at client (taken n) (tables_of self.old)) self.old self.new }
     {
         if let Some(seat) = self.seats.get_mut(&client.0) {
@@ -137,23 +121,14 @@ impl Known {
         }
     }
 
-    fn write_client(&mut self, client: ClientNo, n: usize)
-        requires parting { (tables_of self.old).parting ≡ [] }
-        requires lent { MayTakeOf ((tables_of self.old).seats client.0) n }
-        ensures { Becomes (settled client (stepped_at client (taken n) (tables_of self.old))) self.old self.new }
-    {
-        self.take_bytes(client, n);
-        let _ = self.part_if_done(client);
-    }
-
     fn wrote_client(&mut self, link: LinkId, n: usize)
         requires parting { (tables_of self.old).parting ≡ [] }
-        requires lent { MayTake (client_sends link (tables_of self.old).seats ((tables_of self.old).numbers link.0)) n }
-        ensures { Becomes (client_took n ((tables_of self.old).numbers link.0) (tables_of self.old)) self.old self.new }
+        requires lent { MayTake (seat_sends (seat_on (tables_of self.old) link)) n }
+        ensures { Becomes (client_took link n ((tables_of self.old).numbers link.0) (tables_of self.old)) self.old self.new }
     {
-        match self.number_of(link) {
-            Some(client) => self.write_client(client, n),
-            None => {}
+        if let Some(client) = self.number_of(link) {
+            self.take_bytes(client, n);
+            self.part_if_done(client);
         }
     }
 
@@ -168,10 +143,10 @@ impl Known {
     /// So many of the bytes that are to be written on the link were. No link is to be closed.
     pub(crate) fn wrote(&mut self, link: LinkId, n: usize)
         requires parting { (tables_of self.old).parting ≡ [] }
-        requires lent { MayTake (sends_in (tables_of self.old) link) n }
-        ensures { Becomes (took_in link n (tables_of self.old)) self.old self.new }
+        requires lent { MayTake (sends (tables_of self.old) link) n }
+        ensures { Becomes (wrote_on link n (left_in ((tables_of self.old).lends.links link.0)) (tables_of self.old)) self.old self.new }
     {
-        if self.owes_server(link) {
+        if self.left_for_server(link).is_some() {
             self.wrote_server(link, n);
         } else {
             self.wrote_client(link, n);

@@ -10,9 +10,9 @@ impl Known {
     ghost use Rattle.std.specs.Prelude.{◌≡◌, [], OnOk, IfOk};
     ghost use Rattle.lend_core.specs.Events.{asked, gone};
     ghost use Rattle.router_world.specs.Tables.{with_lends};
-    ghost use Rattle.router_world.specs.World.{leaving, parts, on_client, breaks_off, answering};
+    ghost use Rattle.router_world.specs.World.{stepped_at, asked_at, ends_at, parts, settled, on_client, breaks_off, answering};
     ghost use Rattle.session_core.specs.Known.{tables_of};
-    ghost use Rattle.session_core.specs.Says.{Becomes, settled, stays_at, turned_by, asks_for, ends_at, IsTurned};
+    ghost use Rattle.session_core.specs.Says.{Becomes, turned_by};
 
     // A command comes up.
     #[tactic(auto, using(crate::proofs::Changing::asked_lends))]
@@ -21,15 +21,6 @@ impl Known {
     {
         self.mark_own(client)?;
         self.lender.asked(client, ask)
-    }
-
-    fn ask_if(&mut self, client: ClientNo, ask: Option<Ask>) -> Result<(), OutOfMemory>
-        ensures { OnOk result (Becomes (with_lends (asks_for client ask (tables_of self.old).lends) (tables_of self.old)) self.old self.new) }
-    {
-        match ask {
-            Some(ask) => self.ask(client, ask),
-            None => Ok(()),
-        }
     }
 
     // The client asks for nothing any more.
@@ -51,24 +42,6 @@ impl Known {
         }
     }
 
-    fn go_if(&mut self, client: ClientNo) -> Result<(), OutOfMemory>
-        ensures { OnOk result (Becomes (with_lends (leaving (ends_at ((tables_of self.old).seats client.0)) client (tables_of self.old).lends) (tables_of self.old)) self.old self.new) }
-    {
-        if self.is_ending(client) {
-            self.go(client)
-        } else {
-            Ok(())
-        }
-    }
-
-    // What the client's session asks for: a command that came up, and nothing more where it ends.
-    fn ask_for(&mut self, client: ClientNo, ask: Option<Ask>) -> Result<(), OutOfMemory>
-        ensures { OnOk result (Becomes (with_lends (leaving (ends_at ((tables_of self.old).seats client.0)) client (asks_for client ask (tables_of self.old).lends)) (tables_of self.old)) self.old self.new) }
-    {
-        self.ask_if(client, ask)?;
-        self.go_if(client)
-    }
-
     /// A client's link is no more one that is served, and is to be closed, as no other of a client's is yet.
     pub(crate) fn leave(&mut self, link: LinkId)
         requires { (tables_of self.old).parting ≡ [] }
@@ -79,43 +52,40 @@ impl Known {
     }
 
     /// The client's link is to be closed, where it ends and was told all. Else its link stays.
-    pub(crate) fn part_if_done(&mut self, client: ClientNo) -> Option<LinkId>
+    pub(crate) fn part_if_done(&mut self, client: ClientNo)
         requires { (tables_of self.old).parting ≡ [] }
-        ensures link { result ≡ stays_at ((tables_of self.old).seats client.0) }
-        ensures is { Becomes (settled client (tables_of self.old)) self.old self.new }
+        ensures { Becomes (settled client (tables_of self.old)) self.old self.new }
     {
-        match self.seat_of(client) {
-            Some(seat) => {
+        if let Some(seat) = self.seat_of(client) {
+            if is_finished(&seat.session) {
                 let link = seat.link;
-                if is_finished(&seat.session) {
-                    self.drop_seat(client);
-                    self.leave(link);
-                    None
-                } else {
-                    Some(link)
-                }
+                self.drop_seat(client);
+                self.leave(link);
             }
-            None => None,
         }
     }
 
-    // The client's session is told the news. A command may come up.
-    #[tactic(auto, using(crate::proofs::Changing::one), unfolding(crate::specs::Known::tables_of))]
+    // The client's session is told the news, and its link may have something new. A command may come up.
+    #[tactic(auto, using(crate::proofs::Changing::one, crate::proofs::Changing::steps), unfolding(crate::specs::Known::tables_of))]
     fn turn_session(
         &mut self,
         client: ClientNo,
         news: News<'_>,
         setup: &Setup,
     ) -> Result<Option<Ask>, OutOfMemory>
-        ensures { IfOk result (λ ask. IsTurned client (turned_by setup.now news.entry) ask self.old self.new) }
+        ensures is { OnOk result (Becomes (stepped_at client (λ it. (turned_by setup.now news.entry it).session) (tables_of self.old)) self.old self.new) }
+        ensures ask { IfOk result (λ ask. ask ≡ asked_at (turned_by setup.now news.entry) ((tables_of self.old).seats client.0)) }
     {
         match self.seats.get_mut(&client.0) {
-            Some(seat) => tell(self.alloc, &mut seat.session, news, setup),
+            Some(seat) => {
+                self.changed.push(seat.link)?;
+                tell(self.alloc, &mut seat.session, news, setup)
+            }
             None => Ok(None),
         }
     }
 
-    /// A step of the client's session, which stays in its seat or parts.
+    /// A step of the client's session, which stays in its seat or parts. A command that came up is asked for, and nothing more where it ends.
     pub(crate) fn turn(
         &mut self,
         client: ClientNo,
@@ -126,9 +96,14 @@ impl Known {
         ensures { OnOk result (Becomes (on_client (turned_by setup.now news.entry) client (tables_of self.old)) self.old self.new) }
     {
         let ask = self.turn_session(client, news, setup)?;
-        self.ask_for(client, ask)?;
-        let link = self.part_if_done(client);
-        self.mark_if(link)
+        if let Some(ask) = ask {
+            self.ask(client, ask)?;
+        }
+        if self.is_ending(client) {
+            self.go(client)?;
+        }
+        self.part_if_done(client);
+        Ok(())
     }
 
     /// What came of a client's command is told to the client.
