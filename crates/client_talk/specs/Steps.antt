@@ -17,14 +17,17 @@ use Rattle.client_talk.specs.declared.session.Phase.TheVariants as phase
 
 -- What a message asks for.
 
--- a query is one where there is a server for it
+-- a query, where there is a server for it
+abbrev pub query_if : (has_server : Bool) → Asked
+query_if has_server = if has_server then Query else Refused NoServer
+
 abbrev pub asked_by : (has_server : Bool) → Result Meaning CommandFault → Asked
 asked_by has_server (Err fault) = Refused MalformedCommand
 asked_by has_server (Ok Pings) = Ping
 asked_by has_server (Ok Quits) = Quit
-asked_by has_server (Ok (Queries text)) = if has_server then Query else Refused NoServer
-asked_by has_server (Ok (Chooses schema)) = if has_server then Query else Refused NoServer
-asked_by has_server (Ok (Lists rest)) = if has_server then Query else Refused NoServer
+asked_by has_server (Ok (Queries text)) = query_if has_server
+asked_by has_server (Ok (Chooses schema)) = query_if has_server
+asked_by has_server (Ok (Lists rest)) = query_if has_server
 asked_by has_server (Ok _) = Refused UnknownCommand
 
 abbrev pub asked_of : (has_server : Bool) → (payload : List ℕ) → Asked

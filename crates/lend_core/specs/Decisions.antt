@@ -21,9 +21,11 @@ abbrev pub quietly : Lends → Told
 quietly lends = record { lends = lends; answer = None }
 
 -- the owner of a link is answered, unless it has gone
+abbrev pub answer_for : Option ClientNo → (packets : List ℕ) → Option Answered
+answer_for owner packets = option_map (λ (client : ClientNo). record { client = client; packets = packets }) owner
+
 abbrev pub answering : Option ClientNo → (packets : List ℕ) → Lends → Told
-answering owner packets lends =
-    record { lends = lends; answer = option_map (λ (client : ClientNo). record { client = client; packets = packets }) owner }
+answering owner packets lends = record { lends = lends; answer = answer_for owner packets }
 
 -- an error of the router's own, with this sequence id
 abbrev pub error_packets : (first : ℕ) → Refusal → List ℕ
@@ -91,10 +93,13 @@ again_for _ _ lends = lends
 
 -- In a login the owner's command is answered by 9103; where a reply is due it is answered by this refusal; else what isn't written waits for
 -- another link.
+abbrev pub failed_by : Due → Option ClientNo → Option Unsent → Refusal → Lends → Told
+failed_by Login owner command refusal lends = refused owner lends
+failed_by (Reply is_sent first) owner command refusal lends = answering owner (error_packets first refusal) lends
+failed_by Nothing owner command refusal lends = quietly (again_for owner command lends)
+
 abbrev pub failed : LinkId → Due → Lent → Refusal → Lends → Told
-failed link Login lent refusal lends = refused lent.owner (closed link lent.owner lends)
-failed link (Reply is_sent first) lent refusal lends = answering lent.owner (error_packets first refusal) (closed link lent.owner lends)
-failed link Nothing lent refusal lends = quietly (again_for lent.owner (unsent lent.backend) (closed link lent.owner lends))
+failed link due lent refusal lends = failed_by due lent.owner (unsent lent.backend) refusal (closed link lent.owner lends)
 
 -- Something is heard on a link.
 
@@ -109,10 +114,13 @@ abbrev pub may_stay : Due → (ended : Bool) → (owner : Option ClientNo) → B
 may_stay (Reply is_sent first) ended owner = is_sent && ended && is_some owner
 may_stay _ ended owner = false
 
+abbrev pub kept_or_closed : (stays : Bool) → LinkId → Lent → Lends → Lends
+kept_or_closed stays link lent lends = if stays then with_link link lent lends else closed link lent.owner lends
+
 -- a reply is whole, and the piece ended with it or not: the owner is answered by it
 abbrev pub replied : LinkId → Due → (ended : Bool) → Lent → Lends → Told
-replied link due ended lent lends = answering lent.owner lent.backend.reply (if may_stay due ended lent.owner
-    then with_link link (record lent { backend = without_reply lent.backend }) lends else closed link lent.owner lends)
+replied link due ended lent lends = answering lent.owner lent.backend.reply
+    (kept_or_closed (may_stay due ended lent.owner) link (record lent { backend = without_reply lent.backend }) lends)
 
 -- the place of bad bytes in a reply
 abbrev pub place_of : BackendFault → ℕ

@@ -47,11 +47,12 @@ lost link lends = option_map_or (λ (lent : Lent). failed link (due_on lent.back
 
 -- A client has gone.
 
+abbrev pub left_at : LinkId → Lent → Lends → Lends
+left_at link lent lends = if is_begun lent.backend.command then with_link link (record lent { owner = None }) lends else to_close link lends
+
 abbrev pub left_by : Option LinkId → Lends → Lends
 left_by None lends = lends
-left_by (Some link) lends = option_map_or (λ (lent : Lent). if is_begun lent.backend.command
-    then with_link link (record lent { owner = None }) (without_link link lends) else to_close link (without_link link lends))
-    (lends.links link.0) (without_link link lends)
+left_by (Some link) lends = option_map_or (λ (lent : Lent). left_at link lent (without_link link lends)) (lends.links link.0) (without_link link lends)
 
 -- its command is dropped, and its link is closed, unless a reply is due there, which is read first
 abbrev pub gone : ClientNo → Lends → Lends

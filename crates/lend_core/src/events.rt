@@ -1,10 +1,12 @@
 // What happens on the links to servers.
 ghost use Rattle.std.specs.Prelude.{◌≡◌, IfOk};
-ghost use Rattle.lend_core.specs.Decisions.{error_packets};
+ghost use Rattle.lend_core.specs.Decisions.{answer_for, error_packets};
 
 use crate::ask::{Answered, Ask};
 use crate::lender::Lender;
-use crate::lent::{Due, Lent, command_on, due_on, may_stay, takes_command};
+use crate::lent::{
+    Due, Lent, bad_place, command_on, due_on, may_stay, takes_command, unsent_of, without_owner,
+};
 use client_session::{Refusal, write_refusal};
 use mx_base::{Bytes, ClientNo, LinkId, OutOfMemory, Tag};
 use server_side::{Backend, BackendFault, Heard, Unsent};
@@ -19,6 +21,29 @@ fn error_packets(alloc: Global, first: u8, refusal: Refusal) -> Result<Bytes, Ou
     Ok(Bytes::from_vec(packets))
 }
 
+// The owner of a link is answered, unless it has gone.
+fn answer_for(owner: Option<ClientNo>, packets: Bytes) -> Option<Answered>
+    ensures { result ≡ answer_for owner packets }
+{
+    match owner {
+        Some(client) => Some(Answered { client, packets }),
+        None => None,
+    }
+}
+
+// It is answered by an error of the router's own.
+fn error_for(
+    alloc: Global,
+    owner: Option<ClientNo>,
+    first: u8,
+    refusal: Refusal,
+) -> Result<Option<Answered>, OutOfMemory>
+    ensures { IfOk result (λ answer. answer ≡ answer_for owner (error_packets first refusal)) }
+{
+    let packets = error_packets(alloc, first, refusal)?;
+    Ok(answer_for(owner, packets))
+}
+
 impl Lender {
     ghost use Rattle.std.specs.Prelude.{◌≡◌, ◌≢◌, Some, length, IfOk, OnOk};
     ghost use Rattle.std.specs.Option.{option_map};
@@ -26,9 +51,11 @@ impl Lender {
     ghost use Rattle.server_side.specs.Hearing.{got_of};
     ghost use Rattle.lend_core.specs.declared.ask.Ask.{Ask};
     ghost use Rattle.lend_core.specs.Lends.{lends_of};
-    ghost use Rattle.lend_core.specs.Decisions.{refused, queued, closed, again, again_for, failed, logged_in, replied, heard_by, told_by, due_on, offered};
-    ghost use Rattle.lend_core.specs.Events.{asked, opened_for, opened, open_failed, heard, lost, left_by, gone};
+    ghost use Rattle.lend_core.specs.Decisions.{refused, queued, closed, again, again_for, failed_by, logged_in, kept_or_closed, place_of, replied, heard_by, told_by, due_on, offered};
+    ghost use Rattle.lend_core.specs.Events.{asked, opened_for, opened, open_failed, heard, lost, left_at, left_by, gone};
     ghost use Rattle.lend_core.specs.declared.lent.Due.TheVariants.{Nothing};
+    ghost use Rattle.client_session.specs.declared.refusal.Refusal.TheVariants.{BadServerBytes};
+    ghost use Rattle.server_side.specs.declared.fault.BackendFault.TheVariants as fault;
 
     // The owner's command that isn't on a link is answered: no link can be had.
     fn refuse(&mut self, owner: Option<ClientNo>) -> Result<Option<Answered>, OutOfMemory>
@@ -38,10 +65,7 @@ impl Lender {
             return Ok(None);
         };
         match self.take_ask(client) {
-            Some(ask) => {
-                let packets = error_packets(self.alloc, ask.first, Refusal::ConnectionRefused)?;
-                Ok(Some(Answered { client, packets }))
-            }
+            Some(ask) => error_for(self.alloc, owner, ask.first, Refusal::ConnectionRefused),
             None => Ok(None),
         }
     }
@@ -51,8 +75,7 @@ impl Lender {
         ensures { OnOk result (lends_of self.new ≡ queued client ask (lends_of self.old)) }
     {
         self.put_ask(client, ask)?;
-        self.wait(client)?;
-        Ok(())
+        self.wait(client)
     }
 
     // The link isn't its owner's any more, and is to be closed.
@@ -76,12 +99,11 @@ impl Lender {
         ensures { OnOk result (lends_of self.new ≡ offered client ask link lent (lends_of self.old)) }
     {
         if takes_command(&lent.backend) {
-            self.put_link(link, command_on(lent, client, ask))?;
+            self.put_link(link, command_on(lent, client, ask))
         } else {
             self.put_link(link, lent)?;
-            self.put_ask(client, ask)?;
+            self.put_ask(client, ask)
         }
-        Ok(())
     }
 
     /// A command of a client that has none under way. Its link takes it; or it is kept until the login there is done; or it waits
@@ -178,29 +200,34 @@ impl Lender {
         }
     }
 
-    // The link fails, where this is due on it. A login that fails answers the owner's command by an error, and so does this refusal
-    // where a reply is due; else what isn't written waits for another link.
+    // A link of this owner fails, where this is due on it and no byte of this command was written. A login that fails answers the owner's
+    // command by an error, and so does this refusal where a reply is due; else what isn't written waits for another link.
     fn fail(
         &mut self,
         link: LinkId,
         due: Due,
-        lent: Lent,
+        owner: Option<ClientNo>,
+        command: Option<Unsent>,
         refusal: Refusal,
     ) -> Result<Option<Answered>, OutOfMemory>
-        ensures { IfOk result (λ answer. record { lends = lends_of self.new; answer = answer } ≡ failed link due lent refusal (lends_of self.old)) }
+        ensures { IfOk result (λ answer. record { lends = lends_of self.new; answer = answer } ≡ failed_by due owner command refusal (closed link owner (lends_of self.old))) }
     {
-        let Lent { owner, backend } = lent;
         self.drop_link(link, owner)?;
-        let command = backend.into_unsent();
+        self.fail_by(due, owner, command, refusal)
+    }
+
+    fn fail_by(
+        &mut self,
+        due: Due,
+        owner: Option<ClientNo>,
+        command: Option<Unsent>,
+        refusal: Refusal,
+    ) -> Result<Option<Answered>, OutOfMemory>
+        ensures { IfOk result (λ answer. record { lends = lends_of self.new; answer = answer } ≡ failed_by due owner command refusal (lends_of self.old)) }
+    {
         match due {
             Due::Login => self.refuse(owner),
-            Due::Reply { first, .. } => {
-                let Some(client) = owner else {
-                    return Ok(None);
-                };
-                let packets = error_packets(self.alloc, first, refusal)?;
-                Ok(Some(Answered { client, packets }))
-            }
+            Due::Reply { first, .. } => error_for(self.alloc, owner, first, refusal),
             Due::Nothing => {
                 self.ask_again_for(owner, command)?;
                 Ok(None)
@@ -221,6 +248,18 @@ impl Lender {
         }
     }
 
+    fn keep_or_drop(&mut self, stays: bool, link: LinkId, lent: Lent) -> Result<(), OutOfMemory>
+        ensures { OnOk result (lends_of self.new ≡ kept_or_closed stays link lent (lends_of self.old)) }
+    {
+        if stays {
+            self.put_link(link, lent)
+        } else {
+            let owner = lent.owner;
+            drop(lent);
+            self.drop_link(link, owner)
+        }
+    }
+
     // A reply is whole: it is the owner's answer. The piece ended with it or not.
     fn reply(
         &mut self,
@@ -234,15 +273,8 @@ impl Lender {
         let Lent { owner, mut backend } = lent;
         let stays = may_stay(due, ended, owner);
         let packets = backend.take_reply();
-        if stays {
-            self.put_link(link, Lent { owner, backend })?;
-        } else {
-            self.drop_link(link, owner)?;
-        }
-        match owner {
-            Some(client) => Ok(Some(Answered { client, packets })),
-            None => Ok(None),
-        }
+        self.keep_or_drop(stays, link, Lent { owner, backend })?;
+        Ok(answer_for(owner, packets))
     }
 
     // A piece of so many bytes told this.
@@ -269,28 +301,38 @@ impl Lender {
         }
     }
 
+    // It fails by bytes with which no login or no reply goes on.
+    fn fail_by_bytes(
+        &mut self,
+        link: LinkId,
+        due: Due,
+        owner: Option<ClientNo>,
+        command: Option<Unsent>,
+        why: BackendFault,
+    ) -> Result<Option<Answered>, OutOfMemory>
+        ensures is { IfOk result (λ answer. record { lends = lends_of self.new; answer = answer } ≡ failed_by due owner command (BadServerBytes (place_of why)) (closed link owner (lends_of self.old))) }
+        ensures memory { IfOk result (λ answer. why ≢ fault.OutOfMemory) }
+    {
+        let place = bad_place(why)?;
+        let refusal = Refusal::BadServerBytes { place };
+        self.fail(link, due, owner, command, refusal)
+    }
+
     // A piece of a login or of a reply comes.
     fn hear_due(
         &mut self,
         link: LinkId,
         due: Due,
-        lent: Lent,
+        mut lent: Lent,
         bytes: &mut [u8],
     ) -> Result<Option<Answered>, OutOfMemory>
         requires { due ≢ Nothing }
         ensures { IfOk result (λ answer. record { lends = lends_of self.new; answer = answer } ≡ told_by link due lent (length bytes.old) (got_of bytes.old lent.backend) (lends_of self.old)) }
     {
-        let Lent { owner, mut backend } = lent;
-        let place = match backend.got(bytes) {
-            Ok(heard) => {
-                return self.tell(link, due, bytes.len(), heard, Lent { owner, backend });
-            }
-            Err(BackendFault::OutOfMemory) => return Err(OutOfMemory),
-            Err(BackendFault::BadBytes { at }) => at,
-            Err(_) => 0,
-        };
-        let refusal = Refusal::BadServerBytes { place };
-        self.fail(link, due, Lent { owner, backend }, refusal)
+        match lent.backend.got(bytes) {
+            Ok(heard) => self.tell(link, due, bytes.len(), heard, lent),
+            Err(fault) => self.fail_by_bytes(link, due, lent.owner, unsent_of(lent), fault),
+        }
     }
 
     // A piece comes. Where nothing is due it can't be a part of anything.
@@ -305,7 +347,7 @@ impl Lender {
         match due_on(&lent.backend) {
             Due::Nothing => {
                 let refusal = Refusal::BadServerBytes { place: 0 };
-                self.fail(link, Due::Nothing, lent, refusal)
+                self.fail(link, Due::Nothing, lent.owner, unsent_of(lent), refusal)
             }
             due => self.hear_due(link, due, lent, bytes),
         }
@@ -330,7 +372,8 @@ impl Lender {
         match self.take_link(link) {
             Some(lent) => {
                 let due = due_on(&lent.backend);
-                self.fail(link, due, lent, Refusal::ConnectionLost)
+                let owner = lent.owner;
+                self.fail(link, due, owner, unsent_of(lent), Refusal::ConnectionLost)
             }
             None => Ok(None),
         }
@@ -340,13 +383,19 @@ impl Lender {
     fn leave(&mut self, link: LinkId) -> Result<(), OutOfMemory>
         ensures { OnOk result (lends_of self.new ≡ left_by (Some link) (lends_of self.old)) }
     {
-        let Some(Lent { backend, .. }) = self.take_link(link) else {
-            return Ok(());
-        };
-        if backend.is_begun() {
-            let owner = None;
-            self.put_link(link, Lent { owner, backend })
+        match self.take_link(link) {
+            Some(lent) => self.leave_there(link, lent),
+            None => Ok(()),
+        }
+    }
+
+    fn leave_there(&mut self, link: LinkId, lent: Lent) -> Result<(), OutOfMemory>
+        ensures { OnOk result (lends_of self.new ≡ left_at link lent (lends_of self.old)) }
+    {
+        if lent.backend.is_begun() {
+            self.put_link(link, without_owner(lent))
         } else {
+            drop(lent);
             self.close(link)
         }
     }

@@ -68,8 +68,7 @@ impl Lender {
     pub(crate) fn own(&mut self, client: ClientNo, link: LinkId) -> Result<(), OutOfMemory>
         ensures { OnOk result (lends_of self.new ≡ owns client link (lends_of self.old)) }
     {
-        self.owned.insert(client.0, link)?;
-        Ok(())
+        put(&mut self.owned, client.0, link)
     }
 
     #[tactic(auto, using(crate::proofs::Told::one), unfolding(crate::specs::Lends::lends_of))]
@@ -91,8 +90,7 @@ impl Lender {
     pub(crate) fn put_ask(&mut self, client: ClientNo, ask: Ask) -> Result<(), OutOfMemory>
         ensures { OnOk result (lends_of self.new ≡ with_ask client ask (lends_of self.old)) }
     {
-        self.asks.insert(client.0, ask)?;
-        Ok(())
+        put(&mut self.asks, client.0, ask)
     }
 
     #[tactic(auto, using(crate::proofs::Told::one), unfolding(crate::specs::Lends::lends_of))]

@@ -1,10 +1,12 @@
 // An open link to a server.
-ghost use Rattle.std.specs.Prelude.{◌≡◌, true};
-ghost use Rattle.lend_core.specs.Decisions.{takes_command, due_on, may_stay, commanded};
+ghost use Rattle.std.specs.Prelude.{◌≡◌, ◌≢◌, None, IfOk, true};
+ghost use Rattle.server_side.specs.declared.fault.BackendFault.TheVariants as fault;
+ghost use Rattle.server_side.specs.Handing.{unsent};
+ghost use Rattle.lend_core.specs.Decisions.{takes_command, due_on, may_stay, commanded, place_of};
 
 use crate::ask::Ask;
-use mx_base::{ClientNo, Tag};
-use server_side::{Backend, Stage};
+use mx_base::{ClientNo, OutOfMemory, Tag};
+use server_side::{Backend, BackendFault, Stage, Unsent};
 
 /// An open link to a server, and the client whose commands go there; none once that has gone.
 #[derive(Drop)]
@@ -59,6 +61,35 @@ pub fn may_stay(due: Due, ended: bool, owner: Option<ClientNo>) -> bool
     match due {
         Due::Reply { is_sent, .. } => is_sent && ended && owner.is_some(),
         _ => false,
+    }
+}
+
+/// Its client has gone.
+pub fn without_owner(lent: Lent) -> Lent
+    ensures { result ≡ record lent { owner = None } }
+{
+    Lent {
+        owner: None,
+        backend: lent.backend,
+    }
+}
+
+/// The link is of no use any more. This is the command there of which no byte was written.
+pub fn unsent_of(lent: Lent) -> Option<Unsent>
+    ensures { result ≡ unsent lent.backend }
+{
+    lent.backend.into_unsent()
+}
+
+/// The place of bad bytes in a reply; 0 for a login that failed.
+pub fn bad_place(why: BackendFault) -> Result<u64, OutOfMemory>
+    ensures place { IfOk result (λ place. place ≡ place_of why) }
+    ensures memory { IfOk result (λ place. why ≢ fault.OutOfMemory) }
+{
+    match why {
+        BackendFault::OutOfMemory => Err(OutOfMemory),
+        BackendFault::BadBytes { at } => Ok(at),
+        _ => Ok(0),
     }
 }
 

@@ -3,6 +3,7 @@ ghost use Rattle.exchange.specs.Commands.{carrier_of, place_in, Command};
 ghost use Rattle.promises.specs.Follows.{Extends, RefusedOrSent, StandsOn, OneEach, OnOne, Cause, BreaksOff, Since, IsGrammar, Refuses, behind_replies};
 ghost use Rattle.promises.specs.Headline.{Serves, IsLawful};
 ghost use Rattle.promises.specs.Replay.{ReplaysTo};
+ghost use Rattle.promises.specs.Sizes.{IsSized};
 ghost use Rattle.recording.specs.declared.entry.RecordEntry.{RecordEntry};
 ghost use Rattle.mx_wire.specs.Tells.{IsOpen, Fits};
 ghost use Rattle.ready_loop.specs.Drained.{read_dry};
@@ -23,10 +24,11 @@ ghost use Rattle.client_session.specs.Arrivals.{Arrival, arrival_of};
 ghost use Rattle.client_session.specs.Errors.{connection_refused};
 ghost use Rattle.server_side.specs.Account.{Account};
 ghost use Rattle.mx_base.specs.declared.names.LinkId.{LinkId};
+ghost use Rattle.mx_base.specs.declared.tag.Tag.{Tag};
 ghost use Rattle.mx_base.specs.declared.tag.Tag.TheVariants.{For};
 ghost use Rattle.mx_wire.specs.Log.{Log};
 ghost use Rattle.mx_wire.specs.declared.entry.Entry.{Entry};
-ghost use Rattle.mx_wire.specs.declared.entry.Entry.TheVariants.{OpenFailed};
+ghost use Rattle.mx_wire.specs.declared.entry.Entry.TheVariants.{Got, OpenFailed, Wrote};
 ghost use Rattle.client_session.specs.declared.setup.ServerAt.{ServerAt};
 
 /// No message has the ordinal 0, so no query is sent once more under it.
@@ -197,4 +199,14 @@ pub fn begins_on_a_clean_link()
 /// The form of the reply to a command that is sent is the one that its client's message asks for, and no other.
 pub fn form_is_asked_for()
     ensures { (service : Service) (n i : ℕ) (link : LinkId) (bytes : List ℕ) (log : Log) (message : Framed) → message_of service n i log ≡ Some message → MaySend service n i link bytes log → service.forms (For (record { 0 = n }) i) ≡ form_of message }
+{}
+
+/// At a place of a replay's log one read of a link is possible: it takes so many bytes, and neither fewer nor more.
+pub fn one_read()
+    ensures { (service : Service) (recording : List RecordEntry) (log : Log) (link : LinkId) (bytes others : List ℕ) → IsSized service recording log (Got link bytes) → IsSized service recording log (Got link others) → bytes ≡ others }
+{}
+
+/// And one write, whatever it is for.
+pub fn one_write()
+    ensures { (service : Service) (recording : List RecordEntry) (log : Log) (link : LinkId) (tag other : Tag) (bytes others : List ℕ) → IsSized service recording log (Wrote link tag bytes) → IsSized service recording log (Wrote link other others) → bytes ≡ others }
 {}

@@ -64,7 +64,9 @@ fn play(alloc: Global, config: &Config, entries: Vec<RecordEntry>) -> Result<Tap
     let turns = 2 * entries.len() as u64 + 16;
     let mut core = Core::new(alloc, config)?;
     let mut tape = Tape::new(alloc, entries);
-    match serve(alloc, &mut core, &mut tape, turns) {
+    let end = serve(alloc, &mut core, &mut tape, turns);
+    drop(core);
+    match end {
         ServeEnd::Over => Ok(tape),
         ServeEnd::OutOfMemory => Err(Stop::OutOfMemory),
         ServeEnd::TurnsSpent => match tape.log() {

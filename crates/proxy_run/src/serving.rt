@@ -24,7 +24,9 @@ fn attend<W: Wire>(alloc: Global, config: &Config, wire: &mut W) -> Result<(), S
     ensures err { IfErr result (λ stop. AttendStops stop config.now (W.told wire.new) (W.port_faults wire.old) (W.port_faults wire.new)) }
 {
     let mut core = Core::new(alloc, config)?;
-    match serve(alloc, &mut core, wire, TURNS) {
+    let end = serve(alloc, &mut core, wire, TURNS);
+    drop(core);
+    match end {
         ServeEnd::Over => Ok(()),
         ServeEnd::ListenFault => Err(Stop::ListenFault),
         ServeEnd::TurnsSpent => Err(Stop::TurnsSpent),

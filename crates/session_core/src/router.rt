@@ -3,7 +3,7 @@ ghost use Rattle.std.specs.Prelude.{◌≡◌, ◌≤◌, ◌<◌, [], None, len
 ghost use Rattle.client_session.specs.Setups.{most_message};
 ghost use Rattle.handshake.specs.Spelling.{IsText};
 ghost use Rattle.mx_config.specs.Lawful.{IsLawful};
-ghost use Rattle.session_core.specs.Cores.{server_of, users_of, setup_of, AreTexts};
+ghost use Rattle.session_core.specs.Cores.{server_of, user_of, users_of, setup_of, AreTexts};
 ghost use Rattle.session_core.specs.Stands.{Stands};
 
 use crate::known::Known;
@@ -65,6 +65,15 @@ fn setup_of(alloc: Global, config: &Config) -> Result<Setup, OutOfMemory>
     ))
 }
 
+fn user_of(alloc: Global, row: &UserRow) -> Result<User, OutOfMemory>
+    requires { IsText row.now.name }
+    ensures { IfOk result (λ user. user ≡ user_of row.now) }
+{
+    let name = Bytes::from_slice(alloc, row.name.as_slice())?;
+    let password = Bytes::from_slice(alloc, row.password.as_slice())?;
+    Ok(User::new(name, password))
+}
+
 // Who may log in.
 fn users_of(alloc: Global, rows: &[UserRow]) -> Result<Vec<User>, OutOfMemory>
     requires { AreTexts rows.now }
@@ -72,9 +81,7 @@ fn users_of(alloc: Global, rows: &[UserRow]) -> Result<Vec<User>, OutOfMemory>
 {
     let mut users = Vec::new(alloc);
     for row in rows {
-        let name = Bytes::from_slice(alloc, row.name.as_slice())?;
-        let password = Bytes::from_slice(alloc, row.password.as_slice())?;
-        users.push(User::new(name, password))?;
+        users.push(user_of(alloc, row)?)?;
     }
     Ok(users)
 }

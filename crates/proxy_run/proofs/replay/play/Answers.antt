@@ -21,13 +21,13 @@ spends turns reads sends log (inr busy) = inr busy
 
 pub returns-in-Over-clause-ok : goal.returns-in-Over-clause-ok
 returns-in-Over-clause-ok c = record {
-  plays = λ log play. subst (λ lines. IsPlay lines log) (c.serve.ensures.ruled_by ∙ ap (λ tape. tape.recording) c.new-tape.ensures) play;
+  plays = λ log play. subst (λ lines. IsPlay lines log) (c.serve-end.ensures.ruled_by ∙ ap (λ tape. tape.recording) c.new-tape.ensures) play;
   serves = λ log is play.
-      let stands = (c.serve.ensures.stands (λ ran_out. let h : ended.Over ≡ ended.OutOfMemory = sym c.in-Over.is ∙ ran_out in cc)).holds log is in
+      let stands = (c.serve-end.ensures.stands (λ ran_out. let h : ended.Over ≡ ended.OutOfMemory = sym c.in-Over.is ∙ ran_out in cc)).holds log is in
       record {
-        keeps = sized-so _ _ _ _ _ log c.serve.ensures.serves_by c.in_ok-core.ensures.setup (ap (λ tape. tape.recording) c.new-tape.ensures) stands play (c.serve.ensures.offered.holds log is);
-        before = (ends log ((c.serve.ensures.over c.in-Over.is).last log is)).0;
-        over = (ends log ((c.serve.ensures.over c.in-Over.is).last log is)).1;
+        keeps = sized-so _ _ _ _ _ log c.serve-end.ensures.serves_by c.in_ok-core.ensures.setup (ap (λ tape. tape.recording) c.new-tape.ensures) stands play (c.serve-end.ensures.offered.holds log is);
+        before = (ends log ((c.serve-end.ensures.over c.in-Over.is).last log is)).0;
+        over = (ends log ((c.serve-end.ensures.over c.in-Over.is).last log is)).1;
       };
 }
 
@@ -35,13 +35,13 @@ pub returns-in-Some-clause-err : goal.returns-in-Some-clause-err
 returns-in-Some-clause-err c =
     let log : Log = c.in-Some.field-0.now in
     let is = sym c.in-Some.ensures.told in
-    let stands = (c.serve.ensures.stands (λ ran_out. let h : ended.TurnsSpent ≡ ended.OutOfMemory = sym c.in-TurnsSpent.is ∙ ran_out in cc)).holds log is in
-    let play : IsPlay c.args.entries.items log = subst (λ lines. IsPlay lines log) (c.serve.ensures.ruled_by ∙ ap (λ tape. tape.recording) c.new-tape.ensures) (c.in-Some.ensures.plays log is) in
-    let spent = spends _ _ _ log ((c.serve.ensures.spent c.in-TurnsSpent.is).holds log is) in (
+    let stands = (c.serve-end.ensures.stands (λ ran_out. let h : ended.TurnsSpent ≡ ended.OutOfMemory = sym c.in-TurnsSpent.is ∙ ran_out in cc)).holds log is in
+    let play : IsPlay c.args.entries.items log = subst (λ lines. IsPlay lines log) (c.serve-end.ensures.ruled_by ∙ ap (λ tape. tape.recording) c.new-tape.ensures) (c.in-Some.ensures.plays log is) in
+    let spent = spends _ _ _ log ((c.serve-end.ensures.spent c.in-TurnsSpent.is).holds log is) in (
       log,
       record {
         play = play;
-        keeps = sized-so _ _ _ _ _ log c.serve.ensures.serves_by c.in_ok-core.ensures.setup (ap (λ tape. tape.recording) c.new-tape.ensures) stands play (c.serve.ensures.offered.holds log is);
+        keeps = sized-so _ _ _ _ _ log c.serve-end.ensures.serves_by c.in_ok-core.ensures.setup (ap (λ tape. tape.recording) c.new-tape.ensures) stands play (c.serve-end.ensures.offered.holds log is);
         spent = spent-busy c.args.entries.items log play (subst (λ n. (wakes_of log ≡ 2 * n + 16) ⊎ (4294967296 ≤ calls_since_wake log)) (c.len.ensures ∙ c.args.entries.ok.0) spent);
       },
     )

@@ -32,27 +32,27 @@ worn turns reads sends log (inr busy) = inr busy
 
 pub returns-in-Over-clause-ok : goal.returns-in-Over-clause-ok
 returns-in-Over-clause-ok g c = record {
-  serves = serves _ _ _ (c.serve.ensures.serves_by ∙ c.in_ok-core.ensures.setup)
-      (c.serve.ensures.stands (λ ran_out. let h : ended.Over ≡ ended.OutOfMemory = sym c.in-Over.is ∙ ran_out in cc))
-      (listens-at _ _ _ _ _ c.in_ok-core.ensures.listen c.in_ok-core.ensures.admin_listen c.serve.ensures.listens);
-  ends = c.serve.ensures.over c.in-Over.is;
+  serves = serves _ _ _ (c.serve-end.ensures.serves_by ∙ c.in_ok-core.ensures.setup)
+      (c.serve-end.ensures.stands (λ ran_out. let h : ended.Over ≡ ended.OutOfMemory = sym c.in-Over.is ∙ ran_out in cc))
+      (listens-at _ _ _ _ _ c.in_ok-core.ensures.listen c.in_ok-core.ensures.admin_listen c.serve-end.ensures.listens);
+  ends = c.serve-end.ensures.over c.in-Over.is;
 }
 
 pub returns-in-ListenFault-clause-err : goal.returns-in-ListenFault-clause-err
 returns-in-ListenFault-clause-err g c = (
   record {
-    serves = serves _ _ _ (c.serve.ensures.serves_by ∙ c.in_ok-core.ensures.setup)
-        (c.serve.ensures.stands (λ ran_out. let h : ended.ListenFault ≡ ended.OutOfMemory = sym c.in-ListenFault.is ∙ ran_out in cc))
-        (listens-at _ _ _ _ _ c.in_ok-core.ensures.listen c.in_ok-core.ensures.admin_listen c.serve.ensures.listens);
-    ends = c.serve.ensures.failed c.in-ListenFault.is;
+    serves = serves _ _ _ (c.serve-end.ensures.serves_by ∙ c.in_ok-core.ensures.setup)
+        (c.serve-end.ensures.stands (λ ran_out. let h : ended.ListenFault ≡ ended.OutOfMemory = sym c.in-ListenFault.is ∙ ran_out in cc))
+        (listens-at _ _ _ _ _ c.in_ok-core.ensures.listen c.in_ok-core.ensures.admin_listen c.serve-end.ensures.listens);
+    ends = c.serve-end.ensures.failed c.in-ListenFault.is;
   },
-  c.serve.ensures.rose c.in-ListenFault.is,
+  c.serve-end.ensures.rose c.in-ListenFault.is,
 )
 
 pub returns-in-TurnsSpent-clause-err : goal.returns-in-TurnsSpent-clause-err
 returns-in-TurnsSpent-clause-err g c = record {
-  serves = serves _ _ _ (c.serve.ensures.serves_by ∙ c.in_ok-core.ensures.setup)
-      (c.serve.ensures.stands (λ ran_out. let h : ended.TurnsSpent ≡ ended.OutOfMemory = sym c.in-TurnsSpent.is ∙ ran_out in cc))
-      (listens-at _ _ _ _ _ c.in_ok-core.ensures.listen c.in_ok-core.ensures.admin_listen c.serve.ensures.listens);
-  ends = record { worn = λ log is. worn _ _ _ log ((c.serve.ensures.spent c.in-TurnsSpent.is).holds log is) };
+  serves = serves _ _ _ (c.serve-end.ensures.serves_by ∙ c.in_ok-core.ensures.setup)
+      (c.serve-end.ensures.stands (λ ran_out. let h : ended.TurnsSpent ≡ ended.OutOfMemory = sym c.in-TurnsSpent.is ∙ ran_out in cc))
+      (listens-at _ _ _ _ _ c.in_ok-core.ensures.listen c.in_ok-core.ensures.admin_listen c.serve-end.ensures.listens);
+  ends = record { worn = λ log is. worn _ _ _ log ((c.serve-end.ensures.spent c.in-TurnsSpent.is).holds log is) };
 }
