@@ -1,11 +1,11 @@
 -- One call of the wire, of which no failure is forgotten, and which offers what is owed.
-use Rattle.std.proofs.Common.{◌≡◌, ℕ, ◌<◌, ◌≤◌, Bool, ◌+◌, refl, subst, sym, ap, ◌∙◌, List, [], ◌∷◌, ◌++◌, length, take, Option, Some, None, append_assoc, append-nil, length-append, arith}
+use Rattle.std.proofs.Common.{◌≡◌, ℕ, ◌<◌, ◌≤◌, Bool, refl, subst, sym, ap, ◌∙◌, List, [], ◌∷◌, ◌++◌, length, take, Option, Some, None, append_assoc, append-nil, length-append, arith}
 use Rattle.mx_base.specs.declared.names.LinkId.{LinkId}
 use Rattle.mx_base.specs.declared.tag.Tag.{Tag}
 use Rattle.mx_wire.specs.Answers.{took_entry}
 use Rattle.mx_wire.specs.Log.{Log, IsMark, AreMarks}
 use Rattle.mx_wire.specs.Moments.{AllLawful, lawful-more}
-use Rattle.mx_wire.specs.Offers.{TakesBy, IsOffer, Offers, HasOffered}
+use Rattle.mx_wire.specs.Offers.{TakesBy, Offers, HasOffered}
 use Rattle.mx_wire.specs.Tells.{Tells}
 use Rattle.mx_wire.specs.declared.entry.Entry.{Entry}
 use Rattle.mx_wire.specs.declared.entry.Entry.TheVariants as entry
@@ -15,7 +15,7 @@ use Rattle.mx_base.specs.declared.piece.Piece.{Piece}
 use Rattle.ready_loop.specs.declared.machines.Act.TheVariants as act
 use Rattle.ready_loop.specs.Machine.{StandsFor, OwesFarewell}
 use Rattle.mx_base.specs.Sent.{IsLent, Sent}
-use Rattle.ready_loop.specs.Serving.{Advances, Proceeds, IsUnwritten, OwedFor}
+use Rattle.ready_loop.specs.Serving.{Proceeds, IsUnwritten, OwedFor}
 use Rattle.ready_loop.proofs.Steps.{IsStill, after_marks}
 
 abbrev Owes : Type 1

@@ -53,6 +53,7 @@ fn open_link<M: Machine, W: Wire>(
     ensures broke { OnErr result (StoodFor M.stands (W.told wire.new)) }
     ensures proceeds { Proceeds M.serves_by M.owes W.told W.ruled_by W.takes W.port_faults W.faults core.old core.new wire.old wire.new }
 {
+    M::quiet();
     table.round.calls += 1;
     match wire.open(server, address) {
         Opened::Link { id: link } => come(core, table, Event::Opened { server, link }, link),
@@ -113,6 +114,7 @@ fn act_once<M: Machine, W: Wire>(
     ensures broke { OnErr result (StoodFor M.stands (W.told wire.new)) }
     ensures proceeds { Proceeds M.serves_by M.owes W.told W.ruled_by W.takes W.port_faults W.faults core.old core.new wire.old wire.new }
 {
+    M::quiet();
     match core.next_act() {
         None => Ok(false),
         Some(Act::Open { server, address }) => {

@@ -32,6 +32,7 @@ pub fn listen_once<M: Machine, W: Wire>(
     ensures ends { IfErr result (Breaks M.stands M.is_stopped table.new.round.wakes core.now (W.told wire.new) (W.port_faults wire.old) (W.port_faults wire.new)) }
     ensures proceeds { Proceeds M.serves_by M.owes W.told W.ruled_by W.takes W.port_faults W.faults core.now core.now wire.old wire.new }
 {
+    M::quiet();
     table.round.calls += 1;
     match wire.listen(port, core.address(port)) {
         Listened::Done => Ok(()),
@@ -55,6 +56,7 @@ pub fn wait_once<M: Machine, W: Wire>(
     ensures ends { IfErr result (Breaks M.stands M.is_stopped table.new.round.wakes core.new (W.told wire.new) (W.port_faults wire.old) (W.port_faults wire.new)) }
     ensures proceeds { Proceeds M.serves_by M.owes W.told W.ruled_by W.takes W.port_faults W.faults core.old core.new wire.old wire.new }
 {
+    M::quiet();
     match wire.wait(core.until_ms()) {
         Woke::Woke { now_ms } => {
             core.take(Event::Woke { now_ms }, &mut [])?;
@@ -78,6 +80,7 @@ pub fn accept_once<M: Machine, W: Wire>(
     ensures serves { OnOk result (Serves M.stands M.reads M.sends M.changed core.new table.new (W.told wire.new)) }
     ensures made { HasMade M.stands M.is_stopped M.serves_by M.owes W.told W.ruled_by W.takes W.port_faults W.faults (Call.Accept port) core.old core.new wire.old wire.new table.old.round table.new.round result }
 {
+    M::quiet();
     table.round.calls += 1;
     match wire.accept(port) {
         Accepted::Link { id: link, salt } => {
@@ -103,6 +106,7 @@ pub fn name_once<M: Machine, W: Wire>(
     ensures serves { OnOk result (Serves M.stands M.reads M.sends M.changed core.now table.new (W.told wire.new)) }
     ensures made { HasMade M.stands M.is_stopped M.serves_by M.owes W.told W.ruled_by W.takes W.port_faults W.faults (Call.Name) core.now core.now wire.old wire.new table.old.round table.new.round result }
 {
+    M::quiet();
     table.round.calls += 1;
     match wire.next_ready() {
         Some(link) => unless_refused(table.links.named(link)),
@@ -128,6 +132,7 @@ pub fn read_once<M: Machine, W: Wire>(
     ensures serves { OnOk result (Serves M.stands M.reads M.sends M.changed core.new table.new (W.told wire.new)) }
     ensures made { HasMade M.stands M.is_stopped M.serves_by M.owes W.told W.ruled_by W.takes W.port_faults W.faults (Call.Read link) core.old core.new wire.old wire.new table.old.round table.new.round result }
 {
+    M::quiet();
     table.round.calls += 1;
     let Some(told) = hear(link, wire.read(link, buffer)) else {
         table.links.read_dry(link);
@@ -150,6 +155,8 @@ pub fn write_once<M: Machine, W: Wire>(
     ensures serves { OnOk result (Serves M.stands M.reads M.sends M.changed core.new table.new (W.told wire.new)) }
     ensures made { HasMade M.stands M.is_stopped M.serves_by M.owes W.told W.ruled_by W.takes W.port_faults W.faults (Call.Write link) core.old core.new wire.old wire.new table.old.round table.new.round result }
 {
+    M::quiet();
+    M::lends();
     let Some(piece) = core.outgoing(link) else {
         unreachable!()
     };

@@ -154,9 +154,11 @@ pub trait Machine {
     fn most_links(&self) -> u32
         ensures { result ≡ most self.now };
 
-    /// A machine stands still where it is told of nothing.
-    ghost quiet: { (machine : Self) (e : Entry) → IsQuiet e → CarriesOver stands (IsDue reads sends asks) machine machine e };
+    /// A machine stands still where it is told of nothing. Does nothing.
+    fn quiet()
+        ensures { (machine : Self) (e : Entry) → IsQuiet e → CarriesOver stands (IsDue reads sends asks) machine machine e };
 
-    /// What it lends is owed, once what it asked for is done.
-    ghost lends: { (machine : Self) (log : Log) (link : LinkId) (sent : Sent) → stands machine log → asks machine ≡ false → sends machine link ≡ Some sent → owes (serves_by machine) log link sent.bytes };
+    /// What it lends is owed, once what it asked for is done. Does nothing.
+    fn lends()
+        ensures { (machine : Self) (log : Log) (link : LinkId) (sent : Sent) → stands machine log → asks machine ≡ false → sends machine link ≡ Some sent → owes (serves_by machine) log link sent.bytes };
 }

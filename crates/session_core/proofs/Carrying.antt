@@ -3,7 +3,8 @@ use Rattle.mx_wire.specs.Log.{AreMarks, Log, is_link, link_of}
 use Rattle.ready_loop.specs.Machine.{Acts, CarriesOver, Closes, HasActed, IsFarewell, IsHeard, IsToldOf, OwesFarewell}
 use Rattle.router_world.specs.World.{closed_by, step, tables_after, wrote_on}
 use Rattle.session_core.specs.Says.{Asked, Becomes, asks, awaits, changed, farewell, next_leaver, on_event, reads, sends}
-use Rattle.session_core.specs.Stands.{IsApart, Stands, acted-after, apart-of, awaited-after, carried, due_in, sends-after, tables-more, waits-after}
+use Rattle.session_core.{proofs.Standing.IsApart, proofs.Standing.acted-after, proofs.Standing.apart-of, proofs.Standing.awaited-after, specs.Stands.Stands}
+use Rattle.session_core.proofs.Standing.{carried, due_in, sends-after, tables-more, waits-after}
 use Rattle.std.proofs.Common.{ap, append-nil, append_assoc, arith, inl, inr, subst, sym, ◌∙◌}
 use Rattle.std.specs.Prelude.{IsSome, List, None, OnOk, Option, Result, Some, [], false, is_some, refl, take, true, ℕ, ◌++◌, ◌∷◌, ◌≡◌}
 use Rattle.mx_base.{specs.Fields.AreBytes, specs.Sent.MayTake, specs.Sent.Sent, specs.declared.names.LinkId.LinkId}

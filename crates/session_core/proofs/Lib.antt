@@ -1,2 +1,4 @@
+pub mod Configured
+pub mod Standing
 pub mod Changing
 pub mod Carrying

@@ -1,18 +1,9 @@
 -- Where the core may be after a log: what it knows is the fold of the log, and each entry was its own.
-use Rattle.router_world.proofs.{Lawful.ClosesClient, Lawful.ClosesServer, Lawful.closes-next, Stepping.came-unlent, Stepping.unclosing, Promises.stands-all}
-use Rattle.client_session.specs.Setups.{Setup, most_message}
-use Rattle.mx_base.{specs.Sent.Sent, specs.declared.names.LinkId.LinkId}
-use Rattle.mx_wire.specs.{Log.Log, Moments.AllLawful, Moments.lawful-more, Tells.Fits, Tells.IsOpen, declared.entry.Entry.Entry}
-use Rattle.promises.proofs.Moments.{all-follow, one-more}
-use Rattle.ready_loop.specs.{Drained.IsDue, Drained.MayWait, Machine.CarriesOver, Machine.IsQuiet, Machine.Target}
-use Rattle.router_world.specs.{Acts.IsOurs, Acts.lends, Tables.Tables, Tables.no_tables, World.step, World.tables_after}
-use Rattle.session_core.specs.Says.{asks, awaits, farewell, reads, sends}
-use Rattle.session_core.specs.{Known.tables_of, declared.known.Known.Known, declared.router.Core.Core}
-use Rattle.std.proofs.Common.{ap, arith, inl, subst, sym, ◌∙◌}
-use Rattle.std.specs.Prelude.{IsSome, None, Option, Some, [], false, length, refl, ◌++◌, ◌<◌, ◌∷◌, ◌≡◌, ◌≤◌}
-use Rattle.{session_core.specs.declared.known.Leaver.Leaver, std.proofs.lemmas.Grind.common_steps, std.proofs.lemmas.List.Sums.fold-append}
-use Rattle.{promises.specs.Service.Service, router_world.proofs.Sound.Sound, std.specs.Option.option_or}
-use Rattle.router_world.specs.Acts as acts
+use Rattle.client_session.specs.Setups.{most_message}
+use Rattle.mx_wire.specs.{Log.Log, Moments.AllLawful, Tells.Fits}
+use Rattle.router_world.specs.{Acts.IsOurs, World.tables_after}
+use Rattle.session_core.specs.{Known.tables_of, declared.router.Core.Core}
+use Rattle.std.specs.Prelude.{length, ◌<◌, ◌≡◌, ◌≤◌}
 
 pub record Stands (core : Core) (log : Log) : Type 0 where
   pub tables : tables_of core.known ≡ tables_after core.setup log
@@ -20,89 +11,3 @@ pub record Stands (core : Core) (log : Log) : Type 0 where
   pub fits : AllLawful Fits log
   pub few : length log < 281474976710656
   pub short : core.setup.limit ≤ most_message
-
-abbrev pub due_in : Core → Log → Entry → Type 0
-due_in core log e = IsDue reads sends asks core log e
-
--- The core is carried over an entry.
-
-pub tables-more : (setup : Setup) (log : Log) (e : Entry) → tables_after setup (log ++ e ∷ []) ≡ step setup (tables_after setup log) e
-tables-more setup log e = fold-append (step setup) no_tables log (e ∷ [])
-
--- one step of the world, by an entry of the router's
-pub record Goes (old : Core) (known : Known) (log : Log) (e : Entry) : Type 0 where
-  pub is : tables_of known ≡ step old.setup (tables_of old.known) e
-  pub ours : acts.IsOurs old.setup log e
-
-pub carried : (old : Core) (known : Known) (e : Entry) → ((log : Log) → due_in old log e → Stands old log → Goes old known log e)
-    → CarriesOver Stands due_in old (record old { known = known }) e
-carried old known e goes = record {
-  carried = λ log may is_due held. grind (arith, common_steps, tables-more, lawful-more, one-more, goes log is_due held);
-}
-
--- A link that is to be closed is open, and nothing else.
-
-pub record IsApart (tables : Tables) (log : Log) (link : LinkId) : Type 0 where
-  pub opened : IsOpen link log
-  pub unnumbered : tables.numbers link.0 ≡ None
-  pub unlent : tables.lends.links link.0 ≡ None
-
-apart-sound : {service : Service} {log : Log} {tables : Tables} (link : LinkId) → AllLawful Fits log → Sound service log tables
-    → acts.next_close tables ≡ Some link → IsApart tables log link
-apart-sound {log = log} {tables} link told sound is = elim (closes-next link sound is) [
-  | ClosesServer none at ↦ (let stands = sound.lends.closes link at in
-      record { opened = stands.opened; unnumbered = unclosing told sound link at; unlent = stands.unlent })
-  | ClosesClient p stands at on ↦ subst (IsApart tables log) on (record {
-    opened = stands.parted.opened;
-    unnumbered = stands.unnumbered;
-    unlent = came-unlent told sound stands.n p.link stands.parted.is_came stands.parted.on;
-  })
-]
-
-pub apart-of : (core : Core) (log : Log) (link : LinkId) → Stands core log → acts.next_close (tables_of core.known) ≡ Some link
-    → IsApart (tables_of core.known) log link
-apart-of core log link held next = subst (λ (t : Tables). acts.next_close t ≡ Some link → IsApart t log link) (sym held.tables)
-    (apart-sound link held.fits (stands-all core.setup log held.short (all-follow log held.fits held.few) held.ours).1.sound) next
-
--- What the core says is what its tables say.
-
--- no act is asked for
-pub unasked : (core : Core) → asks core ≡ false → (core.known.leaver ≡ None) × (acts.asks core.setup (tables_of core.known) ≡ false)
-unasked core acted = grind (arith, common_steps)
-
-pub acted-after : (core : Core) (log : Log) → asks core ≡ false → Stands core log → acts.asks core.setup (tables_after core.setup log) ≡ false
-acted-after core log acted held = sym (ap (λ (t : Tables). acts.asks core.setup t) held.tables) ∙ (unasked core acted).1
-
-pub sends-after : (core : Core) (log : Log) (link : LinkId) → asks core ≡ false → Stands core log
-    → acts.sends (tables_after core.setup log) link ≡ sends core link
-sends-after core log link acted held = sym (ap (λ (l : Option Leaver). option_or (farewell link l) (acts.sends (tables_of core.known) link))
-    (unasked core acted).0 ∙ ap (λ (t : Tables). acts.sends t link) held.tables)
-
-pub waits-after : (core : Core) (log : Log) → Stands core log → MayWait (reads core) (sends core) (asks core) log
-    → MayWait (acts.reads (tables_after core.setup log)) (acts.sends (tables_after core.setup log)) (acts.asks core.setup (tables_after core.setup log)) log
-waits-after core log held may = record {
-  drained = record {
-    accepted = may.drained.accepted;
-    named = may.drained.named;
-    read = λ link opened is. may.drained.read link opened (ap (λ (t : Tables). acts.reads t link) held.tables ∙ is);
-    written = λ link opened is. may.drained.written link opened (subst (λ (o : Option Sent). IsSome o) (sends-after core log link may.acted held) is);
-  };
-  acted = acted-after core log may.acted held;
-}
-
-pub awaited-after : (core : Core) (log : Log) (target : Target) → awaits core ≡ Some target → Stands core log
-    → acts.awaits core.setup (tables_after core.setup log) ≡ Some target
-awaited-after core log target is held = grind (arith, common_steps)
-
--- Entries of which the core isn't told.
-
-pub quiet : (core : Core) (e : Entry) → IsQuiet e → CarriesOver Stands due_in core core e
-quiet core e q = carried core core.known e (λ log is_due held. grind (arith, common_steps, waits-after))
-
--- What the core lends is the whole of what is to be written.
-
--- once what it asked for is done
-pub lent-whole : (core : Core) (log : Log) (link : LinkId) (sent : Sent) → Stands core log → asks core ≡ false → sends core link ≡ Some sent
-    → lends core.setup log link sent.bytes
-lent-whole core log link sent held acted some =
-    inl (acted-after core log acted held, record { sent = sent; is = sends-after core log link acted held ∙ some; bytes = refl })

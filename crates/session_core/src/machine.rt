@@ -6,7 +6,7 @@ ghost use Rattle.mx_wire.specs.declared.entry.Entry.{Entry};
 ghost use Rattle.ready_loop.specs.Changes.{ChangesOnly};
 ghost use Rattle.ready_loop.specs.Machine.{CarriesOver, IsHeard, HasActed, IsToldOf};
 ghost use Rattle.client_session.specs.Setups.{Setup};
-ghost use Rattle.session_core.specs.Stands.{Stands, due_in, quiet, lent-whole};
+ghost use Rattle.session_core.specs.Stands.{Stands};
 ghost use Rattle.session_core.specs.Says.{reads, sends, asks, awaits, changed, address_of, most_of};
 ghost use Rattle.router_world.specs.Acts.{lends};
 
@@ -46,10 +46,6 @@ impl Machine for Core {
     ghost serves_by = { λ core. core.setup };
 
     ghost owes = { lends };
-
-    ghost lends = { lent-whole };
-
-    ghost quiet = { quiet };
 
     #[tactic(auto, using(crate::proofs::Carrying::none_parts))]
     fn take(&mut self, event: Event, bytes: &mut [u8]) -> Result<(), OutOfMemory> {
@@ -96,4 +92,8 @@ impl Machine for Core {
     fn most_links(&self) -> u32 {
         self.setup.max_clients().saturating_add(OTHER_LINKS)
     }
+
+    fn quiet() {}
+
+    fn lends() {}
 }

@@ -26,7 +26,7 @@ pub struct Core {
 impl Core {
     /// A core to which no client came. It serves by the addresses, the version, the users, the limits and the first server of
     /// the configuration.
-    #[tactic(auto, using(crate::specs::Cores::lawful_version, crate::specs::Cores::lawful_names))]
+    #[tactic(auto, using(crate::proofs::Configured::lawful_version, crate::proofs::Configured::lawful_names))]
     pub fn new(alloc: Global, config: &Config) -> Result<Self, OutOfMemory>
         requires { IsLawful config.now }
         ensures stands { IfOk result (λ core. Stands core []) }

@@ -19,10 +19,10 @@ returns-in-None-clause-serves g c = record {
 
 pub returns-in-Some-Close-clause-serves : goal.returns-in-Some-Close-clause-serves
 returns-in-Some-Close-clause-serves g c = record {
-  standing = closes _ _ _ _ g.met.M.Machine.quiet _ _ _ _ _ _ c.requires.serves.standing (rw c.in-Some-Close.field-0-is at c.in-Some-Close.ensures.act) c.close_link.ensures.parts;
+  standing = closes _ _ _ _ c.quiet.ensures _ _ _ _ _ _ c.requires.serves.standing (rw c.in-Some-Close.field-0-is at c.in-Some-Close.ensures.act) c.close_link.ensures.parts;
   tracks = c.close_link.ensures.tracks;
   watches = watching.closed _ _ _ _ _ _ c.close_link.ensures.marks c.close_link.ensures.queue (watching.changes _ _ _ _ _ _ c.in-Some-Close.ensures.changes c.requires.serves.watches);
 }
 
 pub close_link-requires-clause-owed : goal.close_link-requires-clause-owed
-close_link-requires-clause-owed g c = owed-closing _ _ _ _ g.met.M.Machine.quiet g.M.Machine.serves_by g.M.Machine.owes c.args.core.now _ _ _ c.requires.serves.standing (rw c.in-Some-Close.field-0-is at c.in-Some-Close.ensures.owed) c.in-Some-Close.ensures.serves_by
+close_link-requires-clause-owed g c = owed-closing _ _ _ _ c.quiet.ensures g.M.Machine.serves_by g.M.Machine.owes c.args.core.now _ _ _ c.requires.serves.standing (rw c.in-Some-Close.field-0-is at c.in-Some-Close.ensures.owed) c.in-Some-Close.ensures.serves_by

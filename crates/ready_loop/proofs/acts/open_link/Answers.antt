@@ -14,7 +14,7 @@ returns-in-Link-clause-serves g c =
     let told = both c.come.result _ _ c.come.ensures.carries c.come.ensures.changes in
     let queued = both c.come.result _ _ c.come.ensures.marks c.come.ensures.queue in
     on_ok c.come.result _ _ _ refl (both c.come.result _ _ told queued) (λ came. record {
-      standing = goes_on _ _ _ _ g.met.M.Machine.quiet _ _ _ _ _ c.requires.serves.standing c.in-Link.ensures.told (λ log. tt) (came.0.0 _ (c.args.address, c.requires.awaited, refl));
+      standing = goes_on _ _ _ _ c.quiet.ensures _ _ _ _ _ c.requires.serves.standing c.in-Link.ensures.told (λ log. tt) (came.0.0 _ (c.args.address, c.requires.awaited, refl));
       tracks = named _ _ _ _ _ _ refl c.come.ensures.round (ap (option_map dry_mark) came.1.0.same) (marking.others _ _ _ _ came.1.0) c.requires.serves.tracks c.in-Link.ensures.told;
       watches = watching.opened _ _ _ _ _ _ came.1.0 came.1.1 (watching.changes _ _ _ _ _ _ came.0.1 c.requires.serves.watches);
     })
@@ -24,7 +24,7 @@ returns-in-Link-clause-broke g c = on_err c.come.result _ (stood_before _ _ _ _ 
 
 pub returns-in-Failed-clause-serves : goal.returns-in-Failed-clause-serves
 returns-in-Failed-clause-serves g c = on_ok c.take.result _ _ _ refl (both c.take.result _ _ c.take.ensures.carries c.take.ensures.changes) (λ taken. record {
-  standing = goes_on _ _ _ _ g.met.M.Machine.quiet _ _ _ _ _ c.requires.serves.standing c.in-Failed.ensures.told (λ log. tt) (taken.0 _ (c.args.address, c.requires.awaited, refl));
+  standing = goes_on _ _ _ _ c.quiet.ensures _ _ _ _ _ c.requires.serves.standing c.in-Failed.ensures.told (λ log. tt) (taken.0 _ (c.args.address, c.requires.awaited, refl));
   tracks = unnamed _ _ _ _ _ refl refl (λ l. refl) c.requires.serves.tracks c.in-Failed.ensures.told;
   watches = watching.changes _ _ _ _ _ _ taken.1 c.requires.serves.watches;
 })

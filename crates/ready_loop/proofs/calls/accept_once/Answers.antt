@@ -15,7 +15,7 @@ returns-in-Link-clause-serves g c =
     let told = both c.come.result _ _ c.come.ensures.carries c.come.ensures.changes in
     let queued = both c.come.result _ _ c.come.ensures.marks c.come.ensures.queue in
     on_ok c.come.result _ _ _ c.unless_refused.ensures.ok (both c.come.result _ _ told queued) (λ came. record {
-      standing = goes_on _ _ _ _ g.met.M.Machine.quiet _ _ _ _ _ c.requires.going.serves.standing c.in-Link.ensures.told (λ log. tt) (came.0.0 _ refl);
+      standing = goes_on _ _ _ _ c.quiet.ensures _ _ _ _ _ c.requires.going.serves.standing c.in-Link.ensures.told (λ log. tt) (came.0.0 _ refl);
       tracks = named _ _ _ _ _ _ refl (c.come.ensures.round ∙ c.accepted.ensures) (ap (option_map dry_mark) came.1.0.same) (marking.others _ _ _ _ came.1.0) c.requires.going.serves.tracks c.in-Link.ensures.told;
       watches = watching.opened _ _ _ _ _ _ came.1.0 came.1.1 (watching.changes _ _ _ _ _ _ came.0.1 c.requires.going.serves.watches);
     })
@@ -31,7 +31,7 @@ returns-in-Link-clause-made g c = record {
 
 pub returns-in-NotReady-clause-serves : goal.returns-in-NotReady-clause-serves
 returns-in-NotReady-clause-serves g c = record {
-  standing = stays _ _ _ _ g.met.M.Machine.quiet _ _ _ _ c.requires.going.serves.standing c.in-NotReady.ensures.told (λ log. tt) tt;
+  standing = stays _ _ _ _ c.quiet.ensures _ _ _ _ c.requires.going.serves.standing c.in-NotReady.ensures.told (λ log. tt) tt;
   tracks = unnamed _ _ _ _ _ refl c.accepted-in-NotReady.ensures (λ l. refl) c.requires.going.serves.tracks c.in-NotReady.ensures.told;
   watches = c.requires.going.serves.watches;
 }
@@ -43,7 +43,7 @@ returns-in-Failed-clause-made g c = record {
   wakes = search rules;
   ends = record {
     ends = record {
-      standing = stays _ _ _ _ g.met.M.Machine.quiet _ _ _ _ c.requires.going.serves.standing c.in-Failed.ensures.told (λ log. tt) tt;
+      standing = stays _ _ _ _ c.quiet.ensures _ _ _ _ c.requires.going.serves.standing c.in-Failed.ensures.told (λ log. tt) tt;
       halted = c.requires.going.going;
       woke = woke_on _ _ _ _ c.requires.going.serves.tracks c.in-Failed.ensures.told refl refl;
       so = ends_with IsPortFault _ _ _ c.in-Failed.ensures.told tt;

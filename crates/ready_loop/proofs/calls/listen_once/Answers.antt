@@ -8,7 +8,7 @@ use Rattle.ready_loop.proofs.calls.listen_once.Goals as goal
 
 pub returns-in-Done-clause-serves : goal.returns-in-Done-clause-serves
 returns-in-Done-clause-serves g c = record {
-  standing = stays _ _ _ _ g.met.M.Machine.quiet _ _ _ _ c.requires.serves.standing c.in-Done.ensures.told (λ log. tt) tt;
+  standing = stays _ _ _ _ c.quiet.ensures _ _ _ _ c.requires.serves.standing c.in-Done.ensures.told (λ log. tt) tt;
   tracks = unnamed _ _ _ _ _ refl refl (λ l. refl) c.requires.serves.tracks c.in-Done.ensures.told;
   watches = c.requires.serves.watches;
 }
@@ -16,7 +16,7 @@ returns-in-Done-clause-serves g c = record {
 pub returns-in-Failed-clause-ends : goal.returns-in-Failed-clause-ends
 returns-in-Failed-clause-ends g c = record {
   ends = record {
-    standing = stays _ _ _ _ g.met.M.Machine.quiet _ _ _ _ c.requires.serves.standing c.in-Failed.ensures.told (λ log. tt) tt;
+    standing = stays _ _ _ _ c.quiet.ensures _ _ _ _ c.requires.serves.standing c.in-Failed.ensures.told (λ log. tt) tt;
     halted = c.requires.going;
     woke = woke_on _ _ _ _ c.requires.serves.tracks c.in-Failed.ensures.told refl refl;
     so = ends_with IsPortFault _ _ _ c.in-Failed.ensures.told tt;

@@ -9,14 +9,14 @@ use Rattle.ready_loop.proofs.calls.name_once.Goals as goal
 
 pub returns-in-Some-clause-serves : goal.returns-in-Some-clause-serves
 returns-in-Some-clause-serves g c = on_ok c.named.result _ _ _ c.unless_refused.ensures.ok (both c.named.result _ _ c.named.ensures.marks c.named.ensures.queue) (λ queued. record {
-  standing = stays _ _ _ _ g.met.M.Machine.quiet _ _ _ _ c.requires.going.serves.standing c.in-Some.ensures.told (λ log. tt) tt;
+  standing = stays _ _ _ _ c.quiet.ensures _ _ _ _ c.requires.going.serves.standing c.in-Some.ensures.told (λ log. tt) tt;
   tracks = named _ _ _ _ _ _ refl refl (marking.named _ _ _ queued.0) (marking.others _ _ _ _ queued.0) c.requires.going.serves.tracks c.in-Some.ensures.told;
   watches = watching.joined _ _ _ _ (λ m. refl) _ _ _ queued.0 queued.1 c.requires.going.serves.watches;
 })
 
 pub returns-in-None-clause-serves : goal.returns-in-None-clause-serves
 returns-in-None-clause-serves g c = record {
-  standing = stays _ _ _ _ g.met.M.Machine.quiet _ _ _ _ c.requires.going.serves.standing c.in-None.ensures.told (λ log. tt) tt;
+  standing = stays _ _ _ _ c.quiet.ensures _ _ _ _ c.requires.going.serves.standing c.in-None.ensures.told (λ log. tt) tt;
   tracks = unnamed _ _ _ _ _ refl refl (λ l. refl) c.requires.going.serves.tracks c.in-None.ensures.told;
   watches = c.requires.going.serves.watches;
 }

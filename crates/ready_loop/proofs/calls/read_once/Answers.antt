@@ -18,7 +18,7 @@ pub returns-in_default-clause-serves : goal.returns-in_default-clause-serves
 returns-in_default-clause-serves g c =
     let told = subst (λ (e : Entry). Tells (g.W.Wire.told c.args.wire.now) e (g.W.Wire.told c.read.new.self)) (hearing.nothing c.args.link c.read.new.into c.read.result (sym c.hear.ensures ∙ c.in_default.is)) c.read.ensures.told in
     record {
-      standing = stays _ _ _ _ g.met.M.Machine.quiet _ _ _ _ c.requires.going.serves.standing told (λ log. tt) tt;
+      standing = stays _ _ _ _ c.quiet.ensures _ _ _ _ c.requires.going.serves.standing told (λ log. tt) tt;
       tracks = named _ _ _ _ _ _ refl refl (marking.read_nothing _ _ _ c.read_dry.ensures.marks) (marking.others _ _ _ _ c.read_dry.ensures.marks) c.requires.going.serves.tracks told;
       watches = watching.dried _ _ _ _ (λ m. refl) (λ m is. refl) (λ m is. is) _ _ _ c.read_dry.ensures.marks c.read_dry.ensures.queue c.requires.going.serves.watches;
     }
@@ -36,7 +36,7 @@ pub returns-clause-serves : goal.returns-clause-serves
 returns-clause-serves g c =
     let heard = sym c.hear.ensures ∙ c.in-Some.is in
     on_ok c.take.result _ _ _ c.unless_refused.ensures.ok (both c.take.result _ _ c.take.ensures.carries c.take.ensures.changes) (λ taken. record {
-      standing = goes_on _ _ _ _ g.met.M.Machine.quiet _ _ _ _ _ c.requires.going.serves.standing c.read.ensures.told (λ log. hearing.due g.M.Machine.reads g.M.Machine.sends g.M.Machine.asks c.args.core.now log _ _ c.read.result) (taken.0 _ (hearing.told _ _ _ _ c.read.result _ heard));
+      standing = goes_on _ _ _ _ c.quiet.ensures _ _ _ _ _ c.requires.going.serves.standing c.read.ensures.told (λ log. hearing.due g.M.Machine.reads g.M.Machine.sends g.M.Machine.asks c.args.core.now log _ _ c.read.result) (taken.0 _ (hearing.told _ _ _ _ c.read.result _ heard));
       tracks = named _ _ _ _ _ c.args.link (hearing.of_link _ _ c.read.result) (hearing.counted _ _ c.read.result _) (hearing.still_wet c.args.table.now.links _ _ c.read.result _ heard c.requires.wet) (λ other apart. refl) c.requires.going.serves.tracks c.read.ensures.told;
       watches = watching.changes _ _ _ _ _ _ taken.1 c.requires.going.serves.watches;
     })

@@ -9,7 +9,7 @@ use Rattle.ready_loop.proofs.calls.wait_once.Goals as goal
 
 pub returns-in_ok-take-in-Woke-clause-serves : goal.returns-in_ok-take-in-Woke-clause-serves
 returns-in_ok-take-in-Woke-clause-serves g c = record {
-  standing = waits _ _ _ _ g.met.M.Machine.quiet _ _ _ _ _ c.requires.going.serves.standing c.in-Woke.ensures.told c.requires.drained c.requires.going.acted (λ log due. due) (c.in_ok-take-in-Woke.ensures.carries _ (cc));
+  standing = waits _ _ _ _ c.quiet.ensures _ _ _ _ _ c.requires.going.serves.standing c.in-Woke.ensures.told c.requires.drained c.requires.going.acted (λ log due. due) (c.in_ok-take-in-Woke.ensures.carries _ (cc));
   tracks = unnamed _ _ _ _ _ refl c.woke.ensures (λ l. refl) c.requires.going.serves.tracks c.in-Woke.ensures.told;
   watches = watching.changes _ _ _ _ _ _ c.in_ok-take-in-Woke.ensures.changes c.requires.going.serves.watches;
 }
@@ -17,7 +17,7 @@ returns-in_ok-take-in-Woke-clause-serves g c = record {
 pub returns-in-Over-clause-ends : goal.returns-in-Over-clause-ends
 returns-in-Over-clause-ends g c = record {
   ends = record {
-    standing = waits _ _ _ _ g.met.M.Machine.quiet _ _ _ _ _ c.requires.going.serves.standing c.in-Over.ensures.told c.requires.drained c.requires.going.acted (λ log due. due) (g.met.M.Machine.quiet _ _ tt);
+    standing = waits _ _ _ _ c.quiet.ensures _ _ _ _ _ c.requires.going.serves.standing c.in-Over.ensures.told c.requires.drained c.requires.going.acted (λ log due. due) (c.quiet.ensures _ _ tt);
     halted = c.requires.going.going;
     woke = woke_on _ _ _ _ c.requires.going.serves.tracks c.in-Over.ensures.told refl refl;
     so = ends_with IsOver _ _ _ c.in-Over.ensures.told tt;
@@ -28,7 +28,7 @@ returns-in-Over-clause-ends g c = record {
 pub returns-in-Failed-clause-ends : goal.returns-in-Failed-clause-ends
 returns-in-Failed-clause-ends g c = record {
   ends = record {
-    standing = waits _ _ _ _ g.met.M.Machine.quiet _ _ _ _ _ c.requires.going.serves.standing c.in-Failed.ensures.told c.requires.drained c.requires.going.acted (λ log due. due) (g.met.M.Machine.quiet _ _ tt);
+    standing = waits _ _ _ _ c.quiet.ensures _ _ _ _ _ c.requires.going.serves.standing c.in-Failed.ensures.told c.requires.drained c.requires.going.acted (λ log due. due) (c.quiet.ensures _ _ tt);
     halted = c.requires.going.going;
     woke = woke_on _ _ _ _ c.requires.going.serves.tracks c.in-Failed.ensures.told refl refl;
     so = ends_with IsPortFault _ _ _ c.in-Failed.ensures.told tt;

@@ -17,21 +17,21 @@ taken-requires-clause-lent g c = may_take c.in-Some.piece _ _ c.in-Some.ensures 
 
 pub returns-in-Took-clause-serves : goal.returns-in-Took-clause-serves
 returns-in-Took-clause-serves g c = record {
-  standing = written _ _ _ _ g.met.M.Machine.quiet _ _ _ _ _ c.in-Some.piece _ _ c.requires.going.serves.standing c.in-Some.ensures c.in-Took.ensures.told c.taken.ensures.carries;
+  standing = written _ _ _ _ c.quiet.ensures _ _ _ _ _ c.in-Some.piece _ _ c.requires.going.serves.standing c.in-Some.ensures c.in-Took.ensures.told c.taken.ensures.carries;
   tracks = named _ _ _ _ _ _ refl refl (marking.wrote c.args.table.now.links c.args.link c.requires.wet) (λ other apart. refl) c.requires.going.serves.tracks c.in-Took.ensures.told;
   watches = watching.changes _ _ _ _ _ _ c.taken.ensures.changes c.requires.going.serves.watches;
 }
 
 pub returns-in-NotReady-clause-serves : goal.returns-in-NotReady-clause-serves
 returns-in-NotReady-clause-serves g c = record {
-  standing = stays _ _ _ _ g.met.M.Machine.quiet _ _ _ _ c.requires.going.serves.standing c.in-NotReady.ensures.told (λ log. tt) tt;
+  standing = stays _ _ _ _ c.quiet.ensures _ _ _ _ c.requires.going.serves.standing c.in-NotReady.ensures.told (λ log. tt) tt;
   tracks = named _ _ _ _ _ _ refl refl (marking.write_nothing _ _ _ c.write_dry.ensures.marks) (marking.others _ _ _ _ c.write_dry.ensures.marks) c.requires.going.serves.tracks c.in-NotReady.ensures.told;
   watches = watching.dried _ _ _ _ (λ m. refl) (λ m is. is) (λ m is. refl) _ _ _ c.write_dry.ensures.marks c.write_dry.ensures.queue c.requires.going.serves.watches;
 }
 
 pub returns-in-Failed-clause-serves : goal.returns-in-Failed-clause-serves
 returns-in-Failed-clause-serves g c = on_ok c.take.result _ _ _ c.unless_refused.ensures.ok (both c.take.result _ _ c.take.ensures.carries c.take.ensures.changes) (λ taken. record {
-  standing = goes_on _ _ _ _ g.met.M.Machine.quiet _ _ _ _ _ c.requires.going.serves.standing c.in-Failed.ensures.told (λ log. tt) (taken.0 _ (inr refl));
+  standing = goes_on _ _ _ _ c.quiet.ensures _ _ _ _ _ c.requires.going.serves.standing c.in-Failed.ensures.told (λ log. tt) (taken.0 _ (inr refl));
   tracks = named _ _ _ _ _ _ refl refl refl (λ other apart. refl) c.requires.going.serves.tracks c.in-Failed.ensures.told;
   watches = watching.changes _ _ _ _ _ _ taken.1 c.requires.going.serves.watches;
 })
@@ -53,7 +53,7 @@ returns-in-Took-clause-made g c = record {
   ends = search rules;
   proceeds = proceeds-so _ _ _ _ _ _ _ _ _ _ _ _ c.in-Took.ensures.told c.in-Took.ensures.rule c.in-Took.ensures.port_faults c.in-Took.ensures.cause.later c.taken.ensures.serves_by
       (write-offers _ _ _ _ _ _ c.in-Some.piece _ (took.Took c.in-Took.n) c.in-Took.ensures.told c.in-Took.ensures.takes c.in-Some.ensures
-      (owed-for _ _ _ _ g.met.M.Machine.quiet _ _ _ _ _ c.requires.going.serves.standing (λ log sent held lends. g.met.M.Machine.lends _ log _ sent held c.requires.going.acted lends)));
+      (owed-for _ _ _ _ c.quiet.ensures _ _ _ _ _ c.requires.going.serves.standing (λ log sent held lends. c.lends.ensures _ log _ sent held c.requires.going.acted lends)));
 }
 
 pub returns-in-NotReady-clause-made : goal.returns-in-NotReady-clause-made
