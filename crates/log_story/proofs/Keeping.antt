@@ -25,7 +25,7 @@ use Rattle.private_model.specs.Worlds.{real_after}
 use Rattle.private_model.specs.Story.{BecameDue, Dropped, End, Freed, Gone, Happening, Left, Own, Question, Ran, Sent, Story, Sync, command_of, is_client}
 use Rattle.private_model.specs.Story.{is_link_id}
 use Rattle.private_model.specs.View.{Answered, Asked, Carried, Joined, Quiet, Setup, Stage, View, present, view_after}
-use Rattle.log_story.specs.Plan.{Plan, Resets, Route, StepText, com_reset, is_by_now, is_now, job_of}
+use Rattle.log_story.specs.Plan.{Plan, Resets, Route, StepText, com_reset, is_before, is_now, job_of}
 use Rattle.log_story.specs.Tale.{Client, Tale, Wire, counted, first_tale, is_reset_step, is_to_server, link_in, tell, view_of, with_client, with_wire}
 use Rattle.log_story.specs.Executes.{Request, requested}
 use Rattle.log_story.specs.Owed.{has_room, messages, name_of}
@@ -110,7 +110,7 @@ module _ (setup : Setup) (plan : Plan) (server : Step) (k : Kept setup server) w
   clients_keep : (view : View) (e : Entry) (tale : Tale) → Holds tale → Holds (clients_go_on setup plan view e tale)
   clients_keep view e tale holds =
       folds Holds (client_goes_on setup plan view e)
-      (λ other client found. if_either Holds (is_event_of view client e && not (is_by_now other.moment (plan.ends client.number)))
+      (λ other client found. if_either Holds (is_event_of view client e && not (is_before other.moment (plan.ends client.number)))
       (taken_up (length (messages plan client)) setup plan client other) other
       (λ is. taken_up_keeps (length (messages plan client)) client other found) (λ is. found)) tale.clients tale holds
 
@@ -267,10 +267,10 @@ module _ (setup : Setup) (plan : Plan) (server : Step) (k : Kept setup server) w
   pub step_keeps : (tale : Tale) (e : Entry) → IsTrue setup plan server tale e → Holds tale → Holds (tale_step setup plan tale e)
   step_keeps tale e is holds =
       let next = told_keeps tale e is holds in
-      let ended : Tale = clients_are_ended plan (counted (told setup plan tale e)) in
-      let freed = freeing_keeps ended (ending_keeps (counted (told setup plan tale e)) next) in
-      freeing_keeps (clients_go_on setup plan (view_of setup tale) e (links_are_freed setup plan ended))
-      (clients_keep (view_of setup tale) e (links_are_freed setup plan ended) freed)
+      let heard : Tale = counted (told setup plan tale e) in
+      let freed = freeing_keeps heard next in
+      let gone : Tale = clients_go_on setup plan (view_of setup tale) e (links_are_freed setup plan heard) in
+      freeing_keeps (clients_are_ended plan gone) (ending_keeps gone (clients_keep (view_of setup tale) e (links_are_freed setup plan heard) freed))
 
   pub kept_from : (log : Log) (tale : Tale) → IsHonestFrom setup plan server tale log → Holds tale → Holds (fold (tale_step setup plan) tale log)
   kept_from [] tale honest holds = holds

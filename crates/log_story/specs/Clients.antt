@@ -12,7 +12,7 @@ use Rattle.private_model.specs.Story.{BecameDue, Left, Mirrored, is_client, is_l
 use Rattle.private_model.specs.View.{Held, Setup, View, present, session_in}
 use Rattle.log_story.specs.Executes.{Request, requested}
 use Rattle.log_story.specs.Owed.{has_room, messages, name_of}
-use Rattle.log_story.specs.Plan.{Plan, Route, com_reset, is_by_now, is_now, job_of, own_at}
+use Rattle.log_story.specs.Plan.{Plan, Route, com_reset, is_before, is_now, job_of, own_at}
 use Rattle.log_story.specs.Tale.{Client, Tale, tell, view_of, with_client}
 
 -- An event of a client: the router is woken, or bytes, their end or a failure come on the client's link or on one that carries it.
@@ -77,7 +77,7 @@ taken_up (suc most) setup plan client tale =
 -- as they are at an event of this client, unless the router ended it; the view is that of before
 abbrev pub client_goes_on : Setup → Plan → View → Entry → Tale → Client → Tale
 client_goes_on setup plan view e tale client =
-    if is_event_of view client e && not (is_by_now tale.moment (plan.ends client.number)) then taken_up (length (messages plan client)) setup plan client tale
+    if is_event_of view client e && not (is_before tale.moment (plan.ends client.number)) then taken_up (length (messages plan client)) setup plan client tale
     else tale
 
 abbrev pub clients_go_on : Setup → Plan → View → Entry → Tale → Tale
