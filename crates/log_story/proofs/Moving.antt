@@ -1,10 +1,8 @@
 -- What each entry of a log leaves as it was.
-use Rattle.std.specs.Prelude.{◌≡◌, ◌-◌, ℕ, Bool, true, false, not, List, [], ◌∷◌, ◌++◌, if◌then◌else◌, length, take, slice_index_or, unwrap_or}
+use Rattle.std.specs.Prelude.{◌≡◌, ◌-◌, ◌&&◌, ℕ, Bool, true, false, not, List, [], ◌∷◌, ◌++◌, if◌then◌else◌, length, take, slice_index_or, unwrap_or}
 use Rattle.std.specs.Prelude.{nat_eq, Option}
 use Rattle.std.specs.Prelude.{Some, None}
-use Rattle.std.specs.Option.{option_map_or}
 use Rattle.std.proofs.Common.{◌∙◌, refl, sym, ap, subst}
-use Rattle.std.proofs.lemmas.Option.{none-some, same_Some}
 use Rattle.mx_base.specs.declared.tag.Tag.{Tag}
 use Rattle.mx_base.specs.declared.tag.Tag.TheVariants as tag
 use Rattle.packet_frame.specs.Packets.{Framed}
@@ -14,20 +12,21 @@ use Rattle.reply_track.specs.Runs.Ending.{Ended, Failed, Going}
 use Rattle.server_rule.specs.Classes.{Reads}
 use Rattle.server_side.specs.Login.{Fails, Goes, LogsIn, Opening, opening}
 use Rattle.private_model.proofs.Maps.{same_link}
-use Rattle.private_model.specs.Commands.{Account, Command, Quit}
+use Rattle.private_model.specs.Commands.{Account, Command}
 use Rattle.private_model.specs.Names.{ClientNo, Hostgroup, LinkId, SessionName}
-use Rattle.private_model.specs.Story.{BecameDue, Dropped, Due, End, Freed, Gone, Happening, Heard, Left, LoggedIn, Mirrored, Own, Prep, Question, Ran, Sent}
+use Rattle.server_rule.specs.Servers.{is_some_of}
+use Rattle.private_model.specs.Story.{BecameDue, Broke, Dropped, Due, End, Freed, Gone, Happening, Heard, Left, LoggedIn, Mirrored, Own, Prep, Question, Ran, Sent}
 use Rattle.private_model.specs.Story.{Statement, Story, Sync, Unprepared}
 use Rattle.private_model.specs.Story.{is_client, command_of}
 use Rattle.private_model.specs.View.{Answered, Asked, Carried, Joined, Lent, Link, Nobody, Quiet, Setup, Stage, View, asked}
 use Rattle.private_model.specs.View.{present, ran_by, session_in, view_after, view_step}
-use Rattle.log_story.specs.Clients.{captures_first, copied, due_by, ended_if_now, taken_by}
+use Rattle.log_story.specs.Clients.{copied, due_by, ended_if_now, taken_by}
 use Rattle.log_story.specs.Executes.{Request, requested}
 use Rattle.log_story.specs.Owed.{name_of}
 use Rattle.log_story.specs.Plan.{Asks, Closes, Plan, Resets, Route, StepText, com_reset, is_now, job_of}
-use Rattle.log_story.specs.Servers.{begins, begun_by, breach, copy_by, due_or, ended_by, entered_by, freed_if_done, heard_by, hears, is_done, kind_by}
-use Rattle.log_story.specs.Servers.{may_begin, quits_by, read_as, reads_on, reply_in}
-use Rattle.log_story.specs.Servers.{reset_by, routed, runs_first, statement_of, stepped, with_run, writes}
+use Rattle.log_story.specs.Servers.{begins, begun_by, begun_on, copy_by, due_in, ended_by, entered_by, freed_if_done, heard_by, hears, is_done, kind_by}
+use Rattle.log_story.specs.Servers.{may_begin, of_due, or_broke, quits_by, quits_for, read_as, reads_on, reply_in}
+use Rattle.log_story.specs.Servers.{reset_by, runs_first, stepped, with_run, writes}
 use Rattle.log_story.specs.Tale.{Client, Tale, Wire, is_reset_step, link_in, tell, view_of, with_wire}
 use Rattle.log_story.specs.Telling.{server_says, wire_with}
 use Rattle.log_story.proofs.Frames.{Moved, Rests, client_and_job, is_touched, is_whose, no_link_at, nobody, only_client, only_link, asker_at}
@@ -246,7 +245,7 @@ says-moved setup plan link bytes tale = by (not (tale.wires link).entered) (is_r
 
 -- A question begins on a link: it stands there then.
 
-module _ (setup : Setup) (story : Story) (plan : Plan) (view : View) (link : LinkId) where
+module _ (setup : Setup) (story : Story) (plan : Plan) (moment : ℕ) (view : View) (link : LinkId) where
   abbrev old : View
   old = view_after setup story
 
@@ -274,13 +273,17 @@ module _ (setup : Setup) (story : Story) (plan : Plan) (view : View) (link : Lin
   nothing : Begins []
   nothing = same-rests (only_link link) (is_whose (asker_at (old.links link).stage)) old
 
-  routed-begins : (client : ClientNo) (ordinal : ℕ) (happens : Route → List Happening) → ((route : Route) → Begins (happens route))
-      → Begins (routed plan link client ordinal happens)
-  routed-begins client ordinal happens begin = by (plan.routes (record { client = client; ordinal = ordinal }))
-    where
-      by : (route : Option Route) → Begins (option_map_or happens route (breach link client ∷ []))
-      by None = sent (Sync (record { client = client; hostgroup = record { 0 = 0 }; life = 0 }) Quit)
-      by (Some route) = begin route
+  -- a rule of sending is broken
+  broken : Begins (Broke ∷ [])
+  broken = nothing
+
+  or-broken : {A : Type 0} (happens : A → List Happening) (found : Option A) → ((a : A) → Begins (happens a)) → Begins (or_broke happens found)
+  or-broken happens None begin = broken
+  or-broken happens (Some a) begin = begin a
+
+  due-begins : (ordinal : ℕ) (n : SessionName) (question : Due → Question) → Begins (of_due plan moment view link ordinal n question)
+  due-begins ordinal n question =
+      or-broken (λ due. Sent link (question due) ∷ []) (due_in plan moment ordinal n (view.dues n)) (λ due. sent (question due))
 
   stepped-begins : (question : Command → Question) (step : StepText) → Begins (stepped link question step)
   stepped-begins question (Asks command) = sent (question command)
@@ -289,41 +292,41 @@ module _ (setup : Setup) (story : Story) (plan : Plan) (view : View) (link : Lin
       whosever (only_link link) (is_whose (asker_at (new.links link).stage)) old new (unprepared-rests setup old link number)
   stepped-begins question (Resets number) = nothing
 
-  copy-begins : (n : SessionName) (carries : Carried) → Begins (copy_by view link n carries)
-  copy-begins n Nobody = sent_as_left n (due_or view n.client 1 (view.dues n))
-  copy-begins n (Lent who) = sent_as_left n (due_or view n.client 1 (view.dues n))
+  copy-begins : (n : SessionName) (carries : Carried) → Begins (copy_by plan moment view link n carries)
+  copy-begins n Nobody = or-broken _ (due_in plan moment 1 n (view.dues n)) (sent_as_left n)
+  copy-begins n (Lent who) = or-broken _ (due_in plan moment 1 n (view.dues n)) (sent_as_left n)
   copy-begins n (Joined who) = by (is_client who.client n.client)
     where
-      by : (b : Bool) → Begins (if b then Sent link (End who) ∷ [] else Sent link (statement_of view 1 n) ∷ [])
+      by : (b : Bool) → Begins (if b then Sent link (End who) ∷ [] else of_due plan moment view link 1 n (Statement n))
       by true = sent (End who)
-      by false = sent (statement_of view 1 n)
-
-  mirror-begins : (job : ClientNo) (mirror : Option Hostgroup)
-      → Begins (option_map_or (λ hostgroup. copy_by view link (present view job hostgroup) (view.links link).carries) mirror (breach link job ∷ []))
-  mirror-begins job None = sent (Sync (record { client = job; hostgroup = record { 0 = 0 }; life = 0 }) Quit)
-  mirror-begins job (Some hostgroup) = copy-begins (present view job hostgroup) (view.links link).carries
+      by false = due-begins 1 n (Statement n)
 
   own-begins : (quits : Bool) (step : StepText) → Begins (if quits then [] else stepped link Own step)
   own-begins true step = nothing
   own-begins false step = stepped-begins Own step
 
-  begun-rests : (begun : ℕ) (for : Tag) → Begins (begun_by setup plan view link begun for)
+  begun-rests : (begun : ℕ) (for : Tag) → Begins (begun_by setup plan moment view link begun for)
   begun-rests begun (tag.For client ordinal) =
-      routed-begins client ordinal (λ route. Sent link (statement_of view ordinal (present view client route.hostgroup)) ∷ [])
-      (λ route. sent (statement_of view ordinal (present view client route.hostgroup)))
+      or-broken _ (plan.routes (record { client = client; ordinal = ordinal }))
+      (λ route. let n = present view client route.hostgroup in due-begins ordinal n (Statement n))
   begun-rests begun (tag.Prep client ordinal) =
-      let key : Route → ℕ = λ route. (due_or view client ordinal (view.dues (present view client route.hostgroup))).key in
-      routed-begins client ordinal (λ route. Sent link (Prep (present view client route.hostgroup) (key route) (setup.keys (key route)).text) ∷ [])
-      (λ route. sent (Prep (present view client route.hostgroup) (key route) (setup.keys (key route)).text))
+      or-broken _ (plan.routes (record { client = client; ordinal = ordinal }))
+      (λ route. let n = present view client route.hostgroup in due-begins ordinal n (λ due. Prep n due.key (setup.keys due.key).text))
   begun-rests begun (tag.Mirror client ordinal) =
       let job = job_of (record { client = client; ordinal = ordinal }) in
-      routed-begins client ordinal
-      (λ route. option_map_or (λ hostgroup. copy_by view link (present view job hostgroup) (view.links link).carries) route.mirror (breach link job ∷ []))
-      (λ route. mirror-begins job route.mirror)
+      or-broken _ (plan.routes (record { client = client; ordinal = ordinal }))
+      (λ route. or-broken _ route.mirror (λ hostgroup. copy-begins (present view job hostgroup) (view.links link).carries))
   begun-rests begun (tag.Sync client hostgroup) = stepped-begins (Sync (present view client hostgroup)) (plan.steps link begun)
   begun-rests begun (tag.End client hostgroup) = sent (ended_by view (unwrap_or (session_in (view.links link).carries) (present view client hostgroup)))
   begun-rests begun tag.Own = own-begins (quits_by (plan.steps link begun)) (plan.steps link begun)
-  begun-rests begun tag.Reply = nothing
+  begun-rests begun tag.Reply = broken
+
+  begun-on-rests : (wire : Wire) (for : Tag) → Begins (begun_on setup plan moment view link wire for)
+  begun-on-rests wire for = by (is_some_of wire.unread && not (quits_for for (plan.steps link wire.begun)))
+    where
+      by : (b : Bool) → Begins (if b then Broke ∷ [] else begun_by setup plan moment view link wire.begun for)
+      by true = broken
+      by false = begun-rests wire.begun for
 
 -- Bytes are written on a link.
 pub writes-moved : (setup : Setup) (plan : Plan) (link : LinkId) (for : Tag) (bytes : List ℕ) (tale : Tale)
@@ -349,7 +352,7 @@ writes-moved setup plan link for bytes tale = by (may_begin setup link wire tale
       places = refl;
       clients = refl;
       wire = λ l other. put_link tale.wires link _ l other;
-      view = begun-rests setup tale.story plan (view_of setup tale) link wire.begun for;
+      view = begun-on-rests setup tale.story plan tale.moment (view_of setup tale) link wire for;
     }
 
     by : (b : Bool) → Says setup link tale (if b then begun else with_wire link goes_on tale)
@@ -390,31 +393,23 @@ module _ (setup : Setup) (plan : Plan) (client : Client) (ordinal : ℕ) (tale :
       (tell-moved setup no_link_at (only_client job) (BecameDue job hostgroup 1 0 command None) mirrored
       (due-rests setup (view_of setup mirrored) job hostgroup 1 0 command None)))
 
-  due-moved : (route : Route) (request : Request) (other : Tale) → due_by setup client ordinal route request tale ≡ Some other → Takes other
-  due-moved route request other = by (captures_first ((view_of setup tale).held (present (view_of setup tale) client.number route.hostgroup)))
-    where
-      due : Tale
-      due = tell (BecameDue client.number route.hostgroup ordinal request.key request.command route.multiplex) tale
+  due-moved : (route : Route) (request : Option Request) → Takes (due_by client ordinal route request tale)
+  due-moved route None = tell-moved setup no_link_at whose Broke tale (same-rests no_link_at whose (view_of setup tale))
+  due-moved route (Some request) =
+      let due = tell (BecameDue client.number route.hostgroup ordinal request.key request.command route.multiplex) tale in
+      let new = copied (name_of client ordinal) request.command route.mirror due in
+      moved-on setup no_link_at whose tale due new
+      (client_moved tale due
+      (tell-moved setup no_link_at (only_client client.number)
+      (BecameDue client.number route.hostgroup ordinal request.key request.command route.multiplex) tale
+      (due-rests setup (view_of setup tale) client.number route.hostgroup ordinal request.key request.command route.multiplex)))
+      (copied-moved request.command route.mirror due)
 
-      new : Tale
-      new = copied (name_of client ordinal) request.command route.mirror due
-
-      by : (b : Bool) → (if b then None else Some new) ≡ Some other → Takes other
-      by true is = absurd (none-some other is)
-      by false is = subst Takes (same_Some new other is)
-          (moved-on setup no_link_at whose tale due new
-          (client_moved tale due
-          (tell-moved setup no_link_at (only_client client.number)
-          (BecameDue client.number route.hostgroup ordinal request.key request.command route.multiplex) tale
-          (due-rests setup (view_of setup tale) client.number route.hostgroup ordinal request.key request.command route.multiplex)))
-          (copied-moved request.command route.mirror due))
-
-pub taken-moved : (setup : Setup) (plan : Plan) (client : Client) (ordinal : ℕ) (message : Framed) (route : Option Route) (tale other : Tale)
-    → taken_by setup plan client ordinal message route tale ≡ Some other → Moved setup no_link_at (client_and_job client ordinal) tale other
-taken-moved setup plan client ordinal message None tale other = by (nat_eq (slice_index_or message.payload 0 0) com_reset)
+pub taken-moved : (setup : Setup) (plan : Plan) (client : Client) (ordinal : ℕ) (message : Framed) (route : Option Route) (tale : Tale)
+    → Moved setup no_link_at (client_and_job client ordinal) tale (taken_by setup plan client ordinal message route tale)
+taken-moved setup plan client ordinal message None tale = by (nat_eq (slice_index_or message.payload 0 0) com_reset)
   where
-    by : (b : Bool) → Some (if b then tell (Left client.number) tale else tale) ≡ Some other → Moved setup no_link_at (client_and_job client ordinal) tale other
-    by b is = subst (Takes setup plan client ordinal tale) (same_Some _ other is)
-        (client_moved setup plan client ordinal tale tale (if b then tell (Left client.number) tale else tale) (left_if setup client.number tale b))
-taken-moved setup plan client ordinal message (Some route) tale other =
-    due-moved setup plan client ordinal tale route (requested setup (view_of setup tale) plan tale.moment client ordinal route message.payload) other
+    by : (b : Bool) → Moved setup no_link_at (client_and_job client ordinal) tale (if b then tell (Left client.number) tale else tale)
+    by b = client_moved setup plan client ordinal tale tale (if b then tell (Left client.number) tale else tale) (left_if setup client.number tale b)
+taken-moved setup plan client ordinal message (Some route) tale =
+    due-moved setup plan client ordinal tale route (requested setup (view_of setup tale) plan client ordinal route message.payload)

@@ -13,14 +13,13 @@ use Rattle.session_state.specs.Pins.{is_pinned, needs_reset}
 use Rattle.session_state.specs.declared.pin.Pin.{Pin}
 use Rattle.private_model.specs.Commands.{Reply}
 use Rattle.private_model.specs.Names.{ClientNo, Hostgroup, LinkId, MessageName, SessionName}
-use Rattle.private_model.specs.Story.{BecameDue, Due, Story, is_name, message_of}
+use Rattle.private_model.specs.Story.{Due, Story, is_name, message_of}
 use Rattle.private_model.specs.View.{Carried, Joined, Lent, Link, Nobody, Setup, View, present, view_after}
-use Rattle.log_story.specs.Clients.{captures_first, client_goes_on, copied, due_by, is_answered, is_event_of, next_taken, taken_by, taken_up}
-use Rattle.log_story.specs.Executes.{Request, requested}
+use Rattle.log_story.specs.Clients.{captures_first, client_goes_on, is_answered, is_event_of, is_up, next_taken, taken_by, taken_up}
 use Rattle.log_story.specs.Owed.{answered_with, due_for, has_room, messages, name_of, number_of, talk_of}
-use Rattle.log_story.specs.Plan.{Plan, Route, is_before, own_at}
+use Rattle.log_story.specs.Plan.{Plan, Route, gives_up, is_before, own_at}
 use Rattle.log_story.specs.Servers.{is_done, is_done_by, is_given_up, is_quiet}
-use Rattle.log_story.specs.Tale.{Client, Tale, Wire, is_reset_step, link_in, tell, view_of, with_client}
+use Rattle.log_story.specs.Tale.{Client, Tale, Wire, is_reset_step, link_in, view_of, with_client}
 use Rattle.log_story.proofs.Frames.{IsResting, Moved, Rests, is_of, no_link_at, nobody}
 use Rattle.log_story.proofs.Happens.{same-rests}
 
@@ -111,42 +110,28 @@ module _ (setup : Setup) (plan : Plan) (client : Client) (old new : Tale) (alike
   answered_alike (suc n) = λ i. is_some (alike.own (suc n) i) || is_some (alike.replies (suc n) i)
 
   abbrev may : Tale → Bool
-  may tale = is_answered plan tale (view_of setup tale) client client.taken && has_room (view_of setup tale).replies plan tale.moment client
+  may tale = is_up setup plan client tale
 
   may_alike : may new ≡ may old
-  may_alike = λ i. answered_alike client.taken i && room_alike plan client old.moment new.moment (view_of setup old).replies
-      (view_of setup new).replies alike.own alike.replies i
-
-  due_alike : (ordinal : ℕ) (route : Route) (before behind : Request) → due_by setup client ordinal route before old ≡ None
-      → due_by setup client ordinal route behind new ≡ None
-  due_alike ordinal route before behind none =
-      ap (λ b. if b then None else Some (due new behind))
-      (alike.captures route.hostgroup ∙ by (captures_first ((view_of setup old).held (present (view_of setup old) client.number route.hostgroup))) none)
+  may_alike = λ i. answered_alike client.taken i && (not (waits_alike (plan.routes (name_of client client.taken)) i)
+      && room_alike plan client old.moment new.moment (view_of setup old).replies (view_of setup new).replies alike.own alike.replies i)
     where
-      due : Tale → Request → Tale
-      due tale request = copied (name_of client ordinal) request.command route.mirror
-          (tell (BecameDue client.number route.hostgroup ordinal request.key request.command route.multiplex) tale)
+      by_route : View → Option Route → Bool
+      by_route view route = option_map_or (λ (r : Route). captures_first (view.held (present view client.number r.hostgroup))) route false
 
-      by : (b : Bool) → (if b then None else Some (due old before)) ≡ None → b ≡ true
-      by true is = refl
-      by false is = absurd (none-some (due old before) (sym is))
-
-  taken_alike : (ordinal : ℕ) (message : Framed) (route : Option Route) → taken_by setup plan client ordinal message route old ≡ None
-      → taken_by setup plan client ordinal message route new ≡ None
-  taken_alike ordinal message None none = absurd (none-some _ (sym none))
-  taken_alike ordinal message (Some route) none =
-      due_alike ordinal route (requested setup (view_of setup old) plan old.moment client ordinal route message.payload)
-      (requested setup (view_of setup new) plan new.moment client ordinal route message.payload) none
+      waits_alike : (route : Option Route) → by_route (view_of setup new) route ≡ by_route (view_of setup old) route
+      waits_alike None = refl
+      waits_alike (Some route) = alike.captures route.hostgroup
 
   next_alike : (message : Option Framed) → next_taken setup plan client message old ≡ None → next_taken setup plan client message new ≡ None
   next_alike None none = refl
-  next_alike (Some message) none = ap (λ b. if b then taken new else None) may_alike ∙ by (may old) none
+  next_alike (Some message) none = ap (λ b. if b then Some (taken new) else None) may_alike ∙ by (may old) none
     where
-      taken : Tale → Option Tale
+      taken : Tale → Tale
       taken tale = taken_by setup plan client (suc client.taken) message (plan.routes (name_of client (suc client.taken))) tale
 
-      by : (b : Bool) → (if b then taken old else None) ≡ None → (if b then taken new else None) ≡ None
-      by true is = taken_alike (suc client.taken) message (plan.routes (name_of client (suc client.taken))) is
+      by : (b : Bool) → (if b then Some (taken old) else None) ≡ None → (if b then Some (taken new) else None) ≡ None
+      by true is = absurd (none-some (taken old) (sym is))
       by false is = refl
 
 -- Who has no message that is whole, or was ended, rests.
@@ -223,7 +208,8 @@ module _ (setup : Setup) (plan : Plan) (client : Client) (tale : Tale) where
       ap (λ o. option_map_or (λ other. taken_up most setup plan next (with_client next other)) o tale) none
 
   pub resting-is-left : (view : View) (e : Entry) → IsResting setup plan client tale → client_goes_on setup plan view e tale client ≡ tale
-  resting-is-left view e rests = by (is_event_of view client e) (is_before tale.moment (plan.ends client.number)) refl
+  resting-is-left view e rests =
+      by (is_event_of view client e || gives_up plan tale.moment (name_of client client.taken)) (is_before tale.moment (plan.ends client.number)) refl
     where
       by : (event ended : Bool) → is_before tale.moment (plan.ends client.number) ≡ ended
           → (if event && not ended then taken_up (length (messages plan client)) setup plan client tale else tale) ≡ tale

@@ -1,14 +1,15 @@
 -- What each happening that a tale tells keeps, its story has: a walk through what an entry does.
 use Rattle.std.specs.Prelude.{◌≡◌, ◌⊎◌, ℕ, zero, suc, Bool, true, false, ◌&&◌, ◌||◌, not, nat_eq, fold, if◌then◌else◌, length, slice_get, slice_index_or, unwrap_or, List, [], ◌∷◌, ◌++◌, Option, Some, None}
-use Rattle.std.proofs.Common.{refl, sym, ap, ◌∙◌, subst, inl, inr, arith}
-use Rattle.private_model.specs.Story.{BecameDue, Capture, Dropped, End, Freed, Gone, Happening, Left, Own, Prep, Question, Ran, Sent, Story, Sync, command_of, is_client, is_link_id, is_name}
+use Rattle.std.proofs.Common.{refl, ap, inl, inr, arith}
+use Rattle.server_rule.specs.Servers.{is_some_of}
+use Rattle.private_model.specs.Story.{Broke, Capture, Dropped, Due, End, Freed, Gone, Happening, Left, Own, Prep, Question, Ran, Sent, Statement, Story, Sync, command_of, is_client, is_link_id, is_name}
 use Rattle.private_model.specs.View.{Answered, Asked, Carried, Joined, Lent, Nobody, Quiet, Setup, Stage, View, present, session_in, view_after}
-use Rattle.log_story.specs.Clients.{captures_first, client_goes_on, client_leaves, clients_are_ended, clients_go_on, copied, ended_if_now, is_answered, is_event_of, next_taken, taken_by, taken_up}
-use Rattle.log_story.specs.Executes.{requested}
-use Rattle.log_story.specs.Owed.{has_room, messages, name_of}
-use Rattle.log_story.specs.Plan.{Asks, Closes, Plan, Resets, Route, StepText, com_reset, is_before, is_now, job_of}
-use Rattle.log_story.specs.Servers.{begins, begun_by, breach, copy_by, due_or, ended_by, entered_by, freed_if_done, heard_by, hears, is_done, kind_by, links_are_freed, may_begin}
-use Rattle.log_story.specs.Servers.{quits_by, quits_for, read_as, reset_by, runs_first, statement_of, step_for, stepped, tell_all, with_run, writes}
+use Rattle.log_story.specs.Clients.{client_goes_on, client_leaves, clients_are_ended, clients_go_on, copied, due_by, ended_if_now, is_event_of, is_up, next_taken, taken_by, taken_up}
+use Rattle.log_story.specs.Executes.{Request, requested}
+use Rattle.log_story.specs.Owed.{messages, name_of}
+use Rattle.log_story.specs.Plan.{Asks, Closes, Plan, Resets, Route, StepText, com_reset, gives_up, is_before, is_now, job_of}
+use Rattle.log_story.specs.Servers.{begins, begun_by, begun_on, copy_by, due_in, of_due, or_broke, ended_by, entered_by, freed_if_done, heard_by, hears, is_done, kind_by, links_are_freed, may_begin}
+use Rattle.log_story.specs.Servers.{quits_by, quits_for, read_as, reset_by, runs_first, step_for, stepped, tell_all, with_run, writes}
 use Rattle.log_story.specs.Tale.{Client, Tale, Wire, counted, is_reset_step, is_to_server, link_in, tell, view_of, with_client, with_wire}
 use Rattle.log_story.specs.Telling.{is_lost_or_left, server_says, tale_step, told, wire_with}
 use Rattle.log_story.proofs.Frames.{IsBorn, asker}
@@ -63,21 +64,21 @@ module _ (setup : Setup) (plan : Plan) (k : Kept setup) where
   copied_keeps message command None tale holds = holds
   copied_keeps message command (Some hostgroup) tale holds = k.more _ _ tt (k.more _ _ tt holds)
 
-  taken_by_keeps : (client : Client) (i : ℕ) (message : Framed) (route : Option Route) (tale : Tale) → Holds tale → HoldIn (taken_by setup plan client i message route tale)
+  due_by_keeps : (client : Client) (i : ℕ) (route : Route) (request : Option Request) (tale : Tale) → Holds tale → Holds (due_by client i route request tale)
+  due_by_keeps client i route None tale holds = k.more _ _ tt holds
+  due_by_keeps client i route (Some request) tale holds = copied_keeps (name_of client i) request.command route.mirror _ (k.more _ _ tt holds)
+
+  taken_by_keeps : (client : Client) (i : ℕ) (message : Framed) (route : Option Route) (tale : Tale) → Holds tale → Holds (taken_by setup plan client i message route tale)
   taken_by_keeps client i message None tale holds =
       if_either Holds (nat_eq (slice_index_or message.payload 0 0) com_reset) (tell (Left client.number) tale) tale (k.more _ _ tt holds) holds
   taken_by_keeps client i message (Some route) tale holds =
-      let request = requested setup (view_of setup tale) plan tale.moment client i route message.payload in
-      let due : Tale = tell (BecameDue client.number route.hostgroup i request.key request.command route.multiplex) tale in
-      if_either HoldIn (captures_first ((view_of setup tale).held (present (view_of setup tale) client.number route.hostgroup))) None
-      (Some (copied (name_of client i) request.command route.mirror due)) tt (copied_keeps (name_of client i) request.command route.mirror due (k.more _ _ tt holds))
+      due_by_keeps client i route (requested setup (view_of setup tale) plan client i route message.payload) tale holds
 
   next_keeps : (client : Client) (message : Option Framed) (tale : Tale) → Holds tale → HoldIn (next_taken setup plan client message tale)
   next_keeps client None tale holds = tt
   next_keeps client (Some message) tale holds =
-      if_either HoldIn (is_answered plan tale (view_of setup tale) client client.taken
-      && has_room (view_of setup tale).replies plan tale.moment client) (taken_by setup plan client (suc client.taken) message
-      (plan.routes (name_of client (suc client.taken))) tale) None
+      if_either HoldIn (is_up setup plan client tale) (Some (taken_by setup plan client (suc client.taken) message
+      (plan.routes (name_of client (suc client.taken))) tale)) None
       (taken_by_keeps client (suc client.taken) message (plan.routes (name_of client (suc client.taken))) tale holds) tt
 
   others_keep : (others : Tale → Tale) (next : Option Tale) (old : Tale) → Holds old → HoldIn next → ((tale : Tale) → Holds tale → Holds (others tale))
@@ -96,7 +97,7 @@ module _ (setup : Setup) (plan : Plan) (k : Kept setup) where
   go_on_keeps : (view : View) (e : Entry) (tale : Tale) → Holds tale → Holds (clients_go_on setup plan view e tale)
   go_on_keeps view e tale holds =
       folds Holds (client_goes_on setup plan view e)
-      (λ other client found. if_either Holds (is_event_of view client e && not (is_before other.moment (plan.ends client.number)))
+      (λ other client found. if_either Holds ((is_event_of view client e || gives_up plan other.moment (name_of client client.taken)) && not (is_before other.moment (plan.ends client.number)))
       (taken_up (length (messages plan client)) setup plan client other) other
       (taken_up_keeps (length (messages plan client)) client other found) found) tale.clients tale holds
 
@@ -117,13 +118,17 @@ module _ (setup : Setup) (plan : Plan) (k : Kept setup) where
   now_born : (view : View) (client : ClientNo) (hostgroup : Hostgroup) → IsBorn view (present view client hostgroup)
   now_born view client hostgroup = omega arith
 
-  breach_keeps : (link : LinkId) (client : ClientNo) (tale : Tale) → Holds tale → Holds (tell_all (breach link client ∷ []) tale)
-  breach_keeps link client tale holds = k.more _ _ (inl (omega arith)) holds
+  else_broke : {A : Type 0} (happens : A → List Happening) (found : Option A) (tale : Tale) → ((a : A) → Holds (tell_all (happens a) tale)) → Holds tale
+      → Holds (tell_all (or_broke happens found) tale)
+  else_broke happens None tale each holds = k.more _ _ tt holds
+  else_broke happens (Some a) tale each holds = each a
 
-  routed_keeps : (link : LinkId) (client : ClientNo) (happens : Route → List Happening) (found : Option Route) (tale : Tale)
-      → ((route : Route) → Holds (tell_all (happens route) tale)) → Holds tale → Holds (tell_all (option_map_or happens found (breach link client ∷ [])) tale)
-  routed_keeps link client happens None tale each holds = breach_keeps link client tale holds
-  routed_keeps link client happens (Some route) tale each holds = each route
+  -- what is due is of a session that isn't to come
+  due_keeps : (link : LinkId) (ordinal : ℕ) (n : SessionName) (question : Due → Question) (tale : Tale)
+      → ((due : Due) → IsOfHere (view_of setup tale) link (asker (question due))) → Holds tale
+      → Holds (tell_all (of_due plan tale.moment (view_of setup tale) link ordinal n question) tale)
+  due_keeps link ordinal n question tale here holds =
+      else_broke _ (due_in plan tale.moment ordinal n ((view_of setup tale).dues n)) tale (λ due. k.more _ _ (here due) holds) holds
 
   stepped_keeps : (link : LinkId) (question : Command → Question) (step : StepText) (tale : Tale)
       → ((command : Command) → IsOfHere (view_of setup tale) link (asker (question command))) → Holds tale → Holds (tell_all (stepped link question step) tale)
@@ -131,19 +136,22 @@ module _ (setup : Setup) (plan : Plan) (k : Kept setup) where
   stepped_keeps link question (Closes number) tale here holds = k.more _ _ tt holds
   stepped_keeps link question (Resets number) tale here holds = holds
 
-  copy_keeps : (view : View) (link : LinkId) (n : SessionName) (carried : Carried) (tale : Tale) → view ≡ view_of setup tale → (view.links link).carries ≡ carried → IsBorn view n
-      → Holds tale → Holds (tell_all (copy_by view link n carried) tale)
-  copy_keeps view link n (Joined who) tale same is born holds =
-      if_either (λ es. Holds (tell_all es tale)) (is_client who.client n.client) (Sent link (End who) ∷ []) (Sent link (statement_of view 1 n) ∷ [])
-      (k.more _ _ (inr (ap (λ (v : View). session_in (v.links link).carries) (sym same) ∙ ap session_in is)) holds) (k.more _ _ (inl (subst (λ v. IsBorn v n) same born)) holds)
-  copy_keeps view link n Nobody tale same is born holds = k.more _ _ tt (k.more _ _ (inl (subst (λ v. IsBorn v n) same born)) holds)
-  copy_keeps view link n (Lent who) tale same is born holds = k.more _ _ tt (k.more _ _ (inl (subst (λ v. IsBorn v n) same born)) holds)
+  copy_keeps : (link : LinkId) (n : SessionName) (carried : Carried) (tale : Tale) → (link_in setup tale link).carries ≡ carried → IsBorn (view_of setup tale) n
+      → Holds tale → Holds (tell_all (copy_by plan tale.moment (view_of setup tale) link n carried) tale)
+  copy_keeps link n (Joined who) tale is born holds =
+      if_either (λ es. Holds (tell_all es tale)) (is_client who.client n.client) (Sent link (End who) ∷ [])
+      (of_due plan tale.moment (view_of setup tale) link 1 n (Statement n)) (k.more _ _ (inr (ap session_in is)) holds)
+      (due_keeps link 1 n (Statement n) tale (λ due. inl born) holds)
+  copy_keeps link n Nobody tale is born holds =
+      else_broke _ (due_in plan tale.moment 1 n ((view_of setup tale).dues n)) tale (λ due. k.more _ _ tt (k.more _ _ (inl born) holds)) holds
+  copy_keeps link n (Lent who) tale is born holds =
+      else_broke _ (due_in plan tale.moment 1 n ((view_of setup tale).dues n)) tale (λ due. k.more _ _ tt (k.more _ _ (inl born) holds)) holds
 
   copies_keep : (link : LinkId) (job : ClientNo) (mirror : Option Hostgroup) (tale : Tale) → Holds tale
-      → Holds (tell_all (option_map_or (λ hostgroup. copy_by (view_of setup tale) link (present (view_of setup tale) job hostgroup) (link_in setup tale link).carries) mirror (breach link job ∷ [])) tale)
-  copies_keep link job None tale holds = breach_keeps link job tale holds
+      → Holds (tell_all (or_broke (λ hostgroup. copy_by plan tale.moment (view_of setup tale) link (present (view_of setup tale) job hostgroup) (link_in setup tale link).carries) mirror) tale)
+  copies_keep link job None tale holds = k.more _ _ tt holds
   copies_keep link job (Some hostgroup) tale holds =
-      copy_keeps (view_of setup tale) link (present (view_of setup tale) job hostgroup) (link_in setup tale link).carries tale refl refl (now_born (view_of setup tale) job hostgroup) holds
+      copy_keeps link (present (view_of setup tale) job hostgroup) (link_in setup tale link).carries tale refl (now_born (view_of setup tale) job hostgroup) holds
 
   -- what ends, or is captured, is what the link carries, else the present session
   end_here : (view : View) (link : LinkId) (n : SessionName) → IsOfHere view link (Some n) → IsOfHere view link (asker (ended_by view n))
@@ -154,21 +162,19 @@ module _ (setup : Setup) (plan : Plan) (k : Kept setup) where
   carried_here view link client hostgroup None is = inl (now_born view client hostgroup)
   carried_here view link client hostgroup (Some n) is = inr is
 
-  begun_keeps : (link : LinkId) (begun : ℕ) (for : Tag) (tale : Tale) → Holds tale → Holds (tell_all (begun_by setup plan (view_of setup tale) link begun for) tale)
+  begun_keeps : (link : LinkId) (begun : ℕ) (for : Tag) (tale : Tale) → Holds tale
+      → Holds (tell_all (begun_by setup plan tale.moment (view_of setup tale) link begun for) tale)
   begun_keeps link begun (tag.For client ordinal) tale holds =
-      let view = view_of setup tale in
-      routed_keeps link client (λ route. Sent link (statement_of view ordinal (present view client route.hostgroup)) ∷ []) (plan.routes (record { client = client; ordinal = ordinal })) tale
-      (λ route. k.more _ _ (inl (now_born view client route.hostgroup)) holds) holds
+      else_broke _ (plan.routes (record { client = client; ordinal = ordinal })) tale
+      (λ route. let n = present (view_of setup tale) client route.hostgroup in
+      due_keeps link ordinal n (Statement n) tale (λ due. inl (now_born (view_of setup tale) client route.hostgroup)) holds) holds
   begun_keeps link begun (tag.Prep client ordinal) tale holds =
-      let view = view_of setup tale in
-      routed_keeps link client (λ route. let n = present view client route.hostgroup in
-      let key = (due_or view client ordinal (view.dues n)).key in Sent link (Prep n key (setup.keys key).text) ∷ []) (plan.routes (record { client = client; ordinal = ordinal })) tale
-      (λ route. k.more _ _ (inl (now_born view client route.hostgroup)) holds) holds
+      else_broke _ (plan.routes (record { client = client; ordinal = ordinal })) tale
+      (λ route. let n = present (view_of setup tale) client route.hostgroup in
+      due_keeps link ordinal n (λ due. Prep n due.key (setup.keys due.key).text) tale (λ due. inl (now_born (view_of setup tale) client route.hostgroup)) holds) holds
   begun_keeps link begun (tag.Mirror client ordinal) tale holds =
-      let view = view_of setup tale in
-      let job = job_of (record { client = client; ordinal = ordinal }) in
-      routed_keeps link client (λ route. option_map_or (λ hostgroup. copy_by view link (present view job hostgroup) (view.links link).carries)
-      route.mirror (breach link job ∷ [])) (plan.routes (record { client = client; ordinal = ordinal })) tale (λ route. copies_keep link job route.mirror tale holds) holds
+      else_broke _ (plan.routes (record { client = client; ordinal = ordinal })) tale
+      (λ route. copies_keep link (job_of (record { client = client; ordinal = ordinal })) route.mirror tale holds) holds
   begun_keeps link begun (tag.Sync client hostgroup) tale holds =
       stepped_keeps link (Sync (present (view_of setup tale) client hostgroup)) (plan.steps link begun) tale (λ command. inl (now_born (view_of setup tale) client hostgroup)) holds
   begun_keeps link begun (tag.End client hostgroup) tale holds =
@@ -178,14 +184,20 @@ module _ (setup : Setup) (plan : Plan) (k : Kept setup) where
   begun_keeps link begun tag.Own tale holds =
       if_either (λ es. Holds (tell_all es tale)) (quits_by (plan.steps link begun)) [] (stepped link Own (plan.steps link begun)) holds
       (stepped_keeps link Own (plan.steps link begun) tale (λ command. tt) holds)
-  begun_keeps link begun tag.Reply tale holds = holds
+  begun_keeps link begun tag.Reply tale holds = k.more _ _ tt holds
+
+  begun_on_keeps : (link : LinkId) (wire : Wire) (for : Tag) (tale : Tale) → Holds tale
+      → Holds (tell_all (begun_on setup plan tale.moment (view_of setup tale) link wire for) tale)
+  begun_on_keeps link wire for tale holds =
+      if_either (λ es. Holds (tell_all es tale)) (is_some_of wire.unread && not (quits_for for (plan.steps link wire.begun))) (Broke ∷ [])
+      (begun_by setup plan tale.moment (view_of setup tale) link wire.begun for) (k.more _ _ tt holds) (begun_keeps link wire.begun for tale holds)
 
   writes_keeps : (link : LinkId) (for : Tag) (bytes : List ℕ) (wire : Wire) (tale : Tale) → Holds tale → Holds (writes setup plan link for bytes wire tale)
   writes_keeps link for bytes wire tale holds =
       let step = plan.steps link wire.begun in
       let begun : Wire = record wire { written = bytes; step = step_for for step; begun = suc wire.begun; quits = wire.quits || quits_for for step } in
       if_either Holds (may_begin setup link wire tale) (begins setup plan link for bytes wire tale) (with_wire link (record wire { written = wire.written ++ bytes }) tale)
-      (begun_keeps link wire.begun for tale holds) holds
+      (begun_on_keeps link wire for tale holds) holds
 
   entered_keeps : (link : LinkId) (wire : Wire) (at : Opening) (tale : Tale) → Holds tale → Holds (entered_by plan link wire at tale)
   entered_keeps link wire (LogsIn said rest) tale holds = k.more _ _ tt holds

@@ -52,6 +52,10 @@ is_now moment at = option_map_or (λ n. nat_eq n moment) at false
 abbrev pub is_by_now : (moment : ℕ) → Option ℕ → Bool
 is_by_now moment at = option_map_or (λ n. nat_le n moment) at false
 
+-- it is given up at this entry
+abbrev pub gives_up : Plan → (moment : ℕ) → MessageName → Bool
+gives_up plan moment message = option_map_or (λ (answer : OwnAnswer). nat_eq answer.from moment) (plan.own message) false
+
 -- it was at an entry before
 abbrev pub is_before : (moment : ℕ) → Option ℕ → Bool
 is_before moment at = option_map_or (λ n. nat_lt n moment) at false
