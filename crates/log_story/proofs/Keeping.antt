@@ -16,23 +16,23 @@ use Rattle.reply_track.specs.Runs.Ending.{Going, Ended, Failed}
 use Rattle.reply_track.specs.Tracking.{Sought, started}
 use Rattle.reply_track.specs.declared.reply.ReplyKind.TheVariants as kind
 use Rattle.server_side.specs.Login.{Opening, Goes, LogsIn, Fails, opening}
-use Rattle.server_rule.specs.Servers.{Step}
-use Rattle.private_model.specs.Names.{ClientNo, Hostgroup, LinkId, MessageName, SessionName}
+use Rattle.server_rule.specs.Servers.{Step, is_some_of}
+use Rattle.private_model.specs.Names.{Hostgroup, LinkId, MessageName, SessionName}
 use Rattle.private_model.specs.Commands.{Command, Reply, is_prepare, runs}
 use Rattle.private_model.specs.Honest.{IsHonest, IsTrueOf}
 use Rattle.private_model.specs.Lawful.{IsLawful}
 use Rattle.private_model.specs.Worlds.{real_after}
-use Rattle.private_model.specs.Story.{BecameDue, Dropped, End, Freed, Gone, Happening, Left, Own, Question, Ran, Sent, Story, Sync, command_of, is_client}
+use Rattle.private_model.specs.Story.{Broke, Dropped, End, Freed, Gone, Happening, Left, Own, Question, Ran, Sent, Statement, Story, Sync, command_of, is_client}
 use Rattle.private_model.specs.Story.{is_link_id}
 use Rattle.private_model.specs.View.{Answered, Asked, Carried, Joined, Quiet, Setup, Stage, View, present, view_after}
-use Rattle.log_story.specs.Plan.{Plan, Resets, Route, StepText, com_reset, is_by_now, is_now, job_of}
+use Rattle.log_story.specs.Plan.{Plan, Resets, Route, StepText, com_reset, gives_up, is_before, is_now, job_of}
 use Rattle.log_story.specs.Tale.{Client, Tale, Wire, counted, first_tale, is_reset_step, is_to_server, link_in, tell, view_of, with_client, with_wire}
 use Rattle.log_story.specs.Executes.{Request, requested}
-use Rattle.log_story.specs.Owed.{has_room, messages, name_of}
-use Rattle.log_story.specs.Clients.{captures_first, client_goes_on, client_leaves, clients_are_ended, clients_go_on, copied, due_by, ended_if_now, is_answered}
-use Rattle.log_story.specs.Clients.{is_event_of, next_taken, taken_by, taken_up}
-use Rattle.log_story.specs.Servers.{begins, begun_by, breach, copy_by, entered_by, freed_if_done, heard_by, hears, is_done, kind_by, links_are_freed, may_begin}
-use Rattle.log_story.specs.Servers.{quits_by, quits_for, read_as, reads_on, reply_id, reply_in, reset_by, runs_first, statement_of, step_for, stepped, tell_all}
+use Rattle.log_story.specs.Owed.{messages, name_of}
+use Rattle.log_story.specs.Clients.{client_goes_on, client_leaves, clients_are_ended, clients_go_on, copied, due_by, ended_if_now}
+use Rattle.log_story.specs.Clients.{is_event_of, is_up, next_taken, taken_by, taken_up}
+use Rattle.log_story.specs.Servers.{begins, begun_by, begun_on, copy_by, due_in, entered_by, freed_if_done, heard_by, hears, is_done, kind_by, links_are_freed, may_begin}
+use Rattle.log_story.specs.Servers.{of_due, or_broke, quits_by, quits_for, read_as, reads_on, reply_id, reply_in, reset_by, runs_first, step_for, stepped, tell_all}
 use Rattle.log_story.specs.Servers.{with_run, writes}
 use Rattle.log_story.specs.Telling.{is_lost_or_left, server_says, story_of, tale_step, told, wire_with}
 use Rattle.log_story.specs.Honest.{IsHonestFrom, IsHonestLog, IsTrue, IsTrueGot, IsTrueRead, IsTrueReply, real_of, spelled}
@@ -70,27 +70,23 @@ module _ (setup : Setup) (plan : Plan) (server : Step) (k : Kept setup server) w
   copied_keeps message command None tale holds = holds
   copied_keeps message command (Some hostgroup) tale holds = k.more _ _ tt (k.more _ _ tt holds)
 
-  due_by_keeps : (client : Client) (i : ℕ) (route : Route) (request : Request) (tale : Tale) → Holds tale → HoldsIn (due_by setup client i route request tale)
-  due_by_keeps client i route request tale holds =
-      let due : Tale = tell (BecameDue client.number route.hostgroup i request.key request.command route.multiplex) tale in
-      if_either HoldsIn (captures_first ((view_of setup tale).held (present (view_of setup tale) client.number route.hostgroup))) None
-      (Some (copied (name_of client i) request.command route.mirror due)) (λ is. tt)
-      (λ is. copied_keeps (name_of client i) request.command route.mirror due (k.more _ _ tt holds))
+  due_by_keeps : (client : Client) (i : ℕ) (route : Route) (request : Option Request) (tale : Tale) → Holds tale → Holds (due_by client i route request tale)
+  due_by_keeps client i route None tale holds = k.more _ _ tt holds
+  due_by_keeps client i route (Some request) tale holds = copied_keeps (name_of client i) request.command route.mirror _ (k.more _ _ tt holds)
 
   taken_by_keeps : (client : Client) (i : ℕ) (message : Framed) (route : Option Route) (tale : Tale) → Holds tale
-      → HoldsIn (taken_by setup plan client i message route tale)
+      → Holds (taken_by setup plan client i message route tale)
   taken_by_keeps client i message None tale holds =
       if_either Holds (nat_eq (slice_index_or message.payload 0 0) com_reset) (tell (Left client.number) tale) tale (λ is. k.more _ _ tt holds)
       (λ is. holds)
   taken_by_keeps client i message (Some route) tale holds =
-      due_by_keeps client i route (requested setup (view_of setup tale) plan tale.moment client i route message.payload) tale holds
+      due_by_keeps client i route (requested setup (view_of setup tale) plan client i route message.payload) tale holds
 
   next_keeps : (client : Client) (message : Option Framed) (tale : Tale) → Holds tale → HoldsIn (next_taken setup plan client message tale)
   next_keeps client None tale holds = tt
   next_keeps client (Some message) tale holds =
-      if_either HoldsIn (is_answered plan tale (view_of setup tale) client client.taken
-      && has_room (view_of setup tale).replies plan tale.moment client) (taken_by setup plan client (suc client.taken) message
-      (plan.routes (name_of client (suc client.taken))) tale) None
+      if_either HoldsIn (is_up setup plan client tale) (Some (taken_by setup plan client (suc client.taken) message
+      (plan.routes (name_of client (suc client.taken))) tale)) None
       (λ is. taken_by_keeps client (suc client.taken) message (plan.routes (name_of client (suc client.taken))) tale holds) (λ is. tt)
 
   others_keep : (others : Tale → Tale) (next : Option Tale) (old : Tale) → Holds old → HoldsIn next → ((tale : Tale) → Holds tale → Holds (others tale))
@@ -110,7 +106,7 @@ module _ (setup : Setup) (plan : Plan) (server : Step) (k : Kept setup server) w
   clients_keep : (view : View) (e : Entry) (tale : Tale) → Holds tale → Holds (clients_go_on setup plan view e tale)
   clients_keep view e tale holds =
       folds Holds (client_goes_on setup plan view e)
-      (λ other client found. if_either Holds (is_event_of view client e && not (is_by_now other.moment (plan.ends client.number)))
+      (λ other client found. if_either Holds ((is_event_of view client e || gives_up plan other.moment (name_of client client.taken)) && not (is_before other.moment (plan.ends client.number)))
       (taken_up (length (messages plan client)) setup plan client other) other
       (λ is. taken_up_keeps (length (messages plan client)) client other found) (λ is. found)) tale.clients tale holds
 
@@ -127,10 +123,10 @@ module _ (setup : Setup) (plan : Plan) (server : Step) (k : Kept setup server) w
       (λ other link found. if_either Holds (is_done plan other.moment (view_of setup other) (other.wires link) (link_in setup other link))
       (tell (Freed link) other) other (λ is. k.more _ _ tt found) (λ is. found)) tale.links tale holds
 
-  else_breach : {A : Type 0} (link : LinkId) (client : ClientNo) (happens : A → List Happening) (found : Option A) (tale : Tale)
-      → ((a : A) → Holds (tell_all (happens a) tale)) → Holds tale → Holds (tell_all (option_map_or happens found (breach link client ∷ [])) tale)
-  else_breach link client happens None tale each holds = k.more _ _ tt holds
-  else_breach link client happens (Some a) tale each holds = each a
+  else_broke : {A : Type 0} (happens : A → List Happening) (found : Option A) (tale : Tale) → ((a : A) → Holds (tell_all (happens a) tale)) → Holds tale
+      → Holds (tell_all (or_broke happens found) tale)
+  else_broke happens None tale each holds = k.more _ _ tt holds
+  else_broke happens (Some a) tale each holds = each a
 
   stepped_keeps : (link : LinkId) (question : Command → Question) (step : StepText) (tale : Tale) → Holds tale
       → Holds (tell_all (stepped link question step) tale)
@@ -138,21 +134,25 @@ module _ (setup : Setup) (plan : Plan) (server : Step) (k : Kept setup server) w
   stepped_keeps link question _ tale holds = k.more _ _ tt holds
 
   copy_by_keeps : (view : View) (link : LinkId) (n : SessionName) (carried : Carried) (tale : Tale) → Holds tale
-      → Holds (tell_all (copy_by view link n carried) tale)
+      → Holds (tell_all (copy_by plan tale.moment view link n carried) tale)
   copy_by_keeps view link n (Joined who) tale holds =
-      if_either (λ es. Holds (tell_all es tale)) (is_client who.client n.client) (Sent link (End who) ∷ [])
-      (Sent link (statement_of view 1 n) ∷ []) (λ is. k.more _ _ tt holds) (λ is. k.more _ _ tt holds)
-  copy_by_keeps view link n _ tale holds = k.more _ _ tt (k.more _ _ tt holds)
+      if_either (λ es. Holds (tell_all es tale)) (is_client who.client n.client) (Sent link (End who) ∷ []) (of_due plan tale.moment view link 1 n (Statement n))
+      (λ is. k.more _ _ tt holds) (λ is. else_broke _ (due_in plan tale.moment 1 n (view.dues n)) tale (λ due. k.more _ _ tt holds) holds)
+  copy_by_keeps view link n _ tale holds = else_broke _ (due_in plan tale.moment 1 n (view.dues n)) tale (λ due. k.more _ _ tt (k.more _ _ tt holds)) holds
 
   begun_keeps : (view : View) (link : LinkId) (begun : ℕ) (for : Tag) (tale : Tale) → Holds tale
-      → Holds (tell_all (begun_by setup plan view link begun for) tale)
+      → Holds (tell_all (begun_by setup plan tale.moment view link begun for) tale)
   begun_keeps view link begun (tag.For client ordinal) tale holds =
-      else_breach link client _ (plan.routes (record { client = client; ordinal = ordinal })) tale (λ route. k.more _ _ tt holds) holds
+      else_broke _ (plan.routes (record { client = client; ordinal = ordinal })) tale
+      (λ route. let n = present view client route.hostgroup in
+      else_broke _ (due_in plan tale.moment ordinal n (view.dues n)) tale (λ due. k.more _ _ tt holds) holds) holds
   begun_keeps view link begun (tag.Prep client ordinal) tale holds =
-      else_breach link client _ (plan.routes (record { client = client; ordinal = ordinal })) tale (λ route. k.more _ _ tt holds) holds
+      else_broke _ (plan.routes (record { client = client; ordinal = ordinal })) tale
+      (λ route. let n = present view client route.hostgroup in
+      else_broke _ (due_in plan tale.moment ordinal n (view.dues n)) tale (λ due. k.more _ _ tt holds) holds) holds
   begun_keeps view link begun (tag.Mirror client ordinal) tale holds =
       let job = job_of (record { client = client; ordinal = ordinal }) in
-      else_breach link client _ (plan.routes (record { client = client; ordinal = ordinal })) tale (λ route. else_breach link job _ route.mirror tale
+      else_broke _ (plan.routes (record { client = client; ordinal = ordinal })) tale (λ route. else_broke _ route.mirror tale
       (λ hostgroup. copy_by_keeps view link (present view job hostgroup) (view.links link).carries tale holds) holds) holds
   begun_keeps view link begun (tag.Sync client hostgroup) tale holds =
       stepped_keeps link (Sync (present view client hostgroup)) (plan.steps link begun) tale holds
@@ -160,7 +160,13 @@ module _ (setup : Setup) (plan : Plan) (server : Step) (k : Kept setup server) w
   begun_keeps view link begun tag.Own tale holds =
       if_either (λ es. Holds (tell_all es tale)) (quits_by (plan.steps link begun)) [] (stepped link Own (plan.steps link begun)) (λ is. holds)
       (λ is. stepped_keeps link Own (plan.steps link begun) tale holds)
-  begun_keeps view link begun tag.Reply tale holds = holds
+  begun_keeps view link begun tag.Reply tale holds = k.more _ _ tt holds
+
+  begun_on_keeps : (view : View) (link : LinkId) (wire : Wire) (for : Tag) (tale : Tale) → Holds tale
+      → Holds (tell_all (begun_on setup plan tale.moment view link wire for) tale)
+  begun_on_keeps view link wire for tale holds =
+      if_either (λ es. Holds (tell_all es tale)) (is_some_of wire.unread && not (quits_for for (plan.steps link wire.begun))) (Broke ∷ [])
+      (begun_by setup plan tale.moment view link wire.begun for) (λ is. k.more _ _ tt holds) (λ is. begun_keeps view link wire.begun for tale holds)
 
   writing_keeps : (link : LinkId) (for : Tag) (bytes : List ℕ) (wire : Wire) (tale : Tale) → Holds tale → Holds (writes setup plan link for bytes wire tale)
   writing_keeps link for bytes wire tale holds =
@@ -168,7 +174,7 @@ module _ (setup : Setup) (plan : Plan) (server : Step) (k : Kept setup server) w
       let begun : Wire = record wire { written = bytes; step = step_for for step; begun = suc wire.begun; quits = wire.quits || quits_for for step } in
       if_either Holds (may_begin setup link wire tale) (begins setup plan link for bytes wire tale)
       (with_wire link (record wire { written = wire.written ++ bytes }) tale)
-      (λ is. begun_keeps (view_of setup tale) link wire.begun for (with_wire link begun tale) holds) (λ is. holds)
+      (λ is. begun_on_keeps (view_of setup tale) link wire for (with_wire link begun tale) holds) (λ is. holds)
 
   entering_keeps : (link : LinkId) (wire : Wire) (at : Opening) (tale : Tale) → Holds tale → Holds (entered_by plan link wire at tale)
   entering_keeps link wire (Goes said) tale holds = holds
@@ -267,10 +273,10 @@ module _ (setup : Setup) (plan : Plan) (server : Step) (k : Kept setup server) w
   pub step_keeps : (tale : Tale) (e : Entry) → IsTrue setup plan server tale e → Holds tale → Holds (tale_step setup plan tale e)
   step_keeps tale e is holds =
       let next = told_keeps tale e is holds in
-      let ended : Tale = clients_are_ended plan (counted (told setup plan tale e)) in
-      let freed = freeing_keeps ended (ending_keeps (counted (told setup plan tale e)) next) in
-      freeing_keeps (clients_go_on setup plan (view_of setup tale) e (links_are_freed setup plan ended))
-      (clients_keep (view_of setup tale) e (links_are_freed setup plan ended) freed)
+      let heard : Tale = counted (told setup plan tale e) in
+      let freed = freeing_keeps heard next in
+      let gone : Tale = clients_go_on setup plan (view_of setup tale) e (links_are_freed setup plan heard) in
+      freeing_keeps (clients_are_ended plan gone) (ending_keeps gone (clients_keep (view_of setup tale) e (links_are_freed setup plan heard) freed))
 
   pub kept_from : (log : Log) (tale : Tale) → IsHonestFrom setup plan server tale log → Holds tale → Holds (fold (tale_step setup plan) tale log)
   kept_from [] tale honest holds = holds

@@ -4,3 +4,8 @@ pub mod Keeping
 pub mod Due
 pub mod Moments
 pub mod Rules
+pub mod Frames
+pub mod Happens
+pub mod Moving
+pub mod Resting
+pub mod Walking

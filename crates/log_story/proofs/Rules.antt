@@ -1,5 +1,5 @@
 -- What the tale keeps to: messages wait, and links are given back as the rules of sending let them.
-use Rattle.std.specs.Prelude.{◌≡◌, ◌≢◌, ◌⊎◌, ◌≤◌, ℕ, suc, Bool, true, false, ◌&&◌, ◌||◌, is_some, if◌then◌else◌, Option, Some, None}
+use Rattle.std.specs.Prelude.{◌≡◌, ◌≢◌, ◌⊎◌, ◌≤◌, ℕ, suc, Bool, true, false, not, ◌&&◌, ◌||◌, is_some, if◌then◌else◌, Option, Some, None}
 use Rattle.std.proofs.Common.{refl, sym, ap, ◌∙◌, inl, inr}
 use Rattle.std.proofs.lemmas.Bool.{and_parts, and_right, le-ltb, not-true, or_cases}
 use Rattle.packet_frame.specs.Packets.{Framed}
@@ -9,8 +9,8 @@ use Rattle.private_model.proofs.Maps.{same_name}
 use Rattle.private_model.specs.Lawful.{IsSettled, MayFree}
 use Rattle.private_model.specs.Story.{is_name}
 use Rattle.private_model.specs.View.{Carried, Held, Joined, Lent, Link, Nobody, Quiet, Setup, Stage, View, present}
-use Rattle.log_story.specs.Clients.{is_answered, next_taken, taken_by}
-use Rattle.log_story.specs.Owed.{name_of, unwritten}
+use Rattle.log_story.specs.Clients.{is_answered, next_taken, taken_by, waits_for_capture}
+use Rattle.log_story.specs.Owed.{has_room, name_of, unwritten}
 use Rattle.log_story.specs.Plan.{Plan}
 use Rattle.log_story.specs.Servers.{is_done, is_done_by, is_given_up, is_left, is_quiet, is_settled}
 use Rattle.log_story.specs.Tale.{Client, Tale, Wire, view_of}
@@ -20,9 +20,19 @@ pub none_taken : (setup : Setup) (plan : Plan) (client : Client) (message : Opti
     → plan.room ≤ unwritten (view_of setup tale).replies plan tale.moment client → next_taken setup plan client message tale ≡ None
 none_taken setup plan client None tale full = refl
 none_taken setup plan client (Some message) tale full =
-    ap (λ b. if b then taken_by setup plan client (suc client.taken) message (plan.routes (name_of client (suc client.taken))) tale else None)
+    ap (λ b. if b then Some (taken_by setup plan client (suc client.taken) message (plan.routes (name_of client (suc client.taken))) tale) else None)
     (and_right (is_answered plan tale (view_of setup tale) client client.taken) _
-    (le-ltb (unwritten (view_of setup tale).replies plan tale.moment client) plan.room full))
+    (and_right (not (waits_for_capture (view_of setup tale) plan client)) _
+    (le-ltb (unwritten (view_of setup tale).replies plan tale.moment client) plan.room full)))
+
+-- while a capture is due, none is
+pub none_before : (setup : Setup) (plan : Plan) (client : Client) (message : Option Framed) (tale : Tale)
+    → waits_for_capture (view_of setup tale) plan client ≡ true → next_taken setup plan client message tale ≡ None
+none_before setup plan client None tale waits = refl
+none_before setup plan client (Some message) tale waits =
+    ap (λ b. if b then Some (taken_by setup plan client (suc client.taken) message (plan.routes (name_of client (suc client.taken))) tale) else None)
+    (and_right (is_answered plan tale (view_of setup tale) client client.taken) _
+    (ap (λ b. not b && has_room (view_of setup tale).replies plan tale.moment client) waits))
 
 isnt : {A : Type 0} → false ≡ true → A
 isnt is = absurd (cc)

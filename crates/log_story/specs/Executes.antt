@@ -6,10 +6,10 @@ use Rattle.std.specs.Option.{option_and_then, option_map, option_map_or, option_
 use Rattle.mx_base.specs.Fields.{number_at}
 use Rattle.packet_frame.specs.Packets.{Framed}
 use Rattle.session_vars.specs.declared.long_part.LongPart.{LongPart}
-use Rattle.private_model.specs.Commands.{Args, Command, FieldList, InitDb, Prepare, Query, Quit, Reply, Run, end_of, is_made}
+use Rattle.private_model.specs.Commands.{Args, Command, FieldList, InitDb, Prepare, Query, Reply, Run, end_of, is_made}
 use Rattle.private_model.specs.View.{Setup, View}
 use Rattle.log_story.specs.Owed.{messages, name_of}
-use Rattle.log_story.specs.Plan.{Plan, Route, com_execute, com_field_list, com_init_db, com_long_data, com_prepare, com_query, com_statement_reset, own_at}
+use Rattle.log_story.specs.Plan.{Plan, Route, com_execute, com_field_list, com_init_db, com_long_data, com_prepare, com_query, com_statement_reset}
 use Rattle.log_story.specs.Tale.{Client}
 
 -- a command for the prepared statement of this number
@@ -46,7 +46,7 @@ longer parameter bytes (part ∷ parts) =
 abbrev pub with_long : (params : ℕ) → (bytes : List ℕ) → Bound → (parameter : ℕ) → Bound
 with_long params bytes bound parameter = if nat_lt parameter params then record bound { long = longer parameter bytes bound.long } else bound
 
--- after a message; an execute that the router refused binds nothing
+-- after a message; an execute that never became due binds nothing
 abbrev pub bound_after : (params number : ℕ) → (refused : Bool) → (payload : List ℕ) → Bound → Bound
 bound_after params number refused payload bound =
     if is_for com_long_data number payload then option_map_or (with_long params (drop 7 payload) bound) (number_at 2 5 payload) bound
@@ -96,24 +96,23 @@ abbrev pub run_of : Setup → Args → (key : ℕ) → Request
 run_of setup args key =
     record { command = Run (setup.keys key).text (setup.keys key).place.schema (setup.keys key).place.settings args; key = key }
 
-abbrev pub executed_by : Setup → View → Plan → (moment : ℕ) → Client → (ordinal : ℕ) → (payload : List ℕ) → (number : ℕ) → Option Request
-executed_by setup view plan moment client ordinal payload number =
-    let refused : ℕ → Bool = λ i. is_some (own_at plan moment (name_of client i)) in
+abbrev pub executed_by : Setup → View → Plan → Client → (ordinal : ℕ) → (payload : List ℕ) → (number : ℕ) → Option Request
+executed_by setup view plan client ordinal payload number =
+    let refused : ℕ → Bool = λ i. not (is_some (plan.routes (name_of client i))) in
     option_map (λ prepared. run_of setup (args_in prepared.params number refused prepared.ordinal (take (ordinal - 1) (messages plan client)) payload) prepared.key)
     (prepared_by view plan client number 1 (messages plan client))
 
-abbrev pub text_asked : (byte : ℕ) → (rest : List ℕ) → Command
+abbrev pub text_asked : (byte : ℕ) → (rest : List ℕ) → Option Command
 text_asked byte rest =
-    if nat_eq byte com_query then Query rest
-    else if nat_eq byte com_init_db then InitDb rest
-    else if nat_eq byte com_field_list then FieldList rest
-    else if nat_eq byte com_prepare then Prepare rest
-    else Quit
+    if nat_eq byte com_query then Some (Query rest)
+    else if nat_eq byte com_init_db then Some (InitDb rest)
+    else if nat_eq byte com_field_list then Some (FieldList rest)
+    else if nat_eq byte com_prepare then Some (Prepare rest)
+    else None
 
--- an execute of what isn't prepared asks for a Quit: a rule of sending is broken
-abbrev pub requested : Setup → View → Plan → (moment : ℕ) → Client → (ordinal : ℕ) → Route → (payload : List ℕ) → Request
-requested setup view plan moment client ordinal route payload =
-    if nat_eq (slice_index_or payload 0 0) com_execute
-    then unwrap_or (option_and_then (executed_by setup view plan moment client ordinal payload) (number_at 4 1 payload))
-    (record { command = Quit; key = 0 })
-    else record { command = text_asked (slice_index_or payload 0 0) (unwrap_or route.text (drop 1 payload)); key = route.key }
+-- what isn't prepared can't be executed, and of other messages none asks a server for anything
+abbrev pub requested : Setup → View → Plan → Client → (ordinal : ℕ) → Route → (payload : List ℕ) → Option Request
+requested setup view plan client ordinal route payload =
+    if nat_eq (slice_index_or payload 0 0) com_execute then option_and_then (executed_by setup view plan client ordinal payload) (number_at 4 1 payload)
+    else option_map (λ command. record { command = command; key = route.key })
+    (text_asked (slice_index_or payload 0 0) (unwrap_or route.text (drop 1 payload)))

@@ -1,5 +1,5 @@
 -- What the router decided, of which no byte tells; and what it writes.
-use Rattle.std.specs.Prelude.{ℕ, ◌+◌, ◌*◌, ◌%◌, ◌/◌, Bool, false, nat_eq, nat_le, List, [], ◌∷◌, if◌then◌else◌, Option, Some, None}
+use Rattle.std.specs.Prelude.{ℕ, ◌+◌, ◌*◌, ◌%◌, ◌/◌, Bool, false, nat_eq, nat_le, nat_lt, List, [], ◌∷◌, if◌then◌else◌, Option, Some, None}
 use Rattle.std.specs.Option.{option_and_then, option_map_or}
 use Rattle.server_side.specs.Account.{Account}
 use Rattle.client_session.specs.Setups.{Setup as Service}
@@ -51,6 +51,14 @@ is_now moment at = option_map_or (λ n. nat_eq n moment) at false
 -- it was at an entry before, or is at this one
 abbrev pub is_by_now : (moment : ℕ) → Option ℕ → Bool
 is_by_now moment at = option_map_or (λ n. nat_le n moment) at false
+
+-- it is given up at this entry
+abbrev pub gives_up : Plan → (moment : ℕ) → MessageName → Bool
+gives_up plan moment message = option_map_or (λ (answer : OwnAnswer). nat_eq answer.from moment) (plan.own message) false
+
+-- it was at an entry before
+abbrev pub is_before : (moment : ℕ) → Option ℕ → Bool
+is_before moment at = option_map_or (λ n. nat_lt n moment) at false
 
 -- The copy of a message is a job, which is a client of its own. Clients have numbers of 64 bits, and ordinals count from 1.
 abbrev pub job_of : MessageName → ClientNo

@@ -15,8 +15,8 @@ use Rattle.server_side.specs.Login.{Opening, LogsIn}
 use Rattle.session_state.specs.Pins.{is_pinned, needs_reset}
 use Rattle.server_rule.specs.Servers.{is_some_of}
 use Rattle.private_model.specs.Names.{ClientNo, LinkId, SessionName}
-use Rattle.private_model.specs.Commands.{Command, FieldList, Prepare, Quit, Reply, is_prepare}
-use Rattle.private_model.specs.Story.{Capture, Due, End, Freed, Happening, Heard, Left, LoggedIn, Own, Prep, Question, Ran, Sent, Statement, Sync}
+use Rattle.private_model.specs.Commands.{Command, FieldList, Prepare, Reply, is_prepare}
+use Rattle.private_model.specs.Story.{Broke, Capture, Due, End, Freed, Happening, Heard, Left, LoggedIn, Own, Prep, Question, Ran, Sent, Statement, Sync}
 use Rattle.private_model.specs.Story.{Unprepared, command_of, is_client, is_name, message_of}
 use Rattle.private_model.specs.View.{Asked, Answered, Carried, Held, Joined, Lent, Link, Nobody, Quiet, Setup, Stage, View, is_quit, present, session_in}
 use Rattle.log_story.specs.Plan.{Asks, Closes, Plan, Resets, Route, StepText, job_of, own_at}
@@ -33,25 +33,23 @@ entered_by plan link wire _ tale = with_wire link wire tale
 
 -- The question that begins with a byte of this tag.
 
--- no message became due so: a rule of sending is broken
-abbrev pub no_due : View → ClientNo → (ordinal : ℕ) → Due
-no_due view client ordinal = record { ordinal = ordinal; place = view.places client; anew = true; command = Quit; key = 0; multiplex = None }
+-- the statement of this message, where it is due and the router didn't give it up
+abbrev pub due_in : Plan → (moment ordinal : ℕ) → SessionName → Option Due → Option Due
+due_in plan moment ordinal n None = None
+due_in plan moment ordinal n (Some due) =
+    if nat_eq due.ordinal ordinal && not (is_some (own_at plan moment (message_of n due))) then Some due else None
 
-abbrev pub due_or : View → ClientNo → (ordinal : ℕ) → Option Due → Due
-due_or view client ordinal None = no_due view client ordinal
-due_or view client ordinal (Some due) = if nat_eq due.ordinal ordinal then due else no_due view client ordinal
+-- a question of what isn't there breaks a rule of sending
+abbrev pub or_broke : {A : Type 0} → (A → List Happening) → Option A → List Happening
+or_broke happens found = option_map_or happens found (Broke ∷ [])
 
-abbrev pub statement_of : View → (ordinal : ℕ) → SessionName → Question
-statement_of view ordinal n = Statement n (due_or view n.client ordinal (view.dues n))
+-- a question about what is due in a session
+abbrev pub of_due : Plan → (moment : ℕ) → View → LinkId → (ordinal : ℕ) → SessionName → (Due → Question) → List Happening
+of_due plan moment view link ordinal n question = or_broke (λ due. Sent link (question due) ∷ []) (due_in plan moment ordinal n (view.dues n))
 
--- a QUIT is no step in a session: a rule of sending is broken
-abbrev pub breach : LinkId → ClientNo → Happening
-breach link client = Sent link (Sync (record { client = client; hostgroup = record { 0 = 0 }; life = 0 }) Quit)
-
--- so it is where a message goes to no server
-abbrev pub routed : Plan → LinkId → ClientNo → (ordinal : ℕ) → (Route → List Happening) → List Happening
-routed plan link client ordinal happens =
-    option_map_or happens (plan.routes (record { client = client; ordinal = ordinal })) (breach link client ∷ [])
+-- a message that goes to a server
+abbrev pub routed : Plan → ClientNo → (ordinal : ℕ) → (Route → List Happening) → List Happening
+routed plan client ordinal happens = or_broke happens (plan.routes (record { client = client; ordinal = ordinal }))
 
 -- a session that was left is ended; of another the insert id is asked
 abbrev pub ended_by : View → SessionName → Question
@@ -68,26 +66,37 @@ quits_by (Asks command) = is_quit command
 quits_by _ = false
 
 -- a job sends its one statement and leaves; what it sends behind that ends its session
-abbrev pub copy_by : View → LinkId → SessionName → Carried → List Happening
-copy_by view link n (Joined who) = if is_client who.client n.client then Sent link (End who) ∷ [] else Sent link (statement_of view 1 n) ∷ []
-copy_by view link n _ = Left n.client ∷ Sent link (statement_of view 1 n) ∷ []
+abbrev pub copy_by : Plan → (moment : ℕ) → View → LinkId → SessionName → Carried → List Happening
+copy_by plan moment view link n (Joined who) =
+    if is_client who.client n.client then Sent link (End who) ∷ [] else of_due plan moment view link 1 n (Statement n)
+copy_by plan moment view link n _ = or_broke (λ due. Left n.client ∷ Sent link (Statement n due) ∷ []) (due_in plan moment 1 n (view.dues n))
 
 -- the last first; a Prep is of the text of what is due, and what ends is the session that the link carries, else the present one
-abbrev pub begun_by : Setup → Plan → View → LinkId → (begun : ℕ) → Tag → List Happening
-begun_by setup plan view link begun (tag.For client ordinal) =
-    routed plan link client ordinal (λ route. Sent link (statement_of view ordinal (present view client route.hostgroup)) ∷ [])
-begun_by setup plan view link begun (tag.Prep client ordinal) =
-    routed plan link client ordinal (λ route. let n = present view client route.hostgroup in
-    let key = (due_or view client ordinal (view.dues n)).key in Sent link (Prep n key (setup.keys key).text) ∷ [])
-begun_by setup plan view link begun (tag.Mirror client ordinal) =
+abbrev pub begun_by : Setup → Plan → (moment : ℕ) → View → LinkId → (begun : ℕ) → Tag → List Happening
+begun_by setup plan moment view link begun (tag.For client ordinal) =
+    routed plan client ordinal (λ route. let n = present view client route.hostgroup in of_due plan moment view link ordinal n (Statement n))
+begun_by setup plan moment view link begun (tag.Prep client ordinal) =
+    routed plan client ordinal (λ route. let n = present view client route.hostgroup in
+    of_due plan moment view link ordinal n (λ due. Prep n due.key (setup.keys due.key).text))
+begun_by setup plan moment view link begun (tag.Mirror client ordinal) =
     let job = job_of (record { client = client; ordinal = ordinal }) in
-    routed plan link client ordinal (λ route. option_map_or (λ hostgroup. copy_by view link (present view job hostgroup) (view.links link).carries)
-    route.mirror (breach link job ∷ []))
-begun_by setup plan view link begun (tag.Sync client hostgroup) = stepped link (Sync (present view client hostgroup)) (plan.steps link begun)
-begun_by setup plan view link begun (tag.End client hostgroup) =
+    routed plan client ordinal (λ route. or_broke (λ hostgroup. copy_by plan moment view link (present view job hostgroup) (view.links link).carries)
+    route.mirror)
+begun_by setup plan moment view link begun (tag.Sync client hostgroup) = stepped link (Sync (present view client hostgroup)) (plan.steps link begun)
+begun_by setup plan moment view link begun (tag.End client hostgroup) =
     Sent link (ended_by view (unwrap_or (session_in (view.links link).carries) (present view client hostgroup))) ∷ []
-begun_by setup plan view link begun tag.Own = if quits_by (plan.steps link begun) then [] else stepped link Own (plan.steps link begun)
-begun_by setup plan view link begun tag.Reply = []
+begun_by setup plan moment view link begun tag.Own = if quits_by (plan.steps link begun) then [] else stepped link Own (plan.steps link begun)
+begun_by setup plan moment view link begun tag.Reply = Broke ∷ []
+
+abbrev pub quits_for : Tag → StepText → Bool
+quits_for tag.Own step = quits_by step
+quits_for _ step = false
+
+-- nothing but a QUIT begins behind bytes that nobody asked for
+abbrev pub begun_on : Setup → Plan → (moment : ℕ) → View → LinkId → Wire → Tag → List Happening
+begun_on setup plan moment view link wire for =
+    if is_some_of wire.unread && not (quits_for for (plan.steps link wire.begun)) then Broke ∷ []
+    else begun_by setup plan moment view link wire.begun for
 
 -- Bytes go on with a question, or begin one; in a login they are what the router says there.
 
@@ -107,14 +116,10 @@ step_for tag.Own step = Some step
 step_for (tag.Sync client hostgroup) step = Some step
 step_for _ step = None
 
-abbrev pub quits_for : Tag → StepText → Bool
-quits_for tag.Own step = quits_by step
-quits_for _ step = false
-
 abbrev pub begins : Setup → Plan → LinkId → Tag → List ℕ → Wire → Tale → Tale
 begins setup plan link for bytes wire tale =
     let step = plan.steps link wire.begun in
-    tell_all (begun_by setup plan (view_of setup tale) link wire.begun for)
+    tell_all (begun_on setup plan tale.moment (view_of setup tale) link wire for)
     (with_wire link (record wire { written = bytes; step = step_for for step; begun = suc wire.begun; quits = wire.quits || quits_for for step }) tale)
 
 -- one command stands on a link at a time, and none is written in part

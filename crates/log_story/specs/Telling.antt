@@ -50,8 +50,8 @@ told setup plan tale _ = tale
 -- then clients are ended, links are given back, and messages are taken up, by which links may be given back
 abbrev pub tale_step : Setup → Plan → Tale → Entry → Tale
 tale_step setup plan tale e =
-    links_are_freed setup plan (clients_go_on setup plan (view_of setup tale) e
-    (links_are_freed setup plan (clients_are_ended plan (counted (told setup plan tale e)))))
+    links_are_freed setup plan (clients_are_ended plan (clients_go_on setup plan (view_of setup tale) e
+    (links_are_freed setup plan (counted (told setup plan tale e)))))
 
 abbrev pub story_of : Setup → Plan → Log → Story
 story_of setup plan log = (fold (tale_step setup plan) first_tale log).story

@@ -11,7 +11,7 @@ ghost use Rattle.private_model.specs.Lawful.{IsLawful, MayFree};
 ghost use Rattle.private_model.specs.View.{Setup};
 ghost use Rattle.server_rule.specs.Laws.{IsTame};
 ghost use Rattle.server_rule.specs.Servers.{Step, Tests};
-ghost use Rattle.log_story.specs.Clients.{next_taken};
+ghost use Rattle.log_story.specs.Clients.{next_taken, waits_for_capture};
 ghost use Rattle.log_story.specs.Headline.{HasPrivateBytes};
 ghost use Rattle.log_story.specs.Honest.{IsHonestLog};
 ghost use Rattle.log_story.specs.Owed.{unwritten};
@@ -41,6 +41,12 @@ pub fn private_bytes()
 pub fn messages_wait()
     ensures { (setup : Setup) (plan : Plan) (client : Client) (message : Option Framed) (tale : Tale)
         → plan.room ≤ unwritten (view_of setup tale).replies plan tale.moment client → next_taken setup plan client message tale ≡ None }
+{}
+
+/// While the insert id of a client's session is to be asked for, no message of it is taken up.
+pub fn captures_come_first()
+    ensures { (setup : Setup) (plan : Plan) (client : Client) (message : Option Framed) (tale : Tale)
+        → waits_for_capture (view_of setup tale) plan client ≡ true → next_taken setup plan client message tale ≡ None }
 {}
 
 /// A link that is told to be given back is one that the rules of sending let go.

@@ -5,7 +5,6 @@ use Rattle.mx_base.specs.declared.names.ServerId.{ServerId}
 use Rattle.private_model.specs.Commands.{Account, cmd_of}
 use Rattle.private_model.specs.Story.{Due}
 use Rattle.private_model.specs.Worlds.{Private}
-use Rattle.story_view.specs.Names.{number_of}
 use Rattle.oracle.specs.World.{IsWorld}
 use Rattle.oracle.specs.Runs.{taken}
 use Rattle.oracle.specs.declared.world.Statement.{Statement}
@@ -24,7 +23,7 @@ pub record IsOf (due : Due) (asked : Statement) : Type 0 where
 
 -- Of each private world that has these sessions and answers, and these data at a server, the turn makes one that has those.
 pub record Leads (who : Who) (world : World) (stored : List ℕ) (new_world : World) (new_stored : List ℕ) (turn : Private → ServerId → Private) : Type 0 where
-  pub leaves : (accounts : ClientNo → Account) (private : Private) (server : ServerId) → accounts (number_of who.name.party) ≡ account_of who → private.stored server ≡ stored
+  pub leaves : (accounts : ClientNo → Account) (private : Private) (server : ServerId) → accounts who.name.client ≡ account_of who → private.stored server ≡ stored
       → IsWorld accounts world private → IsWorld accounts new_world (turn private server)
-  pub data_is : (accounts : ClientNo → Account) (private : Private) (server : ServerId) → accounts (number_of who.name.party) ≡ account_of who → private.stored server ≡ stored
+  pub data_is : (accounts : ClientNo → Account) (private : Private) (server : ServerId) → accounts who.name.client ≡ account_of who → private.stored server ≡ stored
       → IsWorld accounts world private → (turn private server).stored server ≡ new_stored

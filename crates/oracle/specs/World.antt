@@ -1,28 +1,25 @@
 -- What is kept of a private world.
 use Rattle.std.specs.Prelude.{◌≡◌, ℕ, true, [], Option, Some, None}
 use Rattle.std.specs.HashMap.{get_by}
-use Rattle.std.specs.Option.{option_map}
 use Rattle.mx_base.specs.declared.names.ClientNo.{ClientNo}
 use Rattle.session_state.specs.declared.names.MessageName.{MessageName}
 use Rattle.session_state.specs.declared.names.SessionName.{SessionName}
 use Rattle.server_rule.specs.Servers.{Tests}
 use Rattle.server_rule.specs.declared.session.Session.{Session}
 use Rattle.private_model.specs.Commands.{Account, Reply, fresh_of}
-use Rattle.private_model.specs.Story.{Key}
+use Rattle.private_model.specs.Story.{Key, is_message, is_name}
 use Rattle.private_model.specs.Worlds.{Private}
 use Rattle.oracle.specs.Entries.{prepared_at}
-use Rattle.story_view.specs.Forms.{reply_of}
-use Rattle.story_view.specs.Names.{is_message, is_session, message_at, session_at}
 use Rattle.oracle.specs.declared.own.Own.{Own}
 use Rattle.oracle.specs.declared.world.World.{World}
 
 -- the session of a name, where something ran in it
 abbrev pub own_at : World → SessionName → Option Own
-own_at world n = get_by (λ key. is_session (session_at n) key) world.owns
+own_at world n = get_by (λ key. is_name n key) world.owns
 
 -- what a message was answered
 abbrev pub answer_at : World → MessageName → Option Reply
-answer_at world message = option_map reply_of (get_by (λ key. is_message (message_at message) key) world.answers)
+answer_at world message = get_by (λ key. is_message message key) world.answers
 
 -- a session in which nothing ran is fresh
 abbrev pub session_of : Option Own → Account → Session

@@ -1,33 +1,27 @@
 // Sessions of clients' own, and what they answered.
 ghost use Rattle.std.specs.Prelude.{◌≡◌, ℕ, true, false, Some, IfOk, OnOk, [], option_copied};
-ghost use Rattle.std.specs.Option.{option_map};
-ghost use Rattle.session_state.specs.declared.names.MessageName.{MessageName};
-ghost use Rattle.session_state.specs.declared.names.SessionName.{SessionName};
 ghost use Rattle.server_rule.specs.Classes.{is_prepare as prepares};
 ghost use Rattle.server_rule.specs.Servers.{Tests};
 ghost use Rattle.private_model.specs.Commands.{Command, Reset, cmd_of, fresh_of, runs};
 ghost use Rattle.private_model.specs.Story.{Due as TheDue, End, is_message, is_name, put};
 ghost use Rattle.private_model.specs.View.{Setup};
 ghost use Rattle.private_model.specs.Worlds.{closed, first_private, in_session, in_table, private_prep, private_statement};
-ghost use Rattle.story_view.specs.Forms.{reply_of};
-ghost use Rattle.story_view.specs.Names.{message_of, session_of as name_of};
 ghost use Rattle.oracle.specs.Entries.{prepared_at};
 ghost use Rattle.oracle.specs.Turns.{IsOf, Leads};
 ghost use Rattle.oracle.specs.World.{AreTaken, IsWorld, answer_at, own_at, prepared_of, session_of};
 
 use crate::{Own, Prepared};
 use mx_base::{Bytes, OutOfMemory};
-use server_rule::{Cmd, Session, TameServer};
-use session_state::Place;
+use server_rule::{Cmd, Reply, Session, TameServer};
+use session_state::{MessageName, Place, SessionName};
 use session_vars::Settings;
 use std::alloc::Global;
 use std::collections::HashMap;
-use story_view::{MessageKey, Reply, SessionKey};
 
 /// Whose a session is: its name, and the account of its client.
 #[derive(Clone, Copy)]
 pub struct Who<'a> {
-    pub name: SessionKey,
+    pub name: SessionName,
     pub user: &'a [u8],
     pub found_rows: bool,
 }
@@ -35,8 +29,8 @@ pub struct Who<'a> {
 /// A session of its own for each client, hostgroup and life, and what was answered there.
 #[derive(Drop)]
 pub struct World {
-    owns: HashMap<SessionKey, Own>,
-    answers: HashMap<MessageKey, Reply>,
+    owns: HashMap<SessionName, Own>,
+    answers: HashMap<MessageName, Reply>,
 }
 
 /// A statement of a client as it became due: its place among the messages, the schema and settings that its session takes, where
@@ -88,28 +82,26 @@ impl World {
     }
 
     /// What a message was answered, None where it wasn't. Takes no memory.
-    pub fn answered(&self, name: MessageKey) -> Option<&Reply>
-        ensures { option_map reply_of (option_copied result) ≡ answer_at self.now (message_of name) }
+    pub fn answered(&self, name: MessageName) -> Option<&Reply>
+        ensures { option_copied result ≡ answer_at self.now name }
     {
-        name.party.fits();
         self.answers.get(&name)
     }
 
     // Takes out the session of a name, where something ran in it.
-    fn remove(&mut self, name: SessionKey) -> Option<Own>
-        ensures own { result ≡ own_at self.old (name_of name) }
-        ensures others { (n : SessionName) → is_name n (name_of name) ≡ false → own_at self.new n ≡ own_at self.old n }
+    fn remove(&mut self, name: SessionName) -> Option<Own>
+        ensures own { result ≡ own_at self.old name }
+        ensures others { (n : SessionName) → is_name n name ≡ false → own_at self.new n ≡ own_at self.old n }
         ensures answers { self.new.answers ≡ self.old.answers }
     {
-        name.party.fits();
         self.owns.remove(&name)
     }
 
     // Takes out the session of a name.
     fn take(&mut self, alloc: Global, who: &Who<'_>) -> Result<Own, OutOfMemory>
-        ensures session { IfOk result (λ own. own.session ≡ session_of (own_at self.old (name_of who.now.name)) (record { user = who.now.user.now; found_rows = who.now.found_rows })) }
-        ensures prepared { IfOk result (λ own. (key : ℕ) → prepared_at own.prepared key ≡ prepared_of (own_at self.old (name_of who.now.name)) key) }
-        ensures others { (n : SessionName) → is_name n (name_of who.now.name) ≡ false → own_at self.new n ≡ own_at self.old n }
+        ensures session { IfOk result (λ own. own.session ≡ session_of (own_at self.old who.now.name) (record { user = who.now.user.now; found_rows = who.now.found_rows })) }
+        ensures prepared { IfOk result (λ own. (key : ℕ) → prepared_at own.prepared key ≡ prepared_of (own_at self.old who.now.name) key) }
+        ensures others { (n : SessionName) → is_name n who.now.name ≡ false → own_at self.new n ≡ own_at self.old n }
         ensures answers { self.new.answers ≡ self.old.answers }
     {
         match self.remove(who.name) {
@@ -119,21 +111,19 @@ impl World {
     }
 
     // Puts a session under a name.
-    fn put(&mut self, name: SessionKey, own: Own) -> Result<(), OutOfMemory>
-        ensures own { OnOk result ((n : SessionName) → own_at self.new n ≡ put is_name (own_at self.old) (name_of name) (Some own) n) }
+    fn put(&mut self, name: SessionName, own: Own) -> Result<(), OutOfMemory>
+        ensures own { OnOk result ((n : SessionName) → own_at self.new n ≡ put is_name (own_at self.old) name (Some own) n) }
         ensures answers { self.new.answers ≡ self.old.answers }
     {
-        name.party.fits();
         self.owns.insert(name, own)?;
         Ok(())
     }
 
     // Puts the answer to a message.
-    fn answer(&mut self, name: MessageKey, answer: Reply) -> Result<(), OutOfMemory>
-        ensures answer { OnOk result ((message : MessageName) → answer_at self.new message ≡ put is_message (answer_at self.old) (message_of name) (Some (reply_of answer)) message) }
+    fn answer(&mut self, name: MessageName, answer: Reply) -> Result<(), OutOfMemory>
+        ensures answer { OnOk result ((message : MessageName) → answer_at self.new message ≡ put is_message (answer_at self.old) name (Some answer) message) }
         ensures owns { self.new.owns ≡ self.old.owns }
     {
-        name.party.fits();
         self.answers.insert(name, answer)?;
         Ok(())
     }
@@ -149,7 +139,7 @@ impl World {
         requires sessions { AreTaken R.tests self.old }
         ensures data { OnOk result (R.tests.is_data (R.stored server.new) ≡ true) }
         ensures sessions { OnOk result (AreTaken R.tests self.new) }
-        ensures turn { OnOk result (Leads who.now self.old (R.stored server.old) self.new (R.stored server.new) (λ private server. closed (runs R.step) private server (name_of who.now.name))) }
+        ensures turn { OnOk result (Leads who.now self.old (R.stored server.old) self.new (R.stored server.new) (λ private server. closed (runs R.step) private server who.now.name)) }
     {
         R::tame();
         let mut own = self.take(alloc, who)?;
@@ -168,7 +158,7 @@ impl World {
         requires sessions { AreTaken R.tests self.old }
         ensures data { OnOk result (R.tests.is_data (R.stored server.new) ≡ true) }
         ensures sessions { OnOk result (AreTaken R.tests self.new) }
-        ensures turn { OnOk result (Leads who.now self.old (R.stored server.old) self.new (R.stored server.new) (λ private server. in_table (runs R.step) private server (name_of who.now.name) (private.sessions (name_of who.now.name)) Reset (End (name_of who.now.name)))) }
+        ensures turn { OnOk result (Leads who.now self.old (R.stored server.old) self.new (R.stored server.new) (λ private server. in_table (runs R.step) private server who.now.name (private.sessions who.now.name) Reset (End who.now.name))) }
     {
         R::tame();
         let mut own = self.take(alloc, who)?;
@@ -188,7 +178,7 @@ impl World {
         requires sessions { AreTaken R.tests self.old }
         ensures data { OnOk result (R.tests.is_data (R.stored server.new) ≡ true) }
         ensures sessions { OnOk result (AreTaken R.tests self.new) }
-        ensures turn { OnOk result ((c : Command) → command.now ≡ cmd_of c → Leads who.now self.old (R.stored server.old) self.new (R.stored server.new) (λ private server. in_session (runs R.step) private server (name_of who.now.name) (private.sessions (name_of who.now.name)) c)) }
+        ensures turn { OnOk result ((c : Command) → command.now ≡ cmd_of c → Leads who.now self.old (R.stored server.old) self.new (R.stored server.new) (λ private server. in_session (runs R.step) private server who.now.name (private.sessions who.now.name) c)) }
     {
         R::tame();
         let mut own = self.take(alloc, who)?;
@@ -209,7 +199,7 @@ impl World {
         requires sessions { AreTaken R.tests self.old }
         ensures data { OnOk result (R.tests.is_data (R.stored server.new) ≡ true) }
         ensures sessions { OnOk result (AreTaken R.tests self.new) }
-        ensures turn { OnOk result (Leads who.now self.old (R.stored server.old) self.new (R.stored server.new) (λ private server. private_prep (runs R.step) private true server (name_of who.now.name) key text)) }
+        ensures turn { OnOk result (Leads who.now self.old (R.stored server.old) self.new (R.stored server.new) (λ private server. private_prep (runs R.step) private true server who.now.name key text)) }
     {
         R::tame();
         let mut own = self.take(alloc, who)?;
@@ -229,14 +219,14 @@ impl World {
         requires sessions { AreTaken R.tests self.old }
         ensures data { OnOk result (R.tests.is_data (R.stored server.new) ≡ true) }
         ensures sessions { OnOk result (AreTaken R.tests self.new) }
-        ensures turn { OnOk result ((due : TheDue) → IsOf due asked.entry → Leads who.now self.old (R.stored server.old) self.new (R.stored server.new) (λ private server. private_statement (runs R.step) private server (name_of who.now.name) due)) }
+        ensures turn { OnOk result ((due : TheDue) → IsOf due asked.entry → Leads who.now self.old (R.stored server.old) self.new (R.stored server.new) (λ private server. private_statement (runs R.step) private server who.now.name due)) }
     {
         R::tame();
         let mut own = self.take(alloc, who)?;
         let to_prepare = is_prepare(&asked.command);
         let payloads = own.statement(alloc, server, asked.place, asked.key, asked.command)?;
-        let message = MessageKey {
-            party: who.name.party,
+        let message = MessageName {
+            client: who.name.client,
             ordinal: asked.ordinal,
         };
         self.answer(

@@ -14,7 +14,7 @@ use Rattle.private_model.specs.Commands.{Command, Prepare, Quit, ReadId, Reply, 
 use Rattle.private_model.specs.Headline.{MeetsPrivate}
 use Rattle.private_model.specs.Honest.{IsAccepted, IsAnswer, IsHonest, IsTrueOf}
 use Rattle.private_model.specs.Lawful.{IsLawful, MayCome, MaySend}
-use Rattle.private_model.specs.Story.{BecameDue, Capture, Dropped, End, Freed, Gone, Happening, Heard, Left, LoggedIn, Mirrored, Own, Prep, Question, Ran, Sent, Statement, Story, Sync, Unprepared, for_statement, is_link_id, is_message, message_of, put}
+use Rattle.private_model.specs.Story.{BecameDue, Broke, Capture, Dropped, End, Freed, Gone, Happening, Heard, Left, LoggedIn, Mirrored, Own, Prep, Question, Ran, Sent, Statement, Story, Sync, Unprepared, for_statement, is_link_id, is_message, message_of, put}
 use Rattle.private_model.specs.View.{Answered, Asked, Carried, Joined, Lent, Link, Nobody, Setup, Stage, View, asked, closed_number, freed, new_link, ran_by, view_heard, view_after, view_step}
 use Rattle.private_model.specs.Worlds.{Peer, Private, Real, decoded, new_peer, private_after, private_drop, private_prep, private_run, private_step, real_after, real_drop, real_run, real_step, there_table}
 use Rattle.server_rule.specs.Servers.{Tests}
@@ -37,6 +37,7 @@ stands_next setup tests step tame view real private (Dropped link) stands tabled
 stands_next setup tests step tame view real private (Gone link) stands tabled may honest = gone_so setup tests step tame view real private stands link
 stands_next setup tests step tame view real private (Left client) stands tabled may honest =
     record { accepted = stands.accepted; stored = stands.stored; owners = stands.owners; resting = stands.resting; links = stands.links }
+stands_next setup tests step tame view real private Broke stands tabled may honest = absurd may
 stands_next setup tests step tame view real private (Mirrored client job) stands tabled may honest =
     record { accepted = stands.accepted; stored = stands.stored; owners = stands.owners; resting = stands.resting; links = stands.links }
 

@@ -15,6 +15,7 @@ use Rattle.pin_classifier.specs.declared.class.Class.{Class}
 use Rattle.server_rule.specs.Classes.{Reads}
 use Rattle.server_rule.specs.Servers.{fresh}
 use Rattle.server_rule.specs.declared.command.Cmd.{Cmd}
+pub use Rattle.server_rule.specs.declared.command.Reply.{Reply}
 use Rattle.server_rule.specs.declared.session.Session.{Session}
 use Rattle.session_state.specs.Pins.{pin_answered}
 use Rattle.session_state.specs.declared.pin.Pin.{Pin}
@@ -69,11 +70,6 @@ cmd_of Quit = cmd.Close
 
 abbrev pub is_prepare : Command → Bool
 is_prepare command = classes.is_prepare (cmd_of command)
-
--- a reply; it may answer a STMT_PREPARE, which has a form of its own
-pub record Reply : Type 0 where
-  pub to_prepare : Bool
-  pub payloads : List (List ℕ)
 
 pub record Outcome : Type 0 where
   pub stored : List ℕ

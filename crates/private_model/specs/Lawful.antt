@@ -2,7 +2,7 @@
 use Rattle.std.specs.Prelude.{◌≡◌, ◌≢◌, ◌⊎◌, ℕ, Bool, true, false, List, [], ◌∷◌, Option, Some, None}
 use Rattle.pin_classifier.specs.declared.class.Class.{Class}
 use Rattle.private_model.specs.Commands.{Account, Command, FieldList, InitDb, Prepare, Query, Quit, Run, SetId, class_of, is_marked}
-use Rattle.private_model.specs.Story.{Capture, Due, End, Freed, Happening, LoggedIn, Own, Prep, Question, Sent, Statement, Story, Sync, Unprepared, message_of}
+use Rattle.private_model.specs.Story.{Broke, Capture, Due, End, Freed, Happening, LoggedIn, Own, Prep, Question, Sent, Statement, Story, Sync, Unprepared, message_of}
 use Rattle.private_model.specs.View.{Held, Joined, Lent, Link, Nobody, Quiet, Setup, View, no_link, present, view_after}
 use Rattle.server_rule.specs.Classes.{Reads, core}
 use Rattle.session_state.specs.Classes.{Tracked, effect_of, sets_autocommit, takes}
@@ -191,6 +191,7 @@ MayCome setup view (LoggedIn link server account) = view.links link ≡ no_link
 MayCome setup view (Sent link question) = MaySend setup view (view.links link) question
 MayCome setup view (Freed link) = MayFree view (view.links link)
 MayCome setup view (Unprepared link number) = (view.links link).stage ≡ Quiet
+MayCome setup view Broke = ⊥
 MayCome setup view _ = Unit {0}
 
 abbrev pub IsLawful : Setup → Story → Type 0

@@ -76,6 +76,7 @@ pub data Happening : Type 0 where
   Dropped : (link : LinkId) → Happening
   Gone : (link : LinkId) → Happening
   Left : (client : ClientNo) → Happening
+  Broke : Happening  -- something is sent that may not be, or a message goes to a server that asks it for nothing
   Mirrored : (client job : ClientNo) → Happening  -- a copy of its statement is made: a client of its own, with this one's schema and settings
 
 -- the last that happened stands first

@@ -4,7 +4,7 @@ use Rattle.std.specs.Option.{option_and_then, option_map_or}
 use Rattle.session_vars.specs.Settings.{defaults}
 use Rattle.private_model.specs.Names.{ClientNo, Hostgroup, LinkId, ServerId, MessageName, SessionName}
 use Rattle.private_model.specs.Commands.{Account, Command, Prepare, Quit, Reply, Reset, class_of, id_after, is_err, is_made, is_marked, is_ok, is_prepare, number_in, pin_statement}
-use Rattle.private_model.specs.Story.{BecameDue, Capture, Dropped, Due, End, Freed, Gone, Happening, Heard, Key, Left, LoggedIn, Mirrored, Prep, Question, Ran, Sent, Statement, Story, Sync, Unprepared, command_of, for_statement, is_client, is_link_id, is_message, is_name, message_of, put}
+use Rattle.private_model.specs.Story.{BecameDue, Broke, Capture, Dropped, Due, End, Freed, Gone, Happening, Heard, Key, Left, LoggedIn, Mirrored, Prep, Question, Ran, Sent, Statement, Story, Sync, Unprepared, command_of, for_statement, is_client, is_link_id, is_message, is_name, message_of, put}
 use Rattle.server_rule.specs.Classes.{Reads}
 use Rattle.session_state.specs.Classes.{Effect, Uses, effect_of, schema_by, settings_by}
 use Rattle.session_state.specs.Pins.{is_pinned, no_pin}
@@ -232,6 +232,7 @@ view_step setup view (Left client) = record view {
   lives = lives_left client view.lives;
   places = put is_client view.places client (record (view.places client) { settings = (setup.places client).settings });
 }
+view_step setup view Broke = view
 view_step setup view (Mirrored client job) = record view { places = put is_client view.places job (view.places client) }
 
 abbrev pub view_after : Setup → Story → View

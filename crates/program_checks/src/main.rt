@@ -1,11 +1,10 @@
 //! Runs the router over files, a wire and a sink in memory, a run for each case of stdin, and answers with the status and what was printed;
-//! runs it between clients that follow scripts and servers in memory, and compares what clients are written with what they are due; and
-//! shows how the serving loop calls a wire, and what real sockets answer.
+//! runs it between clients that follow scripts and servers in memory; and shows how the serving loop calls a wire, and what real sockets
+//! answer.
 #![tactic(auto)]
 
 mod bare_wire;
 mod configs;
-mod due;
 mod flood;
 mod fronts;
 mod given;
@@ -20,7 +19,6 @@ mod tapes;
 mod user;
 
 use check_lines::Fields;
-use due::Walk;
 use names::{Names, named};
 use std::io;
 use std::thread::Threads;
@@ -32,14 +30,13 @@ enum Reader {
     Replay,
     Words { are_taken: bool },
     Serve,
-    Tape(Walk),
     Flood,
-    One { is_due: bool },
-    Failing { is_due: bool },
+    One,
+    Failing,
 }
 
 // Readers by their words, with the names that stand in their answers.
-const READERS: [(&str, (Reader, Names)); 11] = [
+const READERS: [(&str, (Reader, Names)); 7] = [
     ("replay", (Reader::Replay, Names::Recorded)),
     ("run", (Reader::Words { are_taken: false }, Names::Recorded)),
     (
@@ -47,19 +44,9 @@ const READERS: [(&str, (Reader, Names)); 11] = [
         (Reader::Words { are_taken: true }, Names::Recorded),
     ),
     ("serve", (Reader::Serve, Names::Recorded)),
-    ("due_growth", (Reader::Tape(Walk::Growth), Names::Recorded)),
-    ("due_whole", (Reader::Tape(Walk::Whole), Names::Recorded)),
     ("flood", (Reader::Flood, Names::Recorded)),
-    ("scripted", (Reader::One { is_due: false }, Names::Scripted)),
-    ("due", (Reader::One { is_due: true }, Names::Scripted)),
-    (
-        "fails",
-        (Reader::Failing { is_due: false }, Names::Scripted),
-    ),
-    (
-        "due_fails",
-        (Reader::Failing { is_due: true }, Names::Scripted),
-    ),
+    ("scripted", (Reader::One, Names::Scripted)),
+    ("fails", (Reader::Failing, Names::Scripted)),
 ];
 
 fn read_by<R: Threads + Sync>(rt: &R, fields: &mut Fields<'_>, reader: Reader) {
@@ -67,10 +54,9 @@ fn read_by<R: Threads + Sync>(rt: &R, fields: &mut Fields<'_>, reader: Reader) {
         Reader::Replay => runs::replay(rt, fields),
         Reader::Words { are_taken } => runs::words(rt, fields, are_taken),
         Reader::Serve => tapes::serve(rt, fields),
-        Reader::Tape(walk) => tapes::due(rt, fields, walk),
         Reader::Flood => flood::answer(fields),
-        Reader::One { is_due } => plays::one(rt, fields, is_due),
-        Reader::Failing { is_due } => plays::each_failing(rt, fields, is_due),
+        Reader::One => plays::one(rt, fields),
+        Reader::Failing => plays::each_failing(rt, fields),
     }
 }
 

@@ -1,5 +1,4 @@
 // What is shown of a run's log.
-use crate::due::{self, Walk};
 use crate::fronts::{calls_in, is_front, written_to};
 use crate::runs::push_lines;
 use crate::tables::add;
@@ -15,14 +14,13 @@ pub struct Whole {
     pub written: Vec<Vec<u8>>,
 }
 
-/// What is shown of a run: the transcript of its log, behind its outcome; nothing, but it is kept; `same`
-/// where each client was written a front of what it is where no call fails; or a walk by what clients are due, who follow these scripts.
+/// What is shown of a run: the transcript of its log, behind its outcome; nothing, but it is kept; or `same`
+/// where each client was written a front of what it is where no call fails.
 #[derive(Drop)]
 pub enum View<'a> {
     Transcript { between: &'a str, blank: &'a str },
     Keeps(&'a mut Whole),
     Fronts(&'a Whole),
-    Due { scripts: &'a str, walk: Walk },
 }
 
 impl View<'_> {
@@ -74,6 +72,5 @@ pub fn show(answer: &mut Answer, status: u8, log: Option<&[Entry]>, view: View<'
         }
         View::Keeps(whole) => keep(answer, log, whole),
         View::Fronts(whole) => push_fronts(answer, status, log, whole),
-        View::Due { scripts, walk } => due::show(answer, scripts, status == 0, log, walk),
     }
 }

@@ -2,7 +2,6 @@
 ghost use Rattle.std.specs.Prelude.{◌≡◌, [], Some};
 ghost use Rattle.recording.specs.Playable.{IsPlayable};
 
-use crate::due::Walk;
 use crate::given::{Given, recording_of};
 use crate::runs::run_given;
 use crate::shown::{View, show};
@@ -20,13 +19,6 @@ pub fn serve<R: Threads + Sync>(rt: &R, fields: &mut Fields<'_>) {
         blank: "",
     };
     play(rt, fields, config, view);
-}
-
-/// `due_growth <line> | <line> ..` plays the recording of these lines, in which names stand for their digits. The answer is what each
-/// entry of the told log adds to what the first client is due, of each that adds something. `due_whole` plays such a recording; the
-/// answer is what each client is due by the whole log.
-pub fn due<R: Threads + Sync>(rt: &R, fields: &mut Fields<'_>, walk: Walk) {
-    play(rt, fields, "one_server", View::Due { scripts: "", walk });
 }
 
 fn play<R: Threads + Sync>(rt: &R, fields: &mut Fields<'_>, config: &str, view: View<'_>) {

@@ -124,3 +124,11 @@ impl ReplyList {
         &self.payloads
     }
 }
+
+/// A reply, and whether it answers a STMT_PREPARE, which has a form of its own (client/server protocol,
+/// "COM_STMT_PREPARE Response").
+#[derive(Drop)]
+pub struct Reply {
+    pub to_prepare: bool,
+    pub payloads: ReplyList,
+}

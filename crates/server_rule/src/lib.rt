@@ -6,6 +6,6 @@ mod command;
 mod session;
 mod tame;
 
-pub use command::{Cmd, LongParts, ReplyList};
+pub use command::{Cmd, LongParts, Reply, ReplyList};
 pub use session::Session;
 pub use tame::TameServer;

@@ -2,7 +2,7 @@
 use mx_base::{ClientNo, Hostgroup};
 
 /// A session of a client in a hostgroup. Each session that is left makes room for the next life, counted from 0.
-#[derive(Clone, Copy)]
+#[derive(Clone, Copy, PartialEq, Eq, Hash)]
 pub struct SessionName {
     pub client: ClientNo,
     pub hostgroup: Hostgroup,
@@ -10,7 +10,7 @@ pub struct SessionName {
 }
 
 /// A command message of a client. Ordinals count from 1.
-#[derive(Clone, Copy)]
+#[derive(Clone, Copy, PartialEq, Eq, Hash)]
 pub struct MessageName {
     pub client: ClientNo,
     pub ordinal: u64,

@@ -4,8 +4,8 @@ use check_lines::{Answer, Fields};
 use mx_base::{Bytes, ClientNo, Hostgroup, OutOfMemory};
 use oracle::{Statement, Who, World};
 use server_rule::Cmd;
+use session_state::{MessageName, SessionName};
 use small_server::Refuser;
-use story_view::{MessageKey, Party, SessionKey};
 
 #[derive(Drop)]
 struct Private {
@@ -15,8 +15,8 @@ struct Private {
 
 fn who(client: u64) -> Who<'static> {
     Who {
-        name: SessionKey {
-            party: Party::accepted(ClientNo(client)),
+        name: SessionName {
+            client: ClientNo(client),
             hostgroup: Hostgroup(0),
             life: 0,
         },
@@ -79,8 +79,8 @@ impl Private {
 
 // The first payload of the answer to a message.
 fn put_answered(fields: &mut Fields<'_>, world: &World, client: u64) {
-    let name = MessageKey {
-        party: Party::accepted(ClientNo(client)),
+    let name = MessageName {
+        client: ClientNo(client),
         ordinal: fields.number(),
     };
     match world.answered(name) {

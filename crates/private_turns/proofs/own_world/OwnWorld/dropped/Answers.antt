@@ -1,8 +1,0 @@
-use Rattle.private_model.specs.Commands.{runs}
-use Rattle.private_model.specs.Story.{Dropped}
-use Rattle.private_turns.proofs.Turning.{followed, on_ok}
-use Rattle.private_turns.proofs.own_world.OwnWorld.dropped.Goals as goal
-
-pub returns-clause-turn : goal.returns-clause-turn
-returns-clause-turn g c = on_ok c.turn_at.result _ _ (followed g.R.TameServer.stored (runs g.R.TameServer.step) c.args.view.now c.args.self.now c.turn_at.new.self
-    (Dropped c.args.link) c.dropped_turn.result (λ setup v known private. c.dropped_turn.ensures setup v known (runs g.R.TameServer.step) private)) c.turn_at.ensures.turn

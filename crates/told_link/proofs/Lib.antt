@@ -1,6 +1,0 @@
-mod Cutting
-mod Draining
-mod Entering
-mod Following
-mod Found
-mod Linking

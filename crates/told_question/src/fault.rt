@@ -1,2 +1,0 @@
-// Values that are let go.
-pub(crate) fn let_go<T: Drop>(_old: T) {}

@@ -1,4 +1,0 @@
-pub mod Bindings
-pub mod Forms
-pub mod Preparations
-pub mod Uses

@@ -1,9 +1,0 @@
-use Rattle.told_tale.proofs.tale.ToldTale.is_event_at.Goals as goal
-
-pub returns-in-None : goal.returns-in-None
-returns-in-None g c = λ setup plan tale client is here. absurd (c.in-None.ensures.some plan.service tale.clients client is.marks.clients here)
-
-pub returns-in-Some : goal.returns-in-Some
-returns-in-Some g c = λ setup plan tale client is here.
-    let seen = c.in-Some.ensures.some plan.service tale.clients client is.marks.clients here in
-    c.is_of.ensures client seen.told.link seen.told.number
