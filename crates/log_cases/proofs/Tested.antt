@@ -2,10 +2,11 @@
 use Rattle.std.specs.Prelude.{◌≡◌, ◌<◌, ℕ, zero, suc, Bool, true, false, not, ◌&&◌, ◌||◌, nat_eq, nat_lt, bytes_eq, ◌/◌, drop, length, take, List, []}
 use Rattle.std.specs.Prelude.{◌∷◌, ◌++◌, Option, Some, None}
 use Rattle.std.specs.List.{list_all}
-use Rattle.std.proofs.Common.{refl, sym, ap, append-nil, arith, lit<, subst, ◌∙◌}
+use Rattle.std.proofs.Common.{refl, sym, ap, append-nil, arith, inr, lit<, subst, ◌∙◌}
 use Rattle.std.proofs.lemmas.Bool.{and_from, and_parts, ltb-true}
 use Rattle.mx_base.specs.Fields.{AreBytes}
 use Rattle.std.proofs.lemmas.List.{take-append-drop}
+use Rattle.std.proofs.lemmas.List.Sums.{AllPass-from_list_all}
 use Rattle.std.proofs.lemmas.Slice.Eq.{bytes_eq-Decides}
 use Rattle.mx_wire.specs.Log.{Log}
 use Rattle.mx_wire.specs.declared.entry.Entry.{Entry}
@@ -30,7 +31,7 @@ use Rattle.private_model.specs.Story.{Question, command_of}
 use Rattle.private_model.specs.View.{Answered, Asked, Quiet, Setup, Stage}
 use Rattle.small_server.proofs.Honesty.{fresh_so, is_fresh}
 use Rattle.log_story.specs.Executes.{args_in, is_for}
-use Rattle.log_story.specs.Plan.{Asks, Closes, Plan, Resets, StepText, com_execute, step_payload, text_payload}
+use Rattle.log_story.specs.Plan.{Asks, Closes, Plan, Resets, StepText, com_execute, com_long_data, step_payload, text_payload}
 use Rattle.log_story.specs.Tale.{Tale, Wire, is_reset_step, is_to_server, link_in}
 use Rattle.log_story.specs.Servers.{kind_by, may_begin, reply_id, with_run, written_in}
 use Rattle.log_story.specs.Telling.{tale_step, wire_with}
@@ -179,7 +180,9 @@ args_written there before payload args = args_in (params_of args.types) there (�
 abbrev executes : Option ℕ → (messages : List Framed) → (rest : List ℕ) → Args → Bool
 executes (Some there) (message ∷ others) rest args =
     not (is_some_of rest) && (is_for com_execute there (last_of message others).payload
-    && same_args (args_written there (front_of message others) (last_of message others).payload args) args)
+    && (same_args (args_written there (front_of message others) (last_of message others).payload args) args
+    && (list_all (λ (before : Framed). is_for com_long_data there before.payload) (front_of message others)
+    && bytes_eq (take 5 (drop 5 (last_of message others).payload)) (0 ∷ 1 ∷ 0 ∷ 0 ∷ 0 ∷ []))))
 executes _ _ rest args = false
 
 execute_so : (number : Option ℕ) (messages : List Framed) (args : Args) (written : List ℕ) → (written_in written).messages ≡ messages
@@ -189,16 +192,20 @@ execute_so (Some there) [] args written are so = isnt so
 execute_so (Some there) (message ∷ others) args written are so =
     let both = and_parts _ _ so in
     let more = and_parts _ _ both.1 in
+    let last = and_parts _ _ more.1 in
+    let rest = and_parts _ _ last.1 in
     record {
       there = there;
       named = refl;
       long_data = front_of message others;
       message = last_of message others;
       messages = are ∙ parts_so message others;
+      own_data = AllPass-from_list_all (λ (before : Framed). is_for com_long_data there before.payload) (front_of message others) rest.0;
       whole = none_so (written_in written).rest both.0;
       executes = more.0;
+      plain = (bytes_eq-Decides _ _).0 rest.1;
       params = params_of args.types;
-      arguments = args_so (args_written there (front_of message others) (last_of message others).payload args) args more.1;
+      arguments = args_so (args_written there (front_of message others) (last_of message others).payload args) args last.0;
     }
 
 abbrev is_written : Command → (number : Option ℕ) → (written : List ℕ) → Bool
@@ -360,8 +367,8 @@ got_so setup plan server tale link wire so =
     let more = and_parts _ _ both.1 in
     record {
       login = λ is. login_so plan link wire (unless_so _ _ both.0 (ap not is));
-      read = λ is reads. read_so setup server link wire tale (unless_so _ _ more.0 (and_from _ _ is (ap not reads)));
-      reset = λ is resets. reset_so wire (unless_so _ _ more.1 (and_from _ _ is resets));
+      read = λ is reads. inr (read_so setup server link wire tale (unless_so _ _ more.0 (and_from _ _ is (ap not reads))));
+      reset = λ is resets. inr (reset_so wire (unless_so _ _ more.1 (and_from _ _ is resets)));
     }
 
 abbrev exec_tested : Setup → Step → Tale → LinkId → Bool

@@ -44,6 +44,7 @@ plan = record {
   routes = λ message. Some route;
   own = λ message. None;
   ends = λ c. None;
+  words = λ c. None;
   steps = λ l begun. Asks (SetId zero_id);
 }
 

@@ -17,7 +17,7 @@ ghost use Rattle.log_story.specs.Owed.{due_bytes};
 ghost use Rattle.log_story.specs.Telling.{story_of};
 ghost use Rattle.log_cases.specs.Worked.{later_ok, log, logged_in, plan, second_client, server};
 
-use log_story::private_bytes;
+use log_story::honest_bytes;
 
 /// Two clients over one link to a small server. The story that the log tells is lawful, the log is honest, and the second
 /// client's session owes it just the bytes that were read for it; so its bytes are private.
@@ -25,7 +25,7 @@ pub fn worked_log()
     ensures worked { IsWorked plan log shared }
     ensures owed { due_bytes (private_after setup (runs server) shared).answers plan (length log) second_client ≡ logged_in 2 ++ later_ok }
 {
-    private_bytes();
+    honest_bytes();
 }
 
 /// What the router answers itself. A PING is answered as it is taken up. The statement behind it waits for that answer to be
@@ -40,14 +40,14 @@ pub fn own_answers()
     ensures owed { due_bytes (private_after setup (runs server) given_up).answers own_plan (length goes_on) asker
         ≡ logged_in 1 ++ (spelling 1 own_ok ++ spelling 1 connection_refused) }
 {
-    private_bytes();
+    honest_bytes();
 }
 
 /// A STMT_RESET, which is answered, and a STMT_CLOSE stand on a link before a client's statement: the story has the second alone.
 pub fn beside_questions()
     ensures { IsWorked beside_plan beside_log beside_story }
 {
-    private_bytes();
+    honest_bytes();
 }
 
 /// A statement is copied to another hostgroup. The copy runs in a session of its own, whose client leaves as it is sent; so
@@ -55,7 +55,7 @@ pub fn beside_questions()
 pub fn copies()
     ensures { IsWorked copy_plan copy_log copy_story }
 {
-    private_bytes();
+    honest_bytes();
 }
 
 /// A client begins a transaction and sends a QUIT. The router ends it, and resets the session that it leaves; then the link is
@@ -63,7 +63,7 @@ pub fn copies()
 pub fn client_ended()
     ensures { IsWorked ended_plan ended_log ended_story }
 {
-    private_bytes();
+    honest_bytes();
 }
 
 /// A prepared statement. The first execute runs with the long data and the types that the client sent; the second with the
@@ -73,5 +73,5 @@ pub fn executes()
     ensures owed { due_bytes (private_after setup (runs server) execute_story).answers execute_plan (length execute_log) preparer
         ≡ logged_in 1 ++ (spellings 1 (prepared 1) ++ (done ++ done)) }
 {
-    private_bytes();
+    honest_bytes();
 }

@@ -1,5 +1,5 @@
 -- What a client is due by what was read is the first part of what its private world owes it.
-use Rattle.std.specs.Prelude.{◌≡◌, ℕ, suc, List, [], ◌∷◌, ◌++◌, Option, Some, None}
+use Rattle.std.specs.Prelude.{◌≡◌, ℕ, suc, take, List, [], ◌∷◌, ◌++◌, Option, Some, None}
 use Rattle.std.proofs.Common.{refl, ap, ◌∙◌, append-nil, append_assoc}
 use Rattle.packet_frame.specs.Packets.{Framed, next_id, spellings}
 use Rattle.reply_track.specs.Grammar.{renamed}
@@ -8,7 +8,7 @@ use Rattle.session_state.specs.declared.names.MessageName.{MessageName}
 use Rattle.private_model.specs.Commands.{Reply}
 use Rattle.log_story.specs.Plan.{Plan, own_at}
 use Rattle.log_story.specs.Tale.{Client}
-use Rattle.log_story.specs.Owed.{answered_with, due_bytes, due_for, kind_of, last_error, messages, name_of, number_of, talk_of}
+use Rattle.log_story.specs.Owed.{answered_with, due_for, due_until, error_behind, kind_of, messages, name_of, number_of, talk_of}
 use Rattle.log_story.specs.Honest.{IsFront}
 
 behind : (front xs ys : List ℕ) → IsFront xs ys → IsFront (front ++ xs) (front ++ ys)
@@ -34,10 +34,9 @@ due_front read private plan moment client last i (message ∷ others) same =
     (due_for read plan moment client last (suc i) others) (due_for private plan moment client last (suc i) others) (same (name_of client i))
     (due_front read private plan moment client last (suc i) others same)
 
-pub due_bytes_front : (read private : MessageName → Option Reply) (plan : Plan) (moment : ℕ) (client : Client)
+pub due_until_front : (read private : MessageName → Option Reply) (plan : Plan) (moment : ℕ) (client : Client)
     → ((message : MessageName) (reply : Reply) → read message ≡ Some reply → private message ≡ Some reply)
-    → IsFront (due_bytes read plan moment client) (due_bytes private plan moment client)
-due_bytes_front read private plan moment client same =
-    behind (front (talk_of plan client)) (due_for read plan moment client (last_error plan client) 1 (messages plan client))
-    (due_for private plan moment client (last_error plan client) 1 (messages plan client))
-    (due_front read private plan moment client (last_error plan client) 1 (messages plan client) same)
+    → IsFront (due_until read plan moment client) (due_until private plan moment client)
+due_until_front read private plan moment client same =
+    behind (front (talk_of plan client)) _ _
+    (due_front read private plan moment client (error_behind plan client) 1 (take client.taken (messages plan client)) same)

@@ -2,7 +2,7 @@
 use Rattle.std.specs.Prelude.{◌≡◌, ℕ, zero, suc, ◌-◌, Bool, true, false, not, ◌&&◌, ◌||◌, List, [], ◌∷◌, ◌++◌, fold, length, nat_eq, slice_get, slice_index_or}
 use Rattle.std.specs.Prelude.{take, Option, Some, None, if◌then◌else◌}
 use Rattle.std.specs.Option.{option_map_or}
-use Rattle.std.proofs.Common.{refl, sym, ap, ◌∙◌, subst, arith}
+use Rattle.std.proofs.Common.{refl, sym, ap, ◌∙◌, subst, inl, inr, arith}
 use Rattle.std.proofs.lemmas.Bool.{not-false}
 use Rattle.std.proofs.lemmas.List.{take_all}
 use Rattle.mx_base.specs.declared.tag.Tag.{Tag}
@@ -35,7 +35,7 @@ use Rattle.log_story.specs.Servers.{begins, begun_by, begun_on, copy_by, due_in,
 use Rattle.log_story.specs.Servers.{of_due, or_broke, quits_by, quits_for, read_as, reads_on, reply_id, reply_in, reset_by, runs_first, step_for, stepped, tell_all}
 use Rattle.log_story.specs.Servers.{with_run, writes}
 use Rattle.log_story.specs.Telling.{is_lost_or_left, server_says, story_of, tale_step, told, wire_with}
-use Rattle.log_story.specs.Honest.{IsHonestFrom, IsHonestLog, IsTrue, IsTrueGot, IsTrueRead, IsTrueReply, real_of, spelled}
+use Rattle.log_story.specs.Honest.{IsFarewell, IsHonestFrom, IsHonestLog, IsTrue, IsTrueGot, IsTrueRead, IsTrueReply, real_of, spelled}
 use Rattle.log_story.proofs.Forms.{HasForm, story_formed}
 use Rattle.reply_track.specs.Replying.{payloads_in}
 use Rattle.reply_track.proofs.Replying.{payloads-again}
@@ -230,6 +230,12 @@ module _ (setup : Setup) (plan : Plan) (server : Step) (k : Kept setup server) w
       subst (λ stage. Holds (hears link wire stage before)) (sym read.answered)
       (hearing_keeps link wire read.question (read_as (kind_by (command_of read.question)) wire) before read.answered read.reply refl ran)
 
+  -- what is said behind a drop lies unread
+  farewell_keeps : (link : LinkId) (wire : Wire) (tale : Tale) → IsFarewell (link_in setup tale link) → Holds tale → Holds (reads_on setup link wire tale)
+  farewell_keeps link wire tale is holds =
+      subst (λ s. Holds (hears link wire (link_in setup (runs_first s link tale) link).stage (runs_first s link tale))) (sym is.quiet)
+      (subst (λ s. Holds (hears link wire s tale)) (sym is.quiet) holds)
+
   resetting_keeps : (link : LinkId) (wire : Wire) (ending : Ending) (tale : Tale) → Holds tale → Holds (reset_by link wire ending tale)
   resetting_keeps link wire (Ended end rest) tale holds = holds
   resetting_keeps link wire _ tale holds = holds
@@ -251,7 +257,10 @@ module _ (setup : Setup) (plan : Plan) (server : Step) (k : Kept setup server) w
       (λ is. entering_keeps link wire (opening (plan.logins link) wire.unread) tale holds)
       (λ is. if_either Holds (is_reset_step (tale.wires link).step) _ _
       (λ resets. resetting_keeps link wire (read_as kind.Command wire) tale holds)
-      (λ reads. reading_keeps link wire tale (got.read (not-false (tale.wires link).entered is) reads) holds))
+      (λ reads. elim (got.read (not-false (tale.wires link).entered is) reads) [
+        | inl farewell ↦ farewell_keeps link wire tale farewell holds
+        | inr read ↦ reading_keeps link wire tale read holds
+      ]))
 
   told_keeps : (tale : Tale) (e : Entry) → IsTrue setup plan server tale e → Holds tale → Holds (told setup plan tale e)
   told_keeps tale (entry.Got link bytes) is holds =

@@ -9,3 +9,5 @@ pub mod Happens
 pub mod Moving
 pub mod Resting
 pub mod Walking
+pub mod Honesty
+pub mod Writing

@@ -1,6 +1,6 @@
 -- The law at each moment of a log, and at each read.
-use Rattle.std.specs.Prelude.{[], ◌∷◌, fold}
-use Rattle.std.proofs.Common.{refl}
+use Rattle.std.specs.Prelude.{◌≡◌, [], ◌∷◌, fold}
+use Rattle.std.proofs.Common.{refl, sym, ap, ◌∙◌, inl, inr}
 use Rattle.mx_base.specs.declared.names.LinkId.{LinkId}
 use Rattle.mx_wire.specs.Log.{Log}
 use Rattle.mx_wire.specs.declared.entry.Entry.{Entry}
@@ -9,7 +9,7 @@ use Rattle.private_model.specs.Commands.{runs}
 use Rattle.private_model.specs.Headline.{MeetsPrivate}
 use Rattle.private_model.specs.Honest.{IsHonest}
 use Rattle.private_model.specs.Lawful.{IsLawful}
-use Rattle.private_model.specs.Story.{Story}
+use Rattle.private_model.specs.Story.{Statement, Story}
 use Rattle.private_model.specs.View.{Answered, Asked, Quiet, Setup, Stage, view_after}
 use Rattle.private_model.specs.Worlds.{private_after, real_after}
 use Rattle.server_rule.specs.Servers.{Step}
@@ -17,9 +17,9 @@ use Rattle.log_story.specs.Plan.{Plan}
 use Rattle.log_story.specs.Tale.{Tale, Wire, link_in, view_of}
 use Rattle.log_story.specs.Servers.{runs_first, with_run}
 use Rattle.log_story.specs.Telling.{tale_step, wire_with}
-use Rattle.log_story.specs.Honest.{IsHonestFrom, IsTrue, IsTrueRead, real_of}
+use Rattle.log_story.specs.Honest.{IsFarewell, IsHonestFrom, IsTrue, IsTrueRead, real_of}
 use Rattle.log_story.specs.Headline.{IsPrivateEntry, IsPrivateFrom, IsPrivateMoment, IsPrivateRead, private_of}
-use Rattle.log_story.proofs.Due.{due_bytes_front}
+use Rattle.log_story.proofs.Due.{due_until_front}
 use Rattle.log_story.proofs.Keeping.{honesty, lawful_before, running_keeps, step_keeps}
 
 -- the law of private worlds, of one server
@@ -33,7 +33,7 @@ moment setup plan server tale law lawful honest =
     let meets = law tale.story lawful honest in
     record {
       replies = meets.replies;
-      due = λ client. due_bytes_front (view_of setup tale).replies (private_of setup server tale).answers plan tale.moment
+      due = λ client. due_until_front (view_of setup tale).replies (private_of setup server tale).answers plan tale.moment
           client meets.replies;
     }
 
@@ -52,10 +52,21 @@ read_there setup plan server link wire tale law lawful honest read n due ran =
     running_lawful (Asked question) = (lawful, tt)
     running_lawful (Answered question) = lawful
 
+-- no reply is read behind a drop
+nothing_read : (setup : Setup) (server : Step) (link : LinkId) (wire : Wire) (tale : Tale) → IsFarewell (link_in setup tale link)
+    → IsPrivateRead setup server link wire tale
+nothing_read setup server link wire tale is n due ran =
+    let still : (link_in setup (with_run setup link tale) link).stage ≡ Quiet =
+    ap (λ s. (link_in setup (runs_first s link tale) link).stage) is.quiet ∙ is.quiet in
+    let apart : Quiet ≡ Answered (Statement n due) = sym still ∙ ran in absurd (cc)
+
 entry_there : (setup : Setup) (plan : Plan) (server : Step) (tale : Tale) (e : Entry) → Law setup server → IsLawful setup tale.story
     → IsHonest setup (runs server) tale.story → IsTrue setup plan server tale e → IsPrivateEntry setup server tale e
 entry_there setup plan server tale (entry.Got link bytes) law lawful honest is =
-    λ there entered other. read_there setup plan server link (wire_with tale link bytes) tale law lawful honest ((is there).read entered other)
+    λ there entered other. elim ((is there).read entered other) [
+      | inl farewell ↦ nothing_read setup server link (wire_with tale link bytes) tale farewell
+      | inr read ↦ read_there setup plan server link (wire_with tale link bytes) tale law lawful honest read
+    ]
 entry_there setup plan server tale _ law lawful honest is = tt
 
 pub private_from : (setup : Setup) (plan : Plan) (server : Step) (log : Log) (tale : Tale) → Law setup server

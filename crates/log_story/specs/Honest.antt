@@ -1,6 +1,6 @@
--- What servers keep to, told of a log's bytes: a link's command is run as its bytes spell it, and what is read there is the
--- answer of the run, as far as it is read.
-use Rattle.std.specs.Prelude.{◌≡◌, ℕ, true, false, List, [], ◌∷◌, ◌++◌, Option, Some, None}
+-- An honest log: a link's command is run as its bytes spell it, and what is read there is the answer of the run, as far as it
+-- is read. What of it the router keeps to, and what is assumed of servers, stands in Said and Assumed.
+use Rattle.std.specs.Prelude.{◌≡◌, ◌⊎◌, ℕ, true, false, All, List, [], ◌∷◌, ◌++◌, drop, take, Option, Some, None}
 use Rattle.mx_base.specs.declared.names.LinkId.{LinkId}
 use Rattle.mx_wire.specs.Log.{Log}
 use Rattle.mx_wire.specs.declared.entry.Entry.{Entry}
@@ -13,10 +13,10 @@ use Rattle.server_rule.specs.Servers.{Step}
 use Rattle.private_model.specs.Commands.{Args, Command, Quit, Reply, Run, runs}
 use Rattle.private_model.specs.Honest.{IsTrueOf}
 use Rattle.private_model.specs.Story.{Question, Ran, command_of, for_statement}
-use Rattle.private_model.specs.View.{Answered, Asked, Setup}
+use Rattle.private_model.specs.View.{Answered, Asked, Link, Quiet, Setup}
 use Rattle.private_model.specs.Worlds.{Real, real_after}
 use Rattle.log_story.specs.Executes.{args_in, is_for}
-use Rattle.log_story.specs.Plan.{Closes, Plan, Resets, StepText, com_execute, step_payload, text_payload}
+use Rattle.log_story.specs.Plan.{Closes, Plan, Resets, StepText, com_execute, com_long_data, step_payload, text_payload}
 use Rattle.log_story.specs.Tale.{Tale, Wire, first_tale, is_reset_step, is_to_server, link_in, view_of}
 use Rattle.log_story.specs.Servers.{kind_by, may_begin, reply_id, with_run, written_in}
 use Rattle.log_story.specs.Telling.{tale_step, wire_with}
@@ -25,16 +25,18 @@ pub record IsFront (front whole : List ℕ) : Type 0 where
   pub rest : List ℕ
   pub is : front ++ rest ≡ whole
 
--- An execute, and the long data before it, are whole; it names the number that the server gave, and has these arguments, as a
--- statement with some number of parameters.
+-- An execute, and before it nothing but its own long data, are whole; it names the number that the server gave, opens no cursor,
+-- is for one iteration, and has these arguments, as a statement with some number of parameters.
 pub record IsExecute (number : Option ℕ) (args : Args) (written : List ℕ) : Type 0 where
   pub there : ℕ
   pub named : number ≡ Some there
   pub long_data : List Framed
   pub message : Framed
   pub messages : (written_in written).messages ≡ long_data ++ message ∷ []
+  pub own_data : All (λ (before : Framed). is_for com_long_data there before.payload ≡ true) long_data
   pub whole : (written_in written).rest ≡ []
   pub executes : is_for com_execute there message.payload ≡ true
+  pub plain : take 5 (drop 5 message.payload) ≡ 0 ∷ 1 ∷ 0 ∷ 0 ∷ 0 ∷ []
   pub params : ℕ
   pub arguments : args_in params there (λ i. false) 0 long_data message.payload ≡ args
 
@@ -96,10 +98,15 @@ pub record IsTrueReset (wire : Wire) : Type 0 where
   pub last : has_more end.flags ≡ false
   pub front : IsFront wire.unread (spelling (reply_id wire) answer)
 
+-- A server that dropped a link may say there why (ERR 4031), where nothing that it was asked is unread. It lies unread.
+pub record IsFarewell (link : Link) : Type 0 where
+  pub dropped : link.alive ≡ false
+  pub quiet : link.stage ≡ Quiet
+
 pub record IsTrueGot (setup : Setup) (plan : Plan) (server : Step) (tale : Tale) (link : LinkId) (wire : Wire) : Type 0 where
   pub login : (tale.wires link).entered ≡ false → IsTrueLogin plan link wire
-  pub read : (tale.wires link).entered ≡ true → is_reset_step wire.step ≡ false → IsTrueRead setup server link wire tale
-  pub reset : (tale.wires link).entered ≡ true → is_reset_step wire.step ≡ true → IsTrueReset wire
+  pub read : (tale.wires link).entered ≡ true → is_reset_step wire.step ≡ false → IsFarewell (link_in setup tale link) ⊎ IsTrueRead setup server link wire tale
+  pub reset : (tale.wires link).entered ≡ true → is_reset_step wire.step ≡ true → IsFarewell (link_in setup tale link) ⊎ IsTrueReset wire
 
 abbrev pub IsTrue : Setup → Plan → Step → Tale → Entry → Type 0
 IsTrue setup plan server tale (Exec link) = (tale.wires link).entered ≡ true → IsTrueExec setup server tale link

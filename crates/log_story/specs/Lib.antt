@@ -7,3 +7,5 @@ pub mod Servers
 pub mod Telling
 pub mod Honest
 pub mod Headline
+pub mod Said
+pub mod Assumed

@@ -1,14 +1,15 @@
 -- The bytes that a client is due, where these are the replies to its messages.
-use Rattle.std.specs.Prelude.{ℕ, suc, ◌-◌, Bool, nat_lt, if◌then◌else◌, length, take, List, [], ◌∷◌, ◌++◌, Option, Some, None}
+use Rattle.std.specs.Prelude.{ℕ, suc, ◌-◌, Bool, nat_eq, nat_lt, if◌then◌else◌, length, take, List, [], ◌∷◌, ◌++◌, Option, Some, None}
 use Rattle.std.specs.Option.{option_map_or}
-use Rattle.packet_frame.specs.Packets.{Framed, next_id, spellings}
+use Rattle.packet_frame.specs.Packets.{Framed, id_of_answer, next_id, spellings}
 use Rattle.reply_track.specs.declared.reply.ReplyKind.{ReplyKind}
 use Rattle.reply_track.specs.declared.reply.ReplyKind.TheVariants as kind
 use Rattle.reply_track.specs.Grammar.{renamed}
-use Rattle.client_session.specs.Answers.{Talk, fault_answer, front, messages_of}
+use Rattle.client_side.specs.Login.{Fails, Opening, Says, Waits, switched_of}
+use Rattle.client_session.specs.Answers.{Talk, fault_answer, front, greeted, messages_of, opening_of}
 use Rattle.session_state.specs.declared.names.MessageName.{MessageName}
 use Rattle.private_model.specs.Commands.{Reply}
-use Rattle.log_story.specs.Plan.{Plan, own_at}
+use Rattle.log_story.specs.Plan.{Alone, Behind, ForLogin, LastWord, Plan, WordPlace, own_at, word_at}
 use Rattle.log_story.specs.Tale.{Client}
 
 abbrev pub talk_of : Plan → Client → Talk
@@ -47,9 +48,34 @@ due_for replies plan moment client last i (message ∷ others) =
 abbrev pub last_error : Plan → Client → List ℕ
 last_error plan client = fault_answer plan.service.limit (messages_of (talk_of plan client)).fault
 
--- with what is said to its login
+-- it stands behind the answers to all messages, once all were taken up
+abbrev pub error_behind : Plan → Client → List ℕ
+error_behind plan client = if nat_eq client.taken (length (messages plan client)) then last_error plan client else []
+
+-- to its login, and to the messages that were taken up
+abbrev pub due_until : (MessageName → Option Reply) → Plan → (moment : ℕ) → Client → List ℕ
+due_until replies plan moment client =
+    front (talk_of plan client) ++ due_for replies plan moment client (error_behind plan client) 1 (take client.taken (messages plan client))
+
+-- The last word has the id behind the last header that was read of the client, and in place of the answer to its login that answer's.
+
+abbrev pub login_id : (read : List ℕ) → Opening → ℕ
+login_id read (Waits switched) = id_of_answer read
+login_id read (Says switched response id rest) = id
+login_id read (Fails switched fault id) = id
+
+abbrev pub word_in : Talk → (otherwise : List ℕ) → WordPlace → (payloads : List (List ℕ)) → List ℕ
+word_in talk otherwise Alone payloads = spellings 0 payloads
+word_in talk otherwise ForLogin payloads = greeted talk (switched_of (opening_of talk)) ++ spellings (login_id talk.read (opening_of talk)) payloads
+word_in talk otherwise Behind payloads = otherwise ++ spellings (id_of_answer (messages_of talk).rest) payloads
+
+abbrev pub with_word : Talk → (otherwise : List ℕ) → Option LastWord → List ℕ
+with_word talk otherwise None = otherwise
+with_word talk otherwise (Some word) = word_in talk otherwise word.place word.payloads
+
+-- all that it is due by now
 abbrev pub due_bytes : (MessageName → Option Reply) → Plan → (moment : ℕ) → Client → List ℕ
-due_bytes replies plan moment client = front (talk_of plan client) ++ due_for replies plan moment client (last_error plan client) 1 (messages plan client)
+due_bytes replies plan moment client = with_word (talk_of plan client) (due_until replies plan moment client) (word_at plan moment client.number)
 
 -- While too many bytes for it are unwritten, those of its login among them, a client's messages wait.
 

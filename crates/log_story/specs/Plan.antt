@@ -23,6 +23,19 @@ pub record OwnAnswer : Type 0 where
   pub from : ℕ
   pub payloads : List (List ℕ)
 
+-- The last that a client is told, where it stands for no message: an ERR, or nothing; alone, for a client that is turned away, in
+-- place of the answer to its login, or behind all that it was answered; and from which entry of the log on.
+
+pub data WordPlace : Type 0 where
+  Alone : WordPlace
+  ForLogin : WordPlace
+  Behind : WordPlace
+
+pub record LastWord : Type 0 where
+  pub from : ℕ
+  pub place : WordPlace
+  pub payloads : List (List ℕ)
+
 -- a step: a command, a STMT_CLOSE or a STMT_RESET of a number
 pub data StepText : Type 0 where
   Asks : Command → StepText
@@ -30,8 +43,8 @@ pub data StepText : Type 0 where
   Resets : (number : ℕ) → StepText
 
 -- By what clients log in; how many bytes for a client are unwritten while its messages wait; who logs in on each link to a
--- server; where each message goes, if it goes to a server; what the router answers itself; at which entry it ends a client; and
--- which step it is that begins as so many questions were begun on a link.
+-- server; where each message goes, if it goes to a server; what the router answers itself; at which entry it ends a client, and
+-- its last word to it; and which step it is that begins as so many questions were begun on a link.
 pub record Plan : Type 0 where
   pub service : Service
   pub room : ℕ
@@ -39,11 +52,16 @@ pub record Plan : Type 0 where
   pub routes : MessageName → Option Route
   pub own : MessageName → Option OwnAnswer
   pub ends : ClientNo → Option ℕ
+  pub words : ClientNo → Option LastWord
   pub steps : LinkId → (begun : ℕ) → StepText
 
 -- after so many entries
 abbrev pub own_at : Plan → (moment : ℕ) → MessageName → Option (List (List ℕ))
 own_at plan moment message = option_and_then (λ answer. if nat_le answer.from moment then Some answer.payloads else None) (plan.own message)
+
+-- the last word to a client, by then
+abbrev pub word_at : Plan → (moment : ℕ) → ClientNo → Option LastWord
+word_at plan moment client = option_and_then (λ (word : LastWord). if nat_le word.from moment then Some word else None) (plan.words client)
 
 abbrev pub is_now : (moment : ℕ) → Option ℕ → Bool
 is_now moment at = option_map_or (λ n. nat_eq n moment) at false

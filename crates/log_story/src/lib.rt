@@ -12,8 +12,11 @@ ghost use Rattle.private_model.specs.View.{Setup};
 ghost use Rattle.server_rule.specs.Laws.{IsTame};
 ghost use Rattle.server_rule.specs.Servers.{Step, Tests};
 ghost use Rattle.log_story.specs.Clients.{next_taken, waits_for_capture};
-ghost use Rattle.log_story.specs.Headline.{HasPrivateBytes};
+ghost use Rattle.mx_wire.specs.Moments.{AtEachMoment};
+ghost use Rattle.log_story.specs.Assumed.{AreHonest};
+ghost use Rattle.log_story.specs.Headline.{HasPrivateBytes, WritesDue, WritesPrivate};
 ghost use Rattle.log_story.specs.Honest.{IsHonestLog};
+ghost use Rattle.log_story.specs.Said.{IsSaidLog};
 ghost use Rattle.log_story.specs.Owed.{unwritten};
 ghost use Rattle.log_story.specs.Plan.{Plan};
 ghost use Rattle.log_story.specs.Servers.{is_done};
@@ -28,13 +31,39 @@ pub fn honest_story()
         → IsHonest setup (runs server) (story_of setup plan log) }
 {}
 
-/// Where servers are tame, the bytes of a log are honest and its story is lawful, each reply that is read is the private one,
-/// byte by byte as far as it is read, and so is what each client is due by it.
-pub fn private_bytes()
+/// What the router writes on links to servers, and what is assumed of servers, are together that the log is honest.
+pub fn honest_log()
+    ensures { (setup : Setup) (plan : Plan) (server : Step) (log : Log) → IsSaidLog setup plan log → AreHonest setup plan server log
+        → IsHonestLog setup plan server log }
+{}
+
+/// Where servers are tame, a log is honest and its story is lawful, each reply that is read is the private one, byte by byte as
+/// far as it is read, and so is what each client is due by it.
+pub fn honest_bytes()
     ensures { (setup : Setup) (plan : Plan) (tests : Tests) (server : Step) (log : Log) → IsTame setup.reads tests server → IsAccepted setup tests
         → IsLawful setup (story_of setup plan log) → IsHonestLog setup plan server log → HasPrivateBytes setup plan server log }
 {
     private_world();
+}
+
+/// So it is where the router writes what its questions are, and servers are tame and honest.
+pub fn private_bytes()
+    ensures { (setup : Setup) (plan : Plan) (tests : Tests) (server : Step) (log : Log) → IsTame setup.reads tests server → IsAccepted setup tests
+        → IsLawful setup (story_of setup plan log) → IsSaidLog setup plan log → AreHonest setup plan server log
+        → HasPrivateBytes setup plan server log }
+{
+    honest_log();
+    honest_bytes();
+}
+
+/// And where at each moment it has written to each client a front of what it is due by the replies that were read, it has at each
+/// moment written to each client without a last word a front of what its private world owes it.
+pub fn written_is_private()
+    ensures { (setup : Setup) (plan : Plan) (tests : Tests) (server : Step) (log : Log) → IsTame setup.reads tests server → IsAccepted setup tests
+        → IsLawful setup (story_of setup plan log) → IsSaidLog setup plan log → AreHonest setup plan server log
+        → AtEachMoment (WritesDue setup plan) log → AtEachMoment (WritesPrivate setup plan server) log }
+{
+    private_bytes();
 }
 
 /// While too many bytes for a client are unwritten, no message of it is taken up.

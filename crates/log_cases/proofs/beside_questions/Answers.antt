@@ -3,4 +3,4 @@ use Rattle.log_cases.proofs.Computed.{beside_lawful, computed, worked_so}
 use Rattle.log_cases.proofs.beside_questions.Goals as goal
 
 pub returns : goal.returns
-returns c = worked_so c.private_bytes.ensures beside_plan beside_log beside_story computed.beside beside_lawful
+returns c = worked_so c.honest_bytes.ensures beside_plan beside_log beside_story computed.beside beside_lawful

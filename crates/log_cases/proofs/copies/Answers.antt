@@ -3,4 +3,4 @@ use Rattle.log_cases.proofs.Computed.{computed, copy_lawful, worked_so}
 use Rattle.log_cases.proofs.copies.Goals as goal
 
 pub returns : goal.returns
-returns c = worked_so c.private_bytes.ensures copy_plan copy_log copy_story computed.copies copy_lawful
+returns c = worked_so c.honest_bytes.ensures copy_plan copy_log copy_story computed.copies copy_lawful

@@ -4,6 +4,6 @@ use Rattle.log_cases.proofs.executes.Goals as goal
 
 pub returns : goal.returns
 returns c = record {
-  worked = worked_so c.private_bytes.ensures execute_plan execute_log execute_story computed.executes execute_lawful;
+  worked = worked_so c.honest_bytes.ensures execute_plan execute_log execute_story computed.executes execute_lawful;
   owed = computed.preparer_owed;
 }

@@ -8,6 +8,6 @@ returns c = record {
   waits_for_an_event = computed.waits_on;
   becomes_due = computed.becomes_due;
   is_given_up = computed.is_given_up;
-  worked = worked_so c.private_bytes.ensures own_plan goes_on given_up computed.own own_lawful;
+  worked = worked_so c.honest_bytes.ensures own_plan goes_on given_up computed.own own_lawful;
   owed = computed.asker_owed;
 }

@@ -6,6 +6,6 @@ use Rattle.log_cases.proofs.worked_log.Goals as goal
 
 pub returns : goal.returns
 returns c = record {
-  worked = worked_so c.private_bytes.ensures plan log shared computed.worked shared_lawful;
+  worked = worked_so c.honest_bytes.ensures plan log shared computed.worked shared_lawful;
   owed = computed.second_owed;
 }
