@@ -217,32 +217,30 @@ written_so (Run text schema settings args) number written so = execute_so number
 written_so command number written so = (bytes_eq-Decides _ _).0 so
 
 -- what was written for a question that may run spells it
-abbrev written_tested : (live : ℕ → Option ℕ) → (written : List ℕ) → (alive : Bool) → Stage → Bool
-written_tested live written true (Asked question) = is_written (command_of question) (number_for question live) written
-written_tested live written _ _ = true
+abbrev written_tested : (live : ℕ → Option ℕ) → (written : List ℕ) → Stage → Bool
+written_tested live written (Asked question) = is_written (command_of question) (number_for question live) written
+written_tested live written _ = true
 
-asked_so : (live : ℕ → Option ℕ) (written : List ℕ) (alive : Bool) (stage : Stage) → written_tested live written alive stage ≡ true
-    → (question : Question) → alive ≡ true → stage ≡ Asked question → IsWritten (command_of question) (number_for question live) written
-asked_so live written true (Asked other) so question a s =
+asked_so : (live : ℕ → Option ℕ) (written : List ℕ) (stage : Stage) → written_tested live written stage ≡ true
+    → (question : Question) → stage ≡ Asked question → IsWritten (command_of question) (number_for question live) written
+asked_so live written (Asked other) so question s =
     let same : other ≡ question = cc in
     subst (λ q. IsWritten (command_of q) (number_for q live) written) same (written_so (command_of other) (number_for other live) written so)
-asked_so live written true Quiet so question a s = absurd (cc)
-asked_so live written true (Answered other) so question a s = absurd (cc)
-asked_so live written false stage so question a s = isnt a
+asked_so live written Quiet so question s = absurd (cc)
+asked_so live written (Answered other) so question s = absurd (cc)
 
 abbrev runs_tested : Setup → Step → Tale → LinkId → Bool
 runs_tested setup server tale link =
-    written_tested (link_in setup tale link).live (tale.wires link).written (link_in setup tale link).alive (link_in setup tale link).stage
-    && is_fresh (runs server) (real_of setup server tale) link (link_in setup tale link).live (link_in setup tale link).alive
-    (link_in setup tale link).stage (link_in setup tale link).server
+    written_tested (link_in setup tale link).live (tale.wires link).written (link_in setup tale link).stage
+    && is_fresh (runs server) (real_of setup server tale) link (link_in setup tale link).live (link_in setup tale link).stage (link_in setup tale link).server
 
 run_so : (setup : Setup) (server : Step) (tale : Tale) (link : LinkId) → runs_tested setup server tale link ≡ true → IsTrueRun setup server tale link
 run_so setup server tale link so =
     let both = and_parts _ _ so in
     record {
-      written = asked_so (link_in setup tale link).live (tale.wires link).written (link_in setup tale link).alive (link_in setup tale link).stage both.0;
-      fresh = fresh_so (runs server) (real_of setup server tale) link (link_in setup tale link).live (link_in setup tale link).alive
-          (link_in setup tale link).stage (link_in setup tale link).server both.1;
+      written = asked_so (link_in setup tale link).live (tale.wires link).written (link_in setup tale link).stage both.0;
+      true_run = fresh_so (runs server) (real_of setup server tale) link (link_in setup tale link).live (link_in setup tale link).stage
+          (link_in setup tale link).server both.1;
     }
 
 -- What is read.

@@ -108,13 +108,13 @@ module _ (setup : Setup) (view : View) where
   logged-in-rests link server account = link-rests link (new_link server account)
 
   pub ran-rests : (link : LinkId) → Rests (only_link link) nobody view (view_step setup view (Ran link))
-  ran-rests link = link-rests link (ran_by setup.reads (view.links link).alive (view.links link).stage (view.links link))
+  ran-rests link = link-rests link (ran_by setup.reads (view.links link).stage (view.links link))
 
   pub unprepared-rests : (link : LinkId) (number : ℕ) → Rests (only_link link) nobody view (view_step setup view (Unprepared link number))
   unprepared-rests link number = link-rests link (closed_number number (view.links link))
 
   pub dropped-rests : (link : LinkId) → Rests (only_link link) nobody view (view_step setup view (Dropped link))
-  dropped-rests link = link-rests link (record (view.links link) { alive = false })
+  dropped-rests link = same-rests (only_link link) nobody view
 
   pub mirrored-rests : (client job : ClientNo) → Rests no_link_at nobody view (view_step setup view (Mirrored client job))
   mirrored-rests client job =

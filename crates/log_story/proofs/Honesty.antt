@@ -50,10 +50,10 @@ said-behind setup plan tale link entered says =
 
 run-true : (setup : Setup) (plan : Plan) (server : Step) (tale : Tale) (link : LinkId) → IsSaidBehind (tale.wires link) (link_in setup tale link) → servers.IsRun setup server tale link → IsTrueRun setup server tale link
 run-true setup plan server tale link said run = record {
-  written = λ question alive at. begun-written (command_of question) (number_for question (link_in setup tale link).live) (tale.wires link).written
+  written = λ question at. begun-written (command_of question) (number_for question (link_in setup tale link).live) (tale.wires link).written
       (question-at (link_in setup tale link).stage (link_in setup tale link).live (tale.wires link).written question at said.question)
-      (run.whole question alive at);
-  fresh = run.fresh;
+      (run.whole question at);
+  true_run = run.true_run;
 }
 
 -- in a login

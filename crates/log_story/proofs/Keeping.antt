@@ -50,9 +50,10 @@ folds : {A : Type 0} (P : Tale → Type 0) (f : Tale → A → Tale) → ((tale 
 folds P f keeps [] tale holds = holds
 folds P f keeps (x ∷ xs) tale holds = folds P f keeps xs (f tale x) (keeps tale x holds)
 
--- What holds of a story as true happenings are told.
+-- What holds of an honest story as true happenings are told.
 pub record Kept (setup : Setup) (server : Step) : Type 1 where
   pub holds : Story → Type 0
+  pub honest : (story : Story) → holds story → IsHonest setup (runs server) story
   pub more : (past : Story) (e : Happening) → IsTrueOf (runs server) (view_after setup past) (real_after setup (runs server) past) e → holds past
       → holds (e ∷ past)
 
@@ -207,7 +208,7 @@ module _ (setup : Setup) (plan : Plan) (server : Step) (k : Kept setup server) w
   pub running_keeps : (link : LinkId) (wire : Wire) (tale : Tale) (stage : Stage) → IsTrueRead setup server link wire tale
       → (link_in setup tale link).stage ≡ stage → Holds tale → Holds (runs_first stage link tale)
   running_keeps link wire tale Quiet read is holds = holds
-  running_keeps link wire tale (Asked question) read is holds = k.more _ _ (read.ran question is).fresh holds
+  running_keeps link wire tale (Asked question) read is holds = k.more _ _ (read.ran question is).true_run holds
   running_keeps link wire tale (Answered question) read is holds = holds
 
   hearing_keeps : (link : LinkId) (wire : Wire) (question : Question) (ending : Ending) (tale : Tale) → (link_in setup tale link).stage ≡ Answered question
@@ -219,7 +220,7 @@ module _ (setup : Setup) (plan : Plan) (server : Step) (k : Kept setup server) w
         question = question;
         ran = ran;
         same = same_reply wire question ((real_of setup server tale).peers link).answer end rest reply
-            (subst (λ stage. HasForm stage ((real_of setup server tale).peers link).answer) ran (story_formed setup server tale.story link)) found;
+            (subst (λ stage. HasForm stage ((real_of setup server tale).peers link).answer) ran (story_formed setup server tale.story (k.honest tale.story holds) link)) found;
       }) holds
   hearing_keeps link wire question (Failed rest) tale ran reply found holds = holds
 
@@ -231,7 +232,7 @@ module _ (setup : Setup) (plan : Plan) (server : Step) (k : Kept setup server) w
       (hearing_keeps link wire read.question (read_as (kind_by (command_of read.question)) wire) before read.answered read.reply refl ran)
 
   -- what is said behind a drop lies unread
-  farewell_keeps : (link : LinkId) (wire : Wire) (tale : Tale) → IsFarewell (link_in setup tale link) → Holds tale → Holds (reads_on setup link wire tale)
+  farewell_keeps : (link : LinkId) (wire : Wire) (tale : Tale) → IsFarewell setup server tale link → Holds tale → Holds (reads_on setup link wire tale)
   farewell_keeps link wire tale is holds =
       subst (λ s. Holds (hears link wire (link_in setup (runs_first s link tale) link).stage (runs_first s link tale))) (sym is.quiet)
       (subst (λ s. Holds (hears link wire s tale)) (sym is.quiet) holds)
@@ -271,7 +272,7 @@ module _ (setup : Setup) (plan : Plan) (server : Step) (k : Kept setup server) w
   told_keeps tale (entry.Exec link) is holds =
       if_either Holds (tale.wires link).entered _ _
       (λ there. if_either (λ e. Holds (tell e tale)) (tale.wires link).quits (Dropped link) (Ran link) (λ quits. k.more _ _ tt holds)
-      (λ goes. k.more _ _ ((is there).runs goes).fresh holds)) (λ other. holds)
+      (λ goes. k.more _ _ ((is there).runs goes).true_run holds)) (λ other. holds)
   told_keeps tale (entry.Drop link) is holds = k.more _ _ tt holds
   told_keeps tale (entry.Ended link) is holds = losing_keeps link tale holds
   told_keeps tale (entry.ReadFailed link) is holds = losing_keeps link tale holds
@@ -294,7 +295,7 @@ module _ (setup : Setup) (plan : Plan) (server : Step) (k : Kept setup server) w
 
 -- it stays honest
 abbrev pub honesty : (setup : Setup) (server : Step) → Kept setup server
-honesty setup server = record { holds = IsHonest setup (runs server); more = λ past e is holds. (holds, is) }
+honesty setup server = record { holds = IsHonest setup (runs server); honest = λ story is. is; more = λ past e is holds. (holds, is) }
 
 pub story_kept : (setup : Setup) (plan : Plan) (server : Step) (log : Log) → IsHonestLog setup plan server log
     → IsHonest setup (runs server) (story_of setup plan log)
@@ -302,8 +303,13 @@ story_kept setup plan server log honest = kept_from setup plan server (honesty s
 
 -- where a longer story is lawful, this one is
 abbrev pub lawful_of : (setup : Setup) (server : Step) (story : Story) → Kept setup server
-lawful_of setup server story = record { holds = λ later. IsLawful setup later → IsLawful setup story; more = λ past e is holds lawful. holds lawful.0 }
+lawful_of setup server story = record {
+  holds = λ later. IsHonest setup (runs server) later × (IsLawful setup later → IsLawful setup story);
+  honest = λ later is. is.0;
+  more = λ past e is holds. ((holds.0, is), λ lawful. holds.1 lawful.0);
+}
 
-pub lawful_before : (setup : Setup) (plan : Plan) (server : Step) (log : Log) (tale : Tale) → IsHonestFrom setup plan server tale log
-    → IsLawful setup (fold (tale_step setup plan) tale log).story → IsLawful setup tale.story
-lawful_before setup plan server log tale honest lawful = kept_from setup plan server (lawful_of setup server tale.story) log tale honest (λ is. is) lawful
+pub lawful_before : (setup : Setup) (plan : Plan) (server : Step) (log : Log) (tale : Tale) → IsHonest setup (runs server) tale.story
+    → IsHonestFrom setup plan server tale log → IsLawful setup (fold (tale_step setup plan) tale log).story → IsLawful setup tale.story
+lawful_before setup plan server log tale before honest lawful =
+    (kept_from setup plan server (lawful_of setup server tale.story) log tale honest (before, λ is. is)).1 lawful

@@ -53,7 +53,7 @@ read_there setup plan server link wire tale law lawful honest read n due ran =
     running_lawful (Answered question) = lawful
 
 -- no reply is read behind a drop
-nothing_read : (setup : Setup) (server : Step) (link : LinkId) (wire : Wire) (tale : Tale) → IsFarewell (link_in setup tale link)
+nothing_read : (setup : Setup) (server : Step) (link : LinkId) (wire : Wire) (tale : Tale) → IsFarewell setup server tale link
     → IsPrivateRead setup server link wire tale
 nothing_read setup server link wire tale is n due ran =
     let still : (link_in setup (with_run setup link tale) link).stage ≡ Quiet =
@@ -74,7 +74,7 @@ pub private_from : (setup : Setup) (plan : Plan) (server : Step) (log : Log) (ta
     → IsPrivateFrom setup plan server tale log
 private_from setup plan server [] tale law lawful honest all = moment setup plan server tale law lawful honest
 private_from setup plan server (e ∷ log) tale law lawful honest all =
-    let here = lawful_before setup plan server (e ∷ log) tale all lawful in (
+    let here = lawful_before setup plan server (e ∷ log) tale honest all lawful in (
       moment setup plan server tale law here honest,
       entry_there setup plan server tale e law here honest all.0,
       private_from setup plan server log (tale_step setup plan tale e) law lawful (step_keeps setup plan server (honesty setup server) tale e all.0 honest)

@@ -142,12 +142,10 @@ module _ (setup : Setup) (link : LinkId) (tale : Tale) where
   first-run-moved (Asked question) = ran-moved setup link tale
   first-run-moved (Answered question) = same-moved setup (only_link link) nobody tale
 
-  ran_session : (reads : Reads) (alive : Bool) (stage : Stage) (known : Link) → known.stage ≡ stage
-      → asker_at (ran_by reads alive stage known).stage ≡ asker_at stage
-  ran_session reads true (Asked question) known is = refl
-  ran_session reads true Quiet known is = ap asker_at is
-  ran_session reads true (Answered question) known is = ap asker_at is
-  ran_session reads false stage known is = ap asker_at is
+  ran_session : (reads : Reads) (stage : Stage) (known : Link) → known.stage ≡ stage → asker_at (ran_by reads stage known).stage ≡ asker_at stage
+  ran_session reads (Asked question) known is = refl
+  ran_session reads Quiet known is = ap asker_at is
+  ran_session reads (Answered question) known is = ap asker_at is
 
   abbrev session_behind : Stage → Option SessionName
   session_behind stage = asker_at (link_in setup (runs_first stage link tale) link).stage
@@ -160,8 +158,8 @@ module _ (setup : Setup) (link : LinkId) (tale : Tale) where
       by Quiet is = ap session_behind is
       by (Answered question) is = ap session_behind is
       by (Asked question) is = ap session_behind is
-          ∙ ap (λ b. asker_at (if b then ran_by setup.reads there.alive there.stage there else there).stage) (same_link link)
-          ∙ ran_session setup.reads there.alive there.stage there refl
+          ∙ ap (λ b. asker_at (if b then ran_by setup.reads there.stage there else there).stage) (same_link link)
+          ∙ ran_session setup.reads there.stage there refl
 
   pub heard-moved : (question : Question) (wire : Wire) (ending : Ending)
       → Moved setup (only_link link) (is_whose (asker_at there.stage)) tale (heard_by link question wire ending tale)

@@ -29,11 +29,11 @@ IsWhole command number written = (more : List ℕ) → Begins command number (wr
 abbrev pub IsAllOf : (whole written : List ℕ) → Type 0
 IsAllOf whole written = (more : List ℕ) → IsFront (written ++ more) whole → more ≡ []
 
--- a run is of a whole command, and the number that it gives to what it prepares is unused there
+-- a run is of a whole command, on a link that isn't dropped, and the number that it gives to what it prepares is unused there
 pub record IsRun (setup : Setup) (server : Step) (tale : Tale) (link : LinkId) : Type 0 where
-  pub whole : (question : Question) → (link_in setup tale link).alive ≡ true → (link_in setup tale link).stage ≡ Asked question
+  pub whole : (question : Question) → (link_in setup tale link).stage ≡ Asked question
       → IsWhole (command_of question) (number_for question (link_in setup tale link).live) (tale.wires link).written
-  pub fresh : IsTrueOf (runs server) (view_of setup tale) (real_of setup server tale) (Ran link)
+  pub true_run : IsTrueOf (runs server) (view_of setup tale) (real_of setup server tale) (Ran link)
 
 pub record IsExec (setup : Setup) (server : Step) (tale : Tale) (link : LinkId) : Type 0 where
   pub runs : (tale.wires link).quits ≡ false → IsRun setup server tale link
@@ -68,8 +68,8 @@ pub record IsResetReply (wire : Wire) : Type 0 where
 
 pub record IsHeard (setup : Setup) (plan : Plan) (server : Step) (tale : Tale) (link : LinkId) (wire : Wire) : Type 0 where
   pub login : (tale.wires link).entered ≡ false → IsWelcome plan link wire
-  pub read : (tale.wires link).entered ≡ true → is_reset_step wire.step ≡ false → IsFarewell (link_in setup tale link) ⊎ IsReply setup server link wire tale
-  pub reset : (tale.wires link).entered ≡ true → is_reset_step wire.step ≡ true → IsFarewell (link_in setup tale link) ⊎ IsResetReply wire
+  pub read : (tale.wires link).entered ≡ true → is_reset_step wire.step ≡ false → IsFarewell setup server tale link ⊎ IsReply setup server link wire tale
+  pub reset : (tale.wires link).entered ≡ true → is_reset_step wire.step ≡ true → IsFarewell setup server tale link ⊎ IsResetReply wire
 
 -- a mark stands on a link to a server
 pub record IsMark (setup : Setup) (server : Step) (tale : Tale) (link : LinkId) : Type 0 where

@@ -13,7 +13,7 @@ use Rattle.server_rule.specs.Servers.{Step}
 use Rattle.private_model.specs.Commands.{Args, Command, Quit, Reply, Run, runs}
 use Rattle.private_model.specs.Honest.{IsTrueOf}
 use Rattle.private_model.specs.Story.{Question, Ran, command_of, for_statement}
-use Rattle.private_model.specs.View.{Answered, Asked, Link, Quiet, Setup}
+use Rattle.private_model.specs.View.{Answered, Asked, Quiet, Setup}
 use Rattle.private_model.specs.Worlds.{Real, real_after}
 use Rattle.log_story.specs.Executes.{args_in, is_for}
 use Rattle.log_story.specs.Plan.{Closes, Plan, Resets, StepText, com_execute, com_long_data, step_payload, text_payload}
@@ -51,11 +51,11 @@ number_for question live = for_statement question (λ n due. live due.key) None
 abbrev pub real_of : Setup → Step → Tale → Real
 real_of setup server tale = real_after setup (runs server) tale.story
 
--- A run is of what was written.
+-- A run is of what was written, on a link that isn't dropped.
 pub record IsTrueRun (setup : Setup) (server : Step) (tale : Tale) (link : LinkId) : Type 0 where
-  pub written : (question : Question) → (link_in setup tale link).alive ≡ true → (link_in setup tale link).stage ≡ Asked question
+  pub written : (question : Question) → (link_in setup tale link).stage ≡ Asked question
       → IsWritten (command_of question) (number_for question (link_in setup tale link).live) (tale.wires link).written
-  pub fresh : IsTrueOf (runs server) (view_of setup tale) (real_of setup server tale) (Ran link)
+  pub true_run : IsTrueOf (runs server) (view_of setup tale) (real_of setup server tale) (Ran link)
 
 -- so it is where the log's mark says so, of a QUIT too
 pub record IsTrueExec (setup : Setup) (server : Step) (tale : Tale) (link : LinkId) : Type 0 where
@@ -99,14 +99,14 @@ pub record IsTrueReset (wire : Wire) : Type 0 where
   pub front : IsFront wire.unread (spelling (reply_id wire) answer)
 
 -- A server that dropped a link may say there why (ERR 4031), where nothing that it was asked is unread. It lies unread.
-pub record IsFarewell (link : Link) : Type 0 where
-  pub dropped : link.alive ≡ false
-  pub quiet : link.stage ≡ Quiet
+pub record IsFarewell (setup : Setup) (server : Step) (tale : Tale) (link : LinkId) : Type 0 where
+  pub dropped : ((real_of setup server tale).peers link).alive ≡ false
+  pub quiet : (link_in setup tale link).stage ≡ Quiet
 
 pub record IsTrueGot (setup : Setup) (plan : Plan) (server : Step) (tale : Tale) (link : LinkId) (wire : Wire) : Type 0 where
   pub login : (tale.wires link).entered ≡ false → IsTrueLogin plan link wire
-  pub read : (tale.wires link).entered ≡ true → is_reset_step wire.step ≡ false → IsFarewell (link_in setup tale link) ⊎ IsTrueRead setup server link wire tale
-  pub reset : (tale.wires link).entered ≡ true → is_reset_step wire.step ≡ true → IsFarewell (link_in setup tale link) ⊎ IsTrueReset wire
+  pub read : (tale.wires link).entered ≡ true → is_reset_step wire.step ≡ false → IsFarewell setup server tale link ⊎ IsTrueRead setup server link wire tale
+  pub reset : (tale.wires link).entered ≡ true → is_reset_step wire.step ≡ true → IsFarewell setup server tale link ⊎ IsTrueReset wire
 
 abbrev pub IsTrue : Setup → Plan → Step → Tale → Entry → Type 0
 IsTrue setup plan server tale (Exec link) = (tale.wires link).entered ≡ true → IsTrueExec setup server tale link

@@ -1,22 +1,23 @@
 -- The law: by induction on the story.
-use Rattle.std.specs.Prelude.{nat_eq, List, ◌≡◌, ℕ, Bool, true, false, [], ◌∷◌, Some, None}
+use Rattle.std.specs.Prelude.{nat_eq, not, List, ◌≡◌, ℕ, Bool, true, false, [], ◌∷◌, Some, None}
 use Rattle.std.proofs.Common.{refl, sym, ap, ◌∙◌, subst}
 use Rattle.private_model.specs.Names.{LinkId, ServerId, MessageName, SessionName}
 use Rattle.private_model.proofs.Answering.{are_heard, are_linked, are_ran, are_sent, are_still}
 use Rattle.private_model.proofs.Decoding.{are_decoded, tabled_ran}
+use Rattle.private_model.proofs.Maps.{put-back}
 use Rattle.private_model.proofs.Meeting.{mark_of}
-use Rattle.private_model.proofs.Preparing.{Tabled, tabled_closed, tabled_dead, tabled_dropped, tabled_freed, tabled_gone, tabled_heard, tabled_login, tabled_sent}
-use Rattle.private_model.proofs.Running.{closed_so, dropped_so, gone_so, logged_in_so, met_there, ran_so, same_reply, stands_first}
+use Rattle.private_model.proofs.Preparing.{Tabled, tabled_closed, tabled_dropped, tabled_freed, tabled_gone, tabled_heard, tabled_login, tabled_sent}
+use Rattle.private_model.proofs.Running.{closed_so, dead_runs, dropped_so, gone_so, logged_in_so, met_there, ran_so, same_reply, stands_first}
 use Rattle.private_model.proofs.Sending.{freed_so, heard_so, sent}
 use Rattle.private_model.proofs.Stands.{AreAnswered, AreTabled, Stands, message_on, ran_on, heard, quieted, heard_now}
 use Rattle.private_model.proofs.Tame.{Tame}
 use Rattle.private_model.specs.Commands.{Command, Prepare, Quit, ReadId, Reply, Reset, Step}
 use Rattle.private_model.specs.Headline.{MeetsPrivate}
-use Rattle.private_model.specs.Honest.{IsAccepted, IsAnswer, IsHonest, IsTrueOf}
+use Rattle.private_model.specs.Honest.{IsAccepted, IsAnswer, IsHonest, IsTrueOf, IsTrueRun}
 use Rattle.private_model.specs.Lawful.{IsLawful, MayCome, MaySend}
-use Rattle.private_model.specs.Story.{BecameDue, Broke, Capture, Dropped, End, Freed, Gone, Happening, Heard, Left, LoggedIn, Mirrored, Own, Prep, Question, Ran, Sent, Statement, Story, Sync, Unprepared, for_statement, is_link_id, is_message, message_of, put}
-use Rattle.private_model.specs.View.{Answered, Asked, Carried, Joined, Lent, Link, Nobody, Setup, Stage, View, asked, closed_number, freed, new_link, ran_by, view_heard, view_after, view_step}
-use Rattle.private_model.specs.Worlds.{Peer, Private, Real, decoded, new_peer, private_after, private_drop, private_prep, private_run, private_step, real_after, real_drop, real_run, real_step, there_table}
+use Rattle.private_model.specs.Story.{BecameDue, Broke, Capture, Dropped, End, Freed, Gone, Happening, Heard, Left, LoggedIn, Mirrored, Own, Prep, Question, Ran, Sent, Statement, Story, Sync, Unprepared, command_of, for_statement, is_link_id, is_message, message_of, put}
+use Rattle.private_model.specs.View.{Answered, Asked, Carried, Joined, Lent, Link, Nobody, Quiet, Setup, Stage, View, is_quit, asked, closed_number, freed, new_link, ran_by, view_heard, view_after, view_step}
+use Rattle.private_model.specs.Worlds.{Peer, Private, Real, alive_in, decoded, new_peer, private_after, private_drop, private_prep, private_run, private_step, real_after, real_drop, real_run, real_step, there_table}
 use Rattle.server_rule.specs.Servers.{Tests}
 use Rattle.session_state.specs.Pins.{is_pinned}
 use Rattle.std.specs.Option.{option_and_then}
@@ -24,12 +25,12 @@ use Rattle.std.specs.Option.{option_and_then}
 -- The data and the sessions.
 
 stands_next : (setup : Setup) (tests : Tests) (step : Step) → Tame setup.reads tests step → (view : View) (real : Real) (private : Private) (e : Happening) → Stands setup tests view real private → Tabled setup view real private → MayCome setup view e → IsTrueOf step view real e
-    → Stands setup tests (view_step setup view e) (real_step step view real e) (private_step step view private e)
+    → Stands setup tests (view_step setup view e) (real_step step view real e) (private_step step view (alive_in real) private e)
 stands_next setup tests step tame view real private (LoggedIn link server account) stands tabled may honest = logged_in_so setup tests step tame view real private stands link server account
 stands_next setup tests step tame view real private (BecameDue client hostgroup ordinal key command multiplex) stands tabled may honest =
     record { accepted = stands.accepted; stored = stands.stored; owners = stands.owners; resting = stands.resting; links = stands.links }
 stands_next setup tests step tame view real private (Sent link question) stands tabled may honest = sent setup tests view real private stands link question may
-stands_next setup tests step tame view real private (Ran link) stands tabled may honest = ran_so setup tests step tame view real private stands link (are_decoded setup tests step tame view real private stands tabled link)
+stands_next setup tests step tame view real private (Ran link) stands tabled may honest = ran_so setup tests step tame view real private stands link (are_decoded setup tests step tame view real private stands tabled link) honest
 stands_next setup tests step tame view real private (Heard link reply) stands tabled may honest = heard_so setup tests view real private stands link reply honest
 stands_next setup tests step tame view real private (Freed link) stands tabled may honest = freed_so setup tests view real private stands link may
 stands_next setup tests step tame view real private (Unprepared link number) stands tabled may honest = closed_so setup tests step tame view real private stands link number may
@@ -50,12 +51,12 @@ drop_keeps step private true (Lent n) server = refl
 drop_keeps step private true (Joined n) server = refl
 
 drop_tabled : (setup : Setup) (tests : Tests) (step : Step) (view : View) (real : Real) (private : Private) → Stands setup tests view real private → Tabled setup view real private → (link : LinkId) (alive : Bool)
-    → AreTabled setup (put is_link_id view.links link (record (view.links link) { alive = false })) (real_drop step real link alive (view.links link).server).peers view.held private.tables
-drop_tabled setup tests step view real private stands tabled link false = tabled_dead setup tests view real private stands tabled link
-drop_tabled setup tests step view real private stands tabled link true = tabled_dropped setup tests view real private stands tabled link (record (real.peers link) { session = (step (real.stored (view.links link).server) (real.peers link).session Quit).session }) refl
+    → AreTabled setup view.links (real_drop step real link alive (view.links link).server).peers view.held private.tables
+drop_tabled setup tests step view real private stands tabled link false = tabled
+drop_tabled setup tests step view real private stands tabled link true = tabled_dropped setup tests view real private stands tabled link (step (real.stored (view.links link).server) (real.peers link).session Quit).session
 
 tabled_next : (setup : Setup) (tests : Tests) (step : Step) → Tame setup.reads tests step → (view : View) (real : Real) (private : Private) (e : Happening) → Stands setup tests view real private → Tabled setup view real private → MayCome setup view e → IsTrueOf step view real e
-    → Tabled setup (view_step setup view e) (real_step step view real e) (private_step step view private e)
+    → Tabled setup (view_step setup view e) (real_step step view real e) (private_step step view (alive_in real) private e)
 tabled_next setup tests step tame view real private (LoggedIn link server account) stands tabled may honest = tabled_login setup tests view real private stands tabled link server account
 tabled_next setup tests step tame view real private (BecameDue client hostgroup ordinal key command multiplex) stands tabled may honest = tabled
 tabled_next setup tests step tame view real private (Sent link question) stands tabled may honest = tabled_sent setup tests view real private stands tabled link question may
@@ -64,8 +65,8 @@ tabled_next setup tests step tame view real private (Heard link reply) stands ta
 tabled_next setup tests step tame view real private (Freed link) stands tabled may honest = tabled_freed setup tests view real private stands tabled link may
 tabled_next setup tests step tame view real private (Unprepared link number) stands tabled may honest = tabled_closed setup tests view real private stands tabled link number may
 tabled_next setup tests step tame view real private (Dropped link) stands tabled may honest =
-    subst (λ t. AreTabled setup (view_step setup view (Dropped link)).links (real_step step view real (Dropped link)).peers view.held t) (sym (drop_keeps step private (view.links link).alive (view.links link).carries (view.links link).server))
-    (drop_tabled setup tests step view real private stands tabled link (view.links link).alive)
+    subst (λ t. AreTabled setup (view_step setup view (Dropped link)).links (real_step step view real (Dropped link)).peers view.held t) (sym (drop_keeps step private (real.peers link).alive (view.links link).carries (view.links link).server))
+    (drop_tabled setup tests step view real private stands tabled link (real.peers link).alive)
 tabled_next setup tests step tame view real private (Gone link) stands tabled may honest = tabled_gone setup tests view real private stands tabled link
 tabled_next setup tests step tame view real private _ stands tabled may honest = tabled
 
@@ -93,7 +94,7 @@ module _ (setup : Setup) (tests : Tests) (step : Step) (tame : Tame setup.reads 
   abbrev peer_after : Question → Command → Peer
   peer_after question c =
       let outcome = step (real.stored now.server) (real.peers number).session c in
-      record { session = outcome.session; answer = outcome.reply; table = there_table question outcome (real.peers number).table }
+      record { session = outcome.session; answer = outcome.reply; table = there_table question outcome (real.peers number).table; alive = not (is_quit (command_of question)) }
 
   no_message : (m : MessageName) → None ≡ Some m → ⊥
   no_message m e = cc
@@ -104,21 +105,25 @@ module _ (setup : Setup) (tests : Tests) (step : Step) (tame : Tame setup.reads 
   quiet_answers question is = are_linked view.links real.peers view.carriers view.replies private.answers answer number (heard setup.reads (real.peers number).answer now)
       (λ m e. absurd (no_message m (sym (ap (λ st. message_on (quieted st)) is) ∙ e))) (λ m e. absurd (no_message m (sym (ap (λ st. ran_on (quieted st)) is) ∙ e)))
 
-  ran_answers : (alive : Bool) (stage : Stage) → (view.links number).alive ≡ alive → (view.links number).stage ≡ stage
-      → Answer (record view { links = put is_link_id view.links number (ran_by setup.reads alive stage now) }) (real_run step real number (view.links number).live alive stage now.server) (private_run step view.held private alive stage now.server)
-  ran_answers true (Asked (Statement n due)) alive is =
-      are_ran view.links real.peers view.carriers view.replies private.answers answer number (ran_by setup.reads true (Asked (Statement n due)) now) (peer_after (Statement n due) (decoded (option_and_then (real.peers number).table ((view.links number).live due.key)) due.command)) (message_of n due) _ (ap message_on is) refl (same_reply setup tests step tame view real private stands number (are_decoded setup tests step tame view real private stands tabled number) n due alive is) (λ m e. cc)
-  ran_answers true (Asked (Prep n key text)) alive is =
-      subst (λ a. AreAnswered (put is_link_id view.links number (ran_by setup.reads true (Asked (Prep n key text)) now)) (put is_link_id real.peers number (peer_after (Prep n key text) (Prepare text))) view.carriers view.replies a) (sym (prep_leaves step private (is_pinned (view.held n).pin) now.server n key text))
-      (are_still view.links real.peers view.carriers view.replies private.answers answer number (ran_by setup.reads true (Asked (Prep n key text)) now) (peer_after (Prep n key text) (Prepare text)) (λ m e. cc) (λ m e. absurd (no_message m e)))
-  ran_answers true (Asked (Sync n c)) alive is = are_still view.links real.peers view.carriers view.replies private.answers answer number (ran_by setup.reads true (Asked (Sync n c)) now) (peer_after (Sync n c) c) (λ m e. cc) (λ m e. absurd (no_message m e))
-  ran_answers true (Asked (Own c)) alive is = are_still view.links real.peers view.carriers view.replies private.answers answer number (ran_by setup.reads true (Asked (Own c)) now) (peer_after (Own c) c) (λ m e. cc) (λ m e. absurd (no_message m e))
-  ran_answers true (Asked (End n)) alive is = are_still view.links real.peers view.carriers view.replies private.answers answer number (ran_by setup.reads true (Asked (End n)) now) (peer_after (End n) Reset) (λ m e. cc) (λ m e. absurd (no_message m e))
-  ran_answers true (Asked (Capture n)) alive is = are_still view.links real.peers view.carriers view.replies private.answers answer number (ran_by setup.reads true (Asked (Capture n)) now) (peer_after (Capture n) ReadId) (λ m e. cc) (λ m e. absurd (no_message m e))
-  ran_answers _ _ alive is = are_linked view.links real.peers view.carriers view.replies private.answers answer number now (λ m e. e) (λ m e. e)
+  ran_answers : (alive : Bool) (stage : Stage) → (real.peers number).alive ≡ alive → (view.links number).stage ≡ stage → IsTrueRun step real number (view.links number).live stage now.server
+      → Answer (record view { links = put is_link_id view.links number (ran_by setup.reads stage now) }) (real_run step real number (view.links number).live alive stage now.server) (private_run step view.held private alive stage now.server)
+  ran_answers true (Asked (Statement n due)) alive is honest =
+      are_ran view.links real.peers view.carriers view.replies private.answers answer number (ran_by setup.reads (Asked (Statement n due)) now) (peer_after (Statement n due) (decoded (option_and_then (real.peers number).table ((view.links number).live due.key)) due.command)) (message_of n due) _ (ap message_on is) refl (same_reply setup tests step tame view real private stands number (are_decoded setup tests step tame view real private stands tabled number) n due alive is) (λ m e. cc)
+  ran_answers true (Asked (Prep n key text)) alive is honest =
+      subst (λ a. AreAnswered (put is_link_id view.links number (ran_by setup.reads (Asked (Prep n key text)) now)) (put is_link_id real.peers number (peer_after (Prep n key text) (Prepare text))) view.carriers view.replies a) (sym (prep_leaves step private (is_pinned (view.held n).pin) now.server n key text))
+      (are_still view.links real.peers view.carriers view.replies private.answers answer number (ran_by setup.reads (Asked (Prep n key text)) now) (peer_after (Prep n key text) (Prepare text)) (λ m e. cc) (λ m e. absurd (no_message m e)))
+  ran_answers true (Asked (Sync n c)) alive is honest = are_still view.links real.peers view.carriers view.replies private.answers answer number (ran_by setup.reads (Asked (Sync n c)) now) (peer_after (Sync n c) c) (λ m e. cc) (λ m e. absurd (no_message m e))
+  ran_answers true (Asked (Own c)) alive is honest = are_still view.links real.peers view.carriers view.replies private.answers answer number (ran_by setup.reads (Asked (Own c)) now) (peer_after (Own c) c) (λ m e. cc) (λ m e. absurd (no_message m e))
+  ran_answers true (Asked (End n)) alive is honest = are_still view.links real.peers view.carriers view.replies private.answers answer number (ran_by setup.reads (Asked (End n)) now) (peer_after (End n) Reset) (λ m e. cc) (λ m e. absurd (no_message m e))
+  ran_answers true (Asked (Capture n)) alive is honest = are_still view.links real.peers view.carriers view.replies private.answers answer number (ran_by setup.reads (Asked (Capture n)) now) (peer_after (Capture n) ReadId) (λ m e. cc) (λ m e. absurd (no_message m e))
+  ran_answers false (Asked question) alive is honest = dead_runs alive honest.alive
+  ran_answers true Quiet alive is honest = are_linked view.links real.peers view.carriers view.replies private.answers answer number now (λ m e. e) (λ m e. e)
+  ran_answers true (Answered question) alive is honest = are_linked view.links real.peers view.carriers view.replies private.answers answer number now (λ m e. e) (λ m e. e)
+  ran_answers false Quiet alive is honest = are_linked view.links real.peers view.carriers view.replies private.answers answer number now (λ m e. e) (λ m e. e)
+  ran_answers false (Answered question) alive is honest = are_linked view.links real.peers view.carriers view.replies private.answers answer number now (λ m e. e) (λ m e. e)
 
-  pub answers_ran : Answer (view_step setup view (Ran number)) (real_step step view real (Ran number)) (private_step step view private (Ran number))
-  answers_ran = ran_answers now.alive now.stage refl refl
+  pub answers_ran : IsTrueRun step real number (view.links number).live (view.links number).stage now.server → Answer (view_step setup view (Ran number)) (real_step step view real (Ran number)) (private_step step view (alive_in real) private (Ran number))
+  answers_ran honest = ran_answers (real.peers number).alive now.stage refl refl honest
 
   heard_answers : (question : Question) → (view.links number).stage ≡ Answered question
       → AreAnswered (put is_link_id view.links number (heard setup.reads (real.peers number).answer now)) real.peers view.carriers (for_statement question (λ n due. put is_message view.replies (message_of n due) (Some (real.peers number).answer)) view.replies) private.answers
@@ -136,9 +141,12 @@ module _ (setup : Setup) (tests : Tests) (step : Step) (tame : Tame setup.reads 
       (subst (λ st. Answer (view_heard setup view number a st) real private) (sym is.ran)
       (subst (λ l. Answer (record (view_heard setup view number a (Answered is.question)) { links = put is_link_id view.links number l }) real private) (heard_now setup.reads is.question a now is.ran) (heard_answers is.question is.ran)))
 
-  drop_answers : (alive : Bool) → Answer (record view { links = put is_link_id view.links number (record now { alive = false }) }) (real_drop step real number alive now.server) private
-  drop_answers false = are_linked view.links real.peers view.carriers view.replies private.answers answer number (record now { alive = false }) (λ m e. e) (λ m e. e)
-  drop_answers true = are_still view.links real.peers view.carriers view.replies private.answers answer number (record now { alive = false }) (record (real.peers number) { session = (step (real.stored now.server) (real.peers number).session Quit).session }) (λ m e. e) (λ m e. (e, refl))
+  drop_answers : (alive : Bool) → Answer view (real_drop step real number alive now.server) private
+  drop_answers false = answer
+  drop_answers true =
+      let peer : Peer = record (real.peers number) { session = (step (real.stored now.server) (real.peers number).session Quit).session; alive = false } in
+      subst (λ links. AreAnswered links (put is_link_id real.peers number peer) view.carriers view.replies private.answers) (put-back view.links number)
+      (are_still view.links real.peers view.carriers view.replies private.answers answer number now peer (λ m e. e) (λ m e. (e, refl)))
 
 drop_leaves : (step : Step) (private : Private) (alive : Bool) (carried : Carried) (server : ServerId) → (private_drop step private alive carried server).answers ≡ private.answers
 drop_leaves step private false carried server = refl
@@ -147,19 +155,19 @@ drop_leaves step private true (Lent n) server = refl
 drop_leaves step private true (Joined n) server = refl
 
 answers_next : (setup : Setup) (tests : Tests) (step : Step) → Tame setup.reads tests step → (view : View) (real : Real) (private : Private) (e : Happening) → Stands setup tests view real private → Tabled setup view real private → Answer view real private → MayCome setup view e → IsTrueOf step view real e
-    → Answer (view_step setup view e) (real_step step view real e) (private_step step view private e)
+    → Answer (view_step setup view e) (real_step step view real e) (private_step step view (alive_in real) private e)
 answers_next setup tests step tame view real private (LoggedIn link server account) stands tabled answer may honest =
     are_still view.links real.peers view.carriers view.replies private.answers answer link (new_link server account) (new_peer account) (λ m e. cc) (λ m e. absurd (no_message setup tests step tame view real private stands tabled answer link m e))
 answers_next setup tests step tame view real private (BecameDue client hostgroup ordinal key command multiplex) stands tabled answer may honest = answer
 answers_next setup tests step tame view real private (Sent link question) stands tabled answer may honest = sent_answers setup tests step tame view real private stands tabled answer link question may
-answers_next setup tests step tame view real private (Ran link) stands tabled answer may honest = answers_ran setup tests step tame view real private stands tabled answer link
+answers_next setup tests step tame view real private (Ran link) stands tabled answer may honest = answers_ran setup tests step tame view real private stands tabled answer link honest
 answers_next setup tests step tame view real private (Heard link reply) stands tabled answer may honest = answers_heard setup tests step tame view real private stands tabled answer link reply honest
 answers_next setup tests step tame view real private (Freed link) stands tabled answer may honest = are_linked view.links real.peers view.carriers view.replies private.answers answer link (freed (view.links link)) (λ m e. e) (λ m e. e)
 answers_next setup tests step tame view real private (Unprepared link number) stands tabled answer may honest =
     are_still view.links real.peers view.carriers view.replies private.answers answer link (closed_number number (view.links link)) (record (real.peers link) { table = put nat_eq (real.peers link).table number None }) (λ m e. e) (λ m e. (e, refl))
 answers_next setup tests step tame view real private (Dropped link) stands tabled answer may honest =
-    subst (λ a. AreAnswered (view_step setup view (Dropped link)).links (real_step step view real (Dropped link)).peers view.carriers view.replies a) (sym (drop_leaves step private (view.links link).alive (view.links link).carries (view.links link).server))
-    (drop_answers setup tests step tame view real private stands tabled answer link (view.links link).alive)
+    subst (λ a. AreAnswered (view_step setup view (Dropped link)).links (real_step step view real (Dropped link)).peers view.carriers view.replies a) (sym (drop_leaves step private (real.peers link).alive (view.links link).carries (view.links link).server))
+    (drop_answers setup tests step tame view real private stands tabled answer link (real.peers link).alive)
 answers_next setup tests step tame view real private (Gone link) stands tabled answer may honest = are_linked view.links real.peers view.carriers view.replies private.answers answer link (record (view.links link) { usable = false }) (λ m e. e) (λ m e. e)
 answers_next setup tests step tame view real private _ stands tabled answer may honest = answer
 

@@ -135,3 +135,9 @@ no_other home k is j other e = let same : j ≡ k = cc in apart (subst (λ x. is
 
 pub no_home : (home : Option LinkId) → home ≡ None → (j : LinkId) → home ≡ Some j → ⊥
 no_home home is j e = cc
+
+-- a link that is put where it was
+pub put-back : {A : Type 0} (f : LinkId → A) (key : LinkId) → put is_link_id f key (f key) ≡ f
+put-back f key = λ i l. same_there l i where
+  same_there : (l : LinkId) → put is_link_id f key (f key) l ≡ f l
+  same_there = at_each link_ids (λ l. put is_link_id f key (f key) l ≡ f l) key (put-same link_ids f key (f key)) (λ l e. put-other link_ids f key (f key) l e)

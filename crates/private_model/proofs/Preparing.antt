@@ -2,7 +2,7 @@
 use Rattle.std.specs.Prelude.{Bool, None, Option, Some, false, nat_eq, true, ℕ, ◌≡◌}
 use Rattle.std.proofs.Common.{refl, sym, ap, ◌∙◌, subst, inl, inr}
 use Rattle.private_model.specs.Names.{LinkId, ServerId, SessionName}
-use Rattle.private_model.proofs.Maps.{at_each, link_ids, names, no_home, no_other, put-other, put-same}
+use Rattle.private_model.proofs.Maps.{at_each, link_ids, names, no_home, no_other, put-back, put-other, put-same}
 use Rattle.private_model.proofs.Sessions.{harmless_shallow}
 use Rattle.private_model.proofs.Stands.{AreKept, AreMatched, AreTabled, AreTabledBy, IfAlive, IsAskedFree, IsAskedJoined, IsAskedLent, IsAtBy, IsUsual, Stands, soon_pin, heard, quieted, soon_live, heard_now}
 use Rattle.private_model.proofs.Tabling.{kept_without, matched_without, tabled_frame, tabled_moved, without}
@@ -13,6 +13,7 @@ use Rattle.private_model.specs.Story.{Capture, End, Freed, Heard, Key, Own, Prep
 use Rattle.private_model.specs.View.{Stage, Answered, Asked, Carried, Held, Joined, Lent, Nobody, Quiet, Setup, View, asked, carried_for, closed_number, freed, held_by, held_freed, held_heard, new_link, view_heard, view_step}
 use Rattle.private_model.specs.Worlds.{Peer, Private, Real, new_peer}
 use Rattle.server_rule.specs.Servers.{Tests}
+use Rattle.server_rule.specs.declared.session.Session.{Session}
 
 abbrev pub Tabled : Setup → View → Real → Private → Type 0
 Tabled setup view real private = AreTabled setup view.links real.peers view.held private.tables
@@ -67,10 +68,10 @@ module _ (setup : Setup) (tests : Tests) (view : View) (real : Real) (private : 
   -- A question goes out.
 
   quiet_by : (carried : Carried) (question : Question) → (view.links number).stage ≡ Quiet → AreTabledBy setup carried (view.links number) (real.peers number) view.held private.tables → AreTabledBy setup carried (asked question (view.links number)) (real.peers number) view.held private.tables
-  quiet_by Nobody question quiet x = subst (λ st. IfAlive (view.links number).alive (AreKept setup (soon_live st (real.peers number).answer (view.links number).live) (real.peers number).table) (Unit {0})) quiet x
-  quiet_by (Lent n) question quiet x = (subst (λ st. IfAlive (view.links number).alive (AreKept setup (soon_live st (real.peers number).answer (view.links number).live) (real.peers number).table) (Unit {0})) quiet x.0, x.1)
+  quiet_by Nobody question quiet x = subst (λ st. IfAlive (real.peers number).alive (AreKept setup (soon_live st (real.peers number).answer (view.links number).live) (real.peers number).table) (Unit {0})) quiet x
+  quiet_by (Lent n) question quiet x = (subst (λ st. IfAlive (real.peers number).alive (AreKept setup (soon_live st (real.peers number).answer (view.links number).live) (real.peers number).table) (Unit {0})) quiet x.0, x.1)
   quiet_by (Joined n) question quiet x =
-      subst (λ st. IfAlive (view.links number).alive (AreMatched setup (soon_live st (real.peers number).answer (view.links number).live) (soon_pin setup.reads st (real.peers number).answer (view.held n).pin).deep (real.peers number).table (private.tables n))
+      subst (λ st. IfAlive (real.peers number).alive (AreMatched setup (soon_live st (real.peers number).answer (view.links number).live) (soon_pin setup.reads st (real.peers number).answer (view.held n).pin).deep (real.peers number).table (private.tables n))
       ((soon_pin setup.reads st (real.peers number).answer (view.held n).pin).deep ≡ false → IsUsual setup (private.tables n))) quiet x
 
   sent_still : (question : Question) → (view.links number).stage ≡ Quiet → carried_for question (view.links number).carries ≡ (view.links number).carries
@@ -102,7 +103,7 @@ module _ (setup : Setup) (tests : Tests) (view : View) (real : Real) (private : 
       let l = view.links number in
       let h : Held = record (view.held n) { home = Some number } in
       sent_home n question (Joined n) (ap (carried_for question) carries ∙ stays)
-      (subst (λ x. IfAlive l.alive (AreMatched setup l.live x.pin.deep (real.peers number).table (private.tables n)) (x.pin.deep ≡ false → IsUsual setup (private.tables n))) (sym (put-same names view.held n h)) (quiet_by (Joined n) question quiet (tabled_at (Joined n) carries)))
+      (subst (λ x. IfAlive (real.peers number).alive (AreMatched setup l.live x.pin.deep (real.peers number).table (private.tables n)) (x.pin.deep ≡ false → IsUsual setup (private.tables n))) (sym (put-same names view.held n h)) (quiet_by (Joined n) question quiet (tabled_at (Joined n) carries)))
       (no_other (view.held n).home number (stands_at (Joined n) carries).home)
 
   pub tabled_sent : (question : Question) → MaySend setup view (view.links number) question → Tabled setup (view_step setup view (Sent number question)) real private
@@ -122,12 +123,12 @@ module _ (setup : Setup) (tests : Tests) (view : View) (real : Real) (private : 
   -- A reply is read.
 
   heard_kept : (question : Question) → (view.links number).stage ≡ Answered question
-      → IfAlive (view.links number).alive (AreKept setup (soon_live (view.links number).stage (real.peers number).answer (view.links number).live) (real.peers number).table) (Unit {0})
-      → IfAlive (view.links number).alive (AreKept setup (soon_live (quieted (view.links number).stage) (real.peers number).answer (soon_live (view.links number).stage (real.peers number).answer (view.links number).live)) (real.peers number).table) (Unit {0})
+      → IfAlive (real.peers number).alive (AreKept setup (soon_live (view.links number).stage (real.peers number).answer (view.links number).live) (real.peers number).table) (Unit {0})
+      → IfAlive (real.peers number).alive (AreKept setup (soon_live (quieted (view.links number).stage) (real.peers number).answer (soon_live (view.links number).stage (real.peers number).answer (view.links number).live)) (real.peers number).table) (Unit {0})
   heard_kept question ran x =
       let l = view.links number in
       let a = (real.peers number).answer in
-      subst (λ st. IfAlive l.alive (AreKept setup (soon_live (quieted st) a (soon_live st a l.live)) (real.peers number).table) (Unit {0})) (sym ran) (subst (λ st. IfAlive l.alive (AreKept setup (soon_live st a l.live) (real.peers number).table) (Unit {0})) ran x)
+      subst (λ st. IfAlive (real.peers number).alive (AreKept setup (soon_live (quieted st) a (soon_live st a l.live)) (real.peers number).table) (Unit {0})) (sym ran) (subst (λ st. IfAlive (real.peers number).alive (AreKept setup (soon_live st a l.live) (real.peers number).table) (Unit {0})) ran x)
 
   heard_still : (carried : Carried) → (view.links number).carries ≡ carried → AreTabledBy setup carried (heard setup.reads (real.peers number).answer (view.links number)) (real.peers number) view.held private.tables
       → AreTabled setup (put is_link_id view.links number (heard setup.reads (real.peers number).answer (view.links number))) real.peers view.held private.tables
@@ -151,11 +152,11 @@ module _ (setup : Setup) (tests : Tests) (view : View) (real : Real) (private : 
       let a = (real.peers number).answer in
       let t = (real.peers number).table in
       let h : Held = held_heard setup.reads question a (view.held n) in
-      let before = subst (λ st. IfAlive l.alive (AreMatched setup (soon_live st a l.live) (soon_pin setup.reads st a (view.held n).pin).deep t (private.tables n)) ((soon_pin setup.reads st a (view.held n).pin).deep ≡ false → IsUsual setup (private.tables n))) ran (tabled_at (Joined n) carries) in
-      let next = subst (λ st. IfAlive l.alive (AreMatched setup (soon_live (quieted st) a (soon_live st a l.live)) (soon_pin setup.reads (quieted st) a h.pin).deep t (private.tables n)) ((soon_pin setup.reads (quieted st) a h.pin).deep ≡ false → IsUsual setup (private.tables n))) (sym ran) before in
+      let before = subst (λ st. IfAlive (real.peers number).alive (AreMatched setup (soon_live st a l.live) (soon_pin setup.reads st a (view.held n).pin).deep t (private.tables n)) ((soon_pin setup.reads st a (view.held n).pin).deep ≡ false → IsUsual setup (private.tables n))) ran (tabled_at (Joined n) carries) in
+      let next = subst (λ st. IfAlive (real.peers number).alive (AreMatched setup (soon_live (quieted st) a (soon_live st a l.live)) (soon_pin setup.reads (quieted st) a h.pin).deep t (private.tables n)) ((soon_pin setup.reads (quieted st) a h.pin).deep ≡ false → IsUsual setup (private.tables n))) (sym ran) before in
       subst (λ x. AreTabled setup (put is_link_id view.links number (heard setup.reads a l)) real.peers (put is_name view.held x (held_heard setup.reads question a (view.held x))) private.tables) (sym same)
       (heard_named n question (Joined n) carries (stands_at (Joined n) carries).home
-      (subst (λ x. IfAlive l.alive (AreMatched setup (soon_live (quieted l.stage) a (soon_live l.stage a l.live)) (soon_pin setup.reads (quieted l.stage) a x.pin).deep t (private.tables n)) ((soon_pin setup.reads (quieted l.stage) a x.pin).deep ≡ false → IsUsual setup (private.tables n))) (sym (put-same names view.held n h)) next))
+      (subst (λ x. IfAlive (real.peers number).alive (AreMatched setup (soon_live (quieted l.stage) a (soon_live l.stage a l.live)) (soon_pin setup.reads (quieted l.stage) a x.pin).deep t (private.tables n)) ((soon_pin setup.reads (quieted l.stage) a x.pin).deep ≡ false → IsUsual setup (private.tables n))) (sym (put-same names view.held n h)) next))
 
   heard_tabled : (question : Question) → (view.links number).stage ≡ Answered question → (carried : Carried) → (view.links number).carries ≡ carried → IsAtBy setup carried number (view.links number) (real.peers number) view.held private.sessions
       → AreTabled setup (put is_link_id view.links number (heard setup.reads (real.peers number).answer (view.links number))) real.peers (held_by setup.reads question (real.peers number).answer view.held) private.tables
@@ -188,7 +189,7 @@ module _ (setup : Setup) (tests : Tests) (view : View) (real : Real) (private : 
   matched_kept true live deep there here shallow x = (x.kept shallow, x.usual shallow)
   matched_kept false live deep there here shallow x = (tt, x shallow)
 
-  freed_tabled : (n : SessionName) (carried : Carried) → IfAlive (view.links number).alive (AreKept setup (soon_live (view.links number).stage (real.peers number).answer (view.links number).live) (real.peers number).table) (Unit {0}) → IsUsual setup (private.tables n) → (view.held n).home ≡ Some number
+  freed_tabled : (n : SessionName) (carried : Carried) → IfAlive (real.peers number).alive (AreKept setup (soon_live (view.links number).stage (real.peers number).answer (view.links number).live) (real.peers number).table) (Unit {0}) → IsUsual setup (private.tables n) → (view.held n).home ≡ Some number
       → AreTabled setup (put is_link_id view.links number (freed (view.links number))) real.peers (put is_name view.held n (record (view.held n) { home = None })) private.tables
   freed_tabled n carried kept usual home =
       let h : Held = record (view.held n) { home = None } in
@@ -202,7 +203,7 @@ module _ (setup : Setup) (tests : Tests) (view : View) (real : Real) (private : 
         let a = (real.peers number).answer in
         let pin = (view.held may.who).pin in
         let shallow : (soon_pin setup.reads l.stage a pin).deep ≡ false = ap (λ st. (soon_pin setup.reads st a pin).deep) may.quiet ∙ harmless_shallow pin may.harmless in
-        let both = matched_kept l.alive (soon_live l.stage a l.live) (soon_pin setup.reads l.stage a pin).deep (real.peers number).table (private.tables may.who) shallow (tabled_at (Joined may.who) joined) in
+        let both = matched_kept (real.peers number).alive (soon_live l.stage a l.live) (soon_pin setup.reads l.stage a pin).deep (real.peers number).table (private.tables may.who) shallow (tabled_at (Joined may.who) joined) in
         subst (λ c. AreTabled setup (put is_link_id view.links number (freed (view.links number))) real.peers (held_freed c view.held) private.tables) (sym joined) (freed_tabled may.who (Joined may.who) both.0 both.1 (stands_at (Joined may.who) joined).home)
     | inr lent ↦
         let both = tabled_at (Lent may.who) lent in
@@ -213,22 +214,23 @@ module _ (setup : Setup) (tests : Tests) (view : View) (real : Real) (private : 
   dead_matched true live deep there here x = x.usual
   dead_matched false live deep there here x = x
 
-  dead_by : (carried : Carried) (peer : Peer) → peer.answer ≡ (real.peers number).answer → AreTabledBy setup carried (view.links number) (real.peers number) view.held private.tables → AreTabledBy setup carried (record (view.links number) { alive = false }) peer view.held private.tables
-  dead_by Nobody peer same x = tt
-  dead_by (Lent n) peer same x = (tt, x.1)
-  dead_by (Joined n) peer same x =
+  abbrev dropped_peer : Session → Peer
+  dropped_peer session = record (real.peers number) { session = session; alive = false }
+
+  dead_by : (carried : Carried) (session : Session) → AreTabledBy setup carried (view.links number) (real.peers number) view.held private.tables → AreTabledBy setup carried (view.links number) (dropped_peer session) view.held private.tables
+  dead_by Nobody session x = tt
+  dead_by (Lent n) session x = (tt, x.1)
+  dead_by (Joined n) session x =
       let l = view.links number in
-      subst (λ a. (soon_pin setup.reads l.stage a (view.held n).pin).deep ≡ false → IsUsual setup (private.tables n)) (sym same)
-      (dead_matched l.alive (soon_live l.stage (real.peers number).answer l.live) (soon_pin setup.reads l.stage (real.peers number).answer (view.held n).pin).deep (real.peers number).table (private.tables n) x)
+      dead_matched (real.peers number).alive (soon_live l.stage (real.peers number).answer l.live) (soon_pin setup.reads l.stage (real.peers number).answer (view.held n).pin).deep (real.peers number).table (private.tables n) x
 
-  pub tabled_dropped : (peer : Peer) → peer.answer ≡ (real.peers number).answer → AreTabled setup (put is_link_id view.links number (record (view.links number) { alive = false })) (put is_link_id real.peers number peer) view.held private.tables
-  tabled_dropped peer same = tabled_moved setup view.links real.peers view.held private.tables are number (record (view.links number) { alive = false }) (put is_link_id real.peers number peer) view.held private.tables
-      (subst (λ x. AreTabledBy setup (view.links number).carries (record (view.links number) { alive = false }) x view.held private.tables) (sym (put-same link_ids real.peers number peer)) (dead_by (view.links number).carries peer same (are.on number)))
-      (λ j e. put-other link_ids real.peers number peer j e) (λ j e. are.on j) are.resting
-
-  pub tabled_dead : AreTabled setup (put is_link_id view.links number (record (view.links number) { alive = false })) real.peers view.held private.tables
-  tabled_dead = tabled_moved setup view.links real.peers view.held private.tables are number (record (view.links number) { alive = false }) real.peers view.held private.tables
-      (dead_by (view.links number).carries (real.peers number) refl (are.on number)) (λ j e. refl) (λ j e. are.on j) are.resting
+  pub tabled_dropped : (session : Session) → AreTabled setup view.links (put is_link_id real.peers number (dropped_peer session)) view.held private.tables
+  tabled_dropped session =
+      let peers = put is_link_id real.peers number (dropped_peer session) in
+      subst (λ links. AreTabled setup links peers view.held private.tables) (put-back view.links number)
+      (tabled_moved setup view.links real.peers view.held private.tables are number (view.links number) peers view.held private.tables
+      (subst (λ x. AreTabledBy setup (view.links number).carries (view.links number) x view.held private.tables) (sym (put-same link_ids real.peers number (dropped_peer session))) (dead_by (view.links number).carries session (are.on number)))
+      (λ j e. put-other link_ids real.peers number (dropped_peer session) j e) (λ j e. are.on j) are.resting)
 
   gone_by : (carried : Carried) → AreTabledBy setup carried (view.links number) (real.peers number) view.held private.tables → AreTabledBy setup carried (record (view.links number) { usable = false }) (real.peers number) view.held private.tables
   gone_by Nobody x = x
@@ -243,13 +245,14 @@ module _ (setup : Setup) (tests : Tests) (view : View) (real : Real) (private : 
 
   pub tabled_login : (server : ServerId) (account : Account) → AreTabled setup (put is_link_id view.links number (new_link server account)) (put is_link_id real.peers number (new_peer account)) view.held private.tables
   tabled_login server account = tabled_moved setup view.links real.peers view.held private.tables are number (new_link server account) (put is_link_id real.peers number (new_peer account)) view.held private.tables
-      (record { kept = λ key n e. cc }) (λ j e. put-other link_ids real.peers number (new_peer account) j e) (λ j e. are.on j) are.resting
+      (subst (λ x. AreTabledBy setup Nobody (new_link server account) x view.held private.tables) (sym (put-same link_ids real.peers number (new_peer account))) (record { kept = λ key n e. cc }))
+      (λ j e. put-other link_ids real.peers number (new_peer account) j e) (λ j e. are.on j) are.resting
 
   closed_by : (n : ℕ) (carried : Carried) → (view.links number).stage ≡ Quiet → AreTabledBy setup carried (view.links number) (real.peers number) view.held private.tables
       → AreTabledBy setup carried (closed_number n (view.links number)) (record (real.peers number) { table = put nat_eq (real.peers number).table n None }) view.held private.tables
-  closed_by n Nobody quiet x = closed_kept setup n (view.links number).alive (view.links number).stage quiet (real.peers number).answer (view.links number).live (real.peers number).table x
-  closed_by n (Lent m) quiet x = (closed_kept setup n (view.links number).alive (view.links number).stage quiet (real.peers number).answer (view.links number).live (real.peers number).table x.0, x.1)
-  closed_by n (Joined m) quiet x = closed_matched setup n (view.links number).alive (view.links number).stage quiet (real.peers number).answer (view.links number).live (soon_pin setup.reads (view.links number).stage (real.peers number).answer (view.held m).pin).deep (real.peers number).table (private.tables m) x
+  closed_by n Nobody quiet x = closed_kept setup n (real.peers number).alive (view.links number).stage quiet (real.peers number).answer (view.links number).live (real.peers number).table x
+  closed_by n (Lent m) quiet x = (closed_kept setup n (real.peers number).alive (view.links number).stage quiet (real.peers number).answer (view.links number).live (real.peers number).table x.0, x.1)
+  closed_by n (Joined m) quiet x = closed_matched setup n (real.peers number).alive (view.links number).stage quiet (real.peers number).answer (view.links number).live (soon_pin setup.reads (view.links number).stage (real.peers number).answer (view.held m).pin).deep (real.peers number).table (private.tables m) x
 
   pub tabled_closed : (n : ℕ) → (view.links number).stage ≡ Quiet → Tabled setup (view_step setup view (Unprepared number n)) (record real { peers = put is_link_id real.peers number (record (real.peers number) { table = put nat_eq (real.peers number).table n None }) }) private
   tabled_closed n quiet =
@@ -260,16 +263,16 @@ module _ (setup : Setup) (tests : Tests) (view : View) (real : Real) (private : 
 
   -- what is decoded in both worlds
 
-  pub alive_lent : (n : SessionName) → (view.links number).alive ≡ true → (question : Question) → (view.links number).stage ≡ Asked question → (view.links number).carries ≡ Lent n → AreKept setup (view.links number).live (real.peers number).table × IsUsual setup (private.tables n)
+  pub alive_lent : (n : SessionName) → (real.peers number).alive ≡ true → (question : Question) → (view.links number).stage ≡ Asked question → (view.links number).carries ≡ Lent n → AreKept setup (view.links number).live (real.peers number).table × IsUsual setup (private.tables n)
   alive_lent n alive question is carries =
       let l = view.links number in
       let a = (real.peers number).answer in
       let was = tabled_at (Lent n) carries in
-      (subst (λ b. IfAlive b (AreKept setup l.live (real.peers number).table) (Unit {0})) alive (subst (λ st. IfAlive l.alive (AreKept setup (soon_live st a l.live) (real.peers number).table) (Unit {0})) is was.0), was.1)
+      (subst (λ b. IfAlive b (AreKept setup l.live (real.peers number).table) (Unit {0})) alive (subst (λ st. IfAlive (real.peers number).alive (AreKept setup (soon_live st a l.live) (real.peers number).table) (Unit {0})) is was.0), was.1)
 
-  pub alive_joined : (n : SessionName) → (view.links number).alive ≡ true → (question : Question) → (view.links number).stage ≡ Asked question → (view.links number).carries ≡ Joined n → AreMatched setup (view.links number).live (view.held n).pin.deep (real.peers number).table (private.tables n)
+  pub alive_joined : (n : SessionName) → (real.peers number).alive ≡ true → (question : Question) → (view.links number).stage ≡ Asked question → (view.links number).carries ≡ Joined n → AreMatched setup (view.links number).live (view.held n).pin.deep (real.peers number).table (private.tables n)
   alive_joined n alive question is carries =
       let l = view.links number in
       let a = (real.peers number).answer in
       subst (λ b. IfAlive b (AreMatched setup l.live (view.held n).pin.deep (real.peers number).table (private.tables n)) ((view.held n).pin.deep ≡ false → IsUsual setup (private.tables n))) alive
-      (subst (λ st. IfAlive l.alive (AreMatched setup (soon_live st a l.live) (soon_pin setup.reads st a (view.held n).pin).deep (real.peers number).table (private.tables n)) ((soon_pin setup.reads st a (view.held n).pin).deep ≡ false → IsUsual setup (private.tables n))) is (tabled_at (Joined n) carries))
+      (subst (λ st. IfAlive (real.peers number).alive (AreMatched setup (soon_live st a l.live) (soon_pin setup.reads st a (view.held n).pin).deep (real.peers number).table (private.tables n)) ((soon_pin setup.reads st a (view.held n).pin).deep ≡ false → IsUsual setup (private.tables n))) is (tabled_at (Joined n) carries))

@@ -2,18 +2,18 @@
 use Rattle.std.specs.Prelude.{Bool, List, None, Option, Some, [], false, if◌then◌else◌, nat_eq, not, true, ℕ, ◌||◌, ◌≡◌, ◌⊎◌}
 use Rattle.std.proofs.Common.{refl, sym, ap, ◌∙◌, subst, inl, inr}
 use Rattle.private_model.specs.Names.{LinkId, ServerId, MessageName, SessionName}
-use Rattle.private_model.proofs.Maps.{IsElsewhere, at_each, both_put, frame, link_ids, names, no_other, one_put, put-other, put-same, put_all, servers, still_resting}
+use Rattle.private_model.proofs.Maps.{IsElsewhere, at_each, both_put, frame, link_ids, names, no_other, one_put, put-back, put-other, put-same, put_all, servers, still_resting}
 use Rattle.private_model.proofs.Meeting.{IsDecoded, IsMet, IsTextOf, back_text, capture_after, end_after, met_after, met_alike, met_joined, met_lent, of_text, own_after, own_calm, own_same, prep_after, prep_free, step_after}
 use Rattle.private_model.proofs.Pairs.{IsAlikeAfter, quit_stored, reset_stored}
 use Rattle.private_model.proofs.Sessions.{plain_quit}
 use Rattle.private_model.proofs.Stands.{IfAlive, IsAskedFree, IsAskedJoined, IsAskedLent, IsAt, IsAtBy, IsFree, IsFreeLink, IsGood, IsJoined, IsJoinedLink, IsLentLink, IsPlain, IsResting, Stands, soon_pin, soon_id, soon_told}
 use Rattle.private_model.proofs.Tame.{Tame, account_of}
 use Rattle.private_model.specs.Commands.{Account, Command, Outcome, Prepare, Quit, ReadId, Reply, Reset, Step, id_after, is_marked, pin_statement}
-use Rattle.private_model.specs.Honest.{IsAccepted}
+use Rattle.private_model.specs.Honest.{IsAccepted, IsTrueRun}
 use Rattle.private_model.specs.Lawful.{IsKeyed, IsOwnStep, IsPlaced, is_statement}
 use Rattle.private_model.specs.Story.{Capture, Dropped, Due, End, Gone, Key, LoggedIn, Own, Prep, Question, Ran, Statement, Sync, Unprepared, is_link_id, is_message, is_name, is_server, message_of, put}
 use Rattle.private_model.specs.View.{Answered, Asked, Carried, Held, Joined, Lent, Link, Nobody, Quiet, Setup, Stage, View, closed_number, is_quit, new_link, ran_by, told_after, view_after, view_step}
-use Rattle.private_model.specs.Worlds.{Peer, Private, Real, closed, decoded, new_peer, placed, private_after, private_drop, private_prep, private_run, private_step, readied, real_after, real_drop, real_run, real_step, table_after, there_table}
+use Rattle.private_model.specs.Worlds.{Peer, Private, Real, alive_in, closed, decoded, new_peer, placed, private_after, private_drop, private_prep, private_run, private_step, readied, real_after, real_drop, real_run, real_step, table_after, there_table}
 use Rattle.server_rule.specs.Classes.{Reads}
 use Rattle.server_rule.specs.Servers.{Accepts, Tests, with_id}
 use Rattle.server_rule.specs.declared.session.Session.{Session}
@@ -32,12 +32,16 @@ pub record IsMetThere (setup : Setup) (number : LinkId) (due : Due) (link : Link
   pub placed : IsPlaced link.told due.place
   pub met : IsMet setup.reads due.command link.account link.marked link.told link.id held.pin held.id s (readied due p)
 
-met_of_lent : (setup : Setup) (number : LinkId) (n : SessionName) (due : Due) (link : Link) (peer : Peer) (held : Held) (p : Session) → IsLentLink setup number n link peer held p → link.alive ≡ true → link.stage ≡ Asked (Statement n due) → account_of p ≡ setup.accounts n.client
+-- nothing runs on a link that was dropped
+pub dead_runs : {A : Type 0} {b : Bool} → b ≡ false → b ≡ true → A
+dead_runs dead lives = absurd (cc)
+
+met_of_lent : (setup : Setup) (number : LinkId) (n : SessionName) (due : Due) (link : Link) (peer : Peer) (held : Held) (p : Session) → IsLentLink setup number n link peer held p → peer.alive ≡ true → link.stage ≡ Asked (Statement n due) → account_of p ≡ setup.accounts n.client
     → IsMetThere setup number due link held peer.session p
 met_of_lent setup number n due link peer held p lent alive ran owner =
     let begins = (subst (λ st. IsAskedLent setup n st link.account link.told link.id link.live held) ran lent.asked).begins in
     let free = subst (λ b. IfAlive b (IsFree link.account link.told link.id peer.session) (Unit {0})) alive
-    (subst (λ st. IfAlive link.alive (IsFree link.account (soon_told setup.reads st peer.answer link.told) (soon_id setup.reads st peer.answer link.id) peer.session) (Unit {0})) ran lent.session) in
+    (subst (λ st. IfAlive peer.alive (IsFree link.account (soon_told setup.reads st peer.answer link.told) (soon_id setup.reads st peer.answer link.id) peer.session) (Unit {0})) ran lent.session) in
     record {
       home = lent.home;
       statement = begins.statement;
@@ -48,18 +52,18 @@ met_of_lent setup number n due link peer held p lent alive ran owner =
     }
 
 -- what is known of a joined link where nothing is foreseen
-asked_joined : (reads : Reads) (link : Link) (answer : Reply) (pin : Pin) (id : Option ℕ) (s p : Session) (question : Question) → link.alive ≡ true → link.stage ≡ Asked question
-    → IsJoined link.alive link.account link.marked (soon_told reads link.stage answer link.told) (soon_id reads link.stage answer link.id) (soon_pin reads link.stage answer pin) (soon_id reads link.stage answer id) s p
+asked_joined : (reads : Reads) (link : Link) (there : Bool) (answer : Reply) (pin : Pin) (id : Option ℕ) (s p : Session) (question : Question) → there ≡ true → link.stage ≡ Asked question
+    → IsJoined there link.account link.marked (soon_told reads link.stage answer link.told) (soon_id reads link.stage answer link.id) (soon_pin reads link.stage answer pin) (soon_id reads link.stage answer id) s p
     → IsJoined true link.account link.marked link.told link.id pin id s p
-asked_joined reads link answer pin id s p question alive ran joined =
+asked_joined reads link there answer pin id s p question alive ran joined =
     subst (λ b. IsJoined b link.account link.marked link.told link.id pin id s p) alive
-    (subst (λ st. IsJoined link.alive link.account link.marked (soon_told reads st answer link.told) (soon_id reads st answer link.id) (soon_pin reads st answer pin) (soon_id reads st answer id) s p) ran joined)
+    (subst (λ st. IsJoined there link.account link.marked (soon_told reads st answer link.told) (soon_id reads st answer link.id) (soon_pin reads st answer pin) (soon_id reads st answer id) s p) ran joined)
 
-met_of_joined : (setup : Setup) (number : LinkId) (n : SessionName) (due : Due) (link : Link) (peer : Peer) (held : Held) (p : Session) → IsJoinedLink setup number n link peer held p → link.alive ≡ true → link.stage ≡ Asked (Statement n due)
+met_of_joined : (setup : Setup) (number : LinkId) (n : SessionName) (due : Due) (link : Link) (peer : Peer) (held : Held) (p : Session) → IsJoinedLink setup number n link peer held p → peer.alive ≡ true → link.stage ≡ Asked (Statement n due)
     → IsMetThere setup number due link held peer.session p
 met_of_joined setup number n due link peer held p is alive ran =
     let going = subst (λ st. IsAskedJoined setup n st link.marked link.told link.id link.live held) ran is.asked in
-    let joined = asked_joined setup.reads link peer.answer held.pin held.id peer.session p (Statement n due) alive ran is.joined in
+    let joined = asked_joined setup.reads link peer.alive peer.answer held.pin held.id peer.session p (Statement n due) alive ran is.joined in
     record {
       home = is.home;
       statement = going.goes_on.statement;
@@ -170,16 +174,16 @@ module _ (setup : Setup) (tests : Tests) (step : Step) (tame : Tame setup.reads 
 
   -- A command runs in a session.
 
-  ran_session : (to : View) (m : SessionName) (link : Link) (there here : Outcome) (table : ℕ → Option Key) (tables : SessionName → ℕ → Option Key) (answers : MessageName → Option Reply)
+  ran_session : (to : View) (m : SessionName) (link : Link) (alive : Bool) (there here : Outcome) (table : ℕ → Option Key) (tables : SessionName → ℕ → Option Key) (answers : MessageName → Option Reply)
       → Accepts tests there.stored there.session → IsGood tests here.session
       → (view.held m).home ≡ Some number → link.carries ≡ Joined m → here.stored ≡ there.stored → account_of here.session ≡ setup.accounts m.client
-      → IsJoinedLink setup number m link (record { session = there.session; answer = there.reply; table = table }) (view.held m) here.session
+      → IsJoinedLink setup number m link (record { session = there.session; answer = there.reply; table = table; alive = alive }) (view.held m) here.session
       → Stands setup tests (record to { links = put is_link_id view.links number link; held = view.held })
-      (record { stored = put is_server real.stored (view.links number).server there.stored; peers = put is_link_id real.peers number (record { session = there.session; answer = there.reply; table = table }) })
+      (record { stored = put is_server real.stored (view.links number).server there.stored; peers = put is_link_id real.peers number (record { session = there.session; answer = there.reply; table = table; alive = alive }) })
       (record { stored = put is_server private.stored (view.links number).server here.stored; sessions = put is_name private.sessions m here.session; tables = tables; answers = answers })
-  ran_session to m link there here table tables answers good_there good_here home carries stored owner joined =
+  ran_session to m link alive there here table tables answers good_there good_here home carries stored owner joined =
       let server = (view.links number).server in
-      let peer : Peer = record { session = there.session; answer = there.reply; table = table } in
+      let peer : Peer = record { session = there.session; answer = there.reply; table = table; alive = alive } in
       ran_named to m link peer (put is_server real.stored server there.stored) (put is_server private.stored server here.stored) here.session tables answers
       (put_all servers (λ x. tests.is_data x ≡ true) real.stored server there.stored good_there.0 stands.accepted.data_of) good_there.1 good_here
       (both_put servers private.stored real.stored server here.stored there.stored stored stands.stored)
@@ -190,12 +194,12 @@ module _ (setup : Setup) (tests : Tests) (step : Step) (tame : Tame setup.reads 
       (subst (λ x. IsJoinedLink setup number m link peer (view.held m) x) (sym (put-same names private.sessions m here.session)) joined))
 
   abbrev RanTo : (alive : Bool) → Stage → Type 0
-  RanTo alive stage = Stands setup tests (record view { links = put is_link_id view.links number (ran_by setup.reads alive stage (view.links number)) })
+  RanTo alive stage = Stands setup tests (record view { links = put is_link_id view.links number (ran_by setup.reads stage (view.links number)) })
       (real_run step real number (view.links number).live alive stage (view.links number).server) (private_run step view.held private alive stage (view.links number).server)
 
   -- A statement meets its session.
 
-  pub met_there : (m : SessionName) (due : Due) → (view.links number).alive ≡ true → (view.links number).stage ≡ Asked (Statement m due) → IsMetThere setup number due (view.links number) (view.held m) (real.peers number).session (private.sessions m)
+  pub met_there : (m : SessionName) (due : Due) → (real.peers number).alive ≡ true → (view.links number).stage ≡ Asked (Statement m due) → IsMetThere setup number due (view.links number) (view.held m) (real.peers number).session (private.sessions m)
   met_there m due alive asked = elim (statement_name setup number (view.links number).carries (view.links number) (real.peers number) view.held private.sessions (stands.links number) m due asked) [
     | inl lent ↦ met_of_lent setup number m due (view.links number) (real.peers number) (view.held m) (private.sessions m) (at (Lent m) lent) alive asked (stands.owners m)
     | inr joined ↦ met_of_joined setup number m due (view.links number) (real.peers number) (view.held m) (private.sessions m) (at (Joined m) joined) alive asked
@@ -235,33 +239,33 @@ module _ (setup : Setup) (tests : Tests) (step : Step) (tame : Tame setup.reads 
   here_decoded m due = decoded (private.tables m due.key) due.command
 
   abbrev pub AreDecoded : Type 0
-  AreDecoded = (m : SessionName) (due : Due) → (view.links number).alive ≡ true → (view.links number).stage ≡ Asked (Statement m due) → IsDecoded setup.reads (there_decoded due) (here_decoded m due) × IsTextOf (there_decoded due) due.command
+  AreDecoded = (m : SessionName) (due : Due) → (real.peers number).alive ≡ true → (view.links number).stage ≡ Asked (Statement m due) → IsDecoded setup.reads (there_decoded due) (here_decoded m due) × IsTextOf (there_decoded due) due.command
 
   -- what the session of its own makes of a statement
-  pub ran_own_same : AreDecoded → (m : SessionName) (due : Due) → (view.links number).alive ≡ true → (view.links number).stage ≡ Asked (Statement m due)
+  pub ran_own_same : AreDecoded → (m : SessionName) (due : Due) → (real.peers number).alive ≡ true → (view.links number).stage ≡ Asked (Statement m due)
       → step (private.stored (view.links number).server) (readied due (private.sessions m)) (here_decoded m due) ≡ step data_there (readied due (private.sessions m)) (there_decoded due)
   ran_own_same are m due alive asked =
       with_data (λ d. step d (readied due (private.sessions m)) (here_decoded m due) ≡ step data_there (readied due (private.sessions m)) (there_decoded due))
       (own_same setup.reads tests step tame data_there (readied due (private.sessions m)) (ok_ready m due) (there_decoded due) (here_decoded m due) (are m due alive asked).0)
 
-  pub met_decoded : AreDecoded → (m : SessionName) (due : Due) → (view.links number).alive ≡ true → (view.links number).stage ≡ Asked (Statement m due)
+  pub met_decoded : AreDecoded → (m : SessionName) (due : Due) → (real.peers number).alive ≡ true → (view.links number).stage ≡ Asked (Statement m due)
       → IsMet setup.reads (there_decoded due) (view.links number).account (view.links number).marked (view.links number).told (view.links number).id (view.held m).pin (view.held m).id (real.peers number).session (readied due (private.sessions m))
   met_decoded are m due alive asked =
       let l = view.links number in
       back_text (λ c. IsMet setup.reads c l.account l.marked l.told l.id (view.held m).pin (view.held m).id (real.peers number).session (readied due (private.sessions m))) (λ t a b a' b' g x. record { account = x.account; rest = x.rest; diag = x.diag; marks = x.marks; last_id = x.last_id; follows = x.follows; knows = x.knows; suits = x.suits; of_session = x.of_session; unknown = x.unknown }) (there_decoded due) due.command (are m due alive asked).1 (met_there m due alive asked).met
 
-  pub after_decoded : AreDecoded → (m : SessionName) (due : Due) → (view.links number).alive ≡ true → (view.links number).stage ≡ Asked (Statement m due)
+  pub after_decoded : AreDecoded → (m : SessionName) (due : Due) → (real.peers number).alive ≡ true → (view.links number).stage ≡ Asked (Statement m due)
       → IsAlikeAfter ((readied due (private.sessions m)).last_id ≡ (real.peers number).session.last_id) (step data_there (readied due (private.sessions m)) (there_decoded due)) (step data_there (real.peers number).session (there_decoded due))
   after_decoded are m due alive asked =
       let l = view.links number in
       met_alike setup.reads step tests tame data_there s (readied due (private.sessions m)) ok_there (ok_ready m due) (there_decoded due) l.account l.marked l.told l.id (view.held m).pin (view.held m).id (met_decoded are m due alive asked)
 
   -- the answer to a statement is the private one
-  pub same_reply : AreDecoded → (m : SessionName) (due : Due) → (view.links number).alive ≡ true → (view.links number).stage ≡ Asked (Statement m due)
+  pub same_reply : AreDecoded → (m : SessionName) (due : Due) → (real.peers number).alive ≡ true → (view.links number).stage ≡ Asked (Statement m due)
       → (step (private.stored (view.links number).server) (readied due (private.sessions m)) (here_decoded m due)).reply ≡ (step data_there s (there_decoded due)).reply
   same_reply are m due alive asked = ap (λ (o : Outcome). o.reply) (ran_own_same are m due alive asked) ∙ (after_decoded are m due alive asked).alike.reply
 
-  ran_statement : AreDecoded → (m : SessionName) (due : Due) → (view.links number).alive ≡ true → (view.links number).stage ≡ Asked (Statement m due) → RanTo true (Asked (Statement m due))
+  ran_statement : AreDecoded → (m : SessionName) (due : Due) → (real.peers number).alive ≡ true → (view.links number).stage ≡ Asked (Statement m due) → RanTo true (Asked (Statement m due))
   ran_statement are m due alive asked =
       let l = view.links number in
       let c = there_decoded due in
@@ -269,7 +273,7 @@ module _ (setup : Setup) (tests : Tests) (step : Step) (tame : Tame setup.reads 
       let there = met_there m due alive asked in
       let d = data_there in
       let question = Statement m due in
-      let l' : Link = record l { stage = Answered question; carries = Joined m; marked = is_marked setup.reads due.command || l.marked; alive = not (is_quit due.command) } in
+      let l' : Link = record l { stage = Answered question; carries = Joined m; marked = is_marked setup.reads due.command || l.marked } in
       let after = after_decoded are m due alive asked in
       let is_text = (are m due alive asked).1 in
       let statement : is_statement c ≡ true = back_text (λ x. is_statement x ≡ true) (λ t a b a' b' g x. x) c due.command is_text there.statement in
@@ -277,9 +281,9 @@ module _ (setup : Setup) (tests : Tests) (step : Step) (tame : Tame setup.reads 
       let joined = of_text (λ x. IsJoined (not (is_quit x)) l.account (is_marked setup.reads x || l.marked) (told_after setup.reads x reply l.told) (id_after setup.reads x reply l.id) (pin_statement setup.reads x due.multiplex reply (view.held m).pin) (id_after setup.reads x reply (view.held m).id) (step d s c).session (step d p c).session)
       (λ t a b a' b' g x. x) c due.command is_text
       (met_after setup.reads step tests tame d s p ok_there (ok_ready m due) c due.multiplex l.account l.marked l.told l.id (view.held m).pin (view.held m).id statement (met_decoded are m due alive asked)) in
-      subst (λ (o : Outcome). Stands setup tests (record view { links = put is_link_id view.links number l' }) (record { stored = put is_server real.stored l.server (step d s c).stored; peers = put is_link_id real.peers number (record { session = (step d s c).session; answer = (step d s c).reply; table = there_table question (step d s c) (real.peers number).table }) })
+      subst (λ (o : Outcome). Stands setup tests (record view { links = put is_link_id view.links number l' }) (record { stored = put is_server real.stored l.server (step d s c).stored; peers = put is_link_id real.peers number (record { session = (step d s c).session; answer = (step d s c).reply; table = there_table question (step d s c) (real.peers number).table; alive = not (is_quit due.command) }) })
       (record { stored = put is_server private.stored l.server o.stored; sessions = put is_name private.sessions m o.session; tables = put is_name private.tables m (table_after question o (private.tables m)); answers = put is_message private.answers (message_of m due) (Some o.reply) })) (sym (ran_own_same are m due alive asked))
-      (ran_session view m l' (step d s c) (step d p c) (there_table question (step d s c) (real.peers number).table) (put is_name private.tables m (table_after question (step d p c) (private.tables m))) (put is_message private.answers (message_of m due) (Some (step d p c).reply))
+      (ran_session view m l' (not (is_quit due.command)) (step d s c) (step d p c) (there_table question (step d s c) (real.peers number).table) (put is_name private.tables m (table_after question (step d p c) (private.tables m))) (put is_message private.answers (message_of m due) (Some (step d p c).reply))
       (tame.keeps d s ok_there c) (tame.keeps d p (ok_ready m due) c).1 there.home refl after.alike.stored
       (tame.account d p (ok_ready m due) c ∙ ready_owner due due.anew (private.sessions m) ∙ stands.owners m)
       (record { home = there.home; asked = refl; joined = joined }))
@@ -290,141 +294,141 @@ module _ (setup : Setup) (tests : Tests) (step : Step) (tame : Tame setup.reads 
       → IsAskedJoined setup m (Asked question) (view.links number).marked (view.links number).told (view.links number).id (view.links number).live (view.held m)
   asks m question carries is = subst (λ st. IsAskedJoined setup m st (view.links number).marked (view.links number).told (view.links number).id (view.links number).live (view.held m)) is (at (Joined m) carries).asked
 
-  pub before : (m : SessionName) (question : Question) → (view.links number).carries ≡ Joined m → (view.links number).alive ≡ true → (view.links number).stage ≡ Asked question
+  pub before : (m : SessionName) (question : Question) → (view.links number).carries ≡ Joined m → (real.peers number).alive ≡ true → (view.links number).stage ≡ Asked question
       → IsJoined true (view.links number).account (view.links number).marked (view.links number).told (view.links number).id (view.held m).pin (view.held m).id (real.peers number).session (private.sessions m)
-  before m question carries alive is = asked_joined setup.reads (view.links number) (real.peers number).answer (view.held m).pin (view.held m).id (real.peers number).session (private.sessions m) question alive is (at (Joined m) carries).joined
+  before m question carries alive is = asked_joined setup.reads (view.links number) (real.peers number).alive (real.peers number).answer (view.held m).pin (view.held m).id (real.peers number).session (private.sessions m) question alive is (at (Joined m) carries).joined
 
-  ran_sync : (m : SessionName) (c : Command) → (view.links number).alive ≡ true → (view.links number).stage ≡ Asked (Sync m c) → RanTo true (Asked (Sync m c))
+  ran_sync : (m : SessionName) (c : Command) → (real.peers number).alive ≡ true → (view.links number).stage ≡ Asked (Sync m c) → RanTo true (Asked (Sync m c))
   ran_sync m c alive is =
       let l = view.links number in
       let carries : l.carries ≡ Joined m = sync_name setup number l.carries l (real.peers number) view.held private.sessions (stands.links number) m c is in
       let p = private.sessions m in
       let d = data_there in
-      let l' : Link = record l { stage = Answered (Sync m c); alive = not (is_quit c) } in
+      let l' : Link = record l { stage = Answered (Sync m c) } in
       let was = before m (Sync m c) carries alive is in
       let both = step_after setup.reads step tests tame d s p ok_there (ok_here m) c l.account l.marked l.told l.id (view.held m).pin (view.held m).id (asks m (Sync m c) carries is).fits was.session was.knows was.unknown in
-      with_data (λ x. Stands setup tests (record view { links = put is_link_id view.links number l' }) (record { stored = put is_server real.stored l.server (step d s c).stored; peers = put is_link_id real.peers number (record { session = (step d s c).session; answer = (step d s c).reply; table = (real.peers number).table }) })
+      with_data (λ x. Stands setup tests (record view { links = put is_link_id view.links number l' }) (record { stored = put is_server real.stored l.server (step d s c).stored; peers = put is_link_id real.peers number (record { session = (step d s c).session; answer = (step d s c).reply; table = (real.peers number).table; alive = not (is_quit c) }) })
       (record private { stored = put is_server private.stored l.server (step x p c).stored; sessions = put is_name private.sessions m (step x p c).session }))
-      (ran_session view m l' (step d s c) (step d p c) (real.peers number).table private.tables private.answers (tame.keeps d s ok_there c) (tame.keeps d p (ok_here m) c).1 (at (Joined m) carries).home carries both.0.alike.stored (tame.account d p (ok_here m) c ∙ stands.owners m)
+      (ran_session view m l' (not (is_quit c)) (step d s c) (step d p c) (real.peers number).table private.tables private.answers (tame.keeps d s ok_there c) (tame.keeps d p (ok_here m) c).1 (at (Joined m) carries).home carries both.0.alike.stored (tame.account d p (ok_here m) c ∙ stands.owners m)
       (record { home = (at (Joined m) carries).home; asked = refl; joined = both.1 }))
 
-  ran_end : (m : SessionName) → (view.links number).alive ≡ true → (view.links number).stage ≡ Asked (End m) → RanTo true (Asked (End m))
+  ran_end : (m : SessionName) → (real.peers number).alive ≡ true → (view.links number).stage ≡ Asked (End m) → RanTo true (Asked (End m))
   ran_end m alive is =
       let l = view.links number in
       let carries : l.carries ≡ Joined m = end_name setup number l.carries l (real.peers number) view.held private.sessions (stands.links number) m is in
       let p = private.sessions m in
       let d = data_there in
-      let l' : Link = record l { stage = Answered (End m); alive = true } in
+      let l' : Link = record l { stage = Answered (End m) } in
       let was = before m (End m) carries alive is in
       let joined = end_after setup.reads step tests tame d s p ok_there (ok_here m) l.account l.marked l.told l.id (view.held m).pin (view.held m).id was.session in
-      with_data (λ x. Stands setup tests (record view { links = put is_link_id view.links number l' }) (record { stored = put is_server real.stored l.server (step d s Reset).stored; peers = put is_link_id real.peers number (record { session = (step d s Reset).session; answer = (step d s Reset).reply; table = λ key. None }) })
+      with_data (λ x. Stands setup tests (record view { links = put is_link_id view.links number l' }) (record { stored = put is_server real.stored l.server (step d s Reset).stored; peers = put is_link_id real.peers number (record { session = (step d s Reset).session; answer = (step d s Reset).reply; table = λ key. None; alive = true }) })
       (record private { stored = put is_server private.stored l.server (step x p Reset).stored; sessions = put is_name private.sessions m (step x p Reset).session; tables = put is_name private.tables m (λ key. None) }))
-      (ran_session view m l' (step d s Reset) (step d p Reset) (λ key. None) (put is_name private.tables m (λ key. None)) private.answers (tame.keeps d s ok_there Reset) (tame.keeps d p (ok_here m) Reset).1 (at (Joined m) carries).home carries
+      (ran_session view m l' true (step d s Reset) (step d p Reset) (λ key. None) (put is_name private.tables m (λ key. None)) private.answers (tame.keeps d s ok_there Reset) (tame.keeps d p (ok_here m) Reset).1 (at (Joined m) carries).home carries
       (reset_stored setup.reads step tests tame d s p ok_there (ok_here m) was.session.rest) (tame.account d p (ok_here m) Reset ∙ stands.owners m)
       (record { home = (at (Joined m) carries).home; asked = refl; joined = joined }))
 
   -- The private world doesn't notice a capture, nor what the router does for itself.
 
-  ran_by_itself : (link : Link) (there : Outcome) (table : ℕ → Option Key) → Accepts tests there.stored there.session → there.stored ≡ data_there → IsAt setup number link (record { session = there.session; answer = there.reply; table = table }) view.held private.sessions
-      → Stands setup tests (record view { links = put is_link_id view.links number link }) (record { stored = put is_server real.stored (view.links number).server there.stored; peers = put is_link_id real.peers number (record { session = there.session; answer = there.reply; table = table }) }) private
-  ran_by_itself link there table good stored here =
+  ran_by_itself : (link : Link) (alive : Bool) (there : Outcome) (table : ℕ → Option Key) → Accepts tests there.stored there.session → there.stored ≡ data_there → IsAt setup number link (record { session = there.session; answer = there.reply; table = table; alive = alive }) view.held private.sessions
+      → Stands setup tests (record view { links = put is_link_id view.links number link }) (record { stored = put is_server real.stored (view.links number).server there.stored; peers = put is_link_id real.peers number (record { session = there.session; answer = there.reply; table = table; alive = alive }) }) private
+  ran_by_itself link alive there table good stored here =
       let server = (view.links number).server in
-      ran_alone view link (record { session = there.session; answer = there.reply; table = table }) (put is_server real.stored server there.stored)
+      ran_alone view link (record { session = there.session; answer = there.reply; table = table; alive = alive }) (put is_server real.stored server there.stored)
       (put_all servers (λ x. tests.is_data x ≡ true) real.stored server there.stored good.0 stands.accepted.data_of) good.1
       (one_put servers private.stored real.stored server there.stored stored stands.stored) here
 
-  ran_capture : (m : SessionName) → (view.links number).alive ≡ true → (view.links number).stage ≡ Asked (Capture m) → RanTo true (Asked (Capture m))
+  ran_capture : (m : SessionName) → (real.peers number).alive ≡ true → (view.links number).stage ≡ Asked (Capture m) → RanTo true (Asked (Capture m))
   ran_capture m alive is =
       let l = view.links number in
       let carries : l.carries ≡ Joined m = capture_name setup number l.carries l (real.peers number) view.held private.sessions (stands.links number) m is in
       let p = private.sessions m in
       let d = data_there in
-      let l' : Link = record l { stage = Answered (Capture m); alive = true } in
-      let peer : Peer = record { session = (step d s ReadId).session; answer = (step d s ReadId).reply; table = (real.peers number).table } in
+      let l' : Link = record l { stage = Answered (Capture m) } in
+      let peer : Peer = record { session = (step d s ReadId).session; answer = (step d s ReadId).reply; table = (real.peers number).table; alive = true } in
       let was = before m (Capture m) carries alive is in
       let asked = asks m (Capture m) carries is in
       let joined = capture_after setup.reads step tests tame d s p ok_there (ok_here m) l.account l.marked l.told l.id (view.held m).pin (view.held m).id asked.unpinned asked.unknown was.session was.unknown in
       let there : IsJoinedLink setup number m l' peer (view.held m) p = record { home = (at (Joined m) carries).home; asked = refl; joined = joined } in
-      ran_by_itself l' (step d s ReadId) (real.peers number).table (tame.keeps d s ok_there ReadId) (tame.id.read_stored d s ok_there) (subst (λ c. IsAtBy setup c number l' peer view.held private.sessions) (sym carries) there)
+      ran_by_itself l' true (step d s ReadId) (real.peers number).table (tame.keeps d s ok_there ReadId) (tame.id.read_stored d s ok_there) (subst (λ c. IsAtBy setup c number l' peer view.held private.sessions) (sym carries) there)
 
   pub asks_lent : (n : SessionName) (question : Question) → (view.links number).carries ≡ Lent n → (view.links number).stage ≡ Asked question
       → IsAskedLent setup n (Asked question) (view.links number).account (view.links number).told (view.links number).id (view.links number).live (view.held n)
   asks_lent n question carries is = subst (λ st. IsAskedLent setup n st (view.links number).account (view.links number).told (view.links number).id (view.links number).live (view.held n)) is (at (Lent n) carries).asked
 
-  pub before_free : (question : Question) → (view.links number).alive ≡ true → (view.links number).stage ≡ Asked question
-      → IfAlive (view.links number).alive (IsFree (view.links number).account (soon_told setup.reads (view.links number).stage (real.peers number).answer (view.links number).told) (soon_id setup.reads (view.links number).stage (real.peers number).answer (view.links number).id) (real.peers number).session) (Unit {0})
+  pub before_free : (question : Question) → (real.peers number).alive ≡ true → (view.links number).stage ≡ Asked question
+      → IfAlive (real.peers number).alive (IsFree (view.links number).account (soon_told setup.reads (view.links number).stage (real.peers number).answer (view.links number).told) (soon_id setup.reads (view.links number).stage (real.peers number).answer (view.links number).id) (real.peers number).session) (Unit {0})
       → IsFree (view.links number).account (view.links number).told (view.links number).id (real.peers number).session
   before_free question alive is free =
       let l = view.links number in
       let a = (real.peers number).answer in
-      subst (λ b. IfAlive b (IsFree l.account l.told l.id s) (Unit {0})) alive (subst (λ st. IfAlive l.alive (IsFree l.account (soon_told setup.reads st a l.told) (soon_id setup.reads st a l.id) s) (Unit {0})) is free)
+      subst (λ b. IfAlive b (IsFree l.account l.told l.id s) (Unit {0})) alive (subst (λ st. IfAlive (real.peers number).alive (IsFree l.account (soon_told setup.reads st a l.told) (soon_id setup.reads st a l.id) s) (Unit {0})) is free)
 
   -- what a link is to the session to which it is lent, or to nobody, once the router did something there for itself
 
-  own_on_free : (c : Command) → (view.links number).alive ≡ true → (view.links number).stage ≡ Asked (Own c) → (view.links number).carries ≡ Nobody → RanTo true (Asked (Own c))
+  own_on_free : (c : Command) → (real.peers number).alive ≡ true → (view.links number).stage ≡ Asked (Own c) → (view.links number).carries ≡ Nobody → RanTo true (Asked (Own c))
   own_on_free c alive is free =
       let l = view.links number in
       let d = data_there in
       let a = (real.peers number).answer in
-      let l' : Link = record l { stage = Answered (Own c); alive = not (is_quit c) } in
-      let peer : Peer = record { session = (step d s c).session; answer = (step d s c).reply; table = (real.peers number).table } in
+      let l' : Link = record l { stage = Answered (Own c) } in
+      let peer : Peer = record { session = (step d s c).session; answer = (step d s c).reply; table = (real.peers number).table; alive = not (is_quit c) } in
       let fits : IsOwnStep setup.reads c = subst (IsAskedFree setup.reads) is (at Nobody free).asked in
       let was = before_free (Own c) alive is (at Nobody free).session in
       let there : IsFreeLink setup l' peer = record { asked = tt; unmarked = (at Nobody free).unmarked; session = own_after setup.reads step tests tame d s s ok_there ok_there c l.account l.told l.id fits was } in
-      ran_by_itself l' (step d s c) (real.peers number).table (tame.keeps d s ok_there c) (own_calm setup.reads step tests tame d s s ok_there ok_there c fits was.plain) (subst (λ x. IsAtBy setup x number l' peer view.held private.sessions) (sym free) there)
+      ran_by_itself l' (not (is_quit c)) (step d s c) (real.peers number).table (tame.keeps d s ok_there c) (own_calm setup.reads step tests tame d s s ok_there ok_there c fits was.plain) (subst (λ x. IsAtBy setup x number l' peer view.held private.sessions) (sym free) there)
 
-  own_on_lent : (c : Command) → (view.links number).alive ≡ true → (view.links number).stage ≡ Asked (Own c) → (n : SessionName) → (view.links number).carries ≡ Lent n → RanTo true (Asked (Own c))
+  own_on_lent : (c : Command) → (real.peers number).alive ≡ true → (view.links number).stage ≡ Asked (Own c) → (n : SessionName) → (view.links number).carries ≡ Lent n → RanTo true (Asked (Own c))
   own_on_lent c alive is n carries =
       let l = view.links number in
       let d = data_there in
-      let l' : Link = record l { stage = Answered (Own c); alive = not (is_quit c) } in
-      let peer : Peer = record { session = (step d s c).session; answer = (step d s c).reply; table = (real.peers number).table } in
+      let l' : Link = record l { stage = Answered (Own c) } in
+      let peer : Peer = record { session = (step d s c).session; answer = (step d s c).reply; table = (real.peers number).table; alive = not (is_quit c) } in
       let lent = at (Lent n) carries in
       let fits : IsOwnStep setup.reads c = asks_lent n (Own c) carries is in
       let was = before_free (Own c) alive is lent.session in
       let there : IsLentLink setup number n l' peer (view.held n) (private.sessions n) =
       record { home = lent.home; unmarked = lent.unmarked; asked = tt; session = own_after setup.reads step tests tame d s s ok_there ok_there c l.account l.told l.id fits was; plain = lent.plain; id = lent.id } in
-      ran_by_itself l' (step d s c) (real.peers number).table (tame.keeps d s ok_there c) (own_calm setup.reads step tests tame d s s ok_there ok_there c fits was.plain) (subst (λ x. IsAtBy setup x number l' peer view.held private.sessions) (sym carries) there)
+      ran_by_itself l' (not (is_quit c)) (step d s c) (real.peers number).table (tame.keeps d s ok_there c) (own_calm setup.reads step tests tame d s s ok_there ok_there c fits was.plain) (subst (λ x. IsAtBy setup x number l' peer view.held private.sessions) (sym carries) there)
 
-  ran_own : (c : Command) → (view.links number).alive ≡ true → (view.links number).stage ≡ Asked (Own c) → (carried : Carried) → (view.links number).carries ≡ carried → RanTo true (Asked (Own c))
+  ran_own : (c : Command) → (real.peers number).alive ≡ true → (view.links number).stage ≡ Asked (Own c) → (carried : Carried) → (view.links number).carries ≡ carried → RanTo true (Asked (Own c))
   ran_own c alive is Nobody carries = own_on_free c alive is carries
   ran_own c alive is (Lent n) carries = own_on_lent c alive is n carries
   ran_own c alive is (Joined n) carries = absurd (subst (λ st. IsAskedJoined setup n st (view.links number).marked (view.links number).told (view.links number).id (view.links number).live (view.held n)) is (at (Joined n) carries).asked)
 
   -- A preparation: the private session takes part where it is pinned.
 
-  prep_on_lent : (m : SessionName) (key : ℕ) (text : List ℕ) → (view.links number).alive ≡ true → (view.links number).stage ≡ Asked (Prep m key text) → (view.links number).carries ≡ Lent m → RanTo true (Asked (Prep m key text))
+  prep_on_lent : (m : SessionName) (key : ℕ) (text : List ℕ) → (real.peers number).alive ≡ true → (view.links number).stage ≡ Asked (Prep m key text) → (view.links number).carries ≡ Lent m → RanTo true (Asked (Prep m key text))
   prep_on_lent m key text alive is carries =
       let l = view.links number in
       let d = data_there in
       let c = Prepare text in
-      let l' : Link = record l { stage = Answered (Prep m key text); alive = true } in
-      let peer : Peer = record { session = (step d s c).session; answer = (step d s c).reply; table = there_table (Prep m key text) (step d s c) (real.peers number).table } in
+      let l' : Link = record l { stage = Answered (Prep m key text) } in
+      let peer : Peer = record { session = (step d s c).session; answer = (step d s c).reply; table = there_table (Prep m key text) (step d s c) (real.peers number).table; alive = true } in
       let lent = at (Lent m) carries in
       let preparing = asks_lent m (Prep m key text) carries is in
       let was = before_free (Prep m key text) alive is lent.session in
       let there : IsLentLink setup number m l' peer (view.held m) (private.sessions m) =
       record { home = lent.home; unmarked = lent.unmarked; asked = preparing; session = prep_free setup.reads step tests tame d s s ok_there ok_there text l.account l.told l.id was; plain = lent.plain; id = lent.id } in
       subst (λ b. Stands setup tests (record view { links = put is_link_id view.links number l' }) (real_run step real number (view.links number).live true (Asked (Prep m key text)) l.server) (private_prep step private b l.server m key text)) (sym preparing.unpinned)
-      (ran_by_itself l' (step d s c) (there_table (Prep m key text) (step d s c) (real.peers number).table) (tame.keeps d s ok_there c) (tame.prepare.stored d s ok_there text) (subst (λ x. IsAtBy setup x number l' peer view.held private.sessions) (sym carries) there))
+      (ran_by_itself l' true (step d s c) (there_table (Prep m key text) (step d s c) (real.peers number).table) (tame.keeps d s ok_there c) (tame.prepare.stored d s ok_there text) (subst (λ x. IsAtBy setup x number l' peer view.held private.sessions) (sym carries) there))
 
-  prep_on_joined : (m : SessionName) (key : ℕ) (text : List ℕ) → (view.links number).alive ≡ true → (view.links number).stage ≡ Asked (Prep m key text) → (view.links number).carries ≡ Joined m → RanTo true (Asked (Prep m key text))
+  prep_on_joined : (m : SessionName) (key : ℕ) (text : List ℕ) → (real.peers number).alive ≡ true → (view.links number).stage ≡ Asked (Prep m key text) → (view.links number).carries ≡ Joined m → RanTo true (Asked (Prep m key text))
   prep_on_joined m key text alive is carries =
       let l = view.links number in
       let d = data_there in
       let c = Prepare text in
       let p = private.sessions m in
-      let l' : Link = record l { stage = Answered (Prep m key text); alive = true } in
+      let l' : Link = record l { stage = Answered (Prep m key text) } in
       let pinned : is_pinned (view.held m).pin ≡ true = (asks m (Prep m key text) carries is).pinned in
       let was = before m (Prep m key text) carries alive is in
       let both = prep_after setup.reads step tests tame d s p ok_there (ok_here m) text l.account l.marked l.told l.id (view.held m).pin (view.held m).id pinned was.session was.knows was.unknown in
       subst (λ b. Stands setup tests (record view { links = put is_link_id view.links number l' }) (real_run step real number (view.links number).live true (Asked (Prep m key text)) l.server) (private_prep step private b l.server m key text)) (sym pinned)
       (with_data (λ x. Stands setup tests (record view { links = put is_link_id view.links number l' }) (real_run step real number (view.links number).live true (Asked (Prep m key text)) l.server)
       (record private { stored = put is_server private.stored l.server (step x p c).stored; sessions = put is_name private.sessions m (step x p c).session; tables = put is_name private.tables m (table_after (Prep m key text) (step x p c) (private.tables m)) }))
-      (ran_session view m l' (step d s c) (step d p c) (there_table (Prep m key text) (step d s c) (real.peers number).table) (put is_name private.tables m (table_after (Prep m key text) (step d p c) (private.tables m))) private.answers (tame.keeps d s ok_there c) (tame.keeps d p (ok_here m) c).1 (at (Joined m) carries).home carries both.0.alike.stored (tame.account d p (ok_here m) c ∙ stands.owners m)
+      (ran_session view m l' true (step d s c) (step d p c) (there_table (Prep m key text) (step d s c) (real.peers number).table) (put is_name private.tables m (table_after (Prep m key text) (step d p c) (private.tables m))) private.answers (tame.keeps d s ok_there c) (tame.keeps d p (ok_here m) c).1 (at (Joined m) carries).home carries both.0.alike.stored (tame.account d p (ok_here m) c ∙ stands.owners m)
       (record { home = (at (Joined m) carries).home; asked = refl; joined = both.1 })))
 
-  ran_prep : (m : SessionName) (key : ℕ) (text : List ℕ) → (view.links number).alive ≡ true → (view.links number).stage ≡ Asked (Prep m key text) → RanTo true (Asked (Prep m key text))
+  ran_prep : (m : SessionName) (key : ℕ) (text : List ℕ) → (real.peers number).alive ≡ true → (view.links number).stage ≡ Asked (Prep m key text) → RanTo true (Asked (Prep m key text))
   ran_prep m key text alive is = elim (prep_name setup number (view.links number).carries (view.links number) (real.peers number) view.held private.sessions (stands.links number) m key text is) [
     | inl lent ↦ prep_on_lent m key text alive is lent
     | inr joined ↦ prep_on_joined m key text alive is joined
@@ -433,55 +437,49 @@ module _ (setup : Setup) (tests : Tests) (step : Step) (tame : Tame setup.reads 
   still : Stands setup tests (record view { links = put is_link_id view.links number (view.links number) }) real private
   still = linked view (view.links number) (stands.links number)
 
-  ran_by_stage : AreDecoded → (alive : Bool) (stage : Stage) → (view.links number).alive ≡ alive → (view.links number).stage ≡ stage → RanTo alive stage
-  ran_by_stage are true (Asked (Statement m due)) alive is = ran_statement are m due alive is
-  ran_by_stage are true (Asked (Sync m c)) alive is = ran_sync m c alive is
-  ran_by_stage are true (Asked (Own c)) alive is = ran_own c alive is (view.links number).carries refl
-  ran_by_stage are true (Asked (Prep m key text)) alive is = ran_prep m key text alive is
-  ran_by_stage are true (Asked (End m)) alive is = ran_end m alive is
-  ran_by_stage are true (Asked (Capture m)) alive is = ran_capture m alive is
-  ran_by_stage are _ _ alive is = still
+  ran_by_stage : AreDecoded → (alive : Bool) (stage : Stage) → (real.peers number).alive ≡ alive → (view.links number).stage ≡ stage → IsTrueRun step real number (view.links number).live stage (view.links number).server → RanTo alive stage
+  ran_by_stage are true (Asked (Statement m due)) alive is honest = ran_statement are m due alive is
+  ran_by_stage are true (Asked (Sync m c)) alive is honest = ran_sync m c alive is
+  ran_by_stage are true (Asked (Own c)) alive is honest = ran_own c alive is (view.links number).carries refl
+  ran_by_stage are true (Asked (Prep m key text)) alive is honest = ran_prep m key text alive is
+  ran_by_stage are true (Asked (End m)) alive is honest = ran_end m alive is
+  ran_by_stage are true (Asked (Capture m)) alive is honest = ran_capture m alive is
+  ran_by_stage are false (Asked question) alive is honest = dead_runs alive honest.alive
+  ran_by_stage are true Quiet alive is honest = still
+  ran_by_stage are true (Answered question) alive is honest = still
+  ran_by_stage are false Quiet alive is honest = still
+  ran_by_stage are false (Answered question) alive is honest = still
 
-  pub ran_so : AreDecoded → Stands setup tests (view_step setup view (Ran number)) (real_step step view real (Ran number)) (private_step step view private (Ran number))
-  ran_so are = ran_by_stage are (view.links number).alive (view.links number).stage refl refl
+  pub ran_so : AreDecoded → IsTrueRun step real number (view.links number).live (view.links number).stage (view.links number).server → Stands setup tests (view_step setup view (Ran number)) (real_step step view real (Ran number)) (private_step step view (alive_in real) private (Ran number))
+  ran_so are honest = ran_by_stage are (real.peers number).alive (view.links number).stage refl refl honest
 
   -- A link is dropped.
 
-  abbrev dead : Link
-  dead = record (view.links number) { alive = false }
-
   abbrev DropTo : (alive : Bool) → Carried → Type 0
-  DropTo alive carried = Stands setup tests (record view { links = put is_link_id view.links number (record (view.links number) { alive = false }) })
-      (real_drop step real number alive (view.links number).server) (private_drop step private alive carried (view.links number).server)
+  DropTo alive carried = Stands setup tests view (real_drop step real number alive (view.links number).server) (private_drop step private alive carried (view.links number).server)
 
-  dropped_dead : (carried : Carried) → (view.links number).carries ≡ carried → (view.links number).alive ≡ false → IsAtBy setup carried number (view.links number) (real.peers number) view.held private.sessions → IsAtBy setup carried number dead (real.peers number) view.held private.sessions
-  dropped_dead Nobody carries alive is = record { asked = is.asked; unmarked = is.unmarked; session = tt }
-  dropped_dead (Lent n) carries alive is = record { home = is.home; unmarked = is.unmarked; asked = is.asked; session = tt; plain = is.plain; id = is.id }
-  dropped_dead (Joined n) carries alive is =
-      let l = view.links number in
-      let a = (real.peers number).answer in
-      let j = subst (λ b. IsJoined b l.account l.marked (soon_told setup.reads l.stage a l.told) (soon_id setup.reads l.stage a l.id) (soon_pin setup.reads l.stage a (view.held n).pin) (soon_id setup.reads l.stage a (view.held n).id) s (private.sessions n)) alive is.joined in
-      record { home = is.home; asked = is.asked; joined = j }
+  unmoved : (new : Real) (here : Private) → Stands setup tests (record view { links = put is_link_id view.links number (view.links number) }) new here → Stands setup tests view new here
+  unmoved new here is = subst (λ links. Stands setup tests (record view { links = links }) new here) (put-back view.links number) is
 
   abbrev quit_there : Outcome
   quit_there = step data_there (real.peers number).session Quit
 
   abbrev peer_after : Peer
-  peer_after = record (real.peers number) { session = quit_there.session }
+  peer_after = record (real.peers number) { session = quit_there.session; alive = false }
 
   data_after : (server : ServerId) → tests.is_data (put is_server real.stored (view.links number).server quit_there.stored server) ≡ true
   data_after = put_all servers (λ x. tests.is_data x ≡ true) real.stored (view.links number).server quit_there.stored (tame.keeps data_there s ok_there Quit).0 stands.accepted.data_of
 
-  drop_nobody : (view.links number).alive ≡ true → (view.links number).carries ≡ Nobody → DropTo true Nobody
+  drop_nobody : (real.peers number).alive ≡ true → (view.links number).carries ≡ Nobody → DropTo true Nobody
   drop_nobody alive free =
       let l = view.links number in
       let a = (real.peers number).answer in
       let was : IsFree l.account (soon_told setup.reads l.stage a l.told) (soon_id setup.reads l.stage a l.id) s =
       subst (λ b. IfAlive b (IsFree l.account (soon_told setup.reads l.stage a l.told) (soon_id setup.reads l.stage a l.id) s) (Unit {0})) alive (at Nobody free).session in
-      let there : IsFreeLink setup dead peer_after = record { asked = (at Nobody free).asked; unmarked = (at Nobody free).unmarked; session = tt } in
-      ran_alone view dead peer_after (put is_server real.stored l.server quit_there.stored) data_after (tame.keeps data_there s ok_there Quit).1
+      let there : IsFreeLink setup (view.links number) peer_after = record { asked = (at Nobody free).asked; unmarked = (at Nobody free).unmarked; session = tt } in
+      unmoved _ private (ran_alone view (view.links number) peer_after (put is_server real.stored l.server quit_there.stored) data_after (tame.keeps data_there s ok_there Quit).1
       (one_put servers private.stored real.stored l.server quit_there.stored (own_calm setup.reads step tests tame data_there s s ok_there ok_there Quit tt was.plain) stands.stored)
-      (subst (λ x. IsAtBy setup x number dead peer_after view.held private.sessions) (sym free) there)
+      (subst (λ x. IsAtBy setup x number (view.links number) peer_after view.held private.sessions) (sym free) there))
 
   -- the session closes, but for its insert id
 
@@ -491,21 +489,21 @@ module _ (setup : Setup) (tests : Tests) (step : Step) (tame : Tame setup.reads 
   closed_plain : (n : SessionName) → IsPlain (closed_at data_there n)
   closed_plain n = let plain = plain_quit setup.reads step tests tame data_there (private.sessions n) (ok_here n) in record { tx = plain.tx; locks = plain.locks; deep = plain.deep }
 
-  drop_named : (n : SessionName) → (view.held n).home ≡ Some number → (step data_there (private.sessions n) Quit).stored ≡ quit_there.stored → IsAt setup number dead peer_after view.held (put is_name private.sessions n (closed_at data_there n))
-      → Stands setup tests (record view { links = put is_link_id view.links number dead }) (real_drop step real number true (view.links number).server) (closed step private (view.links number).server n)
+  drop_named : (n : SessionName) → (view.held n).home ≡ Some number → (step data_there (private.sessions n) Quit).stored ≡ quit_there.stored → IsAt setup number (view.links number) peer_after view.held (put is_name private.sessions n (closed_at data_there n))
+      → Stands setup tests view (real_drop step real number true (view.links number).server) (closed step private (view.links number).server n)
   drop_named n home stored here =
       let l = view.links number in
-      with_data (λ d. Stands setup tests (record view { links = put is_link_id view.links number dead }) (record { stored = put is_server real.stored l.server quit_there.stored; peers = put is_link_id real.peers number peer_after })
+      unmoved _ _ (with_data (λ d. Stands setup tests (record view { links = put is_link_id view.links number (view.links number) }) (record { stored = put is_server real.stored l.server quit_there.stored; peers = put is_link_id real.peers number peer_after })
       (record private { stored = put is_server private.stored l.server (step d (private.sessions n) Quit).stored; sessions = put is_name private.sessions n (closed_at d n) }))
-      (ran_named view n dead peer_after (put is_server real.stored l.server quit_there.stored) (put is_server private.stored l.server (step data_there (private.sessions n) Quit).stored) (closed_at data_there n) private.tables private.answers
+      (ran_named view n (view.links number) peer_after (put is_server real.stored l.server quit_there.stored) (put is_server private.stored l.server (step data_there (private.sessions n) Quit).stored) (closed_at data_there n) private.tables private.answers
       data_after (tame.keeps data_there s ok_there Quit).1 (tame.keeps data_there (private.sessions n) (ok_here n) Quit).1
       (both_put servers private.stored real.stored l.server (step data_there (private.sessions n) Quit).stored quit_there.stored stored stands.stored)
       (tame.account data_there (private.sessions n) (ok_here n) Quit ∙ stands.owners n)
       (λ e. cc)
       (no_other (view.held n).home number home)
-      here)
+      here))
 
-  drop_lent : (n : SessionName) → (view.links number).alive ≡ true → (view.links number).carries ≡ Lent n → DropTo true (Lent n)
+  drop_lent : (n : SessionName) → (real.peers number).alive ≡ true → (view.links number).carries ≡ Lent n → DropTo true (Lent n)
   drop_lent n alive carries =
       let l = view.links number in
       let p = private.sessions n in
@@ -513,33 +511,33 @@ module _ (setup : Setup) (tests : Tests) (step : Step) (tame : Tame setup.reads 
       let a = (real.peers number).answer in
       let was : IsFree l.account (soon_told setup.reads l.stage a l.told) (soon_id setup.reads l.stage a l.id) s =
       subst (λ b. IfAlive b (IsFree l.account (soon_told setup.reads l.stage a l.told) (soon_id setup.reads l.stage a l.id) s) (Unit {0})) alive is.session in
-      let there : IsLentLink setup number n dead peer_after (view.held n) (closed_at data_there n) =
+      let there : IsLentLink setup number n (view.links number) peer_after (view.held n) (closed_at data_there n) =
       record { home = is.home; unmarked = is.unmarked; asked = is.asked; session = tt; plain = closed_plain n; id = record { is = is.id.is } } in
       drop_named n is.home (own_calm setup.reads step tests tame data_there p p (ok_here n) (ok_here n) Quit tt is.plain ∙ sym (own_calm setup.reads step tests tame data_there s s ok_there ok_there Quit tt was.plain))
-      (subst (λ c. IsAtBy setup c number dead peer_after view.held (put is_name private.sessions n (closed_at data_there n))) (sym carries)
-      (subst (λ x. IsLentLink setup number n dead peer_after (view.held n) x) (sym (put-same names private.sessions n (closed_at data_there n))) there))
+      (subst (λ c. IsAtBy setup c number (view.links number) peer_after view.held (put is_name private.sessions n (closed_at data_there n))) (sym carries)
+      (subst (λ x. IsLentLink setup number n (view.links number) peer_after (view.held n) x) (sym (put-same names private.sessions n (closed_at data_there n))) there))
 
-  drop_joined : (n : SessionName) → (view.links number).alive ≡ true → (view.links number).carries ≡ Joined n → DropTo true (Joined n)
+  drop_joined : (n : SessionName) → (real.peers number).alive ≡ true → (view.links number).carries ≡ Joined n → DropTo true (Joined n)
   drop_joined n alive carries =
       let l = view.links number in
       let p = private.sessions n in
       let a = (real.peers number).answer in
       let is = at (Joined n) carries in
       let was = subst (λ b. IsJoined b l.account l.marked (soon_told setup.reads l.stage a l.told) (soon_id setup.reads l.stage a l.id) (soon_pin setup.reads l.stage a (view.held n).pin) (soon_id setup.reads l.stage a (view.held n).id) s p) alive is.joined in
-      let there : IsJoinedLink setup number n dead peer_after (view.held n) (closed_at data_there n) =
+      let there : IsJoinedLink setup number n (view.links number) peer_after (view.held n) (closed_at data_there n) =
       record { home = is.home; asked = is.asked; joined = record { session = closed_plain n; knows = record { is = is.joined.knows.is }; unknown = is.joined.unknown } } in
       drop_named n is.home (quit_stored setup.reads step tests tame data_there s p ok_there (ok_here n) was.session.rest)
-      (subst (λ c. IsAtBy setup c number dead peer_after view.held (put is_name private.sessions n (closed_at data_there n))) (sym carries)
-      (subst (λ x. IsJoinedLink setup number n dead peer_after (view.held n) x) (sym (put-same names private.sessions n (closed_at data_there n))) there))
+      (subst (λ c. IsAtBy setup c number (view.links number) peer_after view.held (put is_name private.sessions n (closed_at data_there n))) (sym carries)
+      (subst (λ x. IsJoinedLink setup number n (view.links number) peer_after (view.held n) x) (sym (put-same names private.sessions n (closed_at data_there n))) there))
 
-  dropped_by : (alive : Bool) (carried : Carried) → (view.links number).alive ≡ alive → (view.links number).carries ≡ carried → DropTo alive carried
-  dropped_by false carried alive carries = linked view dead (subst (λ c. IsAtBy setup c number dead (real.peers number) view.held private.sessions) (sym carries) (dropped_dead carried carries alive (at carried carries)))
+  dropped_by : (alive : Bool) (carried : Carried) → (real.peers number).alive ≡ alive → (view.links number).carries ≡ carried → DropTo alive carried
+  dropped_by false carried alive carries = stands
   dropped_by true Nobody alive carries = drop_nobody alive carries
   dropped_by true (Lent n) alive carries = drop_lent n alive carries
   dropped_by true (Joined n) alive carries = drop_joined n alive carries
 
-  pub dropped_so : Stands setup tests (view_step setup view (Dropped number)) (real_step step view real (Dropped number)) (private_step step view private (Dropped number))
-  dropped_so = dropped_by (view.links number).alive (view.links number).carries refl refl
+  pub dropped_so : Stands setup tests (view_step setup view (Dropped number)) (real_step step view real (Dropped number)) (private_step step view (alive_in real) private (Dropped number))
+  dropped_so = dropped_by (real.peers number).alive (view.links number).carries refl refl
 
   -- The rest: a login, a link that the router loses or closes.
 

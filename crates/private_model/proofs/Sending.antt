@@ -47,29 +47,29 @@ module _ (setup : Setup) (tests : Tests) (view : View) (real : Real) (private : 
   at_nobody free = subst (λ c. IsAtBy setup c number (view.links number) (real.peers number) view.held private.sessions) free (stands.links number)
 
   quiet_free : (view.links number).carries ≡ Nobody → (view.links number).stage ≡ Quiet
-      → IfAlive (view.links number).alive (IsFree (view.links number).account (view.links number).told (view.links number).id (real.peers number).session) (Unit {0})
+      → IfAlive (real.peers number).alive (IsFree (view.links number).account (view.links number).told (view.links number).id (real.peers number).session) (Unit {0})
   quiet_free free quiet =
       let l = view.links number in
       let a = (real.peers number).answer in
-      subst (λ st. IfAlive l.alive (IsFree l.account (soon_told setup.reads st a l.told) (soon_id setup.reads st a l.id) (real.peers number).session) (Unit {0})) quiet (at_nobody free).session
+      subst (λ st. IfAlive (real.peers number).alive (IsFree l.account (soon_told setup.reads st a l.told) (soon_id setup.reads st a l.id) (real.peers number).session) (Unit {0})) quiet (at_nobody free).session
 
   quiet_joined : (n : SessionName) → (view.links number).carries ≡ Joined n → (view.links number).stage ≡ Quiet
-      → IsJoined (view.links number).alive (view.links number).account (view.links number).marked (view.links number).told (view.links number).id (view.held n).pin (view.held n).id (real.peers number).session (private.sessions n)
+      → IsJoined (real.peers number).alive (view.links number).account (view.links number).marked (view.links number).told (view.links number).id (view.held n).pin (view.held n).id (real.peers number).session (private.sessions n)
   quiet_joined n carries quiet =
       let l = view.links number in
       let a = (real.peers number).answer in
-      subst (λ st. IsJoined l.alive l.account l.marked (soon_told setup.reads st a l.told) (soon_id setup.reads st a l.id) (soon_pin setup.reads st a (view.held n).pin) (soon_id setup.reads st a (view.held n).id) (real.peers number).session (private.sessions n))
+      subst (λ st. IsJoined (real.peers number).alive l.account l.marked (soon_told setup.reads st a l.told) (soon_id setup.reads st a l.id) (soon_pin setup.reads st a (view.held n).pin) (soon_id setup.reads st a (view.held n).id) (real.peers number).session (private.sessions n))
       quiet (at_joined n carries).joined
 
   at_lent : (n : SessionName) → (view.links number).carries ≡ Lent n → IsLentLink setup number n (view.links number) (real.peers number) (view.held n) (private.sessions n)
   at_lent n carries = subst (λ c. IsAtBy setup c number (view.links number) (real.peers number) view.held private.sessions) carries (stands.links number)
 
   quiet_lent : (n : SessionName) → (view.links number).carries ≡ Lent n → (view.links number).stage ≡ Quiet
-      → IfAlive (view.links number).alive (IsFree (view.links number).account (view.links number).told (view.links number).id (real.peers number).session) (Unit {0})
+      → IfAlive (real.peers number).alive (IsFree (view.links number).account (view.links number).told (view.links number).id (real.peers number).session) (Unit {0})
   quiet_lent n carries quiet =
       let l = view.links number in
       let a = (real.peers number).answer in
-      subst (λ st. IfAlive l.alive (IsFree l.account (soon_told setup.reads st a l.told) (soon_id setup.reads st a l.id) (real.peers number).session) (Unit {0})) quiet (at_lent n carries).session
+      subst (λ st. IfAlive (real.peers number).alive (IsFree l.account (soon_told setup.reads st a l.told) (soon_id setup.reads st a l.id) (real.peers number).session) (Unit {0})) quiet (at_lent n carries).session
 
   -- what a link has for the session to which it is lent, or is to be
   abbrev ToLend : SessionName → Question → Type 0
@@ -181,9 +181,9 @@ module _ (setup : Setup) (tests : Tests) (view : View) (real : Real) (private : 
       let a = (real.peers number).answer in
       let l' = heard setup.reads a l in
       let facts = (at_nobody free).session in
-      let next : IfAlive l.alive (IsFree l.account (soon_told setup.reads (quieted l.stage) a (soon_told setup.reads l.stage a l.told)) (soon_id setup.reads (quieted l.stage) a (soon_id setup.reads l.stage a l.id)) (real.peers number).session) (Unit {0}) =
-      subst (λ st. IfAlive l.alive (IsFree l.account (soon_told setup.reads (quieted st) a (soon_told setup.reads st a l.told)) (soon_id setup.reads (quieted st) a (soon_id setup.reads st a l.id)) (real.peers number).session) (Unit {0})) (sym ran)
-      (subst (λ st. IfAlive l.alive (IsFree l.account (soon_told setup.reads st a l.told) (soon_id setup.reads st a l.id) (real.peers number).session) (Unit {0})) ran facts) in
+      let next : IfAlive (real.peers number).alive (IsFree l.account (soon_told setup.reads (quieted l.stage) a (soon_told setup.reads l.stage a l.told)) (soon_id setup.reads (quieted l.stage) a (soon_id setup.reads l.stage a l.id)) (real.peers number).session) (Unit {0}) =
+      subst (λ st. IfAlive (real.peers number).alive (IsFree l.account (soon_told setup.reads (quieted st) a (soon_told setup.reads st a l.told)) (soon_id setup.reads (quieted st) a (soon_id setup.reads st a l.id)) (real.peers number).session) (Unit {0})) (sym ran)
+      (subst (λ st. IfAlive (real.peers number).alive (IsFree l.account (soon_told setup.reads st a l.told) (soon_id setup.reads st a l.id) (real.peers number).session) (Unit {0})) ran facts) in
       let free_link : IsFreeLink setup l' (real.peers number) = record { asked = subst (λ st. IsAskedFree setup.reads (quieted st)) (sym ran) tt; unmarked = (at_nobody free).unmarked; session = next } in
       subst (λ c. IsAtBy setup c number l' (real.peers number) view.held private.sessions) (sym free) free_link
 
@@ -196,9 +196,9 @@ module _ (setup : Setup) (tests : Tests) (view : View) (real : Real) (private : 
       let s = (real.peers number).session in
       let p = private.sessions n in
       let h' : Held = held_heard setup.reads question a (view.held n) in
-      let before = subst (λ st. IsJoined l.alive l.account l.marked (soon_told setup.reads st a l.told) (soon_id setup.reads st a l.id) (soon_pin setup.reads st a (view.held n).pin) (soon_id setup.reads st a (view.held n).id) s p) ran (at_joined n carries).joined in
-      let next : IsJoined l.alive l.account l.marked (soon_told setup.reads (quieted l.stage) a (soon_told setup.reads l.stage a l.told)) (soon_id setup.reads (quieted l.stage) a (soon_id setup.reads l.stage a l.id)) (soon_pin setup.reads (quieted l.stage) a h'.pin) (soon_id setup.reads (quieted l.stage) a h'.id) s p =
-      subst (λ st. IsJoined l.alive l.account l.marked (soon_told setup.reads (quieted st) a (soon_told setup.reads st a l.told)) (soon_id setup.reads (quieted st) a (soon_id setup.reads st a l.id)) (soon_pin setup.reads (quieted st) a h'.pin) (soon_id setup.reads (quieted st) a h'.id) s p) (sym ran) before in
+      let before = subst (λ st. IsJoined (real.peers number).alive l.account l.marked (soon_told setup.reads st a l.told) (soon_id setup.reads st a l.id) (soon_pin setup.reads st a (view.held n).pin) (soon_id setup.reads st a (view.held n).id) s p) ran (at_joined n carries).joined in
+      let next : IsJoined (real.peers number).alive l.account l.marked (soon_told setup.reads (quieted l.stage) a (soon_told setup.reads l.stage a l.told)) (soon_id setup.reads (quieted l.stage) a (soon_id setup.reads l.stage a l.id)) (soon_pin setup.reads (quieted l.stage) a h'.pin) (soon_id setup.reads (quieted l.stage) a h'.id) s p =
+      subst (λ st. IsJoined (real.peers number).alive l.account l.marked (soon_told setup.reads (quieted st) a (soon_told setup.reads st a l.told)) (soon_id setup.reads (quieted st) a (soon_id setup.reads st a l.id)) (soon_pin setup.reads (quieted st) a h'.pin) (soon_id setup.reads (quieted st) a h'.id) s p) (sym ran) before in
       let joined : IsJoinedLink setup number n l' (real.peers number) h' p = record { home = (at_joined n carries).home; asked = subst (λ st. IsAskedJoined setup n (quieted st) l'.marked l'.told l'.id l'.live h') (sym ran) tt; joined = next } in
       subst (λ x. IsAt setup number l' (real.peers number) (put is_name view.held x (held_heard setup.reads question a (view.held x))) private.sessions) (sym same)
       (subst (λ c. IsAtBy setup c number l' (real.peers number) (put is_name view.held n h') private.sessions) (sym carries)
@@ -221,9 +221,9 @@ module _ (setup : Setup) (tests : Tests) (view : View) (real : Real) (private : 
       let a = (real.peers number).answer in
       let l' = heard setup.reads a l in
       let is = at_lent n carries in
-      let next : IfAlive l.alive (IsFree l.account (soon_told setup.reads (quieted l.stage) a (soon_told setup.reads l.stage a l.told)) (soon_id setup.reads (quieted l.stage) a (soon_id setup.reads l.stage a l.id)) (real.peers number).session) (Unit {0}) =
-      subst (λ st. IfAlive l.alive (IsFree l.account (soon_told setup.reads (quieted st) a (soon_told setup.reads st a l.told)) (soon_id setup.reads (quieted st) a (soon_id setup.reads st a l.id)) (real.peers number).session) (Unit {0})) (sym ran)
-      (subst (λ st. IfAlive l.alive (IsFree l.account (soon_told setup.reads st a l.told) (soon_id setup.reads st a l.id) (real.peers number).session) (Unit {0})) ran is.session) in
+      let next : IfAlive (real.peers number).alive (IsFree l.account (soon_told setup.reads (quieted l.stage) a (soon_told setup.reads l.stage a l.told)) (soon_id setup.reads (quieted l.stage) a (soon_id setup.reads l.stage a l.id)) (real.peers number).session) (Unit {0}) =
+      subst (λ st. IfAlive (real.peers number).alive (IsFree l.account (soon_told setup.reads (quieted st) a (soon_told setup.reads st a l.told)) (soon_id setup.reads (quieted st) a (soon_id setup.reads st a l.id)) (real.peers number).session) (Unit {0})) (sym ran)
+      (subst (λ st. IfAlive (real.peers number).alive (IsFree l.account (soon_told setup.reads st a l.told) (soon_id setup.reads st a l.id) (real.peers number).session) (Unit {0})) ran is.session) in
       let lent : IsLentLink setup number n l' (real.peers number) (view.held n) (private.sessions n) =
       record { home = is.home; unmarked = is.unmarked; asked = subst (λ st. IsAskedLent setup n (quieted st) l'.account l'.told l'.id l'.live (view.held n)) (sym ran) tt; session = next; plain = is.plain; id = is.id } in
       subst (λ c. IsAtBy setup c number l' (real.peers number) held private.sessions) (sym carries)
@@ -291,15 +291,15 @@ module _ (setup : Setup) (tests : Tests) (view : View) (real : Real) (private : 
       let a = (real.peers number).answer in
       let h : Held = record (view.held n) { home = None } in
       let joined = quiet_joined n carries quiet in
-      let facts = free_of l.alive l.account l.marked l.told l.id (view.held n).pin (view.held n).id (real.peers number).session (private.sessions n) harmless joined in
+      let facts = free_of (real.peers number).alive l.account l.marked l.told l.id (view.held n).pin (view.held n).id (real.peers number).session (private.sessions n) harmless joined in
       let free : IsFreeLink setup (freed l) (real.peers number) = record {
         asked = subst (IsAskedFree setup.reads) (sym quiet) tt;
         unmarked = refl;
-        session = subst (λ st. IfAlive l.alive (IsFree l.account (soon_told setup.reads st a l.told) (soon_id setup.reads st a l.id) (real.peers number).session) (Unit {0})) (sym quiet) facts;
+        session = subst (λ st. IfAlive (real.peers number).alive (IsFree l.account (soon_told setup.reads st a l.told) (soon_id setup.reads st a l.id) (real.peers number).session) (Unit {0})) (sym quiet) facts;
       } in
       moved to (freed l) (held_freed (Joined n) view.held) free
       (others_but n h (no_other (view.held n).home number (at_joined n carries).home))
-      (resting_but n h (λ e. record { plain = resting_of l.alive l.account l.marked l.told l.id (view.held n).pin (view.held n).id (real.peers number).session (private.sessions n) harmless joined; id = joined.knows }))
+      (resting_but n h (λ e. record { plain = resting_of (real.peers number).alive l.account l.marked l.told l.id (view.held n).pin (view.held n).id (real.peers number).session (private.sessions n) harmless joined; id = joined.knows }))
 
   freed_lent : (to : View) (n : SessionName) → (view.links number).carries ≡ Lent n → (view.links number).stage ≡ Quiet
       → Stands setup tests (record to { links = put is_link_id view.links number (freed (view.links number)); held = held_freed (Lent n) view.held }) real private

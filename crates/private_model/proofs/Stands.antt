@@ -111,7 +111,7 @@ IsAskedFree reads _ = ⊥
 pub record IsFreeLink (setup : Setup) (link : Link) (peer : Peer) : Type 0 where
   pub asked : IsAskedFree setup.reads link.stage
   pub unmarked : link.marked ≡ false
-  pub session : IfAlive link.alive (IsFree link.account (soon_told setup.reads link.stage peer.answer link.told) (soon_id setup.reads link.stage peer.answer link.id) peer.session) (Unit {0})
+  pub session : IfAlive peer.alive (IsFree link.account (soon_told setup.reads link.stage peer.answer link.told) (soon_id setup.reads link.stage peer.answer link.id) peer.session) (Unit {0})
 
 pub record IsBeginning (setup : Setup) (n m : SessionName) (due : Due) (user : Account) (told : Told) (link_id : Option ℕ) (live : ℕ → Option ℕ) (held : Held) : Type 0 where
   pub same : m ≡ n
@@ -135,7 +135,7 @@ pub record IsLentLink (setup : Setup) (number : LinkId) (n : SessionName) (link 
   pub home : held.home ≡ Some number
   pub unmarked : link.marked ≡ false
   pub asked : IsAskedLent setup n link.stage link.account link.told link.id link.live held
-  pub session : IfAlive link.alive (IsFree link.account (soon_told setup.reads link.stage peer.answer link.told) (soon_id setup.reads link.stage peer.answer link.id) peer.session) (Unit {0})
+  pub session : IfAlive peer.alive (IsFree link.account (soon_told setup.reads link.stage peer.answer link.told) (soon_id setup.reads link.stage peer.answer link.id) peer.session) (Unit {0})
   pub plain : IsPlain private
   pub id : Knows held.id private
 
@@ -176,7 +176,7 @@ pub record IsJoined (alive : Bool) (user : Account) (marked : Bool) (told : Told
 pub record IsJoinedLink (setup : Setup) (number : LinkId) (n : SessionName) (link : Link) (peer : Peer) (held : Held) (private : Session) : Type 0 where
   pub home : held.home ≡ Some number
   pub asked : IsAskedJoined setup n link.stage link.marked link.told link.id link.live held
-  pub joined : IsJoined link.alive link.account link.marked (soon_told setup.reads link.stage peer.answer link.told) (soon_id setup.reads link.stage peer.answer link.id)
+  pub joined : IsJoined peer.alive link.account link.marked (soon_told setup.reads link.stage peer.answer link.told) (soon_id setup.reads link.stage peer.answer link.id)
       (soon_pin setup.reads link.stage peer.answer held.pin) (soon_id setup.reads link.stage peer.answer held.id) peer.session private
 
 abbrev pub IsAtBy : Setup → Carried → (number : LinkId) → Link → Peer → (SessionName → Held) → (SessionName → Session) → Type 0
@@ -251,9 +251,9 @@ pub record AreMatched (setup : Setup) (live : ℕ → Option ℕ) (deep : Bool) 
   pub usual : deep ≡ false → IsUsual setup here
 
 abbrev pub AreTabledBy : Setup → Carried → Link → Peer → (SessionName → Held) → (SessionName → ℕ → Option Key) → Type 0
-AreTabledBy setup Nobody link peer held tables = IfAlive link.alive (AreKept setup (soon_live link.stage peer.answer link.live) peer.table) (Unit {0})
-AreTabledBy setup (Lent n) link peer held tables = IfAlive link.alive (AreKept setup (soon_live link.stage peer.answer link.live) peer.table) (Unit {0}) × IsUsual setup (tables n)
-AreTabledBy setup (Joined n) link peer held tables = IfAlive link.alive
+AreTabledBy setup Nobody link peer held tables = IfAlive peer.alive (AreKept setup (soon_live link.stage peer.answer link.live) peer.table) (Unit {0})
+AreTabledBy setup (Lent n) link peer held tables = IfAlive peer.alive (AreKept setup (soon_live link.stage peer.answer link.live) peer.table) (Unit {0}) × IsUsual setup (tables n)
+AreTabledBy setup (Joined n) link peer held tables = IfAlive peer.alive
     (AreMatched setup (soon_live link.stage peer.answer link.live) (soon_pin setup.reads link.stage peer.answer (held n).pin).deep peer.table (tables n))
     ((soon_pin setup.reads link.stage peer.answer (held n).pin).deep ≡ false → IsUsual setup (tables n))
 

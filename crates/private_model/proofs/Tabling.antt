@@ -225,5 +225,5 @@ tabled_frame setup key held held' tables tables' sessions same_held same_tables 
 tabled_frame setup key held held' tables tables' sessions same_held same_tables (Lent n) j link peer not_key at are = (are.0, subst (λ t. IsUsual setup t) (sym (same_tables n (apart_key setup key held j n at.home not_key))) are.1)
 tabled_frame setup key held held' tables tables' sessions same_held same_tables (Joined n) j link peer not_key at are =
     let e = apart_key setup key held j n at.home not_key in
-    subst (λ h. IfAlive link.alive (AreMatched setup (soon_live link.stage peer.answer link.live) (soon_pin setup.reads link.stage peer.answer h.pin).deep peer.table (tables' n)) ((soon_pin setup.reads link.stage peer.answer h.pin).deep ≡ false → IsUsual setup (tables' n))) (sym (same_held n e))
-    (subst (λ t. IfAlive link.alive (AreMatched setup (soon_live link.stage peer.answer link.live) (soon_pin setup.reads link.stage peer.answer (held n).pin).deep peer.table t) ((soon_pin setup.reads link.stage peer.answer (held n).pin).deep ≡ false → IsUsual setup t)) (sym (same_tables n e)) are)
+    subst (λ h. IfAlive peer.alive (AreMatched setup (soon_live link.stage peer.answer link.live) (soon_pin setup.reads link.stage peer.answer h.pin).deep peer.table (tables' n)) ((soon_pin setup.reads link.stage peer.answer h.pin).deep ≡ false → IsUsual setup (tables' n))) (sym (same_held n e))
+    (subst (λ t. IfAlive peer.alive (AreMatched setup (soon_live link.stage peer.answer link.live) (soon_pin setup.reads link.stage peer.answer (held n).pin).deep peer.table t) ((soon_pin setup.reads link.stage peer.answer (held n).pin).deep ≡ false → IsUsual setup t)) (sym (same_tables n e)) are)

@@ -20,10 +20,10 @@ pub record IsSameFor (class : Class) (real private : Session) : Type 0 where
 pub record MeetsPrivate (reads : Reads) (view : View) (real : Real) (private : Private) : Type 0 where
   pub stored : (server : ServerId) → private.stored server ≡ real.stored server
   -- a statement that is to run meets the session of its own
-  pub sessions : (link : LinkId) (n : SessionName) (due : Due) → (view.links link).alive ≡ true → (view.links link).stage ≡ Asked (Statement n due)
+  pub sessions : (link : LinkId) (n : SessionName) (due : Due) → (real.peers link).alive ≡ true → (view.links link).stage ≡ Asked (Statement n due)
       → IsSameFor (class_of reads due.command) (real.peers link).session (readied due (private.sessions n))
   -- and the link was told what its client's statements left as it became due
-  pub told : (link : LinkId) (n : SessionName) (due : Due) → (view.links link).alive ≡ true → (view.links link).stage ≡ Asked (Statement n due) → IsPlaced (view.links link).told due.place
+  pub told : (link : LinkId) (n : SessionName) (due : Due) → (real.peers link).alive ≡ true → (view.links link).stage ≡ Asked (Statement n due) → IsPlaced (view.links link).told due.place
   -- one that ran is answered as there, however much of the answer is read yet
   pub answers : (link : LinkId) (n : SessionName) (due : Due) → (view.links link).stage ≡ Answered (Statement n due) → private.answers (message_of n due) ≡ Some (real.peers link).answer
   -- and so is each that was answered

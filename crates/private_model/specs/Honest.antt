@@ -26,12 +26,17 @@ prepares _ = false
 pub record IsFreshNumber (prepares : Bool) (reply : Reply) (table : ℕ → Option Key) : Type 0 where
   pub unused : prepares ≡ true → is_made reply ≡ true → table (number_in reply) ≡ None
 
-abbrev pub IsTrueRun : Step → Real → (link : LinkId) → (live : ℕ → Option ℕ) → (alive : Bool) → Stage → (server : ServerId) → Type 0
-IsTrueRun step real link live true (Asked question) server = IsFreshNumber (prepares question) (at_link step real link server (there_command question live (real.peers link).table)).reply (real.peers link).table
-IsTrueRun step real link live _ _ server = Unit {0}
+-- what runs, runs on a link that its server didn't drop
+pub record IsRun (step : Step) (real : Real) (link : LinkId) (live : ℕ → Option ℕ) (question : Question) (server : ServerId) : Type 0 where
+  pub alive : (real.peers link).alive ≡ true
+  pub fresh : IsFreshNumber (prepares question) (at_link step real link server (there_command question live (real.peers link).table)).reply (real.peers link).table
+
+abbrev pub IsTrueRun : Step → Real → (link : LinkId) → (live : ℕ → Option ℕ) → Stage → (server : ServerId) → Type 0
+IsTrueRun step real link live (Asked question) server = IsRun step real link live question server
+IsTrueRun step real link live _ server = Unit {0}
 
 abbrev pub IsTrueOf : Step → View → Real → Happening → Type 0
-IsTrueOf step view real (Ran link) = IsTrueRun step real link (view.links link).live (view.links link).alive (view.links link).stage (view.links link).server
+IsTrueOf step view real (Ran link) = IsTrueRun step real link (view.links link).live (view.links link).stage (view.links link).server
 IsTrueOf step view real (Heard link reply) = IsAnswer (view.links link) (real.peers link).answer reply
 IsTrueOf step view real _ = Unit {0}
 

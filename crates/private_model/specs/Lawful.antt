@@ -124,15 +124,17 @@ pub record IsSet (class : Class) (tx : Bool) : Type 0 where
   pub savepoint : class.savepoint ≡ false
   pub calm : sets_autocommit changes ≡ true → tx ≡ false
 
--- a step in a client's session; the id is the session's
+-- A step in a client's session; the id is the session's. No INIT_DB leads to no schema, so a link that was told one is never placed
+-- for a client without.
+
 abbrev pub IsStepOf : Reads → Command → Pin → (id : Option ℕ) → Type 0
-IsStepOf reads (InitDb schema) pin id = Unit {0}
+IsStepOf reads (InitDb schema) pin id = schema ≢ []
 IsStepOf reads (Query text) pin id = IsSet (reads.class text) pin.tx
 IsStepOf reads (SetId n) pin id = id ≡ Some n.value
 IsStepOf reads _ pin id = ⊥
 
 abbrev pub IsOwnStep : Reads → Command → Type 0
-IsOwnStep reads (InitDb schema) = Unit {0}
+IsOwnStep reads (InitDb schema) = schema ≢ []
 IsOwnStep reads (Query text) = IsSet (reads.class text) false
 IsOwnStep reads (SetId n) = Unit {0}
 IsOwnStep reads Quit = Unit {0}

@@ -1,4 +1,5 @@
--- What the router knows: a fold of what happened. No server's rule is in this file.
+-- What the router knows: a fold of what happened. No server's rule is in this file, and whether a server dropped a link the router
+-- doesn't know.
 use Rattle.std.specs.Prelude.{ℕ, suc, Bool, true, false, not, ◌&&◌, ◌||◌, nat_eq, if◌then◌else◌, List, [], ◌∷◌, Option, Some, None}
 use Rattle.std.specs.Option.{option_and_then, option_map_or}
 use Rattle.session_vars.specs.Settings.{defaults}
@@ -31,7 +32,6 @@ pub data Stage : Type 0 where
 pub record Link : Type 0 where
   pub server : ServerId
   pub account : Account
-  pub alive : Bool  -- the server hasn't dropped it
   pub usable : Bool  -- the router hasn't lost or closed it
   pub told : Told
   pub id : Option ℕ  -- its insert id, where it is known
@@ -63,10 +63,10 @@ pub record Setup : Type 0 where
   pub stored : (server : ServerId) → List ℕ
 
 abbrev pub no_link : Link
-no_link = record { server = record { 0 = 0 }; account = record { user = []; found_rows = false }; alive = false; usable = false; told = record { schema = None; settings = defaults }; id = None; live = λ key. None; carries = Nobody; marked = false; stage = Quiet }
+no_link = record { server = record { 0 = 0 }; account = record { user = []; found_rows = false }; usable = false; told = record { schema = None; settings = defaults }; id = None; live = λ key. None; carries = Nobody; marked = false; stage = Quiet }
 
 abbrev pub new_link : (server : ServerId) (account : Account) → Link
-new_link server account = record no_link { server = server; account = account; alive = true; usable = true; told = record { schema = Some []; settings = defaults }; id = Some 0 }
+new_link server account = record no_link { server = server; account = account; usable = true; told = record { schema = Some []; settings = defaults }; id = Some 0 }
 
 abbrev pub first_held : Held
 first_held = record { pin = no_pin; id = Some 0; home = None }
@@ -95,14 +95,13 @@ abbrev pub is_quit : Command → Bool
 is_quit Quit = true
 is_quit _ = false
 
-abbrev pub ran_by : Reads → (alive : Bool) → Stage → Link → Link
-ran_by reads true (Asked question) link = record link {
+abbrev pub ran_by : Reads → Stage → Link → Link
+ran_by reads (Asked question) link = record link {
   stage = Answered question;
   carries = for_statement question (λ n due. Joined n) link.carries;
   marked = for_statement question (λ n due. is_marked reads due.command) false || link.marked;
-  alive = not (is_quit (command_of question));
 }
-ran_by reads _ _ link = link
+ran_by reads _ link = link
 
 -- Its reply is read.
 
@@ -218,12 +217,12 @@ view_step setup view (Sent link question) = record view {
   carriers = for_statement question (λ n due. put is_message view.carriers (message_of n due) (Some link)) view.carriers;
 }
 view_step setup view (Ran link) =
-    record view { links = put is_link_id view.links link (ran_by setup.reads (view.links link).alive (view.links link).stage (view.links link)) }
+    record view { links = put is_link_id view.links link (ran_by setup.reads (view.links link).stage (view.links link)) }
 view_step setup view (Heard link reply) = view_heard setup view link reply (view.links link).stage
 view_step setup view (Freed link) =
     record view { links = put is_link_id view.links link (freed (view.links link)); held = held_freed (view.links link).carries view.held }
 view_step setup view (Unprepared link number) = record view { links = put is_link_id view.links link (closed_number number (view.links link)) }
-view_step setup view (Dropped link) = record view { links = put is_link_id view.links link (record (view.links link) { alive = false }) }
+view_step setup view (Dropped link) = view
 view_step setup view (Gone link) = record view {
   links = put is_link_id view.links link (record (view.links link) { usable = false });
   lives = option_map_or (λ n. lives_after n view.lives) (session_in (view.links link).carries) view.lives;

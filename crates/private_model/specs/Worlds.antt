@@ -1,21 +1,22 @@
 -- The real world and the private one, both told by one story.
 use Rattle.std.specs.Option.{option_and_then, option_map_or}
-use Rattle.std.specs.Prelude.{nat_eq, ℕ, Bool, ◌&&◌, true, false, if◌then◌else◌, List, [], ◌∷◌, Option, Some, None}
+use Rattle.std.specs.Prelude.{nat_eq, ℕ, Bool, ◌&&◌, not, true, false, if◌then◌else◌, List, [], ◌∷◌, Option, Some, None}
 use Rattle.private_model.specs.Names.{LinkId, ServerId, MessageName, SessionName}
 use Rattle.private_model.specs.Commands.{Account, Command, Outcome, Prepare, Quit, Reply, Reset, Run, Step, fresh_of, is_made, number_in, is_prepare}
 use Rattle.private_model.specs.Story.{Dropped, Due, End, Happening, Key, LoggedIn, Prep, Question, Ran, Statement, Story, Sync, Unprepared, command_of, for_statement, is_link_id, is_message, is_name, is_server, message_of, put}
-use Rattle.private_model.specs.View.{Asked, Carried, Held, Setup, Stage, View, session_in, text_of, view_after}
+use Rattle.private_model.specs.View.{Asked, Carried, Held, Setup, Stage, View, is_quit, session_in, text_of, view_after}
 use Rattle.server_rule.specs.Servers.{with_id}
 use Rattle.server_rule.specs.declared.session.Session.{Session}
 use Rattle.session_state.specs.Pins.{is_pinned}
 use Rattle.session_state.specs.declared.place.Place.{Place}
 
--- The real world: a session on each link, and the last answer there.
+-- The real world: a session on each link, and the last answer there, until its server drops it.
 
 pub record Peer : Type 0 where
   pub session : Session
   pub answer : Reply
   pub table : (number : ℕ) → Option Key  -- what was prepared, and where the session then was
+  pub alive : Bool  -- the server hasn't dropped it
 
 pub record Real : Type 0 where
   pub stored : (server : ServerId) → List ℕ
@@ -23,7 +24,7 @@ pub record Real : Type 0 where
 
 abbrev pub new_peer : (account : Account) → Peer
 new_peer account =
-    record { session = fresh_of account []; answer = record { to_prepare = false; payloads = [] }; table = λ number. None }
+    record { session = fresh_of account []; answer = record { to_prepare = false; payloads = [] }; table = λ number. None; alive = true }
 
 -- A Run is decoded with the text and the place of its preparation.
 abbrev pub decoded : Option Key → Command → Command
@@ -62,21 +63,21 @@ at_link step real link server command = step (real.stored server) (real.peers li
 abbrev pub real_run : Step → Real → (link : LinkId) → (live : ℕ → Option ℕ) → (alive : Bool) → Stage → (server : ServerId) → Real
 real_run step real link live true (Asked question) server =
     let outcome = at_link step real link server (there_command question live (real.peers link).table) in
-    record { stored = put is_server real.stored server outcome.stored; peers = put is_link_id real.peers link (record { session = outcome.session; answer = outcome.reply; table = there_table question outcome (real.peers link).table }) }
+    record { stored = put is_server real.stored server outcome.stored; peers = put is_link_id real.peers link (record { session = outcome.session; answer = outcome.reply; table = there_table question outcome (real.peers link).table; alive = not (is_quit (command_of question)) }) }
 real_run step real link live _ _ server = real
 
 -- the server ends the link by itself
 abbrev pub real_drop : Step → Real → (link : LinkId) → (alive : Bool) → (server : ServerId) → Real
 real_drop step real link true server =
     let outcome = at_link step real link server Quit in
-    record { stored = put is_server real.stored server outcome.stored; peers = put is_link_id real.peers link (record (real.peers link) { session = outcome.session }) }
+    record { stored = put is_server real.stored server outcome.stored; peers = put is_link_id real.peers link (record (real.peers link) { session = outcome.session; alive = false }) }
 real_drop step real link false server = real
 
 abbrev pub real_step : Step → View → Real → Happening → Real
 real_step step view real (LoggedIn link server account) = record real { peers = put is_link_id real.peers link (new_peer account) }
-real_step step view real (Ran link) = real_run step real link (view.links link).live (view.links link).alive (view.links link).stage (view.links link).server
+real_step step view real (Ran link) = real_run step real link (view.links link).live (real.peers link).alive (view.links link).stage (view.links link).server
 real_step step view real (Unprepared link number) = record real { peers = put is_link_id real.peers link (record (real.peers link) { table = put nat_eq (real.peers link).table number None }) }
-real_step step view real (Dropped link) = real_drop step real link (view.links link).alive (view.links link).server
+real_step step view real (Dropped link) = real_drop step real link (real.peers link).alive (view.links link).server
 real_step step view real _ = real
 
 -- The private world: a session for each name, which nobody else uses, and what it answered to each statement.
@@ -132,15 +133,19 @@ abbrev pub private_drop : Step → Private → (alive : Bool) → Carried → (s
 private_drop step private alive carried server =
     if alive then option_map_or (closed step private server) (session_in carried) private else private
 
-abbrev pub private_step : Step → View → Private → Happening → Private
-private_step step view private (Ran link) = private_run step view.held private (view.links link).alive (view.links link).stage (view.links link).server
-private_step step view private (Dropped link) = private_drop step private (view.links link).alive (view.links link).carries (view.links link).server
-private_step step view private _ = private
+abbrev pub private_step : Step → View → (alive : LinkId → Bool) → Private → Happening → Private
+private_step step view alive private (Ran link) = private_run step view.held private (alive link) (view.links link).stage (view.links link).server
+private_step step view alive private (Dropped link) = private_drop step private (alive link) (view.links link).carries (view.links link).server
+private_step step view alive private _ = private
+
+-- which links are not dropped
+abbrev pub alive_in : Real → LinkId → Bool
+alive_in real link = (real.peers link).alive
 
 -- Both after a story.
 
 abbrev pub real_after : Setup → Step → Story → Real
-real_after setup step [] = record { stored = setup.stored; peers = λ link. new_peer (record { user = []; found_rows = false }) }
+real_after setup step [] = record { stored = setup.stored; peers = λ link. record (new_peer (record { user = []; found_rows = false })) { alive = false } }
 real_after setup step (e ∷ past) = real_step step (view_after setup past) (real_after setup step past) e
 
 abbrev pub first_private : Setup → Private
@@ -148,4 +153,4 @@ first_private setup = record { stored = setup.stored; sessions = λ n. fresh_of 
 
 abbrev pub private_after : Setup → Step → Story → Private
 private_after setup step [] = first_private setup
-private_after setup step (e ∷ past) = private_step step (view_after setup past) (private_after setup step past) e
+private_after setup step (e ∷ past) = private_step step (view_after setup past) (alive_in (real_after setup step past)) (private_after setup step past) e

@@ -1,6 +1,7 @@
 -- Whether a story is honest, by what is computed.
-use Rattle.std.specs.Prelude.{◌≡◌, ℕ, Bool, true, false, not, ◌||◌, is_some, [], ◌∷◌, Option, Some, None}
+use Rattle.std.specs.Prelude.{◌≡◌, ℕ, Bool, true, false, not, ◌&&◌, ◌||◌, is_some, [], ◌∷◌, Option, Some, None}
 use Rattle.std.proofs.Common.{refl}
+use Rattle.std.proofs.lemmas.Bool.{and_parts}
 use Rattle.private_model.specs.Commands.{Reply, Step, is_made, number_in}
 use Rattle.private_model.specs.Honest.{IsAnswer, IsHonest, IsTrueOf, IsTrueRun, prepares}
 use Rattle.private_model.specs.Names.{LinkId, ServerId}
@@ -18,18 +19,18 @@ unused_so true false entry so p m = absurd (cc)
 unused_so false made entry so p m = absurd (cc)
 
 module _ (step : Step) (real : Real) (link : LinkId) (live : ℕ → Option ℕ) where
-  -- a question's preparation has a number that is unused on its link
-  abbrev pub is_fresh : (alive : Bool) → Stage → ServerId → Bool
-  is_fresh true (Asked question) server =
-      is_unused (prepares question) (is_made (at_link step real link server (there_command question live (real.peers link).table)).reply)
+  -- a question runs on a link that isn't dropped, and its preparation has a number that is unused there
+  abbrev pub is_fresh : Stage → ServerId → Bool
+  is_fresh (Asked question) server =
+      (real.peers link).alive && is_unused (prepares question) (is_made (at_link step real link server (there_command question live (real.peers link).table)).reply)
       ((real.peers link).table (number_in (at_link step real link server (there_command question live (real.peers link).table)).reply))
-  is_fresh _ _ server = true
+  is_fresh _ server = true
 
-  pub fresh_so : (alive : Bool) (stage : Stage) (server : ServerId) → is_fresh alive stage server ≡ true → IsTrueRun step real link live alive stage server
-  fresh_so true (Asked question) server so = record { unused = unused_so _ _ _ so }
-  fresh_so true Quiet server so = tt
-  fresh_so true (Answered question) server so = tt
-  fresh_so false stage server so = tt
+  pub fresh_so : (stage : Stage) (server : ServerId) → is_fresh stage server ≡ true → IsTrueRun step real link live stage server
+  fresh_so (Asked question) server so =
+      let both = and_parts _ _ so in record { alive = both.0; fresh = record { unused = unused_so _ _ _ both.1 } }
+  fresh_so Quiet server so = tt
+  fresh_so (Answered question) server so = tt
 
 -- A happening as servers tell it. In the place of one that isn't true a link is given back.
 
@@ -47,7 +48,7 @@ heard_by link _ answer = Freed link
 
 abbrev told_by : Step → View → Real → Happening → Happening
 told_by step view real (Ran link) =
-    ran_by link (is_fresh step real link (view.links link).live (view.links link).alive (view.links link).stage (view.links link).server)
+    ran_by link (is_fresh step real link (view.links link).live (view.links link).stage (view.links link).server)
 told_by step view real (Heard link reply) = heard_by link (view.links link).stage (real.peers link).answer
 told_by step view real e = e
 
@@ -59,7 +60,7 @@ heard_so step view real link (Asked question) reply at is = absurd (cc)
 
 true_so : (step : Step) (view : View) (real : Real) (e : Happening) → told_by step view real e ≡ e → IsTrueOf step view real e
 true_so step view real (Ran link) is =
-    fresh_so step real link (view.links link).live (view.links link).alive (view.links link).stage (view.links link).server (ran_so link _ is)
+    fresh_so step real link (view.links link).live (view.links link).stage (view.links link).server (ran_so link _ is)
 true_so step view real (Heard link reply) is = heard_so step view real link (view.links link).stage reply refl is
 true_so step view real _ is = tt
 
